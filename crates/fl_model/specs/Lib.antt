@@ -1,0 +1,12 @@
+pub mod Record
+pub mod Ring
+pub mod Table
+pub mod Work
+pub mod Query
+pub mod Spline
+pub mod Mount
+pub mod Operators
+pub mod Layout
+pub mod Facts
+pub mod Limits
+pub mod Image
