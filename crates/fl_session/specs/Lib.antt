@@ -1,0 +1,5 @@
+pub mod Words
+pub mod Built
+pub mod Texts
+pub mod Ends
+pub mod Number
