@@ -1,3 +1,5 @@
 pub mod Equality
 pub mod Parts
 pub mod Reading
+pub mod Running
+pub mod Accepting

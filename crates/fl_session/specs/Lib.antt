@@ -3,3 +3,4 @@ pub mod Built
 pub mod Texts
 pub mod Ends
 pub mod Number
+pub mod Execute
