@@ -3,3 +3,4 @@ pub mod Parts
 pub mod Reading
 pub mod Running
 pub mod Accepting
+pub mod Nexts

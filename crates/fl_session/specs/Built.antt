@@ -1,8 +1,9 @@
 -- The forms of lines that are built. A line of another form is not executed: the run ends there.
-use Rattle.std.specs.Prelude.{Bool, true, false, ◌&&◌, ◌==◌, nat_le, List, length}
+use Rattle.std.specs.Prelude.{◌≡◌, Bool, true, false, Some, ◌&&◌, ◌==◌, nat_le, List, length}
 use Rattle.std.specs.List.{list_all}
 use Rattle.fl_model.specs.Record.{Plan, Config}
 use Rattle.fl_words.specs.Command as command
+use Rattle.fl_machine.specs.Script.{runs_command}
 use Rattle.fl_words.specs.Command.{Command}
 
 -- the commands
@@ -26,3 +27,8 @@ is_built_plan plan = (plan.index_blocks == 0) && (plan.var_blocks == 0)
 
 abbrev pub is_built_config : Config → Bool
 is_built_config config = nat_le (length config.plans) 1 && list_all is_built_plan config.plans
+
+-- a command that is run: it is built, and is no line of a configuration
+pub record IsRunnable (c : Command) : Type 0 where
+  pub built : is_built c ≡ true
+  pub runs : runs_command c ≡ Some c

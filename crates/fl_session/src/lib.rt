@@ -1,7 +1,9 @@
 //! A session over an image, and the run of a script.
 #![tactic(auto)]
 
+mod next;
 mod status;
+mod stream;
 mod words;
 
 pub use status::Status;
