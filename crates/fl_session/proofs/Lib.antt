@@ -4,3 +4,4 @@ pub mod Reading
 pub mod Running
 pub mod Accepting
 pub mod Nexts
+pub mod Loops

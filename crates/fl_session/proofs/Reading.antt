@@ -56,16 +56,17 @@ all_within : (most : ℕ) (text : List ℕ) → length text ≤ most → lines_w
 all_within most text h = ap (λ b. if b then whole_lines (take most text) ++ long_rest (take most text) else lines_of text) (le-ltb most (length text) h)
 
 -- the last line is given, which has no newline
-pub given-last : (most : ℕ) (text : List ℕ) (given : List (List ℕ)) (most_now : ℕ) (rest line rest_now : List ℕ) →
+pub given-last : (most : ℕ) (text : List ℕ) (given : List (List ℕ)) (most_now most_then : ℕ) (rest line rest_now : List ℕ) →
     Given most text given false most_now rest → rest ≡ line → rest_now ≡ [] → OneLine line → 0 < length line → length line ≤ most_now →
-    Given most text (given ++ line ∷ []) true 0 rest_now
-given-last most text given most_now rest line rest_now g e none h some short =
+    Given most text (given ++ line ∷ []) true most_then rest_now
+given-last most text given most_now most_then rest line rest_now g e none h some short =
     let count : length rest ≡ length line = ap length e in
+    let nothing : lines_within most_then rest_now ≡ [] = ap (lines_within most_then) none ∙ all_within most_then [] (omega arith) in
     record {
       lines = g.lines ∙ (ap (λ r. given ++ lines_within most_now r) e
           ∙ (ap (λ r. given ++ r) (all_within most_now line short ∙ lines-rest line h some)
-          ∙ (sym (append-nil (given ++ line ∷ [])) ∙ ap (λ r. (given ++ line ∷ []) ++ lines_within 0 r) (sym none))));
-      long = g.long ∙ (le-ltb most_now (length rest) (omega arith) ∙ ap (λ r. nat_lt 0 (length r)) (sym none));
+          ∙ (sym (append-nil (given ++ line ∷ [])) ∙ ap (λ r. (given ++ line ∷ []) ++ r) (sym nothing))));
+      long = g.long ∙ (le-ltb most_now (length rest) (omega arith) ∙ sym (le-ltb most_then (length rest_now) (omega (arith, ap length none))));
       front = [];
       split = λ c. cc;
       bytes = λ c. cc;

@@ -7,3 +7,4 @@ pub mod Execute
 pub mod Reads
 pub mod Stream
 pub mod Next
+pub mod Loop
