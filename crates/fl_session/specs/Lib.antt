@@ -8,3 +8,5 @@ pub mod Reads
 pub mod Stream
 pub mod Next
 pub mod Loop
+pub mod Given
+pub mod Begin
