@@ -108,6 +108,7 @@ at-command knots text now next number old new left left_now f f_now c room h n e
       left = g.0;
       left_is = g.1;
       given = g.2;
+      numbered = h.numbered;
       starts = λ others.
           configures-line knots h.before now new.line others (Ok (command_view c room)) h.configures n.next.1.reads
           ∙ (e.ends knots (length h.before + 1) new.line others (λ x. start_from knots (length h.before + 1 + 1) x others)

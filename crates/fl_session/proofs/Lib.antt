@@ -7,3 +7,5 @@ pub mod Nexts
 pub mod Loops
 pub mod Configuring
 pub mod Beginning
+pub mod Ready
+pub mod Ending

@@ -60,6 +60,7 @@ pub record AtCommand (knots : ℕ) (text : List ℕ) (now : Lines) (number : ℕ
   pub left : List ℕ
   pub left_is : left_now ≡ Some left
   pub given : Given most_bytes text (before ++ state.line ∷ []) state.closed state.most (state.ahead ++ left)
+  pub numbered : number ≡ length before + 1
   pub starts : (others : List (List ℕ)) → start_of knots (before ++ state.line ∷ others) ≡ start_with (whole knots now) number (state.line ∷ others)
 
 -- .. or the script ended

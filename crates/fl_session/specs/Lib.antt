@@ -10,3 +10,4 @@ pub mod Next
 pub mod Loop
 pub mod Given
 pub mod Begin
+pub mod Opening
