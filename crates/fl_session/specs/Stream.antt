@@ -1,5 +1,5 @@
 -- A stream of the lines of a script.
-use Rattle.std.specs.Prelude.{◌≡◌, ℕ, ◌+◌, ◌-◌, ◌<◌, ◌≤◌, Bool, true, false, ◌==◌, ◌⊎◌, All, Option, Some, Result, Ok, Err, List, [], ◌∷◌, ◌++◌, length}
+use Rattle.std.specs.Prelude.{◌≡◌, ℕ, ◌+◌, ◌-◌, ◌<◌, ◌≤◌, Bool, true, false, ◌==◌, ◌⊎◌, All, Option, Some, None, Result, Ok, Err, List, [], ◌∷◌, ◌++◌, length}
 use Rattle.fl_base.specs.Causes.{Rose}
 use Rattle.fl_session.specs.declared.stream.LinesFault.{LinesFault}
 use Rattle.fl_session.specs.declared.stream.LinesFault.TheVariants.{Failed, Long}
@@ -68,3 +68,13 @@ pub record Advances (old : LinesState) (left : Option (List ℕ)) (faults : ℕ)
   pub failed : result ≡ Err Failed → Rose faults faults_now
   pub shrinks : result ≡ Ok true → new.most < old.most
   pub gives : (l : List ℕ) → left ≡ Some l → (l_now : List ℕ) × (left_now ≡ Some l_now) × Gives old (old.ahead ++ l) result new l_now
+
+-- bytes are taken from the source, behind those that are ahead
+pub record FillsBy (old left : List ℕ) (n : ℕ) (new left_now : List ℕ) : Type 0 where
+  pub split : old ++ left ≡ new ++ left_now
+  pub end : n ≡ 0 → (left ≡ []) × (new ≡ old)
+
+abbrev pub Fills : {E : Type 0} → List ℕ → Option (List ℕ) → Result ℕ E → List ℕ → Option (List ℕ) → Type 0
+Fills old None result new left_now = Unit {0}
+Fills old (Some left) (Ok n) new left_now = (l : List ℕ) × (left_now ≡ Some l) × FillsBy old left n new l
+Fills old (Some left) (Err e) new left_now = (new ≡ old) × (left_now ≡ Some left)
