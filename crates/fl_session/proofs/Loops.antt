@@ -40,10 +40,10 @@ pub record InHand (tail : Tail) (config : Config) (stands stands_now : Machine �
   pub runs : RanAll (around_to config faults now told told_now) stands stands_now (accepted ran)
   pub was_open : tail.closed ≡ true → state.closed ≡ true
 
-pub in_hand-first : (tail : Tail) (config : Config) (stands : Machine → Type 0) (faults : ℕ) (told : Option (List ℕ)) (state : LinesState) (left : List ℕ) (left_now : Option (List ℕ)) → left_now ≡ Some left →
+pub in_hand-first : (tail : Tail) (config : Config) (stands : Machine → Type 0) (faults : ℕ) (told : Option (List ℕ)) (state : LinesState) (left : List ℕ) (left_now : Option (List ℕ)) → left_now ≡ Some left → (state.closed ≡ true → state.ahead ++ left ≡ []) →
     tail.first ≡ state.line → tail.text ≡ state.ahead ++ left → tail.most ≡ state.most → tail.closed ≡ state.closed →
     InHand tail config stands stands faults faults told told tail.number state left_now
-in_hand-first tail config stands faults told state left left_now told_left first text most closed = record {
+in_hand-first tail config stands faults told state left left_now told_left ended first text most closed = record {
   ran = [];
   given = [];
   left_is = left;
@@ -51,7 +51,7 @@ in_hand-first tail config stands faults told state left left_now told_left first
   order = ap (λ l. l ∷ []) (sym first);
   reading =
       subst (λ t. Given tail.most tail.text [] state.closed state.most t) text
-      (subst (λ m. Given tail.most tail.text [] state.closed m tail.text) most (given-none tail.most tail.text state.closed));
+      (subst (λ m. Given tail.most tail.text [] state.closed m tail.text) most (given-none tail.most tail.text state.closed (λ c. text ∙ ended c)));
   all_run = all_run-none;
   numbered = omega arith;
   runs = λ old h ready. ran-none config old stands faults told h;
@@ -285,7 +285,7 @@ pub then-in_hand : (tail : Tail) (config : Config) (stands stands_now : Machine 
     Done_so_far tail config stands stands_now faults now told told_now number old left → NextRun old left f number (Ok (Some c)) room new left_now f_now →
     InHand tail config stands stands_now faults now told told_now number new left_now
 then-in_hand tail config stands stands_now faults now told told_now number old new left left_now f f_now c room d n =
-    let g = n.advances.gives d.0 d.1 in
+    let g = n.advances.gives d.0 d.1 d.2.reading.ended in
     subst (λ l. InHand tail config stands stands_now faults now told told_now number new l) (sym g.1)
     (in_hand-next tail config stands stands_now faults now told told_now number old new d.0 g.0 (command_view c room) d.2 n.next.1.reads
     (subst (λ r. Gives old (old.ahead ++ d.0) r new g.0) n.next.0 g.2))
@@ -294,7 +294,7 @@ pub then-done : (tail : Tail) (config : Config) (stands stands_now : Machine →
     Done_so_far tail config stands stands_now faults now told told_now number old left → NextRun old left f number (Ok None) room new left_now f_now →
     (length tail.text ≤ tail.most) × EndsAll tail (around_to config faults now told told_now) stands stands_now
 then-done tail config stands stands_now faults now told told_now number old new left left_now f f_now room d n =
-    let g = n.advances.gives d.0 d.1 in
+    let g = n.advances.gives d.0 d.1 d.2.reading.ended in
     let k : old.ahead ++ d.0 ≡ [] = subst (λ r. Gives old (old.ahead ++ d.0) r new g.0) n.next g.2 in
     ends-done tail config stands stands_now faults now told told_now number old d.0 d.2 k
 
@@ -302,6 +302,6 @@ pub then-ends : (tail : Tail) (config : Config) (stands stands_now : Machine →
     Done_so_far tail config stands stands_now faults now told told_now number old left → NextRun old left f number (Err status) room new left_now f_now →
     EndsCommands tail left_now (around_to config faults now told told_now) stands stands_now status
 then-ends tail config stands stands_now faults now told told_now number old new left left_now f f_now room status d n =
-    let g = n.advances.gives d.0 d.1 in
+    let g = n.advances.gives d.0 d.1 d.2.reading.ended in
     subst (λ l. EndsCommands tail l (around_to config faults now told told_now) stands stands_now status) (sym g.1)
     (ends-there_run tail config stands stands_now faults now told told_now number old new d.0 g.0 n.given status d.2 g.2 n.next)

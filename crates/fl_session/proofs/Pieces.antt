@@ -1,12 +1,15 @@
 -- The room of a stream of lines.
-use Rattle.std.proofs.Common.{◌≡◌, ℕ, zero, ◌+◌, ◌-◌, ◌<◌, ◌≤◌, Bool, Option, Some, None, Result, Ok, Err, List, [], ◌∷◌, ◌++◌, length, take, drop, min, refl, sym, ◌∙◌, ap, subst, append_assoc, append-nil, length-append, arith}
+use Rattle.std.proofs.Common.{◌≡◌, ℕ, zero, suc, true, false, inl, inr, add-one, ◌+◌, ◌-◌, ◌<◌, ◌≤◌, Bool, Option, Some, None, Result, Ok, Err, List, [], ◌∷◌, ◌++◌, length, take, drop, min, refl, sym, ◌∙◌, ap, subst, append_assoc, append-nil, length-append, arith}
 use Rattle.std.specs.List.{slice_range, copy_within}
 use Rattle.std.proofs.lemmas.List.{take-append-drop, take-append-le, take-take, length-take, length-take-le, length-drop}
 use Rattle.std.proofs.Math.Seq.{take-append-add, take-length}
 use Rattle.std.proofs.Math.Nat.{sub-zero}
 use Rattle.fl_base.proofs.Ranges.{take_slice, drop_slice}
 use Rattle.fl_base.specs.Stream.{Reads}
-use Rattle.fl_session.specs.Stream.{LinesState, Fills}
+use Rattle.std.specs.Prelude.{slice_get}
+use Rattle.std.proofs.lemmas.Option.{slice_get_within, get_or_from_slice_get}
+use Rattle.std.proofs.Math.Seq.{drop-cons}
+use Rattle.fl_session.specs.Stream.{LinesState, Fills, Advances, IsOneLine, after_line}
 
 -- a line at the front of what is ahead
 pub line-given : (buf : List ℕ) (from to len most : ℕ) (closed : Bool) → from + (len + 1) ≤ to →
@@ -53,3 +56,45 @@ copied buf from to h fits =
     let part = take (to - from) (drop from buf) in
     let size : length part ≡ to - from = length-take-le (to - from) (drop from buf) (omega (arith, length-drop from buf)) in
     take-append-le (to - from) part (drop (0 + (to - from)) buf) (omega arith) ∙ (ap (λ n. take n part) (sym size) ∙ take-length part)
+
+-- a list is parted at one of its elements
+pub parted : (xs : List ℕ) (len : ℕ) (x : ℕ) → slice_get xs len ≡ Some x → xs ≡ take len xs ++ x ∷ drop (len + 1) xs
+parted xs len x e =
+    let within : len < length xs = slice_get_within xs len x e in
+    sym (take-append-drop len xs)
+    ∙ ap (λ l. take len xs ++ l)
+    (drop-cons xs len x within ∙ (ap (λ y. y ∷ drop (suc len) xs) (get_or_from_slice_get xs len x x e) ∙ ap (λ n. x ∷ drop n xs) (sym (add-one len))))
+
+-- a whole line was ahead
+pub advances-line : (old mid new : LinesState) (left left_now : Option (List ℕ)) (f f_now len : ℕ) → mid.closed ≡ false → old.closed ≡ false → mid.most ≡ old.most → f ≤ f_now →
+    ((l : List ℕ) → left ≡ Some l → (now : List ℕ) × (left_now ≡ Some now) × (old.ahead ++ l ≡ mid.ahead ++ now)) →
+    slice_get mid.ahead len ≡ Some 10 → IsOneLine (take len mid.ahead) → length mid.ahead ≤ mid.most → new ≡ after_line len mid →
+    Advances old left f (Ok true) new left_now f_now
+advances-line old mid new left left_now f f_now len is_open was_open most later told newline one few e =
+    let within : len < length mid.ahead = slice_get_within mid.ahead len 10 newline in
+    let size : length (take len mid.ahead) ≡ len = length-take-le len mid.ahead (omega arith) in
+    let new_line : new.line ≡ take len mid.ahead = ap (λ (s : LinesState). s.line) e in
+    let new_most : new.most ≡ mid.most - (len + 1) = ap (λ (s : LinesState). s.most) e in
+    let new_ahead : new.ahead ≡ drop (len + 1) mid.ahead = ap (λ (s : LinesState). s.ahead) e in
+    let count : length new.line ≡ len = ap length new_line ∙ size in
+    record {
+      later = later;
+      failed = λ k. cc;
+      shrinks = λ _. omega (arith, new_most, most);
+      gives = λ l is ended.
+          let t = told l is in (
+            t.0,
+            t.1,
+            inl (record {
+              split = t.2 ∙ (ap (λ a. a ++ t.0) (parted mid.ahead len 10 newline)
+                  ∙ (append_assoc (take len mid.ahead) (10 ∷ drop (len + 1) mid.ahead) t.0
+                  ∙ ap (λ n. n ++ 10 ∷ (drop (len + 1) mid.ahead ++ t.0)) (sym new_line)
+                  ∙ ap (λ a. new.line ++ 10 ∷ (a ++ t.0)) (sym new_ahead)));
+              one = subst IsOneLine (sym new_line) one;
+              fits = omega (arith, count, most);
+              most = new_most ∙ (ap (λ m. m - (len + 1)) most ∙ ap (λ n. old.most - (n + 1)) (sym count));
+              open_before = was_open;
+              open_now = ap (λ (s : LinesState). s.closed) e ∙ is_open;
+            }),
+          );
+    }

@@ -1,5 +1,5 @@
 // Commands, one after another.
-ghost use Rattle.std.specs.Prelude.{◌≡◌, ℕ, ◌+◌, ◌^◌, ◌<◌, ◌≤◌, List, ◌++◌, length, Some, Ok};
+ghost use Rattle.std.specs.Prelude.{◌≡◌, ℕ, ◌+◌, ◌^◌, ◌<◌, ◌≤◌, List, ◌++◌, length, Some, Ok, true, []};
 ghost use Rattle.fl_base.specs.Causes.{Rose};
 ghost use Rattle.fl_script.specs.CommandView.{command_view};
 ghost use Rattle.fl_session.specs.Next.{IsToRun};
@@ -25,7 +25,7 @@ pub(crate) fn run_commands<T: Executor, L: LineStream, R: Reader, S: Source, K: 
 ) -> Status
     requires numbered { number + (L.state lines.old).most < 2 ^ 32 }
     requires reads { IsToRun (L.state lines.old).line (command_view first room.old) }
-    ensures runs { (left : List ℕ) → S.left script.old ≡ Some left →
+    ensures runs { (left : List ℕ) → S.left script.old ≡ Some left → ((L.state lines.old).closed ≡ true → (L.state lines.old).ahead ++ left ≡ []) →
         EndsCommands
         (record { number = number; first = (L.state lines.old).line; text = (L.state lines.old).ahead ++ left; most = (L.state lines.old).most; closed = (L.state lines.old).closed })
         (S.left script.new)

@@ -1,8 +1,10 @@
 // The lines of a script, as its source gives them.
-ghost use Rattle.std.specs.Prelude.{◌≡◌, ℕ, ◌+◌, ◌-◌, ◌^◌, ◌<◌, ◌≤◌, Bool, true, false, ◌==◌, List, [], ◌∷◌, ◌++◌, length, take, drop, Option, Some, All, MatchOption, IfOk, OnOk, OnErr, slice_get};
+ghost use Rattle.std.specs.Prelude.{◌≡◌, ℕ, ◌+◌, ◌-◌, ◌^◌, ◌<◌, ◌≤◌, Bool, true, false, ◌==◌, List, [], ◌∷◌, ◌++◌, length, take, drop, Option, Some, All, MatchOption, IfOk, slice_get};
+ghost use Rattle.std.specs.Bool.{OnTrue, OnFalse};
 ghost use Rattle.fl_base.specs.Causes.{HasCause};
-ghost use Rattle.fl_session.specs.Stream.{LinesState, IsOneLine, Advances, Fills};
+ghost use Rattle.fl_session.specs.Stream.{LinesState, IsOneLine, Advances, Fills, after_line, after_rest};
 
+use crate::stream::LinesFault;
 use fl_base::{NoMemory, Source, SourceFailed};
 use std::alloc::Global;
 use std::marker::Model;
@@ -12,15 +14,6 @@ const ROOM: usize = 4097;
 
 /// The bytes of a script that are read.
 const MOST: usize = 16_777_216;
-
-/// Why no line is given.
-#[derive(Clone, Copy, Debug, PartialEq, Eq)]
-pub enum LinesFault {
-    /// The source failed.
-    Failed,
-    /// The script has more bytes than are read.
-    Long,
-}
 
 /// The lines of a script, read one by one into room for one of them. What is taken from the source ahead of them
 /// has room there too.
@@ -81,7 +74,9 @@ impl Lines {
     }
 
     fn ahead(&self) -> &[u8]
-        ensures { result.now ≡ self.now.ahead }
+        ensures value { result.now ≡ self.now.ahead }
+        ensures room { length result.now ≤ 4097 }
+        ensures few { length result.now ≤ self.now.most }
     {
         &self.buf[self.from..self.to]
     }
@@ -89,7 +84,7 @@ impl Lines {
     // Gives the first bytes that are ahead as a line; a newline follows them.
     fn give_line(&mut self, len: usize)
         requires { len < length self.old.ahead }
-        ensures { self.new ≡ record { line = take len self.old.ahead; ahead = drop (len + 1) self.old.ahead; most = self.old.most - (len + 1); closed = self.old.closed } }
+        ensures { self.new ≡ after_line len self.old }
     {
         self.line_from = self.from;
         self.line_to = self.from + len;
@@ -99,7 +94,7 @@ impl Lines {
 
     // Gives all that is ahead as a line.
     fn give_rest(&mut self)
-        ensures { self.new ≡ record { line = self.old.ahead; ahead = []; most = self.old.most - length self.old.ahead; closed = self.old.closed } }
+        ensures { self.new ≡ after_rest self.old }
     {
         self.line_from = self.from;
         self.line_to = self.to;
@@ -127,5 +122,63 @@ impl Lines {
         let count = script.read(&mut self.buf[len..end])?;
         self.to = len + count;
         Ok(count)
+    }
+
+    // The source has ended: what is ahead is the last line, where there is any.
+    fn close(&mut self) -> bool
+        ensures some { OnTrue result ((0 < length self.old.ahead) × (self.new ≡ record (after_rest self.old) { closed = true })) }
+        ensures none { OnFalse result (self.old.ahead ≡ []) }
+    {
+        if self.from == self.to {
+            return false;
+        }
+        self.give_rest();
+        self.closed = true;
+        true
+    }
+
+    // As many bytes are ahead as may still be read: a further one is too many.
+    fn ask_for_more<S: Source>(&mut self, script: &mut S) -> Result<bool, LinesFault>
+        requires most { length self.old.ahead ≡ self.old.most }
+        requires one { IsOneLine self.old.ahead }
+        requires short { length self.old.ahead ≤ 4096 }
+        requires is_open { self.old.closed ≡ false }
+        ensures { Advances self.old (S.left script.old) (S.faults script.old) result self.new (S.left script.new) (S.faults script.new) }
+    {
+        let mut byte = [0; 1];
+        match script.read(&mut byte) {
+            Ok(0) => Ok(self.close()),
+            Ok(_) => Err(LinesFault::Long),
+            Err(_) => Err(LinesFault::Failed),
+        }
+    }
+
+    /// Goes on to the next line. False says that there is none.
+    pub fn advance<S: Source>(&mut self, script: &mut S) -> Result<bool, LinesFault>
+        ensures { Advances self.old (S.left script.old) (S.faults script.old) result self.new (S.left script.new) (S.faults script.new) }
+    {
+        if self.closed {
+            return Ok(false);
+        }
+        'bytes: loop {
+            let ahead = self.ahead();
+            if let Some(len) = newline_in(ahead) {
+                self.give_line(len);
+                return Ok(true);
+            }
+            let len = ahead.len();
+            if len == ROOM {
+                self.give_rest();
+                return Ok(true);
+            }
+            if len == self.most {
+                return self.ask_for_more(script);
+            }
+            match self.fill(script) {
+                Ok(0) => return Ok(self.close()),
+                Ok(_) => {}
+                Err(_) => return Err(LinesFault::Failed),
+            }
+        }
     }
 }

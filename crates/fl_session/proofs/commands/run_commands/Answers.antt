@@ -11,12 +11,12 @@ lines-init g c = record {
   source_later = omega arith;
   sink_later = omega arith;
   later = omega arith;
-  runs = λ left e. in_hand-first _ _ _ _ _ _ left _ e refl refl refl refl;
+  runs = λ left e ended. in_hand-first _ _ _ _ _ _ left _ e ended refl refl refl refl;
 }
 
 pub returns-in-Err-clause-runs : goal.returns-in-Err-clause-runs
-returns-in-Err-clause-runs g c = λ left e.
-    ends-in_reply _ _ _ _ _ _ _ _ _ _ _ _ _ _ _ c.in-Err.field-0 (c.lines.invariant.runs left e) (runs-runnable _ _ c.lines.invariant.reads) c.execute.ensures.later
+returns-in-Err-clause-runs g c = λ left e ended.
+    ends-in_reply _ _ _ _ _ _ _ _ _ _ _ _ _ _ _ c.in-Err.field-0 (c.lines.invariant.runs left e ended) (runs-runnable _ _ c.lines.invariant.reads) c.execute.ensures.later
     (step-config _ _ _ _ _ _ _ _ _ _ _ c.lines.invariant.config c.in-Err.is c.execute.ensures.step)
 
 pub overflow_add-line : goal.overflow_add-line
@@ -33,23 +33,23 @@ lines-preserved g c =
       source_later = le_trans c.lines.invariant.source_later n.advances.later;
       sink_later = le_trans c.lines.invariant.sink_later c.execute.ensures.sink.later;
       later = le_trans c.lines.invariant.later c.execute.ensures.later;
-      runs = λ left e.
+      runs = λ left e ended.
           then-in_hand _ _ _ _ _ _ _ _ _ _ _ _ _ _ _ _ _
-          (all_done-next _ _ _ _ _ _ _ _ _ _ _ _ _ _ _ (c.lines.invariant.runs left e) (runs-runnable _ _ c.lines.invariant.reads) c.execute.ensures.later
+          (all_done-next _ _ _ _ _ _ _ _ _ _ _ _ _ _ _ (c.lines.invariant.runs left e ended) (runs-runnable _ _ c.lines.invariant.reads) c.execute.ensures.later
           (step-config _ _ _ _ _ _ _ _ _ _ _ c.lines.invariant.config c.in-Ok.is c.execute.ensures.step))
           n;
     }
 
 pub returns-in-Ok-None-clause-runs : goal.returns-in-Ok-None-clause-runs
-returns-in-Ok-None-clause-runs g c = λ left e.
+returns-in-Ok-None-clause-runs g c = λ left e ended.
     then-done _ _ _ _ _ _ _ _ _ _ _ _ _ _ _ _
-    (all_done-next _ _ _ _ _ _ _ _ _ _ _ _ _ _ _ (c.lines.invariant.runs left e) (runs-runnable _ _ c.lines.invariant.reads) c.execute.ensures.later
+    (all_done-next _ _ _ _ _ _ _ _ _ _ _ _ _ _ _ (c.lines.invariant.runs left e ended) (runs-runnable _ _ c.lines.invariant.reads) c.execute.ensures.later
     (step-config _ _ _ _ _ _ _ _ _ _ _ c.lines.invariant.config c.in-Ok.is c.execute.ensures.step))
     (rw c.in-Ok-None.field-0-is at c.in-Ok-None.ensures)
 
 pub returns-in-Err-next_run-clause-runs : goal.returns-in-Err-next_run-clause-runs
-returns-in-Err-next_run-clause-runs g c = λ left e.
+returns-in-Err-next_run-clause-runs g c = λ left e ended.
     then-ends _ _ _ _ _ _ _ _ _ _ _ _ _ _ _ _ c.in-Err-next_run.status
-    (all_done-next _ _ _ _ _ _ _ _ _ _ _ _ _ _ _ (c.lines.invariant.runs left e) (runs-runnable _ _ c.lines.invariant.reads) c.execute.ensures.later
+    (all_done-next _ _ _ _ _ _ _ _ _ _ _ _ _ _ _ (c.lines.invariant.runs left e ended) (runs-runnable _ _ c.lines.invariant.reads) c.execute.ensures.later
     (step-config _ _ _ _ _ _ _ _ _ _ _ c.lines.invariant.config c.in-Ok.is c.execute.ensures.step))
     c.in-Err-next_run.ensures

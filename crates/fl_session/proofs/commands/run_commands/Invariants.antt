@@ -1,4 +1,4 @@
-use Rattle.std.proofs.Common.{◌≡◌, ℕ, ◌+◌, ◌^◌, ◌<◌, ◌≤◌, List, ◌++◌, Some}
+use Rattle.std.proofs.Common.{◌≡◌, ℕ, ◌+◌, ◌^◌, ◌<◌, ◌≤◌, List, [], ◌++◌, Some, true}
 use Rattle.fl_script.specs.CommandView.{command_view}
 use Rattle.fl_session.specs.Next.{IsToRun}
 use Rattle.fl_session.specs.Loop.{Tail}
@@ -18,7 +18,7 @@ invariant-lines g l =
       source_later : S.faults l.fn.script ≤ S.faults l.script;
       sink_later : K.faults l.fn.out ≤ K.faults l.out;
       later : T.faults l.fn.session ≤ T.faults l.session;
-      runs : (left : List ℕ) → S.left l.fn.script ≡ Some left →
+      runs : (left : List ℕ) → S.left l.fn.script ≡ Some left → ((state l.fn.lines).closed ≡ true → (state l.fn.lines).ahead ++ left ≡ []) →
           InHand
           (record { number = l.fn.number; first = (state l.fn.lines).line; text = (state l.fn.lines).ahead ++ left; most = (state l.fn.lines).most; closed = (state l.fn.lines).closed })
           (T.config l.fn.session) (T.stands l.fn.session) (T.stands l.session) (T.faults l.fn.session) (T.faults l.session) (K.written l.fn.out) (K.written l.out)
