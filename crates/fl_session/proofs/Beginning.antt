@@ -18,8 +18,8 @@ use Rattle.fl_session.specs.Stream.{LinesState, Gives, TakesPart}
 use Rattle.fl_session.specs.Next.{NextCommand, EndsThere, IsRefused}
 use Rattle.fl_session.specs.Loop.{Tail}
 use Rattle.fl_session.specs.Begin.{IsFresh, GoesOn, EndsIt, Refuses, Unmakes, IsUnended, AtCommand, AtEnd, EndsInConfig, EndsBefore, EndsBegin, BeginsAt, ConfiguresBy}
-use Rattle.fl_session.specs.declared.stream.LinesFault.{LinesFault}
-use Rattle.fl_session.specs.declared.stream.LinesFault.TheVariants.{Failed, Long}
+use Rattle.fl_session.specs.declared.lines.LinesFault.{LinesFault}
+use Rattle.fl_session.specs.declared.lines.LinesFault.TheVariants.{Failed, Long}
 use Rattle.fl_session.specs.declared.status.Status.{Status}
 use Rattle.fl_session.specs.declared.status.Status.TheVariants.{Done, Usage, Line, ScriptRead, OutWrite, MediaMake, Config as BadConfiguration, OtherConfig, ScriptLong, NoMemory, NotYet}
 use Rattle.fl_session.proofs.Reading.{given-none, given-all, given-taken, given-most}

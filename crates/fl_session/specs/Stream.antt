@@ -1,8 +1,8 @@
 -- A stream of the lines of a script.
 use Rattle.std.specs.Prelude.{◌≡◌, ℕ, ◌+◌, ◌-◌, ◌<◌, ◌≤◌, Bool, true, false, ◌==◌, ◌⊎◌, All, Option, Some, None, Result, Ok, Err, List, [], ◌∷◌, ◌++◌, length, take, drop}
 use Rattle.fl_base.specs.Causes.{Rose}
-use Rattle.fl_session.specs.declared.stream.LinesFault.{LinesFault}
-use Rattle.fl_session.specs.declared.stream.LinesFault.TheVariants.{Failed, Long}
+use Rattle.fl_session.specs.declared.lines.LinesFault.{LinesFault}
+use Rattle.fl_session.specs.declared.lines.LinesFault.TheVariants.{Failed, Long}
 
 pub record LinesState : Type 0 where
   -- the line that was given last

@@ -7,27 +7,28 @@ ghost use Rattle.fl_session.specs.Loop.{EndsCommands};
 
 use crate::Status;
 use crate::next::next_run;
-use crate::stream::{Executor, LineStream, Reader};
+use crate::lines::Lines;
+use crate::stream::{Executor, Reader};
 use fl_base::{Sink, Source};
 use fl_script::{Command, LineRoom};
 
 /// Executes a command, which is the line of this number, and then those of the lines behind it. Each reply is written
 /// before the next line is read.
-pub(crate) fn run_commands<T: Executor, L: LineStream, R: Reader, S: Source, K: Sink>(
+pub(crate) fn run_commands<T: Executor, R: Reader, S: Source, K: Sink>(
     session: &mut T,
     first: Command,
     number: u64,
-    lines: &mut L,
+    lines: &mut Lines,
     reader: &R,
     room: &mut LineRoom,
     script: &mut S,
     out: &mut K,
 ) -> Status
-    requires numbered { number + (L.state lines.old).most < 2 ^ 32 }
-    requires reads { IsToRun (L.state lines.old).line (command_view first room.old) }
-    ensures runs { (left : List ℕ) → S.left script.old ≡ Some left → ((L.state lines.old).closed ≡ true → (L.state lines.old).ahead ++ left ≡ []) →
+    requires numbered { number + lines.old.most < 2 ^ 32 }
+    requires reads { IsToRun lines.old.line (command_view first room.old) }
+    ensures runs { (left : List ℕ) → S.left script.old ≡ Some left → (lines.old.closed ≡ true → lines.old.ahead ++ left ≡ []) →
         EndsCommands
-        (record { number = number; first = (L.state lines.old).line; text = (L.state lines.old).ahead ++ left; most = (L.state lines.old).most; closed = (L.state lines.old).closed })
+        (record { number = number; first = lines.old.line; text = lines.old.ahead ++ left; most = lines.old.most; closed = lines.old.closed })
         (S.left script.new)
         (record { config = T.config session.old; faults = T.faults session.old; faults_now = T.faults session.new; told = K.written out.old; told_now = K.written out.new })
         (T.stands session.old) (T.stands session.new) result }

@@ -4,7 +4,6 @@ ghost use Rattle.std.specs.Bool.{OnTrue, OnFalse};
 ghost use Rattle.fl_base.specs.Causes.{HasCause};
 ghost use Rattle.fl_session.specs.Stream.{LinesState, IsOneLine, Advances, Fills, after_line, after_rest};
 
-use crate::stream::LinesFault;
 use fl_base::{NoMemory, Source, SourceFailed};
 use std::alloc::Global;
 use std::marker::Model;
@@ -14,6 +13,15 @@ const ROOM: usize = 4097;
 
 /// The bytes of a script that are read.
 const MOST: usize = 16_777_216;
+
+/// Why no line is given.
+#[derive(Clone, Copy, Debug, PartialEq, Eq)]
+pub enum LinesFault {
+    /// The source failed.
+    Failed,
+    /// The script has more bytes than are read.
+    Long,
+}
 
 /// The lines of a script, read one by one into room for one of them. What is taken from the source ahead of them
 /// has room there too.

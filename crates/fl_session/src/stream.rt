@@ -8,29 +8,11 @@ ghost use Rattle.fl_words.specs.Grammar.{command_of};
 ghost use Rattle.fl_machine.specs.Machine.{Machine};
 ghost use Rattle.fl_script.specs.CommandView.{command_view};
 ghost use Rattle.fl_session.specs.Reads.{line_seen};
-ghost use Rattle.fl_session.specs.Stream.{LinesState, Advances};
 ghost use Rattle.fl_session.specs.Execute.{Executes};
 ghost use Rattle.fl_session.specs.Built.{IsRunnable, are_built};
 
-use fl_base::{Sink, SinkFailed, Source};
+use fl_base::{Sink, SinkFailed};
 use fl_script::{Command, LineFault, LineRoom};
-
-/// Why no line is given.
-#[derive(Clone, Copy, Debug, PartialEq, Eq)]
-pub enum LinesFault {
-    Failed,
-    Long,
-}
-
-pub trait LineStream {
-    ghost state: { Self → LinesState };
-
-    fn advance<S: Source>(&mut self, script: &mut S) -> Result<bool, LinesFault>
-        ensures { Advances (state self.old) (S.left script.old) (S.faults script.old) result (state self.new) (S.left script.new) (S.faults script.new) };
-
-    fn line(&self) -> &[u8]
-        ensures { result.now ≡ (state self.now).line };
-}
 
 pub trait Reader {
     fn read(&self, bytes: &[u8], room: &mut LineRoom) -> Result<Command, LineFault>
