@@ -1,5 +1,5 @@
 -- How the program of a body ends for the ring.
-use Rattle.std.proofs.Common.{◌≡◌, ◌⊎◌, ℕ, ◌+◌, ◌-◌, ◌/◌, ◌^◌, ◌≤◌, ◌<◌, true, false, List, [], ◌++◌, length, take, drop, replicate, get_or, slice_range, inl, inr, refl, sym, ◌∙◌, ap, subst, arith}
+use Rattle.std.proofs.Common.{◌≡◌, ◌⊎◌, ℕ, ◌+◌, ◌-◌, ◌/◌, ◌^◌, ◌≤◌, ◌<◌, true, false, List, [], ◌∷◌, ◌++◌, length, take, drop, replicate, get_or, slice_range, inl, inr, refl, sym, ◌∙◌, ap, subst, arith}
 use Rattle.std.proofs.lemmas.Bool.{MatchBool-at_false}
 use Rattle.std.proofs.lemmas.List.{take-take, take-append-le, take_all, take-replicate, length-take-le}
 use Rattle.fl_base.specs.Bytes.{splice}
@@ -16,7 +16,7 @@ use Rattle.fl_ring.specs.Place.{shape_of}
 use Rattle.fl_ring.specs.Ring.{Shape, RingState, place, OnRing, blank_end, begun}
 use Rattle.fl_ring.proofs.CutPages.{Reaches, nothing_written, same_content, written_page, programs_there}
 use Rattle.fl_ring.proofs.Numbered.{numbered_begun}
-use Rattle.fl_ring.proofs.PageBytes.{and_same, body_programmed, torn_body}
+use Rattle.fl_ring.proofs.PageBytes.{and_same, body_programmed, is_torn, torn_body}
 use Rattle.fl_ring.proofs.Stepping.{OneOf, Exact, either_of}
 use Rattle.fl_ring.proofs.Steps.{on_page, on_torn, not_blank}
 
@@ -54,8 +54,10 @@ module _ (ring : Ring) (s : RingState) (body : List ℕ) (f g : FlashState) (p :
   not_still some (inl still) = absurd (not_blank ring.size (page_at g p) some (ap (page_at g) at ∙ MatchBool-at_false _ _ whole still.head))
   not_still some (inr is) = is
 
-  pub begin_ok : TornProgram (page_at f) p 0 (length body) (page_at g) → Programmed (page_at f) p 0 body (page_at g) → OnRing (shape_of ring) (page_at g) (begun s)
-  begin_ok torn done = not_still (shown (ap (λ (l : List ℕ). take 4 l) (begin_bytes done) ∙ take-append-le 4 body blank_end (omega (arith, long)))) (begin_any torn)
+  pub begin_ok : Programmed (page_at f) p 0 body (page_at g) → OnRing (shape_of ring) (page_at g) (begun s)
+  begin_ok done = torn_page done.others
+      (ap state_of_page (begin_bytes done)
+      ∙ is_torn body (255 ∷ 255 ∷ 255 ∷ 255 ∷ []) (numbered_begun body body (omega (arith, long)) numbered refl) refl refl)
 
   module _ (reach : Reaches f) (exists : p < pages f) (goes : Goes f g) where
     range : 0 + length body ≤ f.geometry.page

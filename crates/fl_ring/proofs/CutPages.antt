@@ -1,7 +1,7 @@
 -- What operations that are cut leave of the pages.
 use Rattle.std.proofs.Common.{◌≡◌, ℕ, ◌+◌, ◌-◌, ◌*◌, ◌/◌, ◌≤◌, ◌<◌, List, [], ◌∷◌, ◌++◌, length, take, drop, replicate, slice_range, refl, sym, ◌∙◌, ap, subst, arith, take-append-drop}
 use Rattle.std.proofs.Math.Nat.{mul_assoc}
-use Rattle.std.proofs.lemmas.List.{length-take-le, length-replicate}
+use Rattle.std.proofs.lemmas.List.{length-take-le, length-replicate, length-drop}
 use Rattle.fl_base.specs.Bytes.{splice}
 use Rattle.fl_base.specs.declared.types.Geometry.{Geometry}
 use Rattle.fl_base.specs.declared.types.CutKind.TheVariants.{After}
@@ -12,7 +12,7 @@ use Rattle.fl_flash.specs.Places.{page_of, extent}
 use Rattle.fl_flash.specs.Tear.{torn_front}
 use Rattle.fl_flash.specs.declared.tear.Tear.{Tear}
 use Rattle.fl_flash.specs.declared.tear.Tear.TheVariants.{Kind}
-use Rattle.fl_flash.proofs.Pages.{rows_below, page_within, part_of_page, length-and_bytes, length-slice, whole_erase}
+use Rattle.fl_flash.proofs.Pages.{rows_below, page_within, part_of_page, length-and_bytes, whole_erase}
 
 abbrev pub Reaches : FlashState → Type 0
 Reaches f = f.start + extent f.geometry f.blocks ≤ length f.media.content
@@ -43,7 +43,7 @@ pub programs_there : (old : FlashState) (p from : ℕ) (bs : List ℕ) → from 
 programs_there old p from bs range = ap (λ (l : List ℕ). and_bytes l bs) (part_of_page old.media.content (begin_of old p) old.geometry.page from (length bs) range)
 
 pub length-programs : (page : List ℕ) (from : ℕ) (bs : List ℕ) → from + length bs ≤ length page → length (and_bytes (take (length bs) (drop from page)) bs) ≡ length bs
-length-programs page from bs le = length-and_bytes (take (length bs) (drop from page)) bs (length-slice page from (from + length bs) (omega arith) le ∙ omega arith)
+length-programs page from bs le = length-and_bytes (take (length bs) (drop from page)) bs (length-take-le (length bs) (drop from page) (omega (arith, length-drop from page)))
 
 -- a splice of all that is programmed is the program
 pub splice_programmed : (page : List ℕ) (from : ℕ) (bs : List ℕ) → from + length bs ≤ length page → splice page from (and_bytes (take (length bs) (drop from page)) bs) ≡ programmed page from bs

@@ -22,6 +22,7 @@ impl Ring {
         requires left { self.old.next + 1 < 2 ^ 32 }
         ensures goes { Goes (F.state flash.old) (F.state flash.new) }
         ensures same { shape_of self.new ≡ shape_of self.old }
+        ensures lies { OnOk result (LiesOn self.new (F.state flash.new)) }
         ensures seals { (s : RingState) → (rose : Bool) → (device : Device) → IsReady self.old (F.state flash.old) s → IsWatched (F.state flash.old) (F.state flash.new) rose device
             → Seals s body.now rose device self.old result self.new (F.state flash.new) }
         ensures numbers { OnOk result ((s : RingState) → StandsFor self.old s → IsRing (shape_of self.old) s → StandsFor self.new (erased (sealed (shape_of self.old) s body.now))) }
