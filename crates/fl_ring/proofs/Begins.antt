@@ -8,7 +8,7 @@ use Rattle.fl_flash.specs.Flash.{FlashState, Goes, begin_of, page_at, pages, and
 use Rattle.fl_flash.specs.Tear.{torn_front}
 use Rattle.fl_flash.specs.declared.tear.Tear.TheVariants.{Kind}
 use Rattle.fl_mark.specs.Mark.{all_are, state_of_page}
-use Rattle.fl_mark.specs.declared.mark.PageState.TheVariants.{Torn}
+use Rattle.fl_mark.specs.declared.page_state.PageState.TheVariants.{Torn}
 use Rattle.fl_model.specs.Work.{Body}
 use Rattle.fl_ring.specs.declared.ring.Ring.{Ring}
 use Rattle.fl_ring.specs.Newest.{number_of}

@@ -7,7 +7,7 @@ use Rattle.fl_base.specs.declared.types.CutKind.TheVariants.{Before, After, Half
 use Rattle.fl_flash.specs.Flash.{FlashState, Goes, begin_of, page_at, pages, and_bytes, programmed, OthersStand, Programmed, TornProgram, TornPage}
 use Rattle.fl_flash.specs.declared.tear.Tear.TheVariants.{Kind}
 use Rattle.fl_mark.specs.Mark.{all_are, state_of_page}
-use Rattle.fl_mark.specs.declared.mark.PageState.TheVariants.{Torn}
+use Rattle.fl_mark.specs.declared.page_state.PageState.TheVariants.{Torn}
 use Rattle.fl_model.specs.Work.{Mark}
 use Rattle.fl_ring.specs.declared.ring.Ring.{Ring}
 use Rattle.fl_ring.specs.Place.{shape_of}

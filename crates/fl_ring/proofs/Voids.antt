@@ -5,7 +5,7 @@ use Rattle.fl_base.specs.Bytes.{splice}
 use Rattle.fl_base.specs.declared.types.CutKind.TheVariants.{Before, After, Half, Noise}
 use Rattle.fl_flash.specs.Flash.{FlashState, Goes, begin_of, page_at, pages, and_bytes, programmed, OthersStand, Programmed, TornProgram}
 use Rattle.fl_mark.specs.Mark.{state_of_page}
-use Rattle.fl_mark.specs.declared.mark.PageState.TheVariants.{Torn, Void}
+use Rattle.fl_mark.specs.declared.page_state.PageState.TheVariants.{Torn, Void}
 use Rattle.fl_model.specs.Work.{VoidMark}
 use Rattle.fl_ring.specs.declared.ring.Ring.{Ring}
 use Rattle.fl_ring.specs.Place.{shape_of}

@@ -11,7 +11,7 @@ ghost use Rattle.fl_ring.specs.Step.{IsWatched, Operates, StepEnds};
 
 use crate::ring::Ring;
 use fl_flash::{Flash, FlashFault};
-use fl_mark::{commit_at, mark_bytes, void_at};
+use fl_mark::{commit_at, mark, void_at};
 
 impl Ring {
     /// Programs the body of the next page, which is blank.
@@ -44,7 +44,7 @@ impl Ring {
         flash.program(
             self.place_of(self.next),
             commit_at(self.size),
-            &mark_bytes(),
+            &mark(),
         )
     }
 
@@ -59,7 +59,7 @@ impl Ring {
         flash.program(
             self.place_of(self.next),
             void_at(self.size),
-            &mark_bytes(),
+            &mark(),
         )
     }
 

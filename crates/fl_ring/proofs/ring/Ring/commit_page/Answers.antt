@@ -13,7 +13,7 @@ program-requires-clause-exists g c = lies_exists c.args.self.now (g.F.Flash.stat
 
 pub returns-clause-operates : goal.returns-clause-operates
 returns-clause-operates g c =
-    operates_program c.args.self.now (g.F.Flash.state c.args.flash.now) (g.F.Flash.state c.program.new.self) c.program.result Mark refl c.place_of.result c.commit_at.result c.args.self.now.next c.mark_bytes.result c.place_of.ensures.place c.program.ensures
+    operates_program c.args.self.now (g.F.Flash.state c.args.flash.now) (g.F.Flash.state c.program.new.self) c.program.result Mark refl c.place_of.result c.commit_at.result c.args.self.now.next c.mark.result c.place_of.ensures.place c.program.ensures
 
 pub returns-clause-step : goal.returns-clause-step
 returns-clause-step g c = λ s body rose device stands on torn here fits begun watched.
@@ -26,7 +26,7 @@ returns-clause-step g c = λ s body rose device stands on torn here fits begun w
     let at = c.place_of.ensures.place ∙ ap (λ (n : ℕ). place (shape_of ring) n) stands.next in
     let here_p = ap (page_at f) at ∙ here in
     let from : c.commit_at.result ≡ length body = omega (arith, c.commit_at.ensures, fits) in
-    let did = subst (λ (l : List ℕ). ProgramsPage f p (length body) l result new) c.mark_bytes.ensures (subst (λ (n : ℕ). ProgramsPage f p n c.mark_bytes.result result new) from c.program.ensures) in
+    let did = subst (λ (l : List ℕ). ProgramsPage f p (length body) l result new) c.mark.ensures (subst (λ (n : ℕ). ProgramsPage f p n c.mark.result result new) from c.program.ensures) in
     let exists = lies_exists ring f p c.requires.lies c.place_of.ensures.within in
     step_program ring f new result Mark refl p (length body) ring.next zeros c.place_of.ensures.place did s (sealed (shape_of ring) s body) rose device watched
     (commit_ok ring s body f new p at c.requires.lies.page on torn here_p fits begun)

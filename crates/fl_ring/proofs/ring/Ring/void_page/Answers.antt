@@ -13,7 +13,7 @@ program-requires-clause-exists g c = lies_exists c.args.self.now (g.F.Flash.stat
 
 pub returns-clause-operates : goal.returns-clause-operates
 returns-clause-operates g c =
-    operates_program c.args.self.now (g.F.Flash.state c.args.flash.now) (g.F.Flash.state c.program.new.self) c.program.result VoidMark refl c.place_of.result c.void_at.result c.args.self.now.next c.mark_bytes.result c.place_of.ensures.place c.program.ensures
+    operates_program c.args.self.now (g.F.Flash.state c.args.flash.now) (g.F.Flash.state c.program.new.self) c.program.result VoidMark refl c.place_of.result c.void_at.result c.args.self.now.next c.mark.result c.place_of.ensures.place c.program.ensures
 
 pub returns-clause-step : goal.returns-clause-step
 returns-clause-step g c = λ s rose device stands on torn watched.
@@ -25,7 +25,7 @@ returns-clause-step g c = λ s rose device stands on torn watched.
     let zeros : List ℕ = 0 ∷ 0 ∷ 0 ∷ 0 ∷ [] in
     let at = c.place_of.ensures.place ∙ ap (λ (n : ℕ). place (shape_of ring) n) stands.next in
     let from : c.void_at.result ≡ ring.size - 4 = omega (arith, c.void_at.ensures) in
-    let did = subst (λ (l : List ℕ). ProgramsPage f p (ring.size - 4) l result new) c.mark_bytes.ensures (subst (λ (n : ℕ). ProgramsPage f p n c.mark_bytes.result result new) from c.program.ensures) in
+    let did = subst (λ (l : List ℕ). ProgramsPage f p (ring.size - 4) l result new) c.mark.ensures (subst (λ (n : ℕ). ProgramsPage f p n c.mark.result result new) from c.program.ensures) in
     let exists = lies_exists ring f p c.requires.lies c.place_of.ensures.within in
     let reach = g.met.F.Flash.reaches c.args.flash.now in
     step_program ring f new result VoidMark refl p (ring.size - 4) ring.next zeros c.place_of.ensures.place did s (voided (shape_of ring) s) rose device watched
