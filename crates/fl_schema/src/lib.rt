@@ -2,6 +2,7 @@
 #![tactic(auto)]
 
 mod column;
+mod reference;
 mod row;
 mod schema;
 

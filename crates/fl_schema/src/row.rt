@@ -4,8 +4,9 @@ ghost use Rattle.fl_model.specs.Record.{layout_len};
 ghost use Rattle.fl_schema.specs.Form.{types_in, layout_with, ArePlaced};
 
 use crate::KeyWidth;
-use crate::schema::{NO_BLOB, PlacedColumn};
-use fl_base::{BlobRef, get_u16, get_u32, get_u64};
+use crate::reference::{REFERENCE, read_reference};
+use crate::schema::PlacedColumn;
+use fl_base::{BlobRef, get_u32, get_u64};
 
 /// What the rows of a schema are made of.
 #[derive(Clone, Copy)]
@@ -75,13 +76,7 @@ impl<'b> RowRef<'b> {
         if !self.kind.blobs {
             return None;
         }
-        let at = self.bytes.len() - 10;
-        let blob = BlobRef {
-            page: get_u32(self.bytes, at),
-            offset: get_u16(self.bytes, at + 4),
-            length: get_u32(self.bytes, at + 6),
-        };
-        if blob == NO_BLOB { None } else { Some(blob) }
+        read_reference(self.bytes, self.bytes.len() - REFERENCE as usize)
     }
 
     pub fn bytes(&self) -> &'b [u8]

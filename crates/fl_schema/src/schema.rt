@@ -5,7 +5,8 @@ ghost use Rattle.fl_schema.specs.Form.{key_width, types_in, layout_with, ArePlac
 
 use crate::{ColumnType, RowKind};
 use arrayvec::ArrayVec;
-use fl_base::{BlobRef, put_u16, put_u32, put_u64};
+use crate::reference::{REFERENCE, write_reference};
+use fl_base::{BlobRef, put_u32, put_u64};
 
 /// How many bytes a key has.
 #[derive(Clone, Copy, Debug, PartialEq, Eq)]
@@ -41,17 +42,11 @@ pub struct Schema<const COLS: usize> {
     ghost few: { COLS ≤ 65535 },
 }
 
-/// How many bytes a reference to a blob has.
-const REFERENCE: u32 = 10;
-
-/// What stands for no blob.
-pub(crate) const NO_BLOB: BlobRef = BlobRef {
-    page: u32::MAX,
-    offset: u16::MAX,
-    length: u32::MAX,
-};
-
 impl KeyWidth {
+    ghost use Rattle.std.specs.Prelude.{◌*◌, ◌^◌, ◌<◌, length};
+    ghost use Rattle.fl_base.specs.Bytes.{splice};
+    ghost use Rattle.fl_model.specs.Row.{le};
+
     /// In bytes.
     pub fn width(self) -> u32
         ensures { result ≡ key_width self }
@@ -59,6 +54,18 @@ impl KeyWidth {
         match self {
             KeyWidth::Four => 4,
             KeyWidth::Eight => 8,
+        }
+    }
+
+    /// Writes a key to the first bytes.
+    fn write(self, key: u64, into: &mut [u8])
+        requires fits { key < 2 ^ (8 * key_width self) }
+        requires room { key_width self ≤ length into.old }
+        ensures { into.new ≡ splice into.old 0 (le (key_width self) key) }
+    {
+        match self {
+            KeyWidth::Four => put_u32(into, 0, key as u32),
+            KeyWidth::Eight => put_u64(into, 0, key),
         }
     }
 }
@@ -152,19 +159,12 @@ impl<const COLS: usize> Schema<COLS> {
         requires room { length into.old ≡ layout_len (layout_of self.now) }
         ensures { into.new ≡ bytes_of_row (layout_of self.now) (record { key = key; values = values.now; blob = blob }) }
     {
-        match self.key {
-            KeyWidth::Four => put_u32(into, 0, key as u32),
-            KeyWidth::Eight => put_u64(into, 0, key),
-        }
+        self.key.write(key, into);
         for (i, column) in self.columns.as_slice().iter().enumerate() {
             column.of.write(values[i], into, column.at as usize);
         }
         if self.blobs {
-            let blob = blob.unwrap_or(NO_BLOB);
-            let at = (self.row - REFERENCE) as usize;
-            put_u32(into, at, blob.page);
-            put_u16(into, at + 4, blob.offset);
-            put_u32(into, at + 6, blob.length);
+            write_reference(into, (self.row - REFERENCE) as usize, blob);
         }
     }
 
