@@ -6,6 +6,7 @@ pub mod Query
 pub mod Spline
 pub mod Mount
 pub mod Operators
+pub mod Row
 pub mod Layout
 pub mod Facts
 pub mod Limits
