@@ -109,8 +109,6 @@ pub record Ran (config : Config) (old : Machine) (commands : List Command) (stan
   pub rose : RoseBy (risen_in moments) faults faults_now
   -- each mount that succeeds finds the records of each table
   pub found : (place : ℕ) → Finds place (stop_at place old.tables) old moments
-  -- each of them reads as many pages as it may
-  pub reads : RunReads config old moments
   pub told_all : Appends told told_now (written_by moments)
 
 -- .. and into the reply of the last of them, in which the sink failed
@@ -121,7 +119,6 @@ pub record RanInto (config : Config) (old : Machine) (commands : List Command) (
   pub stands_after : stands (end_of old moments)
   pub rose : RoseBy (risen_in moments) faults faults_now
   pub found : (place : ℕ) → Finds place (stop_at place old.tables) old moments
-  pub reads : RunReads config old moments
   -- the replies before those of the last are written whole
   pub before : List Moment
   pub last : Moment
@@ -129,3 +126,7 @@ pub record RanInto (config : Config) (old : Machine) (commands : List Command) (
   pub front : List ℕ
   pub is_front : IsFront front (texts last.replies)
   pub told_front : Appends told told_now (written_by before ++ front)
+
+-- the moments of a run, each of which reads as many pages as it may
+pub record KeepsReads (config : Config) (old : Machine) (moments : List Moment) : Type 0 where
+  pub within : RunReads config old moments

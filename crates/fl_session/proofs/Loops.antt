@@ -1,0 +1,306 @@
+-- The loop over the commands of a script, step by step.
+use Rattle.std.proofs.Common.{◌≡◌, ℕ, suc, ◌+◌, ◌-◌, ◌<◌, ◌≤◌, Bool, true, false, ◌⊎◌, inl, inr, Option, Some, None, Result, Ok, Err, List, [], ◌∷◌, ◌++◌, length, take, drop, nat_lt, refl, sym, ◌∙◌, ap, subst, append_assoc, append-nil, length-append, arith}
+use Rattle.std.proofs.lemmas.Bool.{ltb-false}
+use Rattle.fl_model.specs.Record.{Config}
+use Rattle.fl_words.specs.Command.{Command}
+use Rattle.fl_words.specs.Grammar as grammar
+use Rattle.fl_words.specs.Grammar.{command_of}
+use Rattle.fl_machine.specs.Machine.{Machine}
+use Rattle.fl_machine.specs.Script.{Ran, runs, runs_read, accepted, first_refused}
+use Rattle.fl_session.specs.Texts.{whole_lines, lines_within}
+use Rattle.fl_session.specs.Execute.{Executes, IsReady, Around, RanAll, RanPart}
+use Rattle.fl_session.specs.Stream.{LinesState, Advances, Gives, GivesWhole, GivesLast, GivesLong, TakesPart}
+use Rattle.fl_script.specs.declared.command.Command as code
+use Rattle.fl_script.specs.CommandView.{command_view}
+use Rattle.fl_session.specs.Next.{IsUnbuilt, EndsThere, NextRun}
+use Rattle.fl_session.specs.Loop.{Tail, lines_in, EndsAll, EndsBad, EndsUnbuilt, EndsInReply, EndsTaken, EndsCommands}
+use Rattle.fl_session.specs.declared.stream.LinesFault.{LinesFault}
+use Rattle.fl_session.specs.declared.stream.LinesFault.TheVariants.{Failed, Long}
+use Rattle.fl_session.specs.declared.status.Status.{Status}
+use Rattle.fl_session.specs.declared.status.Status.TheVariants.{Done, Usage, Line, ScriptRead, OutWrite, MediaMake, Config as BadConfiguration, OtherConfig, ScriptLong, NoMemory, NotYet}
+use Rattle.fl_session.proofs.Reading.{Given, given-none, given-line, given-last, given-all, given-taken, given-most, given-too_long, IsTooLong}
+use Rattle.fl_session.proofs.Accepting.{AllRun, all_run-none, all_run-more, all_run-all, all_run-refused, accepted-more, too_long-command}
+use Rattle.fl_session.proofs.Running.{ran-none, ran-more, ran-into}
+
+-- what the loop is told, but for the session
+abbrev pub around_to : Config → ℕ → ℕ → Option (List ℕ) → Option (List ℕ) → Around
+around_to config faults now told told_now = record { config = config; faults = faults; faults_now = now; told = told; told_now = told_now }
+
+-- a line is in hand, and those before it were run
+pub record InHand (tail : Tail) (config : Config) (stands stands_now : Machine → Type 0) (faults now : ℕ) (told told_now : Option (List ℕ)) (number : ℕ) (state : LinesState) (left : Option (List ℕ)) : Type 0 where
+  pub ran : List (List ℕ)
+  pub given : List (List ℕ)
+  pub left_is : List ℕ
+  pub left_told : left ≡ Some left_is
+  pub order : ran ++ state.line ∷ [] ≡ tail.first ∷ given
+  pub reading : Given tail.most tail.text given state.closed state.most (state.ahead ++ left_is)
+  pub all_run : AllRun ran
+  pub numbered : number ≡ tail.number + length ran
+  pub runs : RanAll (around_to config faults now told told_now) stands stands_now (accepted ran)
+  pub was_open : tail.closed ≡ true → state.closed ≡ true
+
+pub in_hand-first : (tail : Tail) (config : Config) (stands : Machine → Type 0) (faults : ℕ) (told : Option (List ℕ)) (state : LinesState) (left : List ℕ) (left_now : Option (List ℕ)) → left_now ≡ Some left →
+    tail.first ≡ state.line → tail.text ≡ state.ahead ++ left → tail.most ≡ state.most → tail.closed ≡ state.closed →
+    InHand tail config stands stands faults faults told told tail.number state left_now
+in_hand-first tail config stands faults told state left left_now told_left first text most closed = record {
+  ran = [];
+  given = [];
+  left_is = left;
+  left_told = told_left;
+  order = ap (λ l. l ∷ []) (sym first);
+  reading =
+      subst (λ t. Given tail.most tail.text [] state.closed state.most t) text
+      (subst (λ m. Given tail.most tail.text [] state.closed m tail.text) most (given-none tail.most tail.text state.closed));
+  all_run = all_run-none;
+  numbered = omega arith;
+  runs = λ old h ready. ran-none config old stands faults told h;
+  was_open = λ e. sym closed ∙ e;
+}
+
+-- all lines that were given were run
+pub record AllDone (tail : Tail) (config : Config) (stands stands_now : Machine → Type 0) (faults now : ℕ) (told told_now : Option (List ℕ)) (number : ℕ) (state : LinesState) (left : List ℕ) : Type 0 where
+  pub given : List (List ℕ)
+  pub reading : Given tail.most tail.text given state.closed state.most (state.ahead ++ left)
+  pub all_run : AllRun (tail.first ∷ given)
+  pub numbered : number ≡ tail.number + length (tail.first ∷ given)
+  pub runs : RanAll (around_to config faults now told told_now) stands stands_now (accepted (tail.first ∷ given))
+  pub was_open : tail.closed ≡ true → state.closed ≡ true
+
+pub all_done-next : {E : Type 0} (tail : Tail) (config : Config) (stands stands_mid stands_now : Machine → Type 0) (faults mid now : ℕ) (told told_mid told_now : Option (List ℕ)) (number : ℕ) (state : LinesState) (left : Option (List ℕ)) (c : Command) →
+    InHand tail config stands stands_mid faults mid told told_mid number state left → runs state.line ≡ Some c → mid ≤ now →
+    ((m : Machine) → stands_mid m → Executes {E = E} config m c stands_now mid now told_mid told_now (Ok tt)) →
+    (left_is : List ℕ) × (left ≡ Some left_is) × AllDone tail config stands stands_now faults now told told_now (number + 1) state left_is
+all_done-next tail config stands stands_mid stands_now faults mid now told told_mid told_now number state left c h e later executes = (
+  h.left_is,
+  h.left_told,
+  record {
+    given = h.given;
+    reading = h.reading;
+    all_run = subst AllRun h.order (all_run-more h.ran state.line c h.all_run e);
+    numbered = omega (arith, h.numbered, ap length h.order, length-append h.ran (state.line ∷ []));
+    runs = λ old s ready.
+        subst (λ cs. Ran config old cs stands_now faults now told told_now)
+        (sym (accepted-more h.ran state.line c h.all_run e) ∙ ap accepted h.order)
+        (ran-more config old (accepted h.ran) c stands_mid stands_now faults mid now told told_mid told_now ready (h.runs old s ready) later executes);
+    was_open = h.was_open;
+  },
+)
+
+pub ends-in_reply : {E : Type 0} (tail : Tail) (config : Config) (stands stands_mid stands_now : Machine → Type 0) (faults mid now : ℕ) (told told_mid told_now : Option (List ℕ)) (number : ℕ) (state : LinesState) (left : Option (List ℕ)) (c : Command) (error : E) →
+    InHand tail config stands stands_mid faults mid told told_mid number state left → runs state.line ≡ Some c → mid ≤ now →
+    ((m : Machine) → stands_mid m → Executes {E = E} config m c stands_now mid now told_mid told_now (Err error)) →
+    EndsInReply tail (around_to config faults now told told_now) stands stands_now
+ends-in_reply tail config stands stands_mid stands_now faults mid now told told_mid told_now number state left c error h e later executes =
+    let more = all_run-more h.ran state.line c h.all_run e in
+    let others = lines_within state.most (state.ahead ++ h.left_is) in
+    let lines : lines_in tail ≡ (h.ran ++ state.line ∷ []) ++ others = ap (λ ls. tail.first ∷ ls) h.reading.lines ∙ ap (λ ls. ls ++ others) (sym h.order) in
+    record {
+      commands = accepted h.ran ++ c ∷ [];
+      others = accepted others;
+      split = ap (λ cs. cs ++ accepted others) (sym (accepted-more h.ran state.line c h.all_run e)) ∙ (sym (more.accepts others) ∙ ap accepted (sym lines));
+      runs = λ old s ready. ran-into config old (accepted h.ran) c stands_mid stands_now faults mid now told told_mid told_now error ready (h.runs old s ready) later executes;
+    }
+
+-- what a line that is given is: the next one, or the front of one that is too long
+data NextLine (tail : Tail) (given : List (List ℕ)) (new : LinesState) (rest : List ℕ) : Type 0 where
+  fits : Given tail.most tail.text (given ++ new.line ∷ []) new.closed new.most rest → (tail.closed ≡ false) → NextLine tail given new rest
+  too_long : IsTooLong tail.most tail.text given → 4096 < length new.line → NextLine tail given new rest
+
+was_open : (a b : Bool) → (a ≡ true → b ≡ true) → b ≡ false → a ≡ false
+was_open true b h e = absurd (two (sym (h refl) ∙ e))
+  where
+    two : true ≡ false → ⊥
+    two k = cc
+was_open false b h e = refl
+
+next_line : (tail : Tail) (given : List (List ℕ)) (old new : LinesState) (left left_now : List ℕ) →
+    Given tail.most tail.text given old.closed old.most (old.ahead ++ left) → (tail.closed ≡ true → old.closed ≡ true) → Gives old (old.ahead ++ left) (Ok true) new left_now →
+    NextLine tail given new (new.ahead ++ left_now)
+next_line tail given old new left left_now g o (inl w) =
+    let g' : Given tail.most tail.text given false old.most (old.ahead ++ left) = subst (λ b. Given tail.most tail.text given b old.most (old.ahead ++ left)) w.open_before g in
+    let h = given-line tail.most tail.text given old.most (old.ahead ++ left) new.line (new.ahead ++ left_now) g' w.split w.one w.fits in
+    fits
+    (subst (λ b. Given tail.most tail.text (given ++ new.line ∷ []) b new.most (new.ahead ++ left_now)) (sym w.open_now)
+    (subst (λ m. Given tail.most tail.text (given ++ new.line ∷ []) false m (new.ahead ++ left_now)) (sym w.most) h))
+    (was_open tail.closed old.closed o w.open_before)
+next_line tail given old new left left_now g o (inr (inl w)) =
+    let g' : Given tail.most tail.text given false old.most (old.ahead ++ left) = subst (λ b. Given tail.most tail.text given b old.most (old.ahead ++ left)) w.open_before g in
+    let h = given-last tail.most tail.text given old.most new.most (old.ahead ++ left) new.line (new.ahead ++ left_now) g' w.split w.nothing w.one w.some w.fits in
+    fits
+    (subst (λ b. Given tail.most tail.text (given ++ new.line ∷ []) b new.most (new.ahead ++ left_now)) (sym w.closed_now) h)
+    (was_open tail.closed old.closed o w.open_before)
+next_line tail given old new left left_now g o (inr (inr w)) =
+    too_long (given-too_long tail.most tail.text given old.closed old.most (old.ahead ++ left) new.line w.others g w.split w.one w.long w.fits) w.long
+
+-- the next line comes into the hand
+pub in_hand-next : (tail : Tail) (config : Config) (stands stands_now : Machine → Type 0) (faults now : ℕ) (told told_now : Option (List ℕ)) (number : ℕ) (old new : LinesState) (left left_now : List ℕ) (c : Command) →
+    AllDone tail config stands stands_now faults now told told_now number old left → command_of new.line ≡ Ok c → Gives old (old.ahead ++ left) (Ok true) new left_now →
+    InHand tail config stands stands_now faults now told told_now number new (Some left_now)
+in_hand-next tail config stands stands_now faults now told told_now number old new left left_now c h reads gives =
+    elim (next_line tail h.given old new left left_now h.reading h.was_open gives) [
+      | fits g is_open ↦ record {
+          ran = tail.first ∷ h.given;
+          given = h.given ++ new.line ∷ [];
+          left_is = left_now;
+          left_told = refl;
+          order = refl;
+          reading = g;
+          all_run = h.all_run;
+          numbered = h.numbered;
+          runs = h.runs;
+          was_open = λ e. absurd (not_open (sym e ∙ is_open));
+        }
+      | too_long t long ↦ absurd (not_long (sym reads ∙ too_long-command new.line long))
+    ]
+  where
+    not_open : true ≡ false → ⊥
+    not_open k = cc
+
+    not_long : Ok c ≡ Err grammar.TooLong → ⊥
+    not_long k = cc
+
+pub ends-done : (tail : Tail) (config : Config) (stands stands_now : Machine → Type 0) (faults now : ℕ) (told told_now : Option (List ℕ)) (number : ℕ) (state : LinesState) (left : List ℕ) →
+    AllDone tail config stands stands_now faults now told told_now number state left → state.ahead ++ left ≡ [] →
+    (length tail.text ≤ tail.most) × EndsAll tail (around_to config faults now told told_now) stands stands_now
+ends-done tail config stands stands_now faults now told told_now number state left h e =
+    let all = given-all tail.most tail.text h.given state.closed state.most (state.ahead ++ left) h.reading e in
+    let lines : tail.first ∷ h.given ≡ lines_in tail = ap (λ ls. tail.first ∷ ls) (sym all.0) in (
+      ltb-false tail.most (length tail.text) all.1,
+      record {
+        accepts = ap (first_refused tail.number) (sym lines) ∙ all_run-all tail.number (tail.first ∷ h.given) h.all_run;
+        runs = λ old s ready. subst (λ ls. Ran config old (accepted ls) stands_now faults now told told_now) lines (h.runs old s ready);
+      },
+    )
+
+bad_at : (tail : Tail) (config : Config) (stands stands_now : Machine → Type 0) (faults now : ℕ) (told told_now : Option (List ℕ)) (number : ℕ) (state : LinesState) (left : List ℕ) (line : List ℕ) (others : List (List ℕ)) →
+    (h : AllDone tail config stands stands_now faults now told told_now number state left) → runs line ≡ None → lines_within tail.most tail.text ≡ h.given ++ line ∷ others →
+    EndsBad tail (around_to config faults now told told_now) stands stands_now number
+bad_at tail config stands stands_now faults now told told_now number state left line others h e lines =
+    let bad = all_run-refused tail.number (tail.first ∷ h.given) line others h.all_run e in
+    let is : lines_in tail ≡ (tail.first ∷ h.given) ++ line ∷ others = ap (λ ls. tail.first ∷ ls) lines in
+    record {
+      refuses = ap (first_refused tail.number) is ∙ (bad.0 ∙ ap Some (sym h.numbered));
+      runs = λ old s ready.
+          subst (λ cs. Ran config old cs stands_now faults now told told_now) (sym (ap accepted is ∙ bad.1)) (h.runs old s ready);
+    }
+
+pub ends-bad : (tail : Tail) (config : Config) (stands stands_now : Machine → Type 0) (faults now : ℕ) (told told_now : Option (List ℕ)) (number : ℕ) (old new : LinesState) (left left_now : List ℕ) →
+    AllDone tail config stands stands_now faults now told told_now number old left → runs new.line ≡ None → Gives old (old.ahead ++ left) (Ok true) new left_now →
+    EndsBad tail (around_to config faults now told told_now) stands stands_now number
+ends-bad tail config stands stands_now faults now told told_now number old new left left_now h e gives =
+    elim (next_line tail h.given old new left left_now h.reading h.was_open gives) [
+      | fits g is_open ↦
+          bad_at tail config stands stands_now faults now told told_now number old left new.line (lines_within new.most (new.ahead ++ left_now)) h e
+          (g.lines ∙ append_assoc h.given (new.line ∷ []) (lines_within new.most (new.ahead ++ left_now)))
+      | too_long t long ↦
+          bad_at tail config stands stands_now faults now told told_now number old left t.line t.others h
+          (ap runs_read (too_long-command t.line t.long)) t.lines
+    ]
+
+pub ends-unbuilt : (tail : Tail) (config : Config) (stands stands_now : Machine → Type 0) (faults now : ℕ) (told told_now : Option (List ℕ)) (number : ℕ) (old new : LinesState) (left left_now : List ℕ) →
+    AllDone tail config stands stands_now faults now told told_now number old left → IsUnbuilt new.line → Gives old (old.ahead ++ left) (Ok true) new left_now →
+    EndsUnbuilt tail (around_to config faults now told told_now) stands stands_now number
+ends-unbuilt tail config stands stands_now faults now told told_now number old new left left_now h u gives =
+    elim (next_line tail h.given old new left left_now h.reading h.was_open gives) [
+      | fits g is_open ↦ record {
+          before = h.given;
+          line = new.line;
+          others = lines_within new.most (new.ahead ++ left_now);
+          split = ap (λ ls. tail.first ∷ ls) (g.lines ∙ append_assoc h.given (new.line ∷ []) (lines_within new.most (new.ahead ++ left_now)));
+          number_is = h.numbered;
+          unbuilt = u;
+          accepts = all_run-all tail.number (tail.first ∷ h.given) h.all_run;
+          runs = h.runs;
+        }
+      | too_long t long ↦ absurd (not_long (sym u.reads ∙ too_long-command new.line long))
+    ]
+  where
+    not_long : Ok u.command ≡ Err grammar.TooLong → ⊥
+    not_long k = cc
+
+pub ends-taken : (tail : Tail) (config : Config) (stands stands_now : Machine → Type 0) (faults now : ℕ) (told told_now : Option (List ℕ)) (number : ℕ) (old new : LinesState) (left left_now : List ℕ) →
+    AllDone tail config stands stands_now faults now told told_now number old left → TakesPart old (old.ahead ++ left) new left_now →
+    EndsTaken tail (Some left_now) (around_to config faults now told told_now) stands stands_now
+ends-taken tail config stands stands_now faults now told told_now number old new left left_now h part =
+    let g : Given tail.most tail.text h.given false old.most (old.ahead ++ left) = subst (λ b. Given tail.most tail.text h.given b old.most (old.ahead ++ left)) part.open_before h.reading in
+    let t = given-taken tail.most tail.text h.given old.most (old.ahead ++ left) new.ahead left_now g part.split part.one part.fits in
+    let lines : tail.first ∷ h.given ≡ tail.first ∷ whole_lines (take t.taken tail.text) = ap (λ ls. tail.first ∷ ls) (sym t.whole) in
+    record {
+      is_open = was_open tail.closed old.closed h.was_open part.open_before;
+      taken = t.taken;
+      within = t.within;
+      few = t.few;
+      left = ap Some (sym t.left_is);
+      accepts = ap (first_refused tail.number) (sym lines) ∙ all_run-all tail.number (tail.first ∷ h.given) h.all_run;
+      runs = λ old s ready. subst (λ ls. Ran config old (accepted ls) stands_now faults now told told_now) lines (h.runs old s ready);
+    }
+
+pub ends-long : (tail : Tail) (config : Config) (stands stands_now : Machine → Type 0) (faults now : ℕ) (told told_now : Option (List ℕ)) (number : ℕ) (old new : LinesState) (left more : List ℕ) →
+    AllDone tail config stands stands_now faults now told told_now number old left → TakesPart old (old.ahead ++ left) new more → length new.ahead ≡ old.most → 0 < length more →
+    (tail.most < length tail.text) × EndsAll tail (around_to config faults now told told_now) stands stands_now
+ends-long tail config stands stands_now faults now told told_now number old new left more h part full some =
+    let g : Given tail.most tail.text h.given false old.most (old.ahead ++ left) = subst (λ b. Given tail.most tail.text h.given b old.most (old.ahead ++ left)) part.open_before h.reading in
+    let t = given-most tail.most tail.text h.given old.most (old.ahead ++ left) new.ahead more g part.split part.one full part.short some in
+    let lines : tail.first ∷ h.given ≡ lines_in tail = ap (λ ls. tail.first ∷ ls) (sym t.0) in (
+      t.1,
+      record {
+        accepts = ap (first_refused tail.number) (sym lines) ∙ all_run-all tail.number (tail.first ∷ h.given) h.all_run;
+        runs = λ old s ready. subst (λ ls. Ran config old (accepted ls) stands_now faults now told told_now) lines (h.runs old s ready);
+      },
+    )
+
+-- how the script ends at the next line
+pub ends-there_run : (tail : Tail) (config : Config) (stands stands_now : Machine → Type 0) (faults now : ℕ) (told told_now : Option (List ℕ)) (number : ℕ) (old new : LinesState) (left left_now : List ℕ) (given : Result Bool LinesFault) (status : Status) →
+    AllDone tail config stands stands_now faults now told told_now number old left → Gives old (old.ahead ++ left) given new left_now → EndsThere given new.line number (runs new.line ≡ None) status →
+    EndsCommands tail (Some left_now) (around_to config faults now told told_now) stands stands_now status
+ends-there_run tail config stands stands_now faults now told told_now number old new left left_now (Ok true) (Line n) h gives e =
+    subst (λ m. EndsBad tail (around_to config faults now told told_now) stands stands_now m) (sym e.0)
+    (ends-bad tail config stands stands_now faults now told told_now number old new left left_now h e.1 gives)
+ends-there_run tail config stands stands_now faults now told told_now number old new left left_now (Ok true) (NotYet n) h gives e =
+    subst (λ m. EndsUnbuilt tail (around_to config faults now told told_now) stands stands_now m) (sym e.0)
+    (ends-unbuilt tail config stands stands_now faults now told told_now number old new left left_now h e.1 gives)
+ends-there_run tail config stands stands_now faults now told told_now number old new left left_now (Ok true) status h gives e = absurd e
+ends-there_run tail config stands stands_now faults now told told_now number old new left left_now (Ok false) status h gives e = absurd e
+ends-there_run tail config stands stands_now faults now told told_now number old new left left_now (Err Failed) ScriptRead h gives e =
+    ends-taken tail config stands stands_now faults now told told_now number old new left left_now h gives
+ends-there_run tail config stands stands_now faults now told told_now number old new left left_now (Err Failed) status h gives e = absurd e
+ends-there_run tail config stands stands_now faults now told told_now number old new left left_now (Err Long) ScriptLong h gives e =
+    ends-long tail config stands stands_now faults now told told_now number old new left gives.0 h gives.1 gives.2 gives.3
+ends-there_run tail config stands stands_now faults now told told_now number old new left left_now (Err Long) status h gives e = absurd e
+
+-- a step of the same configuration
+pub step-config : {E : Type 0} (config config_now : Config) (c : Command) (stands stands_now : Machine → Type 0) (mid now : ℕ) (told_mid told_now : Option (List ℕ)) (result result_is : Result (Unit {0}) E) → config_now ≡ config → result ≡ result_is →
+    ((m : Machine) → stands m → Executes config_now m c stands_now mid now told_mid told_now result) → (m : Machine) → stands m → Executes config m c stands_now mid now told_mid told_now result_is
+step-config config config_now c stands stands_now mid now told_mid told_now result result_is e r h m s =
+    subst (λ k. Executes k m c stands_now mid now told_mid told_now result_is) e
+    (subst (λ x. Executes config_now m c stands_now mid now told_mid told_now x) r (h m s))
+
+-- all lines that were given were run, and this is left of the script
+abbrev pub Done_so_far : Tail → Config → (Machine → Type 0) → (Machine → Type 0) → ℕ → ℕ → Option (List ℕ) → Option (List ℕ) → ℕ → LinesState → Option (List ℕ) → Type 0
+Done_so_far tail config stands stands_now faults now told told_now number state left =
+    (left_is : List ℕ) × (left ≡ Some left_is) × AllDone tail config stands stands_now faults now told told_now number state left_is
+
+pub then-in_hand : (tail : Tail) (config : Config) (stands stands_now : Machine → Type 0) (faults now : ℕ) (told told_now : Option (List ℕ)) (number : ℕ) (old new : LinesState) (left left_now : Option (List ℕ)) (f f_now : ℕ) (c : code.Command) (room : List ℕ) →
+    Done_so_far tail config stands stands_now faults now told told_now number old left → NextRun old left f number (Ok (Some c)) room new left_now f_now →
+    InHand tail config stands stands_now faults now told told_now number new left_now
+then-in_hand tail config stands stands_now faults now told told_now number old new left left_now f f_now c room d n =
+    let g = n.advances.gives d.0 d.1 in
+    subst (λ l. InHand tail config stands stands_now faults now told told_now number new l) (sym g.1)
+    (in_hand-next tail config stands stands_now faults now told told_now number old new d.0 g.0 (command_view c room) d.2 n.next.1.reads
+    (subst (λ r. Gives old (old.ahead ++ d.0) r new g.0) n.next.0 g.2))
+
+pub then-done : (tail : Tail) (config : Config) (stands stands_now : Machine → Type 0) (faults now : ℕ) (told told_now : Option (List ℕ)) (number : ℕ) (old new : LinesState) (left left_now : Option (List ℕ)) (f f_now : ℕ) (room : List ℕ) →
+    Done_so_far tail config stands stands_now faults now told told_now number old left → NextRun old left f number (Ok None) room new left_now f_now →
+    (length tail.text ≤ tail.most) × EndsAll tail (around_to config faults now told told_now) stands stands_now
+then-done tail config stands stands_now faults now told told_now number old new left left_now f f_now room d n =
+    let g = n.advances.gives d.0 d.1 in
+    let k : old.ahead ++ d.0 ≡ [] = subst (λ r. Gives old (old.ahead ++ d.0) r new g.0) n.next g.2 in
+    ends-done tail config stands stands_now faults now told told_now number old d.0 d.2 k
+
+pub then-ends : (tail : Tail) (config : Config) (stands stands_now : Machine → Type 0) (faults now : ℕ) (told told_now : Option (List ℕ)) (number : ℕ) (old new : LinesState) (left left_now : Option (List ℕ)) (f f_now : ℕ) (room : List ℕ) (status : Status) →
+    Done_so_far tail config stands stands_now faults now told told_now number old left → NextRun old left f number (Err status) room new left_now f_now →
+    EndsCommands tail left_now (around_to config faults now told told_now) stands stands_now status
+then-ends tail config stands stands_now faults now told told_now number old new left left_now f f_now room status d n =
+    let g = n.advances.gives d.0 d.1 in
+    subst (λ l. EndsCommands tail l (around_to config faults now told told_now) stands stands_now status) (sym g.1)
+    (ends-there_run tail config stands stands_now faults now told told_now number old new d.0 g.0 n.given status d.2 g.2 n.next)

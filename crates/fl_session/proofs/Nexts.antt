@@ -1,0 +1,50 @@
+-- The next line behind a configuration.
+use Rattle.std.proofs.Common.{◌≡◌, ℕ, Bool, true, false, Option, Some, None, Result, Ok, Err, List, refl, ap, ◌∙◌}
+use Rattle.fl_words.specs.Command as words
+use Rattle.fl_words.specs.Grammar as grammar
+use Rattle.fl_words.specs.Grammar.{command_of}
+use Rattle.fl_machine.specs.Script.{runs, runs_read, runs_command}
+use Rattle.fl_session.specs.declared.stream.LinesFault.{LinesFault}
+use Rattle.fl_session.specs.declared.stream.LinesFault.TheVariants.{Failed, Long}
+use Rattle.fl_session.specs.declared.status.Status.{Status}
+use Rattle.fl_session.specs.declared.status.Status.TheVariants.{Done, Usage, Line, ScriptRead, OutWrite, MediaMake, Config, OtherConfig, ScriptLong, NoMemory, NotYet}
+use Rattle.fl_session.specs.Built.{is_built, IsRunnable}
+use Rattle.fl_session.specs.Next.{EndsThere, IsRefused, IsBuilt, IsToRun, is_config_line}
+
+pub ends-there : (given : Result Bool LinesFault) (line : List ℕ) (number : ℕ) (P Q : Type 0) (status : Status) → (P → Q) → EndsThere given line number P status → EndsThere given line number Q status
+ends-there (Ok true) line number P Q (Line n) f h = (h.0, f h.1)
+ends-there (Ok true) line number P Q (NotYet n) f h = h
+ends-there (Ok true) line number P Q status f h = h
+ends-there (Ok false) line number P Q status f h = h
+ends-there (Err Failed) line number P Q status f h = h
+ends-there (Err Long) line number P Q status f h = h
+
+runs-refused_of : (r : Result words.Command grammar.LineFault) → IsRefused r → runs_read r ≡ None
+runs-refused_of (Ok c) h = absurd h
+runs-refused_of (Err fault) h = refl
+
+pub runs-refused : (line : List ℕ) → IsRefused (command_of line) → runs line ≡ None
+runs-refused line h = runs-refused_of (command_of line) h
+
+pub ends-refused : (given : Result Bool LinesFault) (line : List ℕ) (number : ℕ) (status : Status) → EndsThere given line number (IsRefused (command_of line)) status → EndsThere given line number (runs line ≡ None) status
+ends-refused given line number status h = ends-there given line number (IsRefused (command_of line)) (runs line ≡ None) status (runs-refused line) h
+
+runs-config_of : (c : words.Command) → is_config_line c ≡ true → runs_command c ≡ None
+runs-config_of (words.Device page block) e = refl
+runs-config_of (words.Table line) e = refl
+runs-config_of c e = cc
+
+runs-other_of : (c : words.Command) → is_config_line c ≡ false → runs_command c ≡ Some c
+runs-other_of (words.Device page block) e = cc
+runs-other_of (words.Table line) e = cc
+runs-other_of c e = refl
+
+-- a line of a configuration isn't run
+pub runs-config : (line : List ℕ) (c : words.Command) → IsBuilt line c → is_config_line c ≡ true → runs line ≡ None
+runs-config line c h e = ap runs_read h.reads ∙ runs-config_of c e
+
+pub to_run-other : (line : List ℕ) (c : words.Command) → IsBuilt line c → is_config_line c ≡ false → IsToRun line c
+to_run-other line c h e = record { reads = h.reads; runnable = record { built = h.built; runs = runs-other_of c e } }
+
+pub runs-runnable : (line : List ℕ) (c : words.Command) → IsToRun line c → runs line ≡ Some c
+runs-runnable line c h = ap runs_read h.reads ∙ h.runnable.runs

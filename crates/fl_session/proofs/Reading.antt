@@ -1,0 +1,200 @@
+-- A text of which lines are read one after another.
+use Rattle.std.proofs.Common.{◌≡◌, ℕ, suc, ◌+◌, ◌-◌, ◌<◌, ◌≤◌, Bool, true, false, nat_lt, ◌==◌, List, [], ◌∷◌, ◌++◌, length, take, drop, inl, inr, refl, sym, ◌∙◌, ap, subst, arith, append_assoc, append-nil, length-append}
+use Rattle.std.specs.Prelude.{if◌then◌else◌, unwrap_or, None}
+use Rattle.std.proofs.lemmas.Bool.{lt-ltb, le-ltb, ltb-true, ne_eqb}
+use Rattle.std.proofs.Math.Seq.{take-append-add, take-append_seam, drop-append-add, drop-append_seam}
+use Rattle.std.specs.List.{onto_first, last_or}
+use Rattle.std.proofs.lemmas.List.Elements.{All-head, All-tail}
+use Rattle.std.proofs.lemmas.List.Splits.{slice_split-cons_no}
+use Rattle.fl_words.specs.Grammar.{lines_of, no_empty_last}
+use Rattle.fl_session.specs.Texts.{parts_of, all_but_last, whole_lines, rest_of, long_rest, lines_within}
+use Rattle.fl_session.proofs.Parts.{OneLine, within-line, whole-line, whole-rest, rest-rest, lines-rest, parts-some, same_test}
+
+-- The lines that were given of a text, of which at most so many bytes are read, and what is left of both. Where the last
+-- line was given that has no newline, the text is closed.
+pub record Given (most : ℕ) (text : List ℕ) (given : List (List ℕ)) (closed : Bool) (most_now : ℕ) (rest : List ℕ) : Type 0 where
+  pub lines : lines_within most text ≡ given ++ lines_within most_now rest
+  pub long : nat_lt most (length text) ≡ nat_lt most_now (length rest)
+  pub front : List ℕ
+  pub split : closed ≡ false → text ≡ front ++ rest
+  pub bytes : closed ≡ false → most ≡ length front + most_now
+  pub whole : closed ≡ false → (xs : List ℕ) → whole_lines (front ++ xs) ≡ given ++ whole_lines xs
+
+pub given-none : (most : ℕ) (text : List ℕ) (closed : Bool) → Given most text [] closed most text
+given-none most text closed = record {
+  lines = refl;
+  long = refl;
+  front = [];
+  split = λ _. refl;
+  bytes = λ _. omega arith;
+  whole = λ _ xs. refl;
+}
+
+-- a whole line is given
+pub given-line : (most : ℕ) (text : List ℕ) (given : List (List ℕ)) (most_now : ℕ) (rest line rest_now : List ℕ) →
+    Given most text given false most_now rest → rest ≡ line ++ 10 ∷ rest_now → OneLine line → length line < most_now →
+    Given most text (given ++ line ∷ []) false (most_now - (length line + 1)) rest_now
+given-line most text given most_now rest line rest_now g e h short =
+    let count : length rest ≡ length line + (length rest_now + 1) = ap length e ∙ (length-append line (10 ∷ rest_now) ∙ omega arith) in
+    let joined : (xs : List ℕ) → (g.front ++ (line ++ 10 ∷ [])) ++ xs ≡ g.front ++ (line ++ 10 ∷ xs) =
+        λ xs. append_assoc g.front (line ++ 10 ∷ []) xs ∙ ap (λ ys. g.front ++ ys) (append_assoc line (10 ∷ []) xs) in
+    record {
+      lines = g.lines ∙ (ap (λ r. given ++ lines_within most_now r) e
+          ∙ (ap (λ r. given ++ r) (within-line line rest_now most_now h short)
+          ∙ sym (append_assoc given (line ∷ []) (lines_within (most_now - (length line + 1)) rest_now))));
+      long = g.long ∙ same_test most_now (length rest) (most_now - (length line + 1)) (length rest_now) (λ k. omega arith) (λ k. omega arith);
+      front = g.front ++ (line ++ 10 ∷ []);
+      split = λ c. g.split c ∙ (ap (λ r. g.front ++ r) e ∙ sym (joined rest_now));
+      bytes = λ c. omega (arith, g.bytes c, length-append g.front (line ++ 10 ∷ []), length-append line (10 ∷ []));
+      whole = λ c xs.
+          ap whole_lines (joined xs)
+          ∙ (g.whole c (line ++ 10 ∷ xs)
+          ∙ (ap (λ r. given ++ r) (whole-line line xs h) ∙ sym (append_assoc given (line ∷ []) (whole_lines xs))));
+    }
+
+all_within : (most : ℕ) (text : List ℕ) → length text ≤ most → lines_within most text ≡ lines_of text
+all_within most text h = ap (λ b. if b then whole_lines (take most text) ++ long_rest (take most text) else lines_of text) (le-ltb most (length text) h)
+
+-- the last line is given, which has no newline
+pub given-last : (most : ℕ) (text : List ℕ) (given : List (List ℕ)) (most_now most_then : ℕ) (rest line rest_now : List ℕ) →
+    Given most text given false most_now rest → rest ≡ line → rest_now ≡ [] → OneLine line → 0 < length line → length line ≤ most_now →
+    Given most text (given ++ line ∷ []) true most_then rest_now
+given-last most text given most_now most_then rest line rest_now g e none h some short =
+    let count : length rest ≡ length line = ap length e in
+    let nothing : lines_within most_then rest_now ≡ [] = ap (lines_within most_then) none ∙ all_within most_then [] (omega arith) in
+    record {
+      lines = g.lines ∙ (ap (λ r. given ++ lines_within most_now r) e
+          ∙ (ap (λ r. given ++ r) (all_within most_now line short ∙ lines-rest line h some)
+          ∙ (sym (append-nil (given ++ line ∷ [])) ∙ ap (λ r. (given ++ line ∷ []) ++ r) (sym nothing))));
+      long = g.long ∙ (le-ltb most_now (length rest) (omega arith) ∙ sym (le-ltb most_then (length rest_now) (omega (arith, ap length none))));
+      front = [];
+      split = λ c. cc;
+      bytes = λ c. cc;
+      whole = λ c. cc;
+    }
+
+-- all lines are given
+pub given-all : (most : ℕ) (text : List ℕ) (given : List (List ℕ)) (closed : Bool) (most_now : ℕ) (rest : List ℕ) →
+    Given most text given closed most_now rest → rest ≡ [] → (lines_within most text ≡ given) × (nat_lt most (length text) ≡ false)
+given-all most text given closed most_now rest g e = (
+  g.lines ∙ (ap (λ r. given ++ lines_within most_now r) e ∙ (ap (λ r. given ++ r) (all_within most_now [] (omega arith)) ∙ append-nil given)),
+  g.long ∙ (ap (λ r. nat_lt most_now (length r)) e ∙ le-ltb most_now 0 (omega arith)),
+)
+
+-- the source was read up to a part of a line
+pub record IsTaken (text : List ℕ) (most : ℕ) (given : List (List ℕ)) (left : List ℕ) : Type 0 where
+  pub taken : ℕ
+  pub within : taken ≤ length text
+  pub few : taken ≤ most
+  pub left_is : drop taken text ≡ left
+  pub whole : whole_lines (take taken text) ≡ given
+
+pub given-taken : (most : ℕ) (text : List ℕ) (given : List (List ℕ)) (most_now : ℕ) (rest ahead left : List ℕ) →
+    Given most text given false most_now rest → rest ≡ ahead ++ left → OneLine ahead → length ahead ≤ most_now → IsTaken text most given left
+given-taken most text given most_now rest ahead left g e h short =
+    let split : text ≡ g.front ++ (ahead ++ left) = g.split refl ∙ ap (λ r. g.front ++ r) e in
+    let cut : take (length g.front + length ahead) text ≡ g.front ++ ahead =
+        ap (take (length g.front + length ahead)) split
+        ∙ (take-append-add g.front (ahead ++ left) (length ahead) ∙ ap (λ r. g.front ++ r) (take-append_seam ahead left)) in
+    record {
+      taken = length g.front + length ahead;
+      within = omega (arith, ap length split, length-append g.front (ahead ++ left), length-append ahead left);
+      few = omega (arith, g.bytes refl);
+      left_is = ap (drop (length g.front + length ahead)) split ∙ (drop-append-add g.front (ahead ++ left) (length ahead) ∙ drop-append_seam ahead left);
+      whole = ap whole_lines cut ∙ (g.whole refl ahead ∙ (ap (λ r. given ++ r) (whole-rest ahead h) ∙ append-nil given));
+    }
+
+-- so many bytes were read as are at most, up to a part of a line
+pub given-most : (most : ℕ) (text : List ℕ) (given : List (List ℕ)) (most_now : ℕ) (rest ahead left : List ℕ) →
+    Given most text given false most_now rest → rest ≡ ahead ++ left → OneLine ahead → length ahead ≡ most_now → length ahead ≤ 4096 → 0 < length left →
+    (lines_within most text ≡ given) × (most < length text)
+given-most most text given most_now rest ahead left g e h full short more =
+    let count : length rest ≡ length ahead + length left = ap length e ∙ length-append ahead left in
+    let is_long : nat_lt most_now (length rest) ≡ true = lt-ltb most_now (length rest) (omega arith) in
+    let cut : take most_now rest ≡ ahead = ap (take most_now) e ∙ (ap (λ n. take n (ahead ++ left)) (sym full) ∙ take-append_seam ahead left) in
+    let rest_is : rest_of (take most_now rest) ≡ ahead = ap rest_of cut ∙ rest-rest ahead h in
+    let no_long : long_rest (take most_now rest) ≡ [] =
+        ap (λ r. if nat_lt 4096 (length r) then r ∷ [] else []) rest_is ∙ ap (λ b. if b then ahead ∷ [] else []) (le-ltb 4096 (length ahead) short) in
+    let none : lines_within most_now rest ≡ [] =
+        ap (λ b. if b then whole_lines (take most_now rest) ++ long_rest (take most_now rest) else lines_of rest) is_long
+        ∙ (ap (λ ls. ls ++ long_rest (take most_now rest)) (ap whole_lines cut ∙ whole-rest ahead h) ∙ no_long) in (
+      g.lines ∙ (ap (λ r. given ++ r) none ∙ append-nil given),
+      ltb-true most (length text) (g.long ∙ is_long),
+    )
+
+-- a line that is too long
+pub record IsTooLong (most : ℕ) (text : List ℕ) (given : List (List ℕ)) : Type 0 where
+  pub line : List ℕ
+  pub others : List (List ℕ)
+  pub lines : lines_within most text ≡ given ++ line ∷ others
+  pub long : 4096 < length line
+
+-- the first part of a text begins with a front that has no newline
+record BeginsWith (front : List ℕ) (parts : List (List ℕ)) : Type 0 where
+  first : List ℕ
+  others : List (List ℕ)
+  parts_are : parts ≡ (front ++ first) ∷ others
+
+first-none : (parts : List (List ℕ)) → 0 < length parts → BeginsWith [] parts
+first-none [] h = absurd (omega arith)
+first-none (part ∷ parts) h = record { first = part; others = parts; parts_are = refl }
+
+first-part : (front rest : List ℕ) → OneLine front → BeginsWith front (parts_of (front ++ rest))
+first-part [] rest h = first-none (parts_of rest) (parts-some rest)
+first-part (byte ∷ bytes) rest h =
+    let b = first-part bytes rest (All-tail (λ b. (b == 10) ≡ false) byte bytes h) in
+    record {
+      first = b.first;
+      others = b.others;
+      parts_are = slice_split-cons_no (λ b. b == 10) byte (bytes ++ rest) (All-head (λ b. (b == 10) ≡ false) byte bytes h) ∙ ap (onto_first byte) b.parts_are;
+    }
+
+-- the first of lines is longer than this
+record FirstLong (lines : List (List ℕ)) : Type 0 where
+  line : List ℕ
+  others : List (List ℕ)
+  lines_are : lines ≡ line ∷ others
+  long : 4096 < length line
+
+lines-long : (line : List ℕ) (parts : List (List ℕ)) → 4096 < length line → FirstLong (no_empty_last (line ∷ parts))
+lines-long line [] h = record {
+  line = line;
+  others = [];
+  lines_are = ap (λ b. if b then [] else line ∷ []) (ne_eqb (length line) 0 (λ e. omega arith));
+  long = h;
+}
+lines-long line (part ∷ parts) h = record { line = line; others = no_empty_last (part ∷ parts); lines_are = refl; long = h }
+
+whole-long : (line : List ℕ) (parts : List (List ℕ)) → 4096 < length line →
+    FirstLong (all_but_last (line ∷ parts) ++ (if nat_lt 4096 (length (unwrap_or (last_or None (line ∷ parts)) [])) then unwrap_or (last_or None (line ∷ parts)) [] ∷ [] else []))
+whole-long line [] h = record {
+  line = line;
+  others = [];
+  lines_are = ap (λ b. if b then line ∷ [] else []) (lt-ltb 4096 (length line) h);
+  long = h;
+}
+whole-long line (part ∷ parts) h = record { line = line; others = _; lines_are = refl; long = h }
+
+long_cases : (most : ℕ) (rest front others : List ℕ) (b : Bool) → rest ≡ front ++ others → OneLine front → 4096 < length front → length front ≤ most →
+    FirstLong (if b then whole_lines (take most rest) ++ long_rest (take most rest) else lines_of rest)
+long_cases most rest front others true e h long few =
+    let cut : take most rest ≡ front ++ take (most - length front) others =
+        ap (take most) e
+        ∙ (ap (λ n. take n (front ++ others)) (let k : most ≡ length front + (most - length front) = omega arith in k) ∙ take-append-add front others (most - length front)) in
+    let b = first-part front (take (most - length front) others) h in
+    let parts : parts_of (take most rest) ≡ (front ++ b.first) ∷ b.others = ap parts_of cut ∙ b.parts_are in
+    subst
+    (λ ps. FirstLong (all_but_last ps ++ (if nat_lt 4096 (length (unwrap_or (last_or None ps) [])) then unwrap_or (last_or None ps) [] ∷ [] else [])))
+    (sym parts)
+    (whole-long (front ++ b.first) b.others (omega (arith, length-append front b.first)))
+long_cases most rest front others false e h long few =
+    let b = first-part front others h in
+    let parts : parts_of rest ≡ (front ++ b.first) ∷ b.others = ap parts_of e ∙ b.parts_are in
+    subst (λ ps. FirstLong (no_empty_last ps)) (sym parts) (lines-long (front ++ b.first) b.others (omega (arith, length-append front b.first)))
+
+pub given-too_long : (most : ℕ) (text : List ℕ) (given : List (List ℕ)) (closed : Bool) (most_now : ℕ) (rest front others : List ℕ) →
+    Given most text given closed most_now rest → rest ≡ front ++ others → OneLine front → 4096 < length front → length front ≤ most_now →
+    IsTooLong most text given
+given-too_long most text given closed most_now rest front others g e h long few =
+    let f = long_cases most_now rest front others (nat_lt most_now (length rest)) e h long few in
+    record { line = f.line; others = f.others; lines = g.lines ∙ ap (λ r. given ++ r) f.lines_are; long = f.long }

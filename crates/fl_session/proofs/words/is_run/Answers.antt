@@ -1,0 +1,6 @@
+use Rattle.std.proofs.Common.{◌∙◌, ◌∷◌, []}
+use Rattle.fl_session.proofs.Equality.{bytes_equal-is}
+use Rattle.fl_session.proofs.words.is_run.Goals as goal
+
+pub returns : goal.returns
+returns c = c.eq.ensures ∙ bytes_equal-is c.args.word.now (114 ∷ 117 ∷ 110 ∷ [])

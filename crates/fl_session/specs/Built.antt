@@ -1,0 +1,34 @@
+-- The forms of lines that are built. A line of another form is not executed: the run ends there.
+use Rattle.std.specs.Prelude.{◌≡◌, Bool, true, false, Some, ◌&&◌, ◌==◌, nat_le, List, length}
+use Rattle.std.specs.List.{list_all}
+use Rattle.fl_model.specs.Record.{Plan, Config}
+use Rattle.fl_words.specs.Command as command
+use Rattle.fl_machine.specs.Script.{runs_command}
+use Rattle.fl_words.specs.Command.{Command}
+
+-- the commands
+abbrev pub is_built : Command → Bool
+is_built (command.Get name key) = false
+is_built (command.Blob name key) = false
+is_built (command.Open cursor name range span) = false
+is_built (command.Next cursor count) = false
+is_built (command.Close cursor) = false
+is_built (command.Select name range column op value) = false
+is_built (command.Project name range columns) = false
+is_built (command.Agg name range column width) = false
+is_built (command.Join left right range) = false
+is_built command.Cost = false
+is_built (command.Load name count step seed) = false
+is_built c = true
+
+-- the configurations: one table, without an index ring and without variable data
+abbrev pub is_built_plan : Plan → Bool
+is_built_plan plan = (plan.index_blocks == 0) && (plan.var_blocks == 0)
+
+abbrev pub is_built_config : Config → Bool
+is_built_config config = nat_le (length config.plans) 1 && list_all is_built_plan config.plans
+
+-- a command that is run: it is built, and is no line of a configuration
+pub record IsRunnable (c : Command) : Type 0 where
+  pub built : is_built c ≡ true
+  pub runs : runs_command c ≡ Some c

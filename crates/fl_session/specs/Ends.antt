@@ -1,0 +1,201 @@
+-- How a run over a script and a medium ends, by its status.
+use Rattle.std.specs.Prelude.{◌≡◌, ℕ, ◌+◌, ◌-◌, ◌<◌, ◌≤◌, Bool, true, false, ◌⊎◌, IsTrue, Option, Some, None, Ok, List, [], ◌∷◌, ◌++◌, length, take, drop, replicate, slice_get, if◌then◌else◌}
+use Rattle.fl_base.specs.Causes.{Rose, Appends}
+use Rattle.fl_model.specs.Record.{Config}
+use Rattle.fl_model.specs.Image.{medium_len}
+use Rattle.fl_words.specs.Command.{Command}
+use Rattle.fl_words.specs.Grammar.{command_of}
+use Rattle.fl_words.specs.Medium.{header}
+use Rattle.fl_machine.specs.Machine.{Machine}
+use Rattle.fl_machine.specs.Script.{Start, Ready, Unended, BadLine, BadConfig, start_of, ended, accepted, first_refused, StandsFor, StandsAfter, Ran, RanInto}
+use Rattle.fl_session.specs.Built.{is_built, is_built_config}
+use Rattle.fl_session.specs.Texts.{most_bytes, whole_lines, is_long, lines_read}
+use Rattle.fl_session.specs.declared.status.Status.{Status}
+use Rattle.fl_session.specs.declared.status.Status.TheVariants.{Done, Usage, Line, ScriptRead, OutWrite, MediaMake, Config as BadConfiguration, OtherConfig, ScriptLong, NoMemory, NotYet}
+
+-- what the outside tells before and after: the medium's content, what the source has left, the bytes that are written,
+-- and the medium's faults
+pub record Told : Type 0 where
+  pub content : List ℕ
+  pub content_now : List ℕ
+  pub left_now : Option (List ℕ)
+  pub written : Option (List ℕ)
+  pub written_now : Option (List ℕ)
+  pub faults : ℕ
+  pub faults_now : ℕ
+
+-- nothing was written, and the medium is as it was
+pub record IsUntouched (told : Told) : Type 0 where
+  pub content : told.content_now ≡ told.content
+  pub written : Appends told.written told.written_now []
+
+-- a medium that is empty, or has the length and the header of the configuration
+abbrev pub IsOwn : Config → List ℕ → Type 0
+IsOwn config content = (content ≡ []) ⊎ ((length content ≡ medium_len config) × (take 1024 content ≡ header config))
+
+-- from each state for which the medium stands these commands were run, and it stands for the state after them
+pub record RunsAll (config : Config) (commands : List Command) (told : Told) : Type 0 where
+  pub own : IsOwn config told.content
+  pub runs : (old : Machine) → StandsFor config told.content old →
+      Ran config old commands (StandsAfter config (Some told.content_now)) told.faults told.faults_now told.written told.written_now
+
+-- .. and in the reply of the last of them the sink failed
+pub record RunsInto (config : Config) (commands : List Command) (told : Told) : Type 0 where
+  pub own : IsOwn config told.content
+  pub runs : (old : Machine) → StandsFor config told.content old →
+      RanInto config old commands (StandsAfter config (Some told.content_now)) told.faults told.faults_now told.written told.written_now
+
+-- the first place at which two texts differ
+pub record Differs (wanted found : List ℕ) (at a b : ℕ) : Type 0 where
+  pub same : take at wanted ≡ take at found
+  pub wanted_is : slice_get wanted at ≡ Some a
+  pub found_is : slice_get found at ≡ Some b
+  pub differ : a ≡ b → ⊥
+
+-- a medium of another configuration: its length or its header
+abbrev pub IsOther : Config → List ℕ → ℕ → ℕ → ℕ → Type 0
+IsOther config content wanted found at =
+    (content ≡ [] → ⊥)
+    × (((wanted ≡ medium_len config) × (found ≡ length content) × (at ≡ 1024) × (wanted ≡ found → ⊥))
+    ⊎ ((length content ≡ medium_len config) × Differs (header config) (take 1024 content) at wanted found))
+
+-- how the configuration of a script ends; the end of a long one isn't reached
+abbrev pub start_in : ℕ → List ℕ → Start
+start_in knots text = if is_long text then start_of knots (lines_read text) else ended (start_of knots (lines_read text))
+
+-- The reading ended behind these lines: where a command line had ended the configuration, all lines behind it were run,
+-- none of them refused; where none had, nothing was done.
+abbrev pub EndsEarly : Start → Told → Type 0
+EndsEarly (Ready config n lines) told = (first_refused n lines ≡ None) × RunsAll config (accepted lines) told
+EndsEarly (Unended config n) told = IsUntouched told
+EndsEarly (BadLine n) told = ⊥
+EndsEarly (BadConfig n) told = ⊥
+
+abbrev pub EndsDone : Start → Told → Type 0
+EndsDone (Ready config n lines) told = (first_refused n lines ≡ None) × RunsAll config (accepted lines) told
+EndsDone (Unended config n) told = ⊥
+EndsDone (BadLine n) told = ⊥
+EndsDone (BadConfig n) told = ⊥
+
+-- a line is refused, and those before it were run
+abbrev pub EndsLine : Start → Told → ℕ → Type 0
+EndsLine (Ready config n lines) told line = (first_refused n lines ≡ Some line) × RunsAll config (accepted lines) told
+EndsLine (Unended config n) told line = ⊥
+EndsLine (BadLine n) told line = (n ≡ line) × IsUntouched told
+EndsLine (BadConfig n) told line = ⊥
+
+-- some of the commands were run, and the sink failed in the reply of the last
+abbrev pub EndsInto : Start → Told → Type 0
+EndsInto (Ready config n lines) told = (commands : List Command) × (others : List Command) × (commands ++ others ≡ accepted lines) × RunsInto config commands told
+EndsInto (Unended config n) told = ⊥
+EndsInto (BadLine n) told = ⊥
+EndsInto (BadConfig n) told = ⊥
+
+-- the medium failed while the header or the blank image was read or written
+abbrev pub EndsMaking : Start → Told → Type 0
+EndsMaking (Ready config n lines) told =
+    Appends told.written told.written_now [] × ((told.content ≡ [] → ⊥) → told.content_now ≡ told.content)
+    × ((told.content ≡ []) → length told.content_now ≤ medium_len config)
+EndsMaking (Unended config n) told = ⊥
+EndsMaking (BadLine n) told = ⊥
+EndsMaking (BadConfig n) told = ⊥
+
+abbrev pub EndsConfig : Start → Told → ℕ → Type 0
+EndsConfig (BadConfig n) told line = (n ≡ line) × IsUntouched told
+EndsConfig (Ready config n lines) told line = ⊥
+EndsConfig (Unended config n) told line = ⊥
+EndsConfig (BadLine n) told line = ⊥
+
+abbrev pub EndsOther : Start → Told → ℕ → ℕ → ℕ → Type 0
+EndsOther (Ready config n lines) told wanted found at = IsOther config told.content wanted found at × IsUntouched told
+EndsOther (Unended config n) told wanted found at = ⊥
+EndsOther (BadLine n) told wanted found at = ⊥
+EndsOther (BadConfig n) told wanted found at = ⊥
+
+-- the medium is newly made: the header and blank pages
+abbrev pub new_content : Config → List ℕ
+new_content config = header config ++ replicate (medium_len config - 1024) 255
+
+abbrev pub IsNew : Start → Told → Type 0
+IsNew (Ready config n lines) told = (told.content ≡ []) × (told.content_now ≡ new_content config)
+IsNew (Unended config n) told = ⊥
+IsNew (BadLine n) told = ⊥
+IsNew (BadConfig n) told = ⊥
+
+-- the configuration that these lines make so far is none that is built
+abbrev pub IsUnbuiltConfig : Start → Type 0
+IsUnbuiltConfig (Unended (Some config) n) = is_built_config config ≡ false
+IsUnbuiltConfig (Unended None n) = ⊥
+IsUnbuiltConfig (Ready config n lines) = ⊥
+IsUnbuiltConfig (BadLine n) = ⊥
+IsUnbuiltConfig (BadConfig n) = ⊥
+
+-- The line of this number is in the grammar, and its form isn't built. It is not executed, and those before it were run.
+pub record EndsAt (knots : ℕ) (lines : List (List ℕ)) (told : Told) (number : ℕ) : Type 0 where
+  pub before : List (List ℕ)
+  pub line : List ℕ
+  pub others : List (List ℕ)
+  pub split : lines ≡ before ++ line ∷ others
+  pub number_is : number ≡ length before + 1
+  pub command : Command
+  pub reads : command_of line ≡ Ok command
+  pub unbuilt : (is_built command ≡ false) ⊎ IsUnbuiltConfig (start_of knots (before ++ line ∷ []))
+  pub ends : EndsEarly (start_of knots before) told
+
+-- a source that was read up to so many bytes: the whole lines of these were run
+pub record EndsRead (knots : ℕ) (text : List ℕ) (told : Told) : Type 0 where
+  pub taken : ℕ
+  pub within : taken ≤ length text
+  pub most : taken ≤ most_bytes
+  pub left : told.left_now ≡ Some (drop taken text)
+  pub ends : EndsEarly (start_of knots (whole_lines (take taken text))) told
+
+-- `text` is the script
+abbrev pub Ends : ℕ → List ℕ → Told → Status → Type 0
+Ends knots text told Done = (length text ≤ most_bytes) × EndsDone (start_in knots text) told
+Ends knots text told Usage = IsUntouched told
+Ends knots text told (Line n) = EndsLine (start_in knots text) told n
+Ends knots text told ScriptRead = EndsRead knots text told
+Ends knots text told OutWrite = EndsInto (start_in knots text) told
+Ends knots text told MediaMake = EndsMaking (start_in knots text) told
+Ends knots text told (BadConfiguration n) = EndsConfig (start_in knots text) told n
+Ends knots text told (OtherConfig wanted found at) = EndsOther (start_in knots text) told wanted found at
+Ends knots text told ScriptLong = (most_bytes < length text) × EndsEarly (start_of knots (lines_read text)) told
+Ends knots text told NoMemory =
+    Appends told.written told.written_now [] × ((told.content_now ≡ told.content) ⊎ IsNew (start_in knots text) told)
+Ends knots text told (NotYet n) = EndsAt knots (lines_read text) told n
+
+-- The early statuses, whoever tells the script. Nothing was written, and the medium is unchanged
+abbrev pub IsEarly : Bool → List ℕ → List ℕ → Option (List ℕ) → Option (List ℕ) → Type 0
+IsEarly tells content content_now told told_now = Appends told told_now [] × (IsTrue tells → content_now ≡ content)
+
+-- .. or it was empty before it was made
+abbrev pub IsHalfMade : Bool → List ℕ → List ℕ → Option (List ℕ) → Option (List ℕ) → Type 0
+IsHalfMade tells content content_now told told_now =
+    Appends told told_now [] × (IsTrue tells → (content ≡ [] → ⊥) → content_now ≡ content)
+
+-- .. or it is unchanged or newly made and blank
+abbrev pub IsMadeAtMost : Bool → List ℕ → List ℕ → Option (List ℕ) → Option (List ℕ) → Type 0
+IsMadeAtMost tells content content_now told told_now =
+    Appends told told_now [] × (IsTrue tells → (content_now ≡ content) ⊎ ((content ≡ []) × ((config : Config) × (content_now ≡ new_content config))))
+
+-- A script of commands that are all in the grammar and in their places, over a medium that is empty or of its configuration
+abbrev pub IsWhole : Start → List ℕ → Type 0
+IsWhole (Ready config n lines) content = (first_refused n lines ≡ None) × IsOwn config content
+IsWhole (Unended config n) content = ⊥
+IsWhole (BadLine n) content = ⊥
+IsWhole (BadConfig n) content = ⊥
+
+-- .. is run to its end, but where memory is wanted or a line isn't built
+abbrev pub RunsToEnd : Status → Type 0
+RunsToEnd Done = Unit {0}
+RunsToEnd NoMemory = Unit {0}
+RunsToEnd (NotYet n) = Unit {0}
+RunsToEnd Usage = ⊥
+RunsToEnd (Line n) = ⊥
+RunsToEnd ScriptRead = ⊥
+RunsToEnd OutWrite = ⊥
+RunsToEnd MediaMake = ⊥
+RunsToEnd (BadConfiguration n) = ⊥
+RunsToEnd (OtherConfig wanted found at) = ⊥
+RunsToEnd ScriptLong = ⊥

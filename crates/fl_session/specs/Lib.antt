@@ -1,0 +1,10 @@
+pub mod Words
+pub mod Built
+pub mod Texts
+pub mod Ends
+pub mod Number
+pub mod Execute
+pub mod Reads
+pub mod Stream
+pub mod Next
+pub mod Loop

@@ -1,0 +1,75 @@
+-- How the commands of a script are run one after another, from a first one on that was read.
+use Rattle.std.specs.Prelude.{◌≡◌, ℕ, ◌+◌, ◌<◌, ◌≤◌, Bool, false, Option, Some, None, Ok, List, [], ◌∷◌, ◌++◌, length, take, drop}
+use Rattle.fl_words.specs.Command.{Command}
+use Rattle.fl_words.specs.Grammar.{command_of}
+use Rattle.fl_machine.specs.Machine.{Machine}
+use Rattle.fl_machine.specs.Script.{accepted, first_refused}
+use Rattle.fl_session.specs.Built.{is_built}
+use Rattle.fl_session.specs.Texts.{whole_lines, lines_within}
+use Rattle.fl_session.specs.Execute.{Around, RanAll, RanPart}
+use Rattle.fl_session.specs.Next.{IsUnbuilt}
+use Rattle.fl_session.specs.declared.status.Status.{Status}
+use Rattle.fl_session.specs.declared.status.Status.TheVariants.{Done, Usage, Line, ScriptRead, OutWrite, MediaMake, Config, OtherConfig, ScriptLong, NoMemory, NotYet}
+
+-- a script from a line on: the line and its number, the text behind it and how much of it may be read, and whether the
+-- line was the last one
+pub record Tail : Type 0 where
+  pub number : ℕ
+  pub first : List ℕ
+  pub text : List ℕ
+  pub most : ℕ
+  pub closed : Bool
+
+abbrev pub lines_in : Tail → List (List ℕ)
+lines_in tail = tail.first ∷ lines_within tail.most tail.text
+
+-- all lines were run
+pub record EndsAll (tail : Tail) (around : Around) (stands stands_now : Machine → Type 0) : Type 0 where
+  pub accepts : first_refused tail.number (lines_in tail) ≡ None
+  pub runs : RanAll around stands stands_now (accepted (lines_in tail))
+
+-- the lines before one that is refused
+pub record EndsBad (tail : Tail) (around : Around) (stands stands_now : Machine → Type 0) (line : ℕ) : Type 0 where
+  pub refuses : first_refused tail.number (lines_in tail) ≡ Some line
+  pub runs : RanAll around stands stands_now (accepted (lines_in tail))
+
+-- .. before one that isn't built
+pub record EndsUnbuilt (tail : Tail) (around : Around) (stands stands_now : Machine → Type 0) (number : ℕ) : Type 0 where
+  pub before : List (List ℕ)
+  pub line : List ℕ
+  pub others : List (List ℕ)
+  pub split : lines_in tail ≡ (tail.first ∷ before) ++ line ∷ others
+  pub number_is : number ≡ tail.number + length (tail.first ∷ before)
+  pub unbuilt : IsUnbuilt line
+  pub accepts : first_refused tail.number (tail.first ∷ before) ≡ None
+  pub runs : RanAll around stands stands_now (accepted (tail.first ∷ before))
+
+-- .. some of the lines, and in the reply of the last of them the sink failed
+pub record EndsInReply (tail : Tail) (around : Around) (stands stands_now : Machine → Type 0) : Type 0 where
+  pub commands : List Command
+  pub others : List Command
+  pub split : commands ++ others ≡ accepted (lines_in tail)
+  pub runs : RanPart around stands stands_now commands
+
+-- .. the whole lines of what was taken from the source
+pub record EndsTaken (tail : Tail) (left_now : Option (List ℕ)) (around : Around) (stands stands_now : Machine → Type 0) : Type 0 where
+  pub is_open : tail.closed ≡ false
+  pub taken : ℕ
+  pub within : taken ≤ length tail.text
+  pub few : taken ≤ tail.most
+  pub left : left_now ≡ Some (drop taken tail.text)
+  pub accepts : first_refused tail.number (tail.first ∷ whole_lines (take taken tail.text)) ≡ None
+  pub runs : RanAll around stands stands_now (accepted (tail.first ∷ whole_lines (take taken tail.text)))
+
+abbrev pub EndsCommands : Tail → Option (List ℕ) → Around → (Machine → Type 0) → (Machine → Type 0) → Status → Type 0
+EndsCommands tail left_now around stands stands_now Done = (length tail.text ≤ tail.most) × EndsAll tail around stands stands_now
+EndsCommands tail left_now around stands stands_now (Line n) = EndsBad tail around stands stands_now n
+EndsCommands tail left_now around stands stands_now ScriptRead = EndsTaken tail left_now around stands stands_now
+EndsCommands tail left_now around stands stands_now OutWrite = EndsInReply tail around stands stands_now
+EndsCommands tail left_now around stands stands_now ScriptLong = (tail.most < length tail.text) × EndsAll tail around stands stands_now
+EndsCommands tail left_now around stands stands_now (NotYet n) = EndsUnbuilt tail around stands stands_now n
+EndsCommands tail left_now around stands stands_now Usage = ⊥
+EndsCommands tail left_now around stands stands_now MediaMake = ⊥
+EndsCommands tail left_now around stands stands_now (Config n) = ⊥
+EndsCommands tail left_now around stands stands_now (OtherConfig wanted found at) = ⊥
+EndsCommands tail left_now around stands stands_now NoMemory = ⊥

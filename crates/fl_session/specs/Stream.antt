@@ -1,0 +1,70 @@
+-- A stream of the lines of a script.
+use Rattle.std.specs.Prelude.{◌≡◌, ℕ, ◌+◌, ◌-◌, ◌<◌, ◌≤◌, Bool, true, false, ◌==◌, ◌⊎◌, All, Option, Some, Result, Ok, Err, List, [], ◌∷◌, ◌++◌, length}
+use Rattle.fl_base.specs.Causes.{Rose}
+use Rattle.fl_session.specs.declared.stream.LinesFault.{LinesFault}
+use Rattle.fl_session.specs.declared.stream.LinesFault.TheVariants.{Failed, Long}
+
+pub record LinesState : Type 0 where
+  -- the line that was given last
+  pub line : List ℕ
+  -- what was taken from the source and not given yet
+  pub ahead : List ℕ
+  -- how many bytes may still be given
+  pub most : ℕ
+  -- whether the last line was given, which has no newline
+  pub closed : Bool
+
+-- a text without a newline
+abbrev pub IsOneLine : List ℕ → Type 0
+IsOneLine line = All (λ byte. (byte == 10) ≡ false) line
+
+-- a line that ends with a newline was given
+pub record GivesWhole (old : LinesState) (rest : List ℕ) (new : LinesState) (rest_now : List ℕ) : Type 0 where
+  pub split : rest ≡ new.line ++ 10 ∷ rest_now
+  pub one : IsOneLine new.line
+  pub fits : length new.line < old.most
+  pub most : new.most ≡ old.most - (length new.line + 1)
+  pub open_before : old.closed ≡ false
+  pub open_now : new.closed ≡ false
+
+-- the last line was given, which has no newline
+pub record GivesLast (old : LinesState) (rest : List ℕ) (new : LinesState) (rest_now : List ℕ) : Type 0 where
+  pub split : rest ≡ new.line
+  pub one : IsOneLine new.line
+  pub some : 0 < length new.line
+  pub fits : length new.line ≤ old.most
+  pub nothing : rest_now ≡ []
+  pub open_before : old.closed ≡ false
+  pub closed_now : new.closed ≡ true
+
+-- more bytes were given than a line has
+pub record GivesLong (old : LinesState) (rest : List ℕ) (new : LinesState) : Type 0 where
+  pub others : List ℕ
+  pub split : rest ≡ new.line ++ others
+  pub one : IsOneLine new.line
+  pub long : 4096 < length new.line
+  pub fits : length new.line ≤ old.most
+
+-- a part of a line was taken, and more bytes than that didn't come
+pub record TakesPart (old : LinesState) (rest : List ℕ) (new : LinesState) (left : List ℕ) : Type 0 where
+  pub split : rest ≡ new.ahead ++ left
+  pub one : IsOneLine new.ahead
+  pub short : length new.ahead ≤ 4096
+  pub fits : length new.ahead ≤ old.most
+  pub open_before : old.closed ≡ false
+
+-- `rest` is what was ahead and what the source had left
+abbrev pub Gives : LinesState → List ℕ → Result Bool LinesFault → LinesState → List ℕ → Type 0
+Gives old rest (Ok true) new left =
+    GivesWhole old rest new (new.ahead ++ left) ⊎ (GivesLast old rest new (new.ahead ++ left) ⊎ GivesLong old rest new)
+Gives old rest (Ok false) new left = rest ≡ []
+Gives old rest (Err Failed) new left = TakesPart old rest new left
+-- as many bytes were taken as are at most, and one more came
+Gives old rest (Err Long) new left = (more : List ℕ) × TakesPart old rest new more × (length new.ahead ≡ old.most) × (0 < length more)
+
+-- a line is asked for
+pub record Advances (old : LinesState) (left : Option (List ℕ)) (faults : ℕ) (result : Result Bool LinesFault) (new : LinesState) (left_now : Option (List ℕ)) (faults_now : ℕ) : Type 0 where
+  pub later : faults ≤ faults_now
+  pub failed : result ≡ Err Failed → Rose faults faults_now
+  pub shrinks : result ≡ Ok true → new.most < old.most
+  pub gives : (l : List ℕ) → left ≡ Some l → (l_now : List ℕ) × (left_now ≡ Some l_now) × Gives old (old.ahead ++ l) result new l_now

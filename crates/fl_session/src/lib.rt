@@ -1,0 +1,11 @@
+//! A session over an image, and the run of a script.
+#![tactic(auto)]
+
+mod commands;
+mod next;
+mod status;
+mod stream;
+mod words;
+
+pub use status::Status;
+pub use words::image_of;

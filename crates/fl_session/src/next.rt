@@ -1,0 +1,86 @@
+// The next line of a script as a command.
+ghost use Rattle.std.specs.Prelude.{◌≡◌, ℕ, Bool, List};
+ghost use Rattle.fl_script.specs.CommandView.{command_view};
+ghost use Rattle.fl_session.specs.Built as forms;
+ghost use Rattle.fl_session.specs.Next.{NextCommand, NextRun, is_config_line};
+
+use crate::Status;
+use crate::stream::{LineStream, LinesFault, Reader};
+use fl_base::Source;
+use fl_script::{Command, LineRoom};
+
+fn is_built(command: &Command) -> bool
+    ensures { (room : List ℕ) → result ≡ forms.is_built (command_view command.now room) }
+{
+    match command {
+        Command::Get { .. }
+        | Command::Blob { .. }
+        | Command::Open { .. }
+        | Command::Next { .. }
+        | Command::Close { .. }
+        | Command::Select { .. }
+        | Command::Project { .. }
+        | Command::Agg { .. }
+        | Command::Join { .. }
+        | Command::Cost
+        | Command::Load { .. } => false,
+        _ => true,
+    }
+}
+
+fn is_config(command: &Command) -> bool
+    ensures { (room : List ℕ) → result ≡ is_config_line (command_view command.now room) }
+{
+    matches!(command, Command::Device { .. } | Command::Table { .. })
+}
+
+/// The command of the next line, which has this number. None says that the script has ended.
+pub(crate) fn next_command<L: LineStream, R: Reader, S: Source>(
+    lines: &mut L,
+    reader: &R,
+    room: &mut LineRoom,
+    script: &mut S,
+    number: u64,
+) -> Result<Option<Command>, Status>
+    ensures { NextCommand (L.state lines.old) (S.left script.old) (S.faults script.old) number result room.new (L.state lines.new) (S.left script.new) (S.faults script.new) }
+{
+    match lines.advance(script) {
+        Ok(true) => {}
+        Ok(false) => return Ok(None),
+        Err(LinesFault::Failed) => return Err(Status::ScriptRead),
+        Err(LinesFault::Long) => return Err(Status::ScriptLong),
+    }
+    match reader.read(lines.line(), room) {
+        Err(_) => Err(Status::Line { line: number }),
+        Ok(command) => {
+            if is_built(&command) {
+                Ok(Some(command))
+            } else {
+                Err(Status::NotYet { line: number })
+            }
+        }
+    }
+}
+
+/// The same behind the configuration, where no line may configure.
+pub(crate) fn next_run<L: LineStream, R: Reader, S: Source>(
+    lines: &mut L,
+    reader: &R,
+    room: &mut LineRoom,
+    script: &mut S,
+    number: u64,
+) -> Result<Option<Command>, Status>
+    ensures { NextRun (L.state lines.old) (S.left script.old) (S.faults script.old) number result room.new (L.state lines.new) (S.left script.new) (S.faults script.new) }
+{
+    match next_command(lines, reader, room, script, number) {
+        Ok(Some(command)) => {
+            if is_config(&command) {
+                Err(Status::Line { line: number })
+            } else {
+                Ok(Some(command))
+            }
+        }
+        Ok(None) => Ok(None),
+        Err(status) => Err(status),
+    }
+}
