@@ -2,6 +2,7 @@ pub mod Record
 pub mod Ring
 pub mod Table
 pub mod Work
+pub mod Within
 pub mod Query
 pub mod Spline
 pub mod Mount
