@@ -1,2 +1,6 @@
 pub mod Performs
 pub mod Among
+pub mod Lists
+pub mod Rings
+pub mod Kept
+pub mod Plain
