@@ -2,10 +2,10 @@ pub mod Record
 pub mod Ring
 pub mod Table
 pub mod Work
-pub mod Within
 pub mod Query
 pub mod Spline
 pub mod Mount
+pub mod Within
 pub mod Operators
 pub mod Layout
 pub mod Facts

@@ -1,7 +1,8 @@
 -- The operations of one table alone: the ring that each is done to, and its kind.
-use Rattle.std.specs.Prelude.{ℕ, Bool, List, [], ◌∷◌, ◌++◌, if◌then◌else◌, map}
+use Rattle.std.specs.Prelude.{◌≡◌, ℕ, Bool, IsTrue, ◌⊎◌, List, [], ◌∷◌, ◌++◌, if◌then◌else◌, map}
 use Rattle.fl_model.specs.Record.{Plan}
 use Rattle.fl_model.specs.Table.{Table, RingName, is_dirty, is_torn, seal_buffer, seal_page, after_seal}
+use Rattle.fl_model.specs.Mount.{renumber}
 use Rattle.fl_model.specs.Work.{Kind, Body, Mark, VoidMark, Erase, effect, Operation, Device, counted, Outcome, Finished, CutShort, Failed, Progress, changed_at, PartEnd, Whole, CutIn, FailedIn, PartProgress, PartPerforms}
 
 -- the operations of a whole seal of a ring
@@ -55,3 +56,34 @@ outcome_at place tables (FailedIn before) = Failed (with_table place tables befo
 -- how operations of one table went, seen from all tables
 abbrev pub progress_at : ℕ → List Table → PartProgress Table → Progress
 progress_at place tables now = record { outcome = outcome_at place tables now.end; device = now.device; tables = with_table place tables now.state }
+
+-- How the mount of one table ends: well, by an operation that failed, or by a read that failed.
+pub data TableMountEnd : Type 0 where
+  TableMounted : (now : PartProgress Table) → TableMountEnd
+  TableStopped : (now : PartProgress Table) → TableMountEnd
+  TableUnread : (now : PartProgress Table) → TableMountEnd
+
+-- a read failed: what was repaired until then stays, and no operation failed
+pub record TableUnreads (plan : Plan) (rose : Bool) (repairs : List (RingName × Kind)) (device : Device) (table : Table) (now : PartProgress Table) : Type 0 where
+  pub may_fail : IsTrue rose
+  pub front : List (RingName × Kind)
+  pub others : List (RingName × Kind)
+  pub split : repairs ≡ front ++ others
+  pub did : TablePerforms plan rose front device table now
+  pub whole : now.end ≡ Whole
+
+-- a ring's repairs ended; the mount goes on only where they were all done
+abbrev pub TableGoesOn : PartEnd Table → PartProgress Table → TableMountEnd → Type 0 → Type 0
+TableGoesOn Whole now how others = others
+TableGoesOn (CutIn before) now how others = how ≡ TableStopped now
+TableGoesOn (FailedIn before) now how others = how ≡ TableStopped now
+
+-- these rings of one table are mounted in order
+abbrev pub TableMounts : Plan → Bool → List RingName → Device → Table → TableMountEnd → Type 0
+TableMounts plan rose [] device table how = how ≡ TableMounted (record { end = Whole; device = device; state = table })
+TableMounts plan rose (ring ∷ rings) device table how =
+    let numbered = renumber plan ring table in
+    let repairs = repair_within plan ring numbered in
+    ((now : PartProgress Table) × TableUnreads plan rose repairs device numbered now × (how ≡ TableUnread now))
+    ⊎ ((now : PartProgress Table) × TablePerforms plan rose repairs device numbered now
+    × TableGoesOn now.end now how (TableMounts plan rose rings now.device now.state how))
