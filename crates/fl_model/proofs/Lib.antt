@@ -4,3 +4,4 @@ pub mod Lists
 pub mod Rings
 pub mod Kept
 pub mod Plain
+pub mod Mounting

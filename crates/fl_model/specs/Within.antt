@@ -2,7 +2,7 @@
 use Rattle.std.specs.Prelude.{◌≡◌, ℕ, Bool, IsTrue, ◌⊎◌, List, [], ◌∷◌, ◌++◌, if◌then◌else◌, map}
 use Rattle.fl_model.specs.Record.{Plan}
 use Rattle.fl_model.specs.Table.{Table, RingName, is_dirty, is_torn, seal_buffer, seal_page, after_seal}
-use Rattle.fl_model.specs.Mount.{renumber}
+use Rattle.fl_model.specs.Mount.{renumber, Mounts, MountEnd, Mounted, Stopped, Unread}
 use Rattle.fl_model.specs.Work.{Kind, Body, Mark, VoidMark, Erase, effect, Operation, Device, counted, Outcome, Finished, CutShort, Failed, Progress, changed_at, PartEnd, Whole, CutIn, FailedIn, PartProgress, PartPerforms}
 
 -- the operations of a whole seal of a ring
@@ -87,3 +87,13 @@ TableMounts plan rose (ring ∷ rings) device table how =
     ((now : PartProgress Table) × TableUnreads plan rose repairs device numbered now × (how ≡ TableUnread now))
     ⊎ ((now : PartProgress Table) × TablePerforms plan rose repairs device numbered now
     × TableGoesOn now.end now how (TableMounts plan rose rings now.device now.state how))
+
+-- .. as part of the mount of all tables, where other rings are mounted after them
+abbrev pub MountsAlong : List Plan → Bool → ℕ → List RingName → List (ℕ × RingName) → Device → List Table → TableMountEnd → Type 0
+MountsAlong plans rose place rings others device tables (TableMounted now) =
+    (how : MountEnd) → Mounts plans rose others now.device (with_table place tables now.state) how →
+    Mounts plans rose (map (λ ring. (place, ring)) rings ++ others) device tables how
+MountsAlong plans rose place rings others device tables (TableStopped now) =
+    Mounts plans rose (map (λ ring. (place, ring)) rings ++ others) device tables (Stopped (progress_at place tables now))
+MountsAlong plans rose place rings others device tables (TableUnread now) =
+    Mounts plans rose (map (λ ring. (place, ring)) rings ++ others) device tables (Unread (progress_at place tables now))
