@@ -5,3 +5,4 @@ pub mod Rings
 pub mod Kept
 pub mod Plain
 pub mod Mounting
+pub mod Pages
