@@ -6,3 +6,4 @@ pub mod Kept
 pub mod Plain
 pub mod Mounting
 pub mod Pages
+pub mod Renumber
