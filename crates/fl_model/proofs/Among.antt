@@ -1,13 +1,13 @@
 -- The operations of one table, seen from all tables.
-use Rattle.std.proofs.Common.{◌≡◌, ℕ, zero, suc, Bool, true, false, cond, Option, Some, None, List, [], ◌∷◌, ◌++◌, map, refl, sym, ◌∙◌, ap, subst, ◌⊎◌, inl, inr}
+use Rattle.std.proofs.Common.{◌≡◌, ℕ, zero, suc, Bool, true, false, cond, Option, Some, None, List, [], ◌∷◌, ◌++◌, map, refl, sym, ◌∙◌, ap, subst, inl, inr}
 use Rattle.std.specs.List.{slice_get}
 use Rattle.std.specs.Option.{option_map, unwrap_or}
 use Rattle.fl_base.specs.declared.types.CutKind.{CutKind}
 use Rattle.fl_model.specs.Record.{Plan}
-use Rattle.fl_model.specs.Ring.{Ring, begun, erased, Shape, is_full, extended}
-use Rattle.fl_model.specs.Table.{Table, RingName, DataRing, IndexRing, VarRing, is_dirty, is_torn, seal_buffer, seal_page, after_seal, after_seals, with_ring, ring_of}
-use Rattle.fl_model.specs.Work.{Kind, Body, Mark, VoidMark, Erase, effect, Operation, done, Ending, AsBefore, AsAfter, Either, Leaves, ending_of, Device, Progress, Outcome, Finished, CutShort, Failed, Performs, PerformsFirst, cut_now, counted, changed_at, changed_by, seal_operations, operations_of, repair_operations, PartEnd, Whole, CutIn, FailedIn, PartProgress, PartFirst, PartPerforms}
-use Rattle.fl_model.specs.Within.{seal_within, seals_within, repair_within, at_place, effect_within, TablePerforms, all_done, all_counted, with_table, outcome_at, progress_at}
+use Rattle.fl_model.specs.Ring.{Ring, begun, erased}
+use Rattle.fl_model.specs.Table.{Table, RingName, DataRing, IndexRing, VarRing, is_dirty, is_torn, seal_buffer, seal_page, after_seal, after_seals, with_ring}
+use Rattle.fl_model.specs.Work.{Kind, Body, Mark, VoidMark, Erase, effect, done, Ending, AsBefore, AsAfter, Either, Leaves, ending_of, Device, Progress, CutShort, Failed, Performs, PerformsFirst, cut_now, counted, changed_at, changed_by, operations_of, repair_operations, PartEnd, Whole, CutIn, FailedIn, PartProgress, PartFirst}
+use Rattle.fl_model.specs.Within.{seal_within, seals_within, repair_within, at_place, effect_within, TablePerforms, all_done, with_table, outcome_at, progress_at}
 
 map-append : {A B : Type 0} (f : A → B) (xs ys : List A) → map f (xs ++ ys) ≡ map f xs ++ map f ys
 map-append f [] ys = refl
@@ -185,3 +185,7 @@ seals-all_done plan [] table = refl
 seals-all_done plan (ring ∷ rings) table =
     all_done-append (effect_within plan) (seal_within plan ring table) (seals_within plan rings (after_seal plan ring table)) table
     ∙ (ap (all_done (effect_within plan) (seals_within plan rings (after_seal plan ring table))) (seal-all_done plan ring table) ∙ seals-all_done plan rings (after_seal plan ring table))
+
+pub after_seals-append : (plan : Plan) (rings others : List RingName) (table : Table) → after_seals plan (rings ++ others) table ≡ after_seals plan others (after_seals plan rings table)
+after_seals-append plan [] others table = refl
+after_seals-append plan (ring ∷ rings) others table = after_seals-append plan rings others (after_seal plan ring table)

@@ -7,3 +7,4 @@ pub mod Plain
 pub mod Mounting
 pub mod Pages
 pub mod Renumber
+pub mod Puts

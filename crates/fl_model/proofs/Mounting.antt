@@ -1,11 +1,11 @@
 -- The mount of one table, as part of the mount of all tables.
-use Rattle.std.proofs.Common.{◌≡◌, ℕ, Bool, true, false, Option, Some, None, List, [], ◌∷◌, ◌++◌, map, refl, sym, ◌∙◌, ap, subst, ◌⊎◌, inl, inr}
+use Rattle.std.proofs.Common.{◌≡◌, ℕ, Bool, Option, Some, List, [], ◌∷◌, ◌++◌, map, refl, sym, ◌∙◌, ap, subst, ◌⊎◌, inl, inr}
 use Rattle.std.specs.List.{slice_get}
 use Rattle.std.specs.Option.{option_map, unwrap_or}
 use Rattle.fl_model.specs.Record.{Plan}
 use Rattle.fl_model.specs.Table.{Table, RingName}
-use Rattle.fl_model.specs.Work.{Kind, Operation, Device, Progress, Outcome, Finished, CutShort, Failed, Performs, changed_at, changed_by, repair_operations, PartEnd, Whole, CutIn, FailedIn, PartProgress}
-use Rattle.fl_model.specs.Mount.{renumber, renumbered_at, repairs_at, Mounts, MountEnd, Mounted, Stopped, Unread, GoesOn, IsUnread}
+use Rattle.fl_model.specs.Work.{Kind, Operation, Device, Progress, CutShort, Failed, Performs, repair_operations, PartEnd, Whole, CutIn, FailedIn, PartProgress}
+use Rattle.fl_model.specs.Mount.{renumber, renumbered_at, repairs_at, Mounts, MountEnd, Stopped, Unread, GoesOn, IsUnread}
 use Rattle.fl_model.specs.Within.{repair_within, at_place, TablePerforms, with_table, outcome_at, progress_at, TableMountEnd, TableMounted, TableStopped, TableUnread, TableUnreads, TableGoesOn, TableMounts, MountsAlong}
 use Rattle.fl_model.proofs.Among.{repair-at, changed-by, changed-again, changed-there, changed-to_same, performs-at}
 

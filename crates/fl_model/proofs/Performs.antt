@@ -1,11 +1,8 @@
 -- Lists of operations of a part of the store: joined, in other words, and seen from a whole.
-use Rattle.std.proofs.Common.{◌≡◌, ℕ, zero, suc, Bool, true, false, cond, Option, Some, None, List, [], ◌∷◌, ◌++◌, map, refl, sym, ◌∙◌, ap, subst, ◌⊎◌, inl, inr}
-use Rattle.std.specs.List.{slice_get}
+use Rattle.std.proofs.Common.{◌≡◌, Bool, cond, Option, Some, None, List, [], ◌∷◌, ◌++◌, map, refl, sym, ◌∙◌, subst, ◌⊎◌, inl, inr}
 use Rattle.fl_base.specs.declared.types.CutKind.{CutKind}
-use Rattle.fl_model.specs.Record.{Plan}
-use Rattle.fl_model.specs.Table.{Table, RingName, is_dirty, is_torn, seal_buffer, seal_page, after_seal, after_seals}
-use Rattle.fl_model.specs.Work.{Kind, Body, Mark, VoidMark, Erase, effect, Operation, done, Ending, AsBefore, AsAfter, Either, Leaves, ending_of, Device, Progress, Outcome, Finished, CutShort, Failed, Performs, PerformsFirst, cut_now, counted, changed_at, changed_by, seal_operations, operations_of, repair_operations, PartEnd, Whole, CutIn, FailedIn, PartProgress, PartFirst, PartPerforms, PartCut, PartFailed}
-use Rattle.fl_model.specs.Within.{seal_within, seals_within, repair_within, at_place, effect_within, TablePerforms, all_done, all_counted, with_table, outcome_at, progress_at}
+use Rattle.fl_model.specs.Work.{Kind, Ending, AsBefore, AsAfter, Either, Leaves, ending_of, Device, cut_now, counted, PartEnd, Whole, CutIn, FailedIn, PartProgress, PartFirst, PartPerforms}
+use Rattle.fl_model.specs.Within.{all_done, all_counted}
 
 -- operations that were all done, and then others
 pub performs-more : {O S : Type 0} (kind : O → Kind) (change : O → S → S) (rose : Bool) (operations others : List O) (device : Device) (s : S) (mid now : PartProgress S) →

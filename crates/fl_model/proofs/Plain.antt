@@ -1,14 +1,13 @@
 -- A table without an index ring and without variable data keeps its facts.
-use Rattle.std.proofs.Common.{◌≡◌, ℕ, zero, suc, ◌+◌, ◌-◌, ◌*◌, ◌/◌, ◌%◌, ◌<◌, ◌≤◌, Bool, true, false, cond, ◌&&◌, Option, Some, None, IfSome, List, [], ◌∷◌, ◌++◌, length, take, drop, refl, sym, ◌∙◌, ap, subst, arith, ◌⊎◌, inl, inr, length-append, length-drop, length-take, IsTrue}
-use Rattle.std.specs.List.{slice_get, AllByRecursion, last_or, sum, list_any}
-use Rattle.std.specs.Option.{option_map, unwrap_or}
-use Rattle.fl_model.specs.Record.{Record, Plan, has_index, has_var, rows_per_page, entries_per_page, content_per_page}
+use Rattle.std.proofs.Common.{◌≡◌, ℕ, ◌+◌, ◌<◌, ◌≤◌, Bool, true, false, cond, ◌&&◌, Option, Some, None, IfSome, List, [], ◌∷◌, ◌++◌, length, take, drop, refl, sym, ◌∙◌, ap, subst, arith, IsTrue}
+use Rattle.std.specs.List.{slice_get, sum}
+use Rattle.fl_model.specs.Record.{Plan, has_index, has_var, rows_per_page, content_per_page}
 use Rattle.fl_model.specs.Ring.{Shape, IsShape, Ring, IsRing, oldest, sealed, given_up, is_full, extended, begun, erased}
-use Rattle.fl_model.specs.Table.{Table, Entry, RingName, DataRing, IndexRing, VarRing, shape_of, ring_of, with_ring, seal_page, seal_buffer, written, spent_from, lose, full_pages}
+use Rattle.fl_model.specs.Table.{Table, Entry, RingName, DataRing, IndexRing, VarRing, shape_of, ring_of, with_ring, seal_page, seal_buffer, spent_from, lose, full_pages}
 use Rattle.fl_model.specs.Mount.{index_end}
-use Rattle.fl_model.specs.Facts.{IsTable, IsSettled, FitsPlan, is_some_ring, counts_in}
+use Rattle.fl_model.specs.Facts.{IsTable, is_some_ring, counts_in}
 use Rattle.fl_model.proofs.Rings.{ring-sealed}
-use Rattle.fl_model.proofs.Kept.{AreKept, kept-push, kept-drop, kept-lose, kept-record}
+use Rattle.fl_model.proofs.Kept.{AreKept, kept-push, kept-drop, kept-lose}
 
 -- a plan of a table with a data ring alone
 pub record IsPlain (plan : Plan) : Type 0 where

@@ -1,6 +1,6 @@
 -- A table without an index is renumbered, and keeps its facts.
-use Rattle.std.proofs.Common.{◌≡◌, ℕ, zero, suc, ◌+◌, ◌-◌, ◌*◌, ◌/◌, ◌%◌, ◌<◌, ◌≤◌, Bool, true, false, cond, nat_lt, List, [], length, refl, sym, ◌∙◌, ap, subst, arith, ◌⊎◌, inl, inr}
-use Rattle.std.proofs.Math.Nat.{mod-lt, mod-add-div', mod-eq_of_lt, add-mod_right, mul-le-mul_right, mul_assoc, add-mul, add-mul-mod_self_right, dvd-mod_iff, dvd-mul_left, mod-mod_of_dvd}
+use Rattle.std.proofs.Common.{◌≡◌, ℕ, ◌+◌, ◌-◌, ◌*◌, ◌/◌, ◌%◌, ◌<◌, ◌≤◌, Bool, true, false, cond, nat_lt, length, refl, sym, ◌∙◌, ap, subst, arith, ◌⊎◌, inl, inr}
+use Rattle.std.proofs.Math.Nat.{mod-lt, mod-add-div', mod-eq_of_lt, add-mod_right, mul-le-mul_right, mul_assoc, add-mul, add-mul-mod_self_right, dvd-mod_iff, dvd-mul_left}
 use Rattle.std.proofs.lemmas.Nat.{mod-mul-add}
 use Rattle.std.proofs.lemmas.Nat.Gcd.{mod-eq-zero_of_dvd, dvd-zero}
 use Rattle.std.proofs.lemmas.Bool.{cases_lt}
@@ -8,8 +8,8 @@ use Rattle.std.specs.List.{list_any}
 use Rattle.std.specs.Int.{◌∣◌}
 use Rattle.fl_model.specs.Record.{Plan}
 use Rattle.fl_model.specs.Ring.{Shape, IsShape, Ring, IsRing, oldest}
-use Rattle.fl_model.specs.Table.{Table, RingName, DataRing, shape_of}
-use Rattle.fl_model.specs.Mount.{least_alike, renumbered, renumber, at_least_of, index_end}
+use Rattle.fl_model.specs.Table.{Table, DataRing, shape_of}
+use Rattle.fl_model.specs.Mount.{least_alike, renumber, at_least_of}
 use Rattle.fl_model.proofs.Plain.{IsPlainTable}
 
 -- one multiple more

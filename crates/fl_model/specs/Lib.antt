@@ -6,6 +6,7 @@ pub mod Query
 pub mod Spline
 pub mod Mount
 pub mod Within
+pub mod Laws
 pub mod Operators
 pub mod Layout
 pub mod Facts

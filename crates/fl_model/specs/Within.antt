@@ -2,7 +2,7 @@
 use Rattle.std.specs.Prelude.{◌≡◌, ℕ, Bool, IsTrue, ◌⊎◌, List, [], ◌∷◌, ◌++◌, if◌then◌else◌, map}
 use Rattle.fl_model.specs.Record.{Plan}
 use Rattle.fl_model.specs.Table.{Table, RingName, is_dirty, is_torn, seal_buffer, seal_page, after_seal}
-use Rattle.fl_model.specs.Mount.{renumber, Mounts, MountEnd, Mounted, Stopped, Unread}
+use Rattle.fl_model.specs.Mount.{renumber, Mounts, MountEnd, Stopped, Unread}
 use Rattle.fl_model.specs.Work.{Kind, Body, Mark, VoidMark, Erase, effect, Operation, Device, counted, Outcome, Finished, CutShort, Failed, Progress, changed_at, PartEnd, Whole, CutIn, FailedIn, PartProgress, PartPerforms}
 
 -- the operations of a whole seal of a ring
