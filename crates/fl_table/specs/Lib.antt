@@ -1,0 +1,5 @@
+pub mod Pages
+pub mod Memory
+pub mod Standing
+pub mod Outcomes
+pub mod Causes
