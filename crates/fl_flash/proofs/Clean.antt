@@ -1,8 +1,8 @@
 -- Which pages are known to be blank, and what a program of such a page leaves.
-use Rattle.std.proofs.Common.{◌≡◌, ◌≢◌, ◌⊎◌, inl, inr, ℕ, zero, suc, ◌+◌, ◌*◌, ◌-◌, ◌^◌, ◌%◌, ◌≤◌, ◌<◌, Bool, true, false, ◌||◌, ◌==◌, IsTrue, List, [], ◌∷◌, ◌++◌, length, take, drop, replicate, slice_range, slice_set, slice_index_or, get_or, bit_and, Result, refl, sym, ◌∙◌, ap, subst, arith, rules}
+use Rattle.std.proofs.Common.{◌≡◌, ◌≢◌, ◌⊎◌, inl, inr, ℕ, zero, suc, ◌+◌, ◌*◌, ◌-◌, ◌≤◌, ◌<◌, Bool, true, false, ◌||◌, ◌==◌, IsTrue, List, [], ◌∷◌, length, take, drop, replicate, slice_range, slice_set, get_or, bit_and, refl, sym, ◌∙◌, ap, subst, arith}
 use Rattle.std.proofs.lemmas.Bool.{both_ways, cases_lt, and_parts, or_cases, eqb-true}
 use Rattle.std.proofs.lemmas.Grind.{numeral_and}
-use Rattle.std.proofs.lemmas.List.{places, drop-replicate, take-replicate, get_or-set_other, length-replicate}
+use Rattle.std.proofs.lemmas.List.{places, drop-drop, drop-replicate, take-replicate, get_or-set_other}
 use Rattle.std.proofs.Math.Nat.{mod-eq_of_lt, mul_assoc}
 use Rattle.std.specs.Int.Bits.{and_zero_r}
 use Rattle.fl_base.specs.declared.types.Geometry.{Geometry}
@@ -10,7 +10,7 @@ use Rattle.fl_flash.specs.Flash.{all_zero, and_bytes, blank, Erased}
 use Rattle.fl_flash.specs.Media.{MediaState, Torn}
 use Rattle.fl_flash.specs.Places.{page_of, extent}
 use Rattle.fl_flash.specs.Sim.{AreBlank, with_flags}
-use Rattle.fl_flash.proofs.Pages.{rows_below, page_within, page_below, page_above, others_stand, part_of_page, length-slice, whole_erase, above_block}
+use Rattle.fl_flash.proofs.Pages.{rows_below, part_of_blank, page_below, page_above, others_stand, part_of_page, length-slice, above_block}
 
 -- a program on FF leaves its bytes
 and_ones : (bs : List ℕ) → ((i : ℕ) → get_or bs i 0 < 256) → and_bytes (replicate (length bs) 255) bs ≡ bs
@@ -46,6 +46,14 @@ exact_program c start size p from bs flag range within fits clean exact = elim (
       and_zeros (slice_range c (start + p * size + from) (start + p * size + from + length bs)) bs
       (length-slice c (start + p * size + from) (start + p * size + from + length bs) (omega arith) (omega arith) ∙ omega arith) none
 ]
+
+-- on a medium of FF from `start` on each page is blank
+pub fresh_pages : (c : List ℕ) (start size pages p : ℕ) → drop start c ≡ replicate (pages * size) 255 → p < pages → page_of c start size p ≡ blank size
+fresh_pages c start size pages p fresh exists =
+    let count : start + p * size + size - (start + p * size) ≡ size = omega arith in
+    ap (λ (k : ℕ). take k (drop (start + p * size) c)) count
+    ∙ ap (λ (l : List ℕ). take size l) (sym (drop-drop (p * size) start c) ∙ ap (λ (l : List ℕ). drop (p * size) l) fresh)
+    ∙ part_of_blank (pages * size) (p * size) size (rows_below p pages size exists)
 
 unset : (flags : List Bool) (p : ℕ) → get_or (slice_set flags p false) p false ≡ false
 unset [] p = refl
