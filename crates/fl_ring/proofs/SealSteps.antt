@@ -15,7 +15,7 @@ use Rattle.fl_ring.proofs.Performing.{performed_err, performed_more, performed_n
 use Rattle.fl_ring.proofs.Whole.{dirty_due, whole_seal}
 
 -- an Ok comes where all is done
-whole_end : (end : PartEnd RingState) (u : Unit {0}) (new : FlashState) → AnswersEnd end (Ok u) new → end ≡ Whole
+pub whole_end : (end : PartEnd RingState) (u : Unit {0}) (new : FlashState) → AnswersEnd end (Ok u) new → end ≡ Whole
 whole_end Whole u new answer = refl
 whole_end (CutIn before) u new answer = absurd (let e = answer.0 in cc)
 whole_end (FailedIn before) u new answer = absurd (let e = answer.0 in cc)
