@@ -11,7 +11,7 @@ use Rattle.fl_ring.specs.declared.ring.Ring.{Ring}
 use Rattle.fl_ring.specs.Place.{shape_of}
 use Rattle.fl_ring.specs.Repairing.{ahead_first}
 use Rattle.fl_ring.specs.Ring.{Shape, RingState, room, place, OnRing, OutsideStands}
-use Rattle.fl_ring.specs.Step.{IsWatched, Operates, StepEnds}
+use Rattle.fl_ring.specs.Step.{IsWatched, media_reads_of, Operates, StepEnds}
 use Rattle.fl_ring.proofs.Cleaning.{ahead_is}
 use Rattle.fl_ring.proofs.Devices.{Counts}
 use Rattle.fl_ring.proofs.Facts.{two_blocks, sizes}
@@ -47,8 +47,8 @@ module _ (ring : Ring) (f g : FlashState) (result : Result (Unit {0}) FlashFault
       erases = ap (λ (w : Work). w.erases) (did.counted on) ∙ ap (λ (b : Bool). if b then next_count f.work.erases else f.work.erases) (sym plain);
     }
 
-    pub operates_program : Operates (shape_of ring) kind f result g
-    operates_program = record {
+    pub operates_program : g.media.reads ≤ f.media.reads + media_reads_of kind → Operates (shape_of ring) kind f result g
+    operates_program few = record {
       goes = did.goes;
       outside = λ told q out. others_by told q (λ same.
           let small = mod-lt n room_some in
@@ -56,6 +56,7 @@ module _ (ring : Ring) (f g : FlashState) (result : Result (Unit {0}) FlashFault
       cause = did.cause;
       off = did.off;
       reads = elim (cases_Bool f.is_on) [ inl on ↦ ap (λ (w : Work). w.reads) (did.counted on) | inr off ↦ ap (λ (x : FlashState). x.work.reads) (did.off off).1 ];
+      media_reads = few;
       programs = λ on. (counts_by on).programs;
       erases = λ on. (counts_by on).erases;
     }
@@ -98,6 +99,7 @@ module _ (ring : Ring) (f g : FlashState) (result : Result (Unit {0}) FlashFault
       cause = did.cause;
       off = did.off;
       reads = elim (cases_Bool f.is_on) [ inl on ↦ ap (λ (w : Work). w.reads) (did.counted on) | inr off ↦ ap (λ (x : FlashState). x.work.reads) (did.off off).1 ];
+      media_reads = omega (arith, did.no_reads);
       programs = λ on. (erase_counts on).programs;
       erases = λ on. (erase_counts on).erases;
     }

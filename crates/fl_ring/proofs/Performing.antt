@@ -30,7 +30,7 @@ module _ (r : Shape) (change : Kind → RingState → RingState) (rose : Bool) (
     now = end;
     did = subst (λ (o : Option CutKind). PartFirst rose o kind device s (change kind s) end (PartPerforms (λ k. k) change rose kinds (counted kind device) (change kind s) end)) (sym step.uncut)
         (inl (step.risen, refl, refl, step.leaves));
-    answer = refl;
+    answer = (refl, step.power);
     counts = step.counts;
     on = step.on;
   }

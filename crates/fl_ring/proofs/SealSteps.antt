@@ -15,10 +15,10 @@ use Rattle.fl_ring.proofs.Performing.{performed_err, performed_more, performed_n
 use Rattle.fl_ring.proofs.Whole.{dirty_due, whole_seal}
 
 -- an Ok comes where all is done
-whole_end : (end : PartEnd RingState) (u : Unit {0}) (new : FlashState) → AnswersEnd end (Ok u) new → end ≡ Whole
+pub whole_end : (end : PartEnd RingState) (u : Unit {0}) (new : FlashState) → AnswersEnd end (Ok u) new → end ≡ Whole
 whole_end Whole u new answer = refl
 whole_end (CutIn before) u new answer = absurd (let e = answer.0 in cc)
-whole_end (FailedIn before) u new answer = absurd (cc answer)
+whole_end (FailedIn before) u new answer = absurd (let e = answer.0 in cc)
 
 pub seals_of : (s : RingState) (body : List ℕ) (rose : Bool) (device : Device) (old : Ring) (result : Result (Unit {0}) FlashFault) (ring : Ring) (new : FlashState)
     → Performed (shape_of old) (change (shape_of old) body) rose (seal_kinds (shape_of old) s body) device s result new → OnOk result (StandsFor ring (erased (sealed (shape_of old) s body)))

@@ -5,7 +5,7 @@ use Rattle.fl_base.specs.Bytes.{splice}
 use Rattle.fl_base.specs.Causes.{Rose}
 use Rattle.fl_base.specs.declared.types.CutKind.{CutKind}
 use Rattle.fl_base.specs.declared.types.CutKind.TheVariants.{Noise}
-use Rattle.fl_flash.specs.Flash.{FlashState, page_at, Tears, Cuts, HasFlashCause}
+use Rattle.fl_flash.specs.Flash.{FlashState, page_at, Tears, KeepsPower, Cuts, HasFlashCause}
 use Rattle.fl_flash.specs.Tear.{torn_front, torn_now}
 use Rattle.fl_flash.specs.declared.armed.Armed.{Armed}
 use Rattle.fl_flash.specs.declared.flash.FlashFault.{FlashFault}
@@ -88,5 +88,6 @@ module _ (r : Shape) (kind : work.Kind) (before after : RingState) (rose : Bool)
           leaves = left.1;
           counts = device_counted kind old new device watched.counts counts (subst (λ (o : Option Armed). ArmsAs (work.counted kind device).armed o) (sym cuts.armed) c.later);
           on = left.2;
+          power = (subst (λ (o : Option Tear). IfNone o (KeepsPower old new)) c.torn cuts.untorn).on ∙ watched.on;
         }
   ]

@@ -1,5 +1,5 @@
 // The four operations on the pages of a ring.
-ghost use Rattle.std.specs.Prelude.{◌≡◌, ◌<◌, ◌+◌, ◌-◌, ◌*◌, ◌/◌, ◌%◌, ◌^◌, ◌++◌, ℕ, List, Bool, true, false, length, IsTrue, OnOk};
+ghost use Rattle.std.specs.Prelude.{◌≡◌, ◌<◌, ◌+◌, ◌-◌, ◌*◌, ◌/◌, ◌%◌, ◌^◌, ◌++◌, ℕ, List, Bool, true, false, length, replicate, IsTrue, OnOk};
 ghost use Rattle.fl_flash.specs.Flash.{page_at, ProgramsPage, ErasesBlock};
 ghost use Rattle.fl_mark.specs.Mark.{all_are};
 ghost use Rattle.fl_model.specs.Work.{Device, Body, Mark, VoidMark, Erase};
@@ -52,6 +52,7 @@ impl Ring {
     pub(crate) fn void_page<F: Flash>(&self, flash: &mut F) -> Result<(), FlashFault>
         requires lies { LiesOn self.now (F.state flash.old) }
         ensures operates { Operates (shape_of self.now) VoidMark (F.state flash.old) result (F.state flash.new) }
+        ensures programs { ProgramsPage (F.state flash.old) (place (shape_of self.now) self.now.next) (self.now.size - 4) (replicate 4 0) result (F.state flash.new) }
         ensures step { (s : RingState) → (rose : Bool) → (device : Device) → StandsFor self.now s → OnRing (shape_of self.now) (page_at (F.state flash.old)) s → s.torn ≡ true
             → IsWatched (F.state flash.old) (F.state flash.new) rose device
             → StepEnds (shape_of self.now) VoidMark s (voided (shape_of self.now) s) rose device result (F.state flash.new) }
@@ -67,6 +68,7 @@ impl Ring {
     pub(crate) fn erase_ahead<F: Flash>(&self, flash: &mut F) -> Result<(), FlashFault>
         requires lies { LiesOn self.now (F.state flash.old) }
         ensures operates { Operates (shape_of self.now) Erase (F.state flash.old) result (F.state flash.new) }
+        ensures erases { ErasesBlock (F.state flash.old) (self.now.first_block + (self.now.next / self.now.per_block + 1) % self.now.blocks) result (F.state flash.new) }
         ensures step { (s : RingState) → (rose : Bool) → (device : Device) → StandsFor self.now s → OnRing (shape_of self.now) (page_at (F.state flash.old)) s → s.torn ≡ false → s.dirty ≡ true
             → IsWatched (F.state flash.old) (F.state flash.new) rose device
             → StepEnds (shape_of self.now) Erase s (erased s) rose device result (F.state flash.new) }

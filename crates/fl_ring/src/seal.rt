@@ -1,5 +1,5 @@
 // The seal of a page.
-ghost use Rattle.std.specs.Prelude.{◌≡◌, ◌<◌, ◌+◌, ◌-◌, ◌^◌, ℕ, Bool, length, IsTrue, IfErr, OnOk};
+ghost use Rattle.std.specs.Prelude.{◌≡◌, ◌<◌, ◌≤◌, ◌+◌, ◌-◌, ◌^◌, ℕ, Bool, length, IsTrue, IfErr, OnOk};
 ghost use Rattle.fl_flash.specs.Flash.{page_at, Goes, OffChangesNothing};
 ghost use Rattle.fl_model.specs.Work.{Device};
 ghost use Rattle.fl_ring.specs.Causes.{CausedBy};
@@ -30,6 +30,7 @@ impl Ring {
         ensures cause { IfErr result (λ e. CausedBy (F.state flash.old) e (F.state flash.new)) }
         ensures off { OffChangesNothing (F.state flash.old) result (F.state flash.new) }
         ensures reads { (F.state flash.new).work.reads ≡ (F.state flash.old).work.reads }
+        ensures media_reads { (F.state flash.new).media.reads ≤ (F.state flash.old).media.reads + 1 }
         ensures work { OnOk result (SealWork (F.state flash.old).work (is_due_at (shape_of self.old) (self.old.next + 1) (self.old.next + 1 - self.old.oldest)) (F.state flash.new).work) }
     {
         self.begin_page(flash, body)?;

@@ -13,7 +13,7 @@ pub program-requires-clause-exists : goal.program-requires-clause-exists
 program-requires-clause-exists g c = lies_exists c.args.self.now (g.F.Flash.state c.args.flash.now) c.place_of.result c.requires.lies c.place_of.ensures.within
 
 pub returns-clause-operates : goal.returns-clause-operates
-returns-clause-operates g c = operates_program c.args.self.now (g.F.Flash.state c.args.flash.now) (g.F.Flash.state c.program.new.self) c.program.result Body refl c.place_of.result 0 c.args.self.now.next c.args.body.now c.place_of.ensures.place c.program.ensures
+returns-clause-operates g c = operates_program c.args.self.now (g.F.Flash.state c.args.flash.now) (g.F.Flash.state c.program.new.self) c.program.result Body refl c.place_of.result 0 c.args.self.now.next c.args.body.now c.place_of.ensures.place c.program.ensures c.program.ensures.few_reads
 
 pub returns-clause-step : goal.returns-clause-step
 returns-clause-step g c = λ s rose device ready watched.

@@ -1,5 +1,5 @@
 use Rattle.std.proofs.Common.{◌≡◌, ◌+◌, ◌-◌, ℕ, [], ◌∷◌, List, ◌∙◌, ap, subst, refl, arith}
-use Rattle.fl_flash.specs.Flash.{ProgramsPage}
+use Rattle.fl_flash.specs.Flash.{all_zero, ProgramsPage}
 use Rattle.fl_model.specs.Work.{VoidMark}
 use Rattle.fl_ring.specs.Place.{shape_of}
 use Rattle.fl_ring.specs.Ring.{place, voided}
@@ -14,6 +14,7 @@ program-requires-clause-exists g c = lies_exists c.args.self.now (g.F.Flash.stat
 pub returns-clause-operates : goal.returns-clause-operates
 returns-clause-operates g c =
     operates_program c.args.self.now (g.F.Flash.state c.args.flash.now) (g.F.Flash.state c.program.new.self) c.program.result VoidMark refl c.place_of.result c.void_at.result c.args.self.now.next c.mark.result c.place_of.ensures.place c.program.ensures
+    (omega (arith, c.program.ensures.zeros (ap (λ (l : List ℕ). all_zero l) c.mark.ensures)))
 
 pub returns-clause-step : goal.returns-clause-step
 returns-clause-step g c = λ s rose device stands on torn watched.
