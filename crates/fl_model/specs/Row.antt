@@ -1,5 +1,5 @@
 -- The bytes of a row, both ways. All numbers stand with their low bytes first.
-use Rattle.std.specs.Prelude.{◌≡◌, ℕ, ◌+◌, ◌-◌, ◌*◌, ◌^◌, ◌≤◌, nat_lt, ◌==◌, ℤ, pos, negsuc, ◌-ℤ◌, Option, Some, None, option_map, IfSome, List, [], ◌∷◌, ◌++◌, length, take, drop, replicate, IsTrue, if◌then◌else◌}
+use Rattle.std.specs.Prelude.{◌≡◌, ℕ, ◌+◌, ◌-◌, ◌*◌, ◌^◌, ◌<◌, ◌≤◌, nat_lt, ◌==◌, ℤ, pos, negsuc, ◌-ℤ◌, Option, Some, None, option_map, IfSome, List, [], ◌∷◌, ◌++◌, length, take, drop, replicate, IsTrue, if◌then◌else◌}
 use Rattle.std.specs.List.{list_all}
 use Rattle.std.specs.Int.{bytes_low_first}
 use Rattle.fl_base.specs.declared.types.BlobRef.{BlobRef}
@@ -49,6 +49,10 @@ bytes_of_row layout row =
 abbrev pub FitsReference : RowLayout → BlobRef → Type 0
 FitsReference layout blob =
     IsTrue layout.blobs × (blob.page ≡ 4294967295 → blob.offset ≡ 65535 → blob.length ≡ 4294967295 → ⊥)
+
+-- the numbers of a reference fit their bytes
+abbrev pub FitsBytes : BlobRef → Type 0
+FitsBytes blob = (blob.page < 2 ^ 32) × (blob.offset < 2 ^ 16) × (blob.length < 2 ^ 32)
 
 -- a row that fits its layout
 pub record FitsRow (layout : RowLayout) (row : Row) : Type 0 where
