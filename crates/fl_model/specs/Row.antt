@@ -61,6 +61,11 @@ pub record FitsRow (layout : RowLayout) (row : Row) : Type 0 where
   pub values : first_misfit 1 layout.columns row.values ≡ None
   pub blob : IfSome row.blob (FitsReference layout)
 
+-- a row that its bytes tell
+pub record IsStorable (layout : RowLayout) (row : Row) : Type 0 where
+  pub fits : FitsRow layout row
+  pub bytes : IfSome row.blob FitsBytes
+
 -- ---- reading
 
 -- the number that bytes are
@@ -86,9 +91,9 @@ abbrev pub reference_in : List ℕ → Option BlobRef
 reference_in bytes =
     if list_all (λ byte. byte == 255) (take 10 bytes) then None
     else Some record {
-    page = number_of (take 4 bytes);
-    offset = number_of (take 2 (drop 4 bytes));
-    length = number_of (take 4 (drop 6 bytes));
+      page = number_of (take 4 bytes);
+      offset = number_of (take 2 (drop 4 bytes));
+      length = number_of (take 4 (drop 6 bytes));
     }
 
 -- the row that bytes are

@@ -6,8 +6,8 @@ use Rattle.std.proofs.lemmas.Bool.Decides.{nat_tests}
 use Rattle.std.proofs.lemmas.Int.{ints}
 use Rattle.std.specs.Int.{bytes_low_first}
 use Rattle.fl_base.specs.declared.types.BlobRef.{BlobRef}
-use Rattle.fl_model.specs.Record.{RowLayout, columns_len, fits, first_misfit}
-use Rattle.fl_model.specs.Row.{Row, le, value_bytes, values_bytes, reference_bytes, bytes_of_row, FitsReference, FitsBytes, FitsRow, number_of, signed_number, value_in, values_in, reference_in, row_in}
+use Rattle.fl_model.specs.Record.{RowLayout, columns_len, layout_len, fits, first_misfit}
+use Rattle.fl_model.specs.Row.{Row, le, value_bytes, values_bytes, reference_bytes, bytes_of_row, FitsReference, FitsBytes, FitsRow, IsStorable, number_of, signed_number, value_in, values_in, reference_in, row_in}
 use Rattle.fl_schema.specs.Types.{column_of}
 use Rattle.fl_schema.specs.Form.{key_width, layout_with}
 use Rattle.fl_schema.specs.declared.column.ColumnType.{ColumnType}
@@ -59,6 +59,24 @@ values_in-values_bytes n (of ∷ types) (v ∷ vs) behind many fit =
     ∙ ap (λ (x : ℤ). x ∷ values_in (map column_of types) (drop column.width (here ++ there ++ behind))) (value_in-value_bytes of v parts.0)
     ∙ ap (λ (l : List ℕ). v ∷ values_in (map column_of types) l) back
     ∙ ap (λ (l : List ℤ). v ∷ l) (values_in-values_bytes (n + 1) types vs behind (omega arith) parts.1)
+
+length-reference_bytes : (blob : Option BlobRef) → length (reference_bytes blob) ≡ 10
+length-reference_bytes None = refl
+length-reference_bytes (Some blob) = refl
+
+length-end : (blobs : Bool) (blob : Option BlobRef) → length (if blobs then reference_bytes blob else []) ≡ (if blobs then 10 else 0)
+length-end true blob = length-reference_bytes blob
+length-end false blob = refl
+
+-- how many bytes a row has
+pub length-bytes_of_row : (key : KeyWidth) (types : List ColumnType) (blobs : Bool) (row : Row) → FitsRow (layout_with key types blobs) row
+    → length (bytes_of_row (layout_with key types blobs) row) ≡ layout_len (layout_with key types blobs)
+length-bytes_of_row key types blobs row fit =
+    let front = le (key_width key) row.key in
+    let middle = values_bytes (map column_of types) row.values in
+    let end = if blobs then reference_bytes row.blob else [] in
+    length-append (front ++ middle) end
+    ∙ omega (arith, length-append front middle, length-le (key_width key) row.key, length-values_bytes types row.values fit.as_many, length-end blobs row.blob)
 
 -- the bytes of a number are bytes
 le_each : (i count n k : ℕ) → get_or (bytes_low_first i count n) k 0 < 256
@@ -114,9 +132,10 @@ same_row row key values blob key_is values_are blob_is =
     ∙ ap (λ (b : Option BlobRef). record { key = row.key; values = row.values; blob = b }) blob_is
 
 -- a row that was encoded is read again, for every schema and every row that fits it
-pub row_in-bytes_of_row : (key : KeyWidth) (types : List ColumnType) (blobs : Bool) (row : Row) → FitsRow (layout_with key types blobs) row → IfSome row.blob FitsBytes
+pub row_in-bytes_of_row : (key : KeyWidth) (types : List ColumnType) (blobs : Bool) (row : Row) → IsStorable (layout_with key types blobs) row
     → row_in (layout_with key types blobs) (bytes_of_row (layout_with key types blobs) row) ≡ row
-row_in-bytes_of_row key types blobs row fit bytes =
+row_in-bytes_of_row key types blobs row store =
+    let fit = store.fits in
     let w = key_width key in
     let columns = map column_of types in
     let front = le w row.key in
@@ -131,5 +150,5 @@ row_in-bytes_of_row key types blobs row fit bytes =
     let values_are : values_in columns (drop w (front ++ middle ++ end)) ≡ row.values = ap (values_in columns) rest ∙ values_in-values_bytes 1 types row.values end fit.as_many fit.values in
     let end_is : drop (w + columns_len columns) (front ++ middle ++ end) ≡ end = drop_at (front ++ middle) end (w + columns_len columns) (omega (arith, length-append front middle)) in
     let blob_is : (if blobs then reference_in (drop (w + columns_len columns) (front ++ middle ++ end)) else None) ≡ row.blob =
-    ap (λ (l : List ℕ). if blobs then reference_in l else None) end_is ∙ blob_back key types blobs row.blob fit.blob bytes in
+    ap (λ (l : List ℕ). if blobs then reference_in l else None) end_is ∙ blob_back key types blobs row.blob fit.blob store.bytes in
     same_row row _ _ _ key_is values_are blob_is
