@@ -1,5 +1,5 @@
 -- The bytes of a row, both ways. All numbers stand with their low bytes first.
-use Rattle.std.specs.Prelude.{◌≡◌, ℕ, ◌+◌, ◌-◌, ◌*◌, ◌^◌, ◌≤◌, nat_lt, ◌==◌, ℤ, pos, negsuc, ◌-ℤ◌, Option, Some, None, option_map, IfSome, List, [], ◌∷◌, ◌++◌, length, take, drop, replicate, IsTrue, if◌then◌else◌}
+use Rattle.std.specs.Prelude.{◌≡◌, ℕ, ◌+◌, ◌-◌, ◌*◌, ◌^◌, ◌<◌, ◌≤◌, nat_lt, ◌==◌, ℤ, pos, negsuc, ◌-ℤ◌, Option, Some, None, option_map, IfSome, List, [], ◌∷◌, ◌++◌, length, take, drop, replicate, IsTrue, if◌then◌else◌}
 use Rattle.std.specs.List.{list_all}
 use Rattle.std.specs.Int.{bytes_low_first}
 use Rattle.fl_base.specs.declared.types.BlobRef.{BlobRef}
@@ -50,12 +50,21 @@ abbrev pub FitsReference : RowLayout → BlobRef → Type 0
 FitsReference layout blob =
     IsTrue layout.blobs × (blob.page ≡ 4294967295 → blob.offset ≡ 65535 → blob.length ≡ 4294967295 → ⊥)
 
+-- the numbers of a reference fit their bytes
+abbrev pub FitsBytes : BlobRef → Type 0
+FitsBytes blob = (blob.page < 2 ^ 32) × (blob.offset < 2 ^ 16) × (blob.length < 2 ^ 32)
+
 -- a row that fits its layout
 pub record FitsRow (layout : RowLayout) (row : Row) : Type 0 where
   pub key : row.key ≤ greatest_key layout
   pub as_many : length row.values ≡ length layout.columns
   pub values : first_misfit 1 layout.columns row.values ≡ None
   pub blob : IfSome row.blob (FitsReference layout)
+
+-- a row that its bytes tell
+pub record IsStorable (layout : RowLayout) (row : Row) : Type 0 where
+  pub fits : FitsRow layout row
+  pub bytes : IfSome row.blob FitsBytes
 
 -- ---- reading
 
@@ -82,9 +91,9 @@ abbrev pub reference_in : List ℕ → Option BlobRef
 reference_in bytes =
     if list_all (λ byte. byte == 255) (take 10 bytes) then None
     else Some record {
-    page = number_of (take 4 bytes);
-    offset = number_of (take 2 (drop 4 bytes));
-    length = number_of (take 4 (drop 6 bytes));
+      page = number_of (take 4 bytes);
+      offset = number_of (take 2 (drop 4 bytes));
+      length = number_of (take 4 (drop 6 bytes));
     }
 
 -- the row that bytes are

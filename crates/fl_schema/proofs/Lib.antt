@@ -2,3 +2,4 @@ pub mod Numbers
 pub mod Places
 pub mod Writing
 pub mod References
+pub mod RoundTrip

@@ -1,5 +1,5 @@
 -- The columns of a schema, one after another.
-use Rattle.std.proofs.Common.{◌≡◌, ℕ, zero, suc, ◌+◌, ◌-◌, ◌<◌, ◌≤◌, Bool, true, false, inl, inr, if◌then◌else◌, ℤ, pos, Option, Some, None, slice_get, List, [], ◌∷◌, ◌++◌, length, take, drop, map, slice_range, get_or, refl, sym, ap, ◌∙◌, arith, length-append}
+use Rattle.std.proofs.Common.{◌≡◌, ℕ, zero, suc, ◌+◌, ◌-◌, ◌<◌, ◌≤◌, Bool, true, false, inl, inr, if◌then◌else◌, ℤ, pos, Option, Some, None, slice_get, List, [], ◌∷◌, ◌++◌, length, take, drop, slice_range, get_or, refl, sym, ap, ◌∙◌, arith}
 use Rattle.std.proofs.lemmas.Bool.{cases_lt}
 use Rattle.std.proofs.lemmas.List.{drop-drop, take_at, take-append-le, get_or_append_left, get_or_push, length_push}
 use Rattle.std.proofs.lemmas.List.Sums.{sum_by-cons}
@@ -57,7 +57,7 @@ value_at (c ∷ cs) bytes (suc i) d lt =
     ∙ ap (λ (l : List ℕ). Some (value_in (column_of of) (take (column_of of).width l)))
     (drop-drop (columns_len (columns_in (take i cs))) w bytes ∙ ap (λ (k : ℕ). drop k bytes) (sym (columns_len-cons (column_of c.of) (columns_in (take i cs)))))
 
-misfit_parts : (b : Bool) (n : ℕ) (others : Option ℕ) → (if b then others else Some n) ≡ None → (b ≡ true) × (others ≡ None)
+pub misfit_parts : (b : Bool) (n : ℕ) (others : Option ℕ) → (if b then others else Some n) ≡ None → (b ≡ true) × (others ≡ None)
 misfit_parts true n others h = (refl, h)
 misfit_parts false n others h = absurd (cc h)
 
@@ -85,12 +85,12 @@ values_bytes-more (c ∷ cs) (v ∷ vs) (suc i) d lt lt' =
 pub ArePlaced-more : (key : KeyWidth) (cs : List PlacedColumn) (c : PlacedColumn) → ArePlaced key cs → c.at ≡ key_width key + columns_len (columns_in cs) → ArePlaced key (cs ++ c ∷ [])
 ArePlaced-more key cs c placed at i d lt = elim (cases_lt i (length cs)) [
   | inl before ↦
-    ap (λ (x : PlacedColumn). x.at) (get_or_append_left cs (c ∷ []) d i before) ∙ placed i d before
-    ∙ ap (λ (l : List PlacedColumn). key_width key + columns_len (columns_in l)) (sym (take-append-le i cs (c ∷ []) (omega arith)))
+      ap (λ (x : PlacedColumn). x.at) (get_or_append_left cs (c ∷ []) d i before) ∙ placed i d before
+      ∙ ap (λ (l : List PlacedColumn). key_width key + columns_len (columns_in l)) (sym (take-append-le i cs (c ∷ []) (omega arith)))
   | inr past ↦
-    let last : length cs ≡ i = omega (arith, length_push cs c) in
-    ap (λ (x : PlacedColumn). x.at) (get_or_push cs c d i last) ∙ at
-    ∙ ap (λ (l : List PlacedColumn). key_width key + columns_len (columns_in l)) (sym (take_at cs (c ∷ []) i last))
+      let last : length cs ≡ i = omega (arith, length_push cs c) in
+      ap (λ (x : PlacedColumn). x.at) (get_or_push cs c d i last) ∙ at
+      ∙ ap (λ (l : List PlacedColumn). key_width key + columns_len (columns_in l)) (sym (take_at cs (c ∷ []) i last))
 ]
 
 -- a value as it is read from its place in a row

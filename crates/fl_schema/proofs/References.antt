@@ -1,13 +1,13 @@
 -- References to blobs in ten bytes.
-use Rattle.std.proofs.Common.{◌≡◌, ℕ, suc, ◌+◌, ◌-◌, ◌*◌, ◌^◌, ◌<◌, ◌≤◌, Bool, true, false, ◌&&◌, ◌==◌, if◌then◌else◌, inl, inr, Option, Some, None, List, [], ◌∷◌, ◌++◌, length, take, drop, get_or, slice_range, unwrap_or, refl, sym, ap, ◌∙◌, arith, append_assoc, length-append, length-take, length-drop}
+use Rattle.std.proofs.Common.{◌≡◌, ℕ, suc, ◌+◌, ◌-◌, ◌*◌, ◌^◌, ◌<◌, ◌≤◌, Bool, ◌&&◌, ◌==◌, if◌then◌else◌, inl, inr, Option, Some, None, List, [], ◌∷◌, ◌++◌, length, take, drop, get_or, slice_range, unwrap_or, refl, sym, ap, ◌∙◌, arith, append_assoc, length-append, length-take, length-drop}
 use Rattle.std.proofs.Math.Seq.{take-add}
 use Rattle.std.proofs.Math.Nat.{one-le-pow, pow-suc}
-use Rattle.std.proofs.lemmas.Bool.{cases_lt, cases_Bool, eq-eqb, eqb-true, eqb-false, and_parts}
+use Rattle.std.proofs.lemmas.Bool.{cases_lt}
 use Rattle.std.proofs.lemmas.Bool.Decides.{nat_tests}
 use Rattle.std.proofs.lemmas.List.{drop-drop, length-take-le, get_or-take, get_or-drop, get_or_past}
 use Rattle.std.proofs.lemmas.List.Folds.{list_all-append}
 use Rattle.std.specs.List.{list_all}
-use Rattle.std.specs.Int.{w16, w32, from_le_bytes, to_le_bytes}
+use Rattle.std.specs.Int.{w16, w32, from_le_bytes}
 use Rattle.fl_base.specs.Bytes.{splice}
 use Rattle.fl_base.proofs.Ranges.{drop-splice}
 use Rattle.fl_schema.proofs.Writing.{take-splice_end}
@@ -49,9 +49,6 @@ splice-splice xs at at' bs cs is room =
     ap (λ (l : List ℕ). l ++ (cs ++ drop (at' + length cs) (splice xs at bs))) (take-splice_end xs at at' bs (omega arith) is)
     ∙ append_assoc (take at xs) bs (cs ++ drop (at' + length cs) (splice xs at bs))
     ∙ ap (λ (l : List ℕ). take at xs ++ l) (sym (append_assoc bs cs (drop (at' + length cs) (splice xs at bs))) ∙ ap (λ (l : List ℕ). bs ++ cs ++ l) rest)
-
-
-
 
 pub reference_written : (blob : Option BlobRef) (fields : BlobRef) → fields ≡ unwrap_or blob (record { page = 4294967295; offset = 65535; length = 4294967295 })
     → le 4 fields.page ++ le 2 fields.offset ++ le 4 fields.length ≡ reference_bytes blob

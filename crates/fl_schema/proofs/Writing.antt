@@ -1,11 +1,10 @@
 -- A row that is written column by column.
-use Rattle.std.proofs.Common.{◌≡◌, ℕ, ◌+◌, ◌<◌, ◌≤◌, true, false, ℤ, pos, Option, None, List, [], ◌++◌, length, take, drop, get_or, refl, sym, ap, ◌∙◌, arith, append_assoc, length-append}
+use Rattle.std.proofs.Common.{◌≡◌, ℕ, ◌+◌, ◌<◌, ◌≤◌, ℤ, pos, List, [], ◌++◌, length, take, drop, get_or, sym, ap, ◌∙◌, arith, append_assoc, length-append}
 use Rattle.std.proofs.lemmas.List.{take_at, take_all, drop_all, append-nil, length-take-le}
 use Rattle.fl_base.specs.Bytes.{splice}
 use Rattle.fl_base.proofs.Ranges.{length-splice}
-use Rattle.fl_base.specs.declared.types.BlobRef.{BlobRef}
 use Rattle.fl_model.specs.Record.{columns_len}
-use Rattle.fl_model.specs.Row.{le, value_bytes, values_bytes, reference_bytes}
+use Rattle.fl_model.specs.Row.{le, value_bytes, values_bytes}
 use Rattle.fl_schema.specs.Types.{column_of}
 use Rattle.fl_schema.specs.Form.{columns_in}
 use Rattle.fl_schema.specs.declared.schema.PlacedColumn.{PlacedColumn}

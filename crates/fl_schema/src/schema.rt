@@ -3,9 +3,9 @@ ghost use Rattle.std.specs.Prelude.{◌≡◌, ◌≤◌};
 ghost use Rattle.fl_model.specs.Record.{layout_len};
 ghost use Rattle.fl_schema.specs.Form.{key_width, types_in, layout_with, ArePlaced};
 
+use crate::reference::{REFERENCE, write_reference};
 use crate::{ColumnType, RowKind};
 use arrayvec::ArrayVec;
-use crate::reference::{REFERENCE, write_reference};
 use fl_base::{BlobRef, put_u32, put_u64};
 
 /// How many bytes a key has.
@@ -98,7 +98,10 @@ impl<const COLS: usize> Schema<COLS> {
         let mut placed = ArrayVec::new();
         let mut row = key.width();
         for column in columns {
-            placed.push(PlacedColumn { of: *column, at: row });
+            placed.push(PlacedColumn {
+                of: *column,
+                at: row,
+            });
             row += column.width();
         }
         if blobs {

@@ -1,6 +1,5 @@
-use Rattle.std.proofs.Common.{◌≡◌, ◌+◌, Bool, if◌then◌else◌, Option, None, Some, arith, ap, sym, ◌∙◌, length-drop, get_or-drop, refl, drop}
+use Rattle.std.proofs.Common.{◌+◌, Bool, if◌then◌else◌, None, Some, arith, ap, sym, ◌∙◌, length-drop, get_or-drop, refl, drop}
 use Rattle.fl_base.specs.declared.types.BlobRef.{BlobRef}
-use Rattle.fl_model.specs.Row.{reference_in}
 use Rattle.fl_schema.proofs.References.{reference_read, field_4, field_2}
 use Rattle.fl_schema.proofs.reference.read_reference.Goals as goal
 

@@ -1,4 +1,4 @@
-use Rattle.std.proofs.Common.{arith, ap, ◌∙◌, ◌<◌, length, rules}
+use Rattle.std.proofs.Common.{arith, ◌<◌, length, rules}
 use Rattle.fl_schema.specs.declared.column.ColumnType.TheVariants.{U8}
 use Rattle.fl_schema.proofs.Places.{length-columns_in, place_within, value_read}
 use Rattle.fl_schema.proofs.row.RowRef.value.Goals as goal

@@ -3,7 +3,6 @@ use Rattle.std.proofs.lemmas.Int.{to_z-of_z}
 use Rattle.std.specs.Prelude.{FitsSigned}
 use Rattle.std.specs.Int.{w64}
 use Rattle.fl_schema.specs.declared.column.ColumnType.TheVariants.{U8}
-use Rattle.fl_schema.specs.declared.schema.PlacedColumn.{PlacedColumn}
 use Rattle.fl_schema.specs.Form.{key_width, columns_in}
 use Rattle.fl_model.specs.Record.{columns_len}
 use Rattle.fl_model.specs.Row.{le}
@@ -11,7 +10,6 @@ use Rattle.fl_schema.proofs.Numbers.{length-le}
 use Rattle.fl_schema.proofs.Places.{length-columns_in, fits_at, place_within}
 use Rattle.fl_schema.proofs.Writing.{Written-more}
 use Rattle.fl_schema.proofs.schema.Schema.encode.Goals as goal
-
 
 pub write-requires-in-loop-i-clause-fits : goal.write-requires-in-loop-i-clause-fits
 write-requires-in-loop-i-clause-fits g c =
