@@ -1,10 +1,8 @@
 -- What holds of a table's configuration that isn't refused.
-use Rattle.std.specs.Prelude.{◌≡◌, ℕ, ◌+◌, ◌-◌, ◌*◌, ◌%◌, ◌<◌, ◌≤◌, Option, Some, None, IsSome, IfSome, pos, [], length}
+use Rattle.std.specs.Prelude.{◌≡◌, ◌%◌, ◌≤◌, IsSome, IfSome, length}
 use Rattle.fl_base.specs.declared.types.Geometry.{Geometry}
 use Rattle.fl_base.specs.declared.types.RingPlace.{RingPlace}
-use Rattle.fl_model.specs.Record.{Plan, row_len, content_per_page, blocks_of}
 use Rattle.fl_plan.specs.declared.table_config.TableConfig.{TableConfig}
-use Rattle.fl_plan.specs.Plan.{plan_of_table}
 
 pub record IsWithin (geometry : Geometry) : Type 0 where
   pub page_low : 64 ≤ geometry.page
