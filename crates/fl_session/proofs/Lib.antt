@@ -5,3 +5,7 @@ pub mod Running
 pub mod Accepting
 pub mod Nexts
 pub mod Loops
+pub mod Configuring
+pub mod Beginning
+pub mod Ready
+pub mod Ending

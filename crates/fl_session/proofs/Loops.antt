@@ -18,7 +18,8 @@ use Rattle.fl_session.specs.declared.stream.LinesFault.{LinesFault}
 use Rattle.fl_session.specs.declared.stream.LinesFault.TheVariants.{Failed, Long}
 use Rattle.fl_session.specs.declared.status.Status.{Status}
 use Rattle.fl_session.specs.declared.status.Status.TheVariants.{Done, Usage, Line, ScriptRead, OutWrite, MediaMake, Config as BadConfiguration, OtherConfig, ScriptLong, NoMemory, NotYet}
-use Rattle.fl_session.proofs.Reading.{Given, given-none, given-line, given-last, given-all, given-taken, given-most, given-too_long, IsTooLong}
+use Rattle.fl_session.specs.Given.{Given}
+use Rattle.fl_session.proofs.Reading.{given-none, given-line, given-last, given-all, given-taken, given-most, given-too_long, IsTooLong}
 use Rattle.fl_session.proofs.Accepting.{AllRun, all_run-none, all_run-more, all_run-all, all_run-refused, accepted-more, too_long-command}
 use Rattle.fl_session.proofs.Running.{ran-none, ran-more, ran-into}
 
@@ -102,7 +103,7 @@ ends-in_reply tail config stands stands_mid stands_now faults mid now told told_
     }
 
 -- what a line that is given is: the next one, or the front of one that is too long
-data NextLine (tail : Tail) (given : List (List ℕ)) (new : LinesState) (rest : List ℕ) : Type 0 where
+pub data NextLine (tail : Tail) (given : List (List ℕ)) (new : LinesState) (rest : List ℕ) : Type 0 where
   fits : Given tail.most tail.text (given ++ new.line ∷ []) new.closed new.most rest → (tail.closed ≡ false) → NextLine tail given new rest
   too_long : IsTooLong tail.most tail.text given → 4096 < length new.line → NextLine tail given new rest
 
@@ -113,7 +114,7 @@ was_open true b h e = absurd (two (sym (h refl) ∙ e))
     two k = cc
 was_open false b h e = refl
 
-next_line : (tail : Tail) (given : List (List ℕ)) (old new : LinesState) (left left_now : List ℕ) →
+pub next_line : (tail : Tail) (given : List (List ℕ)) (old new : LinesState) (left left_now : List ℕ) →
     Given tail.most tail.text given old.closed old.most (old.ahead ++ left) → (tail.closed ≡ true → old.closed ≡ true) → Gives old (old.ahead ++ left) (Ok true) new left_now →
     NextLine tail given new (new.ahead ++ left_now)
 next_line tail given old new left left_now g o (inl w) =

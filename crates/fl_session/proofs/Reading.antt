@@ -7,18 +7,9 @@ use Rattle.std.specs.List.{onto_first, last_or}
 use Rattle.std.proofs.lemmas.List.Elements.{All-head, All-tail}
 use Rattle.std.proofs.lemmas.List.Splits.{slice_split-cons_no}
 use Rattle.fl_words.specs.Grammar.{lines_of, no_empty_last}
+use Rattle.fl_session.specs.Given.{Given}
 use Rattle.fl_session.specs.Texts.{parts_of, all_but_last, whole_lines, rest_of, long_rest, lines_within}
 use Rattle.fl_session.proofs.Parts.{OneLine, within-line, whole-line, whole-rest, rest-rest, lines-rest, parts-some, same_test}
-
--- The lines that were given of a text, of which at most so many bytes are read, and what is left of both. Where the last
--- line was given that has no newline, the text is closed.
-pub record Given (most : ℕ) (text : List ℕ) (given : List (List ℕ)) (closed : Bool) (most_now : ℕ) (rest : List ℕ) : Type 0 where
-  pub lines : lines_within most text ≡ given ++ lines_within most_now rest
-  pub long : nat_lt most (length text) ≡ nat_lt most_now (length rest)
-  pub front : List ℕ
-  pub split : closed ≡ false → text ≡ front ++ rest
-  pub bytes : closed ≡ false → most ≡ length front + most_now
-  pub whole : closed ≡ false → (xs : List ℕ) → whole_lines (front ++ xs) ≡ given ++ whole_lines xs
 
 pub given-none : (most : ℕ) (text : List ℕ) (closed : Bool) → Given most text [] closed most text
 given-none most text closed = record {

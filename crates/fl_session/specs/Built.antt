@@ -25,8 +25,11 @@ is_built c = true
 abbrev pub is_built_plan : Plan → Bool
 is_built_plan plan = (plan.index_blocks == 0) && (plan.var_blocks == 0)
 
+abbrev pub are_built : List Plan → Bool
+are_built plans = nat_le (length plans) 1 && list_all is_built_plan plans
+
 abbrev pub is_built_config : Config → Bool
-is_built_config config = nat_le (length config.plans) 1 && list_all is_built_plan config.plans
+is_built_config config = are_built config.plans
 
 -- a command that is run: it is built, and is no line of a configuration
 pub record IsRunnable (c : Command) : Type 0 where

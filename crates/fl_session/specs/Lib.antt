@@ -8,3 +8,6 @@ pub mod Reads
 pub mod Stream
 pub mod Next
 pub mod Loop
+pub mod Given
+pub mod Begin
+pub mod Opening

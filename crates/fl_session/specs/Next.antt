@@ -67,3 +67,7 @@ pub record NextRun (old : LinesState) (left : Option (List ℕ)) (faults number 
   pub given : Result Bool LinesFault
   pub advances : Advances old left faults given new left_now faults_now
   pub next : NextRunOf given new.line number result room
+
+abbrev pub is_nothing : words.Command → Bool
+is_nothing words.Nothing = true
+is_nothing c = false

@@ -1,6 +1,7 @@
 //! A session over an image, and the run of a script.
 #![tactic(auto)]
 
+mod begin;
 mod commands;
 mod next;
 mod status;

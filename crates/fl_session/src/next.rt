@@ -28,7 +28,7 @@ fn is_built(command: &Command) -> bool
     }
 }
 
-fn is_config(command: &Command) -> bool
+pub(crate) fn is_config(command: &Command) -> bool
     ensures { (room : List ℕ) → result ≡ is_config_line (command_view command.now room) }
 {
     matches!(command, Command::Device { .. } | Command::Table { .. })

@@ -1,0 +1,237 @@
+-- How a run ends, from how its configuration was read, how its image was opened and how its commands were run.
+use Rattle.std.proofs.Common.{◌≡◌, ℕ, ◌+◌, ◌-◌, ◌^◌, ◌<◌, ◌≤◌, Bool, true, false, ◌⊎◌, inl, inr, IsTrue, Option, Some, None, Result, Ok, Err, List, [], ◌∷◌, ◌++◌, length, take, drop, nat_lt, refl, sym, ◌∙◌, ap, subst, append_assoc, append-nil, length-append, arith}
+use Rattle.std.specs.Prelude.{if◌then◌else◌}
+use Rattle.std.proofs.lemmas.Bool.{lt-ltb, le-ltb, ltb-false, ltb-true}
+use Rattle.std.proofs.Math.Seq.{take-append-add, drop-append-add}
+use Rattle.fl_base.specs.Causes.{Appends}
+use Rattle.fl_model.specs.Record.{Config}
+use Rattle.fl_model.specs.Image.{medium_len}
+use Rattle.fl_flash.specs.Media.{MediaState}
+use Rattle.fl_words.specs.Command.{Command}
+use Rattle.fl_words.specs.Grammar.{command_of}
+use Rattle.fl_words.specs.Config.{Lines, whole}
+use Rattle.fl_machine.specs.Machine.{Machine}
+use Rattle.fl_machine.specs.Script.{Start, Ready, Unended, BadLine, BadConfig, start_with, start_of, ended, accepted, first_refused, StandsFor, StandsAfter, Ran, RanInto, RoseBy}
+use Rattle.fl_session.specs.Texts.{most_bytes, whole_lines, lines_read, lines_within, is_long}
+use Rattle.fl_session.specs.Stream.{LinesState}
+use Rattle.fl_session.specs.Given.{Given}
+use Rattle.fl_session.specs.Execute.{Around, IsReady, IsAlike, StandsAlike, RanAll, RanPart}
+use Rattle.fl_session.specs.Loop.{Tail, lines_in, EndsAll, EndsBad, EndsUnbuilt, EndsInReply, EndsTaken, EndsCommands}
+use Rattle.fl_session.specs.Begin.{AtCommand, AtEnd, EndsInConfig, EndsBefore, EndsBegin, IsUnended}
+use Rattle.fl_session.specs.Ends.{Told, IsUntouched, IsOwn, RunsAll, RunsInto, IsOther, start_in, EndsEarly, EndsDone, EndsLine, EndsInto, EndsMaking, EndsConfig, EndsOther, EndsAt, EndsRead, Ends}
+use Rattle.fl_session.specs.declared.status.Status.{Status}
+use Rattle.fl_session.specs.declared.status.Status.TheVariants.{Done, Usage, Line, ScriptRead, OutWrite, MediaMake, Config as BadConfiguration, OtherConfig, ScriptLong, NoMemory, NotYet}
+use Rattle.fl_session.proofs.Running.{ran-none, ran-seen, ran_into-seen}
+use Rattle.fl_session.proofs.Ready.{stands-ready, ready-room, after-alike}
+
+unended-untouched : (start : Start) (told : Told) → IsUnended start → IsUntouched told → EndsEarly start told
+unended-untouched (Unended config n) told u h = h
+unended-untouched (Ready config n lines) told u h = absurd u
+unended-untouched (BadLine n) told u h = absurd u
+unended-untouched (BadConfig n) told u h = absurd u
+
+-- the run ends while the configuration is read
+pub ends-in_begin : (knots : ℕ) (text : List ℕ) (left : Option (List ℕ)) (told : Told) (status : Status) → EndsBegin knots text left status → told.left_now ≡ left → IsUntouched told → Ends knots text told status
+ends-in_begin knots text left told (Line n) h e u = subst (λ s. EndsLine s told n) (sym h) (refl, u)
+ends-in_begin knots text left told (BadConfiguration n) h e u = subst (λ s. EndsConfig s told n) (sym h) (refl, u)
+ends-in_begin knots text left told ScriptRead h e u = record {
+  taken = h.taken;
+  within = h.within;
+  most = h.few;
+  left = e ∙ h.left;
+  ends = unended-untouched (start_of knots (whole_lines (take h.taken text))) told h.unended u;
+}
+ends-in_begin knots text left told ScriptLong h e u = (h.0, unended-untouched (start_of knots (lines_read text)) told h.1 u)
+ends-in_begin knots text left told (NotYet n) h e u = record {
+  before = h.before;
+  line = h.line;
+  others = h.others;
+  split = h.split;
+  number_is = h.number_is;
+  command = h.command;
+  reads = h.reads;
+  unbuilt = h.unbuilt;
+  ends = unended-untouched (start_of knots h.before) told h.unended u;
+}
+ends-in_begin knots text left told status h e u = absurd h
+
+-- the lines from the command on that ended the configuration
+abbrev pub tail_of : ℕ → LinesState → List ℕ → Tail
+tail_of number state left = record { number = number; first = state.line; text = state.ahead ++ left; most = state.most; closed = state.closed }
+
+start-of_lines : (knots : ℕ) (text : List ℕ) (now : Lines) (number : ℕ) (state : LinesState) (left_now : Option (List ℕ)) (config : Config) →
+    (a : AtCommand knots text now number state left_now) → whole knots now ≡ Some config → start_of knots (lines_read text) ≡ Ready config number (state.line ∷ lines_within state.most (state.ahead ++ a.left))
+start-of_lines knots text now number state left_now config a w =
+    let others = lines_within state.most (state.ahead ++ a.left) in
+    ap (start_of knots) (a.given.lines ∙ append_assoc a.before (state.line ∷ []) others)
+    ∙ (a.starts others ∙ ap (λ x. start_with x number (state.line ∷ others)) w)
+
+in-of_lines : (knots : ℕ) (text : List ℕ) (config : Config) (n : ℕ) (lines : List (List ℕ)) → start_of knots (lines_read text) ≡ Ready config n lines → start_in knots text ≡ Ready config n lines
+in-of_lines knots text config n lines e = by_test (is_long text)
+  where
+    by_test : (b : Bool) → (if b then start_of knots (lines_read text) else ended (start_of knots (lines_read text))) ≡ Ready config n lines
+    by_test true = e
+    by_test false = ap ended e
+
+pub start-at_command : (knots : ℕ) (text : List ℕ) (now : Lines) (number : ℕ) (state : LinesState) (left_now : Option (List ℕ)) (config : Config) →
+    (a : AtCommand knots text now number state left_now) → whole knots now ≡ Some config → start_in knots text ≡ Ready config number (state.line ∷ lines_within state.most (state.ahead ++ a.left))
+start-at_command knots text now number state left_now config a w =
+    in-of_lines knots text config number (state.line ∷ lines_within state.most (state.ahead ++ a.left)) (start-of_lines knots text now number state left_now config a w)
+
+pub start-at_end : (knots : ℕ) (text : List ℕ) (now : Lines) (number : ℕ) (config : Config) → AtEnd knots text now number → whole knots now ≡ Some config → start_in knots text ≡ Ready config number []
+start-at_end knots text now number config a w =
+    ap (λ b. if b then start_of knots (lines_read text) else ended (start_of knots (lines_read text))) (le-ltb most_bytes (length text) a.short)
+    ∙ (ap ended a.starts ∙ ap (λ x. start_with x number []) w)
+
+-- what was run in the session is what was run over the medium
+pub record Over (config : Config) (told : Told) (around : Around) (stands stands_now : Machine → Type 0) : Type 0 where
+  pub config_is : around.config ≡ config
+  pub faults_now : around.faults_now ≡ told.faults_now
+  pub faults : told.faults ≤ around.faults
+  pub written : around.told ≡ told.written
+  pub written_now : around.told_now ≡ told.written_now
+  pub own : IsOwn config told.content
+  pub begins : (old : Machine) → StandsFor config told.content old → stands old × IsReady config old
+  pub ends : (m : Machine) → stands_now m → StandsAfter config (Some told.content_now) m
+
+rose-earlier : (n before mid now : ℕ) → before ≤ mid → RoseBy n mid now → RoseBy n before now
+rose-earlier n before mid now h (inl k) = inl (omega arith)
+rose-earlier n before mid now h (inr k) = inr k
+
+ran-earlier : (config : Config) (old : Machine) (commands : List Command) (stands : Machine → Type 0) (before mid now : ℕ) (told told_now : Option (List ℕ)) → before ≤ mid →
+    Ran config old commands stands mid now told told_now → Ran config old commands stands before now told told_now
+ran-earlier config old commands stands before mid now told told_now e h = record {
+  moments = h.moments;
+  commands_are = h.commands_are;
+  run = h.run;
+  stands_after = h.stands_after;
+  rose = rose-earlier _ before mid now e h.rose;
+  found = h.found;
+  told_all = h.told_all;
+}
+
+ran_into-earlier : (config : Config) (old : Machine) (commands : List Command) (stands : Machine → Type 0) (before mid now : ℕ) (told told_now : Option (List ℕ)) → before ≤ mid →
+    RanInto config old commands stands mid now told told_now → RanInto config old commands stands before now told told_now
+ran_into-earlier config old commands stands before mid now told told_now e h = record {
+  moments = h.moments;
+  commands_are = h.commands_are;
+  run = h.run;
+  stands_after = h.stands_after;
+  rose = rose-earlier _ before mid now e h.rose;
+  found = h.found;
+  before = h.before;
+  last = h.last;
+  split = h.split;
+  front = h.front;
+  is_front = h.is_front;
+  told_front = h.told_front;
+}
+
+pub runs-all : (config : Config) (told : Told) (around : Around) (stands stands_now : Machine → Type 0) (commands : List Command) → Over config told around stands stands_now → RanAll around stands stands_now commands → RunsAll config commands told
+runs-all config told around stands stands_now commands o h = record {
+  own = o.own;
+  runs = λ old s.
+      let b = o.begins old s in
+      let ran = h old b.0 (subst (λ c. IsReady c old) (sym o.config_is) b.1) in
+      let seen = ran-seen around.config old commands stands_now (StandsAfter config (Some told.content_now)) around.faults around.faults_now around.told around.told_now o.ends ran in
+      let earlier = ran-earlier around.config old commands (StandsAfter config (Some told.content_now)) told.faults around.faults around.faults_now around.told around.told_now o.faults seen in
+      subst (λ c. Ran c old commands (StandsAfter config (Some told.content_now)) told.faults told.faults_now told.written told.written_now) o.config_is
+      (subst (λ f. Ran around.config old commands (StandsAfter config (Some told.content_now)) told.faults f told.written told.written_now) o.faults_now
+      (subst (λ t. Ran around.config old commands (StandsAfter config (Some told.content_now)) told.faults around.faults_now t told.written_now) o.written
+      (subst (λ t. Ran around.config old commands (StandsAfter config (Some told.content_now)) told.faults around.faults_now around.told t) o.written_now earlier)));
+}
+
+pub runs-into : (config : Config) (told : Told) (around : Around) (stands stands_now : Machine → Type 0) (commands : List Command) → Over config told around stands stands_now → RanPart around stands stands_now commands → RunsInto config commands told
+runs-into config told around stands stands_now commands o h = record {
+  own = o.own;
+  runs = λ old s.
+      let b = o.begins old s in
+      let ran = h old b.0 (subst (λ c. IsReady c old) (sym o.config_is) b.1) in
+      let seen = ran_into-seen around.config old commands (StandsAlike stands_now) (StandsAfter config (Some told.content_now)) around.faults around.faults_now around.told around.told_now
+          (after-alike config (Some told.content_now) stands_now o.ends) ran in
+      let earlier = ran_into-earlier around.config old commands (StandsAfter config (Some told.content_now)) told.faults around.faults around.faults_now around.told around.told_now o.faults seen in
+      subst (λ c. RanInto c old commands (StandsAfter config (Some told.content_now)) told.faults told.faults_now told.written told.written_now) o.config_is
+      (subst (λ f. RanInto around.config old commands (StandsAfter config (Some told.content_now)) told.faults f told.written told.written_now) o.faults_now
+      (subst (λ t. RanInto around.config old commands (StandsAfter config (Some told.content_now)) told.faults around.faults_now t told.written_now) o.written
+      (subst (λ t. RanInto around.config old commands (StandsAfter config (Some told.content_now)) told.faults around.faults_now around.told t) o.written_now earlier)));
+}
+
+-- the lines up to a place behind the command that ended the configuration
+start-behind : (knots : ℕ) (text : List ℕ) (now : Lines) (number : ℕ) (state : LinesState) (left_now : Option (List ℕ)) (config : Config) (more : List (List ℕ)) →
+    (a : AtCommand knots text now number state left_now) → whole knots now ≡ Some config → start_of knots (a.before ++ state.line ∷ more) ≡ Ready config number (state.line ∷ more)
+start-behind knots text now number state left_now config more a w = a.starts more ∙ ap (λ x. start_with x number (state.line ∷ more)) w
+
+-- the bytes that were taken
+taken-whole : (knots : ℕ) (text : List ℕ) (now : Lines) (number : ℕ) (state : LinesState) (left_now : Option (List ℕ)) (n : ℕ) (a : AtCommand knots text now number state left_now) → state.closed ≡ false →
+    (take (length a.given.front + n) text ≡ a.given.front ++ take n (state.ahead ++ a.left)) × (drop (length a.given.front + n) text ≡ drop n (state.ahead ++ a.left))
+taken-whole knots text now number state left_now n a o = (
+  ap (take (length a.given.front + n)) (a.given.split o) ∙ take-append-add a.given.front (state.ahead ++ a.left) n,
+  ap (drop (length a.given.front + n)) (a.given.split o) ∙ drop-append-add a.given.front (state.ahead ++ a.left) n,
+)
+
+pub ends-of_commands : (knots : ℕ) (text : List ℕ) (now : Lines) (number : ℕ) (state : LinesState) (left_now : Option (List ℕ)) (config : Config) (told : Told) (around : Around) (stands stands_now : Machine → Type 0) (status : Status) →
+    (a : AtCommand knots text now number state left_now) → whole knots now ≡ Some config → Over config told around stands stands_now →
+    EndsCommands (tail_of number state a.left) told.left_now around stands stands_now status → Ends knots text told status
+ends-of_commands knots text now number state left_now config told around stands stands_now Done a w o h = (
+  ltb-false most_bytes (length text) (a.given.long ∙ le-ltb state.most (length (state.ahead ++ a.left)) h.0),
+  subst (λ s. EndsDone s told) (sym (start-at_command knots text now number state left_now config a w)) (h.1.accepts, runs-all config told around stands stands_now _ o h.1.runs),
+)
+ends-of_commands knots text now number state left_now config told around stands stands_now (Line n) a w o h =
+    subst (λ s. EndsLine s told n) (sym (start-at_command knots text now number state left_now config a w)) (h.refuses, runs-all config told around stands stands_now _ o h.runs)
+ends-of_commands knots text now number state left_now config told around stands stands_now ScriptRead a w o h =
+    let t = taken-whole knots text now number state left_now h.taken a h.is_open in
+    let count : length text ≡ length a.given.front + length (state.ahead ++ a.left) = ap length (a.given.split h.is_open) ∙ length-append a.given.front (state.ahead ++ a.left) in
+    let lines : whole_lines (take (length a.given.front + h.taken) text) ≡ a.before ++ state.line ∷ whole_lines (take h.taken (state.ahead ++ a.left)) =
+        ap whole_lines t.0
+        ∙ (a.given.whole h.is_open (take h.taken (state.ahead ++ a.left)) ∙ append_assoc a.before (state.line ∷ []) (whole_lines (take h.taken (state.ahead ++ a.left)))) in
+    record {
+      taken = length a.given.front + h.taken;
+      within = omega (arith, h.within);
+      most = omega (arith, a.given.bytes h.is_open, h.few);
+      left = h.left ∙ ap Some (sym t.1);
+      ends =
+          subst (λ s. EndsEarly s told)
+          (sym (ap (start_of knots) lines ∙ start-behind knots text now number state left_now config (whole_lines (take h.taken (state.ahead ++ a.left))) a w))
+          (h.accepts, runs-all config told around stands stands_now _ o h.runs);
+    }
+ends-of_commands knots text now number state left_now config told around stands stands_now OutWrite a w o h =
+    subst (λ s. EndsInto s told) (sym (start-at_command knots text now number state left_now config a w)) (h.commands, h.others, h.split, runs-into config told around stands stands_now h.commands o h.runs)
+ends-of_commands knots text now number state left_now config told around stands stands_now ScriptLong a w o h = (
+  ltb-true most_bytes (length text) (a.given.long ∙ lt-ltb state.most (length (state.ahead ++ a.left)) h.0),
+  subst (λ s. EndsEarly s told) (sym (start-of_lines knots text now number state left_now config a w)) (h.1.accepts, runs-all config told around stands stands_now _ o h.1.runs),
+)
+ends-of_commands knots text now number state left_now config told around stands stands_now (NotYet n) a w o h = record {
+  before = a.before ++ state.line ∷ h.before;
+  line = h.line;
+  others = h.others;
+  split =
+      a.given.lines
+      ∙ (append_assoc a.before (state.line ∷ []) (lines_within state.most (state.ahead ++ a.left))
+      ∙ (ap (λ ls. a.before ++ ls) h.split ∙ sym (append_assoc a.before (state.line ∷ h.before) (h.line ∷ h.others))));
+  number_is = omega (arith, h.number_is, a.numbered, length-append a.before (state.line ∷ h.before));
+  command = h.unbuilt.command;
+  reads = h.unbuilt.reads;
+  unbuilt = inl h.unbuilt.unbuilt;
+  ends =
+      subst (λ s. EndsEarly s told) (sym (start-behind knots text now number state left_now config h.before a w))
+      (h.accepts, runs-all config told around stands stands_now _ o h.runs);
+}
+ends-of_commands knots text now number state left_now config told around stands stands_now status a w o h = absurd h
+
+-- a script without commands
+pub ends-empty : (knots : ℕ) (text : List ℕ) (now : Lines) (number : ℕ) (config : Config) (told : Told) → AtEnd knots text now number → whole knots now ≡ Some config →
+    IsOwn config told.content → ((old : Machine) → StandsFor config told.content old → StandsAfter config (Some told.content_now) old) → told.faults ≤ told.faults_now → told.written_now ≡ told.written →
+    Ends knots text told Done
+ends-empty knots text now number config told a w own stands later written = (
+  a.short,
+  subst (λ s. EndsDone s told) (sym (start-at_end knots text now number config a w)) (
+    refl,
+    record {
+      own = own;
+      runs = λ old s.
+          ran-earlier config old [] (StandsAfter config (Some told.content_now)) told.faults told.faults_now told.faults_now told.written told.written_now later
+          (subst (λ t. Ran config old [] (StandsAfter config (Some told.content_now)) told.faults_now told.faults_now told.written t) (sym written)
+          (ran-none config old (StandsAfter config (Some told.content_now)) told.faults_now told.written (stands old s)));
+    },
+  ),
+)

@@ -1,0 +1,25 @@
+-- What the opening of an image does to its medium.
+use Rattle.std.specs.Prelude.{◌≡◌, ℕ, ◌≤◌, IsTrue, ◌⊎◌, List, [], length}
+use Rattle.fl_base.specs.Causes.{Rose}
+use Rattle.fl_model.specs.Record.{Config}
+use Rattle.fl_model.specs.Image.{medium_len}
+use Rattle.fl_flash.specs.Media.{MediaState}
+use Rattle.fl_session.specs.Ends.{IsOwn, IsOther, new_content}
+
+-- an empty medium was made, and another is one of the configuration
+pub record Opened (config : Config) (old new : MediaState) : Type 0 where
+  pub len : length new.content ≡ medium_len config
+  pub own : IsTrue old.tells → IsOwn config old.content
+  pub made : IsTrue old.tells → old.content ≡ [] → new.content ≡ new_content config
+  pub kept : IsTrue old.tells → (old.content ≡ [] → ⊥) → new.content ≡ old.content
+
+-- the medium failed: it is unchanged, or it was empty and is made in part
+pub record HalfOpened (config : Config) (old new : MediaState) : Type 0 where
+  pub rose : Rose old.faults new.faults
+  pub kept : IsTrue old.tells → (old.content ≡ [] → ⊥) → new.content ≡ old.content
+  pub part : IsTrue old.tells → old.content ≡ [] → length new.content ≤ medium_len config
+
+-- the medium is another's
+pub record Foreign (config : Config) (old new : MediaState) (wanted found at : ℕ) : Type 0 where
+  pub other : IsTrue old.tells → IsOther config old.content wanted found at
+  pub kept : IsTrue old.tells → new.content ≡ old.content

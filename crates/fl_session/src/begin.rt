@@ -1,0 +1,103 @@
+// The configuration of a script, line by line.
+ghost use Rattle.std.specs.Prelude.{◌≡◌, ◌≤◌, ℕ, List, Option, true, Some, None, IfOk, IfErr, is_some};
+ghost use Rattle.fl_base.specs.Causes.{Rose};
+ghost use Rattle.fl_words.specs.Config.{whole, no_lines};
+ghost use Rattle.fl_script.specs.CommandView.{command_view};
+ghost use Rattle.fl_session.specs.Built as forms;
+ghost use Rattle.fl_session.specs.Next as words;
+ghost use Rattle.fl_session.specs.Begin.{ConfiguresBy, IsFresh, BeginsAt, EndsBegin, HoldsFirst, IsOfScript};
+
+use crate::Status;
+use crate::next::{is_config, next_command};
+use crate::stream::{ConfigLines, LineStream, Reader};
+use fl_base::Source;
+use fl_script::{Command, LineRoom};
+
+fn is_nothing(command: &Command) -> bool
+    ensures { (room : List ℕ) → result ≡ words.is_nothing (command_view command.now room) }
+{
+    matches!(command, Command::Nothing)
+}
+
+/// Goes on with the configuration, where the command is a line of it or nothing; else it ends the configuration.
+fn configure<C: ConfigLines>(
+    config: &mut C,
+    command: &Command,
+    room: &LineRoom,
+    number: u64,
+) -> Result<bool, Status>
+    requires { forms.is_built (command_view command.now room.now) ≡ true }
+    ensures { ConfiguresBy (C.lines config.old) (command_view command.now room.now) number result (C.lines config.new) }
+{
+    if is_nothing(command) {
+        return Ok(true);
+    }
+    if !is_config(command) {
+        return Ok(false);
+    }
+    if config.add(command, room).is_err() {
+        return Err(Status::Config { line: number });
+    }
+    if config.is_built() {
+        Ok(true)
+    } else {
+        Err(Status::NotYet { line: number })
+    }
+}
+
+/// Where the configuration ended: at a command, which is the line of this number, or with the script.
+#[derive(Drop)]
+pub(crate) struct Begun {
+    pub first: Option<Command>,
+    pub number: u64,
+}
+
+fn finish<C: ConfigLines>(
+    config: &C,
+    first: Option<Command>,
+    number: u64,
+) -> Result<Begun, Status>
+    ensures ok { IfOk result (λ b. (b ≡ record { first = first; number = number }) × ((knots : ℕ) → is_some (whole knots (C.lines config.now)) ≡ true)) }
+    ensures incomplete { IfErr result (λ status. (status ≡ Status.Config 0) × ((knots : ℕ) → whole knots (C.lines config.now) ≡ None)) }
+{
+    if config.is_complete() {
+        Ok(Begun { first, number })
+    } else {
+        Err(Status::Config { line: 0 })
+    }
+}
+
+/// Reads the lines of the configuration, and the command that ends it.
+pub(crate) fn read_config<C: ConfigLines, L: LineStream, R: Reader, S: Source>(
+    config: &mut C,
+    lines: &mut L,
+    reader: &R,
+    room: &mut LineRoom,
+    script: &mut S,
+) -> Result<Begun, Status>
+    requires first { C.lines config.old ≡ no_lines }
+    requires fresh { IsFresh (L.state lines.old) }
+    ensures whole { IfOk result (λ b. (knots : ℕ) → is_some (whole knots (C.lines config.new)) ≡ true) }
+    ensures in_hand { IfOk result (λ b. HoldsFirst b.first b.number room.new (L.state lines.new)) }
+    ensures begins { IfOk result (λ b. (knots : ℕ) (text : List ℕ) → S.left script.old ≡ Some text →
+        BeginsAt knots text (C.lines config.new) b.first b.number (L.state lines.new) (S.left script.new)) }
+    ensures ends { IfErr result (λ status. (knots : ℕ) (text : List ℕ) → S.left script.old ≡ Some text →
+        EndsBegin knots text (S.left script.new) status) }
+    ensures read { IfErr result (λ status. status ≡ Status.ScriptRead → Rose (S.faults script.old) (S.faults script.new)) }
+    ensures statuses { IfErr result IsOfScript }
+    ensures later { S.faults script.old ≤ S.faults script.new }
+{
+    let mut number: u64 = 1;
+    'lines: loop {
+        match next_command(lines, reader, room, script, number) {
+            Ok(Some(command)) => match configure(config, &command, room, number) {
+                Ok(true) => {}
+                Ok(false) => return finish(config, Some(command), number),
+                Err(status) => return Err(status),
+            },
+            Ok(None) => return finish(config, None, number),
+            Err(status) => return Err(status),
+        }
+        number += 1;
+    }
+}
