@@ -5,7 +5,10 @@ pub mod Work
 pub mod Query
 pub mod Spline
 pub mod Mount
+pub mod Within
+pub mod Laws
 pub mod Operators
+pub mod Row
 pub mod Layout
 pub mod Facts
 pub mod Limits

@@ -44,9 +44,25 @@ has_index plan = nat_lt 0 plan.index_blocks
 abbrev pub has_var : Plan → Bool
 has_var plan = nat_lt 0 plan.var_blocks
 
--- the bytes of a row: its key, its values, and in a table with variable data a reference of ten bytes
+-- the form of a table's rows: how many bytes a key has, the columns, and whether a row can refer to a blob
+pub record RowLayout : Type 0 where
+  pub key_bytes : ℕ
+  pub columns : List Column
+  pub blobs : Bool
+
+abbrev pub row_layout : Plan → RowLayout
+row_layout plan = record { key_bytes = plan.key_bytes; columns = plan.columns; blobs = has_var plan }
+
+-- the bytes of all columns
+abbrev pub columns_len : List Column → ℕ
+columns_len columns = sum_by (λ column. column.width) columns
+
+-- the bytes of a row: its key, its values, and where it can refer to a blob a reference of ten bytes
+abbrev pub layout_len : RowLayout → ℕ
+layout_len layout = layout.key_bytes + columns_len layout.columns + (if layout.blobs then 10 else 0)
+
 abbrev pub row_len : Plan → ℕ
-row_len plan = plan.key_bytes + sum_by (λ column. column.width) plan.columns + (if has_var plan then 10 else 0)
+row_len plan = layout_len (row_layout plan)
 
 -- how many rows a data page holds
 abbrev pub rows_per_page : Plan → ℕ
@@ -61,8 +77,11 @@ abbrev pub content_per_page : Plan → ℕ
 content_per_page plan = plan.geometry.page - 16
 
 -- the greatest key that a row can hold
+abbrev pub greatest_key : RowLayout → ℕ
+greatest_key layout = 2 ^ (8 * layout.key_bytes) - 1
+
 abbrev pub key_limit : Plan → ℕ
-key_limit plan = 2 ^ (8 * plan.key_bytes) - 1
+key_limit plan = greatest_key (row_layout plan)
 
 -- the number of the first column, from 1 on, that its value doesn't fit
 abbrev pub first_misfit : ℕ → List Column → List ℤ → Option ℕ

@@ -1,2 +1,3 @@
 pub mod CommandView
 pub mod ReplyView
+pub mod Written

@@ -3,8 +3,11 @@
 
 mod command;
 mod reply;
+mod reply_line;
 mod room;
+mod write;
 
 pub use command::{Command, LineFault};
 pub use reply::{BlobNote, Reply};
 pub use room::LineRoom;
+pub use write::{write_digits, write_reply};

@@ -1,0 +1,4 @@
+pub mod Masks
+pub mod Values
+pub mod Pages
+pub mod Spans

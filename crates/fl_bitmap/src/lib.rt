@@ -1,0 +1,8 @@
+//! Values in buckets: the bitmap of a page, and the mask of a span that never misses one of its values.
+#![tactic(auto)]
+
+mod buckets;
+#[cfg(test)]
+mod tests;
+
+pub use buckets::Buckets;

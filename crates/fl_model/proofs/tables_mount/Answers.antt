@@ -1,0 +1,5 @@
+use Rattle.fl_model.proofs.Mounting.{mounts-along}
+use Rattle.fl_model.proofs.tables_mount.Goals as goal
+
+pub returns : goal.returns
+returns c = mounts-along

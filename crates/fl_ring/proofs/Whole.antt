@@ -1,0 +1,69 @@
+-- The state that operations leave where all of them are done.
+use Rattle.std.proofs.Common.{◌≡◌, ℕ, Bool, true, false, if◌then◌else◌, List, [], ◌∷◌, ◌++◌, length, drop, Option, Some, None, inl, inr, refl, sym, ◌∙◌, ap, subst}
+use Rattle.std.proofs.lemmas.Bool.{cases_Bool}
+use Rattle.fl_base.specs.declared.types.CutKind.{CutKind}
+use Rattle.fl_model.specs.Work.{Kind, Body, Mark, VoidMark, Erase, Device, cut_now, counted, Whole, CutIn, FailedIn, PartProgress, PartFirst, PartPerforms}
+use Rattle.fl_ring.specs.Operations.{change, seal_kinds, repair_kinds}
+use Rattle.fl_ring.specs.Ring.{Shape, RingState, is_due, is_due_at, appended, trimmed, sealed, voided, unerased, repaired, erased}
+
+-- the operations in order
+abbrev pub all_done : (Kind → RingState → RingState) → List Kind → RingState → RingState
+all_done change [] s = s
+all_done change (kind ∷ kinds) s = all_done change kinds (change kind s)
+
+first_done : (rose : Bool) (o : Option CutKind) (kind : Kind) (device : Device) (s t : RingState) (now : PartProgress RingState) (Others P : Type 0) → PartFirst rose o kind device s t now Others → now.end ≡ Whole → (Others → P) → P
+first_done rose (Some cut) kind device s t now Others P fell whole go_on = absurd (cc (fell.0, whole))
+first_done rose None kind device s t now Others P (inl failed) whole go_on = absurd (cc (failed.1, whole))
+first_done rose None kind device s t now Others P (inr others) whole go_on = go_on others
+
+pub whole_state : (change : Kind → RingState → RingState) (rose : Bool) (kinds : List Kind) (device : Device) (s : RingState) (now : PartProgress RingState)
+    → PartPerforms (λ kind. kind) change rose kinds device s now → now.end ≡ Whole → now.state ≡ all_done change kinds s
+whole_state change rose [] device s now did whole = did.2
+whole_state change rose (kind ∷ kinds) device s now did whole =
+    first_done rose (cut_now device) kind device s (change kind s) now _ (now.state ≡ all_done change kinds (change kind s)) did whole (λ others. whole_state change rose kinds (counted kind device) (change kind s) now others whole)
+
+pub erased_clean : (s : RingState) → s.dirty ≡ false → erased s ≡ s
+erased_clean s e = ap (λ b. record s { dirty = b }) (sym e)
+
+-- a block waits where the oldest one goes
+pub dirty_due : (r : Shape) (s : RingState) → s.dirty ≡ false → (trimmed r s).dirty ≡ is_due r s
+dirty_due r s clean = go (is_due r s)
+  where
+    go : (b : Bool) → (if b then record s { kept = drop r.per_block s.kept; dirty = true } else s).dirty ≡ b
+    go true = refl
+    go false = clean
+
+pub trimmed_torn : (r : Shape) (s : RingState) → (trimmed r s).torn ≡ s.torn
+trimmed_torn r s = go (is_due r s)
+  where
+    go : (b : Bool) → (if b then record s { kept = drop r.per_block s.kept; dirty = true } else s).torn ≡ s.torn
+    go true = refl
+    go false = refl
+
+seal_done : (r : Shape) (s : RingState) (body : List ℕ) → all_done (change r body) (seal_kinds r s body) s ≡ erased (sealed r s body)
+seal_done r s body = go (sealed r s body).dirty refl
+  where
+    go : (b : Bool) → (sealed r s body).dirty ≡ b → all_done (change r body) (if b then Erase ∷ [] else []) (sealed r s body) ≡ erased (sealed r s body)
+    go true e = refl
+    go false e = sym (erased_clean (sealed r s body) e)
+
+-- a whole seal
+pub whole_seal : (r : Shape) (s : RingState) (body : List ℕ) (rose : Bool) (device : Device) (now : PartProgress RingState)
+    → PartPerforms (λ kind. kind) (change r body) rose (seal_kinds r s body) device s now → now.end ≡ Whole → now.state ≡ erased (sealed r s body)
+whole_seal r s body rose device now did whole = whole_state (change r body) rose (seal_kinds r s body) device s now did whole ∙ seal_done r s body
+
+repair_done : (r : Shape) (s : RingState) (body : List ℕ) → all_done (change r body) (repair_kinds r s) s ≡ repaired r s
+repair_done r s body = go s.torn refl
+  where
+    erase : (t : RingState) (b : Bool) → t.dirty ≡ b → all_done (change r body) (if b then Erase ∷ [] else []) t ≡ erased t
+    erase t true e = refl
+    erase t false e = sym (erased_clean t e)
+
+    go : (b : Bool) → s.torn ≡ b → all_done (change r body) ((if b then VoidMark ∷ [] else []) ++ (if (if b then voided r s else s).dirty then Erase ∷ [] else [])) s ≡ erased (if b then voided r s else s)
+    go true e = erase (voided r s) (voided r s).dirty refl
+    go false e = erase s s.dirty refl
+
+-- a whole repair
+pub whole_repair : (r : Shape) (s : RingState) (body : List ℕ) (rose : Bool) (device : Device) (now : PartProgress RingState)
+    → PartPerforms (λ kind. kind) (change r body) rose (repair_kinds r s) device s now → now.end ≡ Whole → now.state ≡ repaired r s
+whole_repair r s body rose device now did whole = whole_state (change r body) rose (repair_kinds r s) device s now did whole ∙ repair_done r s body

@@ -1,0 +1,4 @@
+pub mod Types
+pub mod Form
+pub mod Refusal
+pub mod Schema

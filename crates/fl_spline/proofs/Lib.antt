@@ -1,0 +1,6 @@
+pub mod Slopes
+pub mod Lists
+pub mod Scans
+pub mod Retained
+pub mod Segments
+pub mod Window
