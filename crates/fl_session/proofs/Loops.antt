@@ -269,12 +269,11 @@ ends-there_run tail config stands stands_now faults now told told_now number old
     ends-long tail config stands stands_now faults now told told_now number old new left gives.0 h gives.1 gives.2 gives.3
 ends-there_run tail config stands stands_now faults now told told_now number old new left left_now (Err Long) status h gives e = absurd e
 
--- a step of the same configuration
-pub step-config : {E : Type 0} (config config_now : Config) (c : Command) (stands stands_now : Machine → Type 0) (mid now : ℕ) (told_mid told_now : Option (List ℕ)) (result result_is : Result (Unit {0}) E) → config_now ≡ config → result ≡ result_is →
-    ((m : Machine) → stands m → Executes config_now m c stands_now mid now told_mid told_now result) → (m : Machine) → stands m → Executes config m c stands_now mid now told_mid told_now result_is
-step-config config config_now c stands stands_now mid now told_mid told_now result result_is e r h m s =
-    subst (λ k. Executes k m c stands_now mid now told_mid told_now result_is) e
-    (subst (λ x. Executes config_now m c stands_now mid now told_mid told_now x) r (h m s))
+-- a step whose result is known
+pub step-result : {E : Type 0} (config : Config) (c : Command) (stands stands_now : Machine → Type 0) (mid now : ℕ) (told_mid told_now : Option (List ℕ)) (result result_is : Result (Unit {0}) E) → result ≡ result_is →
+    ((m : Machine) → stands m → Executes config m c stands_now mid now told_mid told_now result) → (m : Machine) → stands m → Executes config m c stands_now mid now told_mid told_now result_is
+step-result config c stands stands_now mid now told_mid told_now result result_is r h m s =
+    subst (λ x. Executes config m c stands_now mid now told_mid told_now x) r (h m s)
 
 -- all lines that were given were run, and this is left of the script
 abbrev pub Done_so_far : Tail → Config → (Machine → Type 0) → (Machine → Type 0) → ℕ → ℕ → Option (List ℕ) → Option (List ℕ) → ℕ → LinesState → Option (List ℕ) → Type 0

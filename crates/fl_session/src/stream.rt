@@ -39,13 +39,16 @@ pub trait ConfigLines {
         ensures { result ≡ are_built (lines self.now).plans };
 }
 
+/// What executes commands.
 pub trait Executor {
-    ghost config: { Self → Config };
+    /// The states of the machine for which it stands, where the store is configured so.
+    ghost stands: { Self → Config → Machine → Type 0 };
 
-    ghost stands: { Self → Machine → Type 0 };
-
+    /// How often its medium failed.
     ghost faults: { Self → ℕ };
 
+    /// Executes a command and writes its replies. Where the sink fails, all but the cursors and the cost is as it is
+    /// after the command.
     fn execute<K: Sink>(
         &mut self,
         command: &Command,
@@ -53,9 +56,8 @@ pub trait Executor {
         out: &mut K,
     ) -> Result<(), SinkFailed>
         requires { IsRunnable (command_view command.now room.now) }
-        ensures config { config self.new ≡ config self.old }
         ensures later { faults self.old ≤ faults self.new }
         ensures sink { HasCause (K.faults out.old) (K.faults out.new) result }
-        ensures step { (old : Machine) → stands self.old old →
-            Executes (config self.old) old (command_view command.now room.now) (stands self.new) (faults self.old) (faults self.new) (K.written out.old) (K.written out.new) result };
+        ensures step { (config : Config) (old : Machine) → stands self.old config old →
+            Executes config old (command_view command.now room.now) (stands self.new config) (faults self.old) (faults self.new) (K.written out.old) (K.written out.new) result };
 }
