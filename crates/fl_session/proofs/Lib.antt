@@ -10,3 +10,4 @@ pub mod Beginning
 pub mod Ready
 pub mod Ending
 pub mod Pieces
+pub mod Going

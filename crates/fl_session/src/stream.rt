@@ -6,6 +6,7 @@ ghost use Rattle.fl_base.specs.Causes.{HasCause};
 ghost use Rattle.fl_model.specs.Record.{Config};
 ghost use Rattle.fl_words.specs.Grammar.{command_of};
 ghost use Rattle.fl_machine.specs.Machine.{Machine};
+ghost use Rattle.fl_flash.specs.Flash.{FlashState, Goes};
 ghost use Rattle.fl_script.specs.CommandView.{command_view};
 ghost use Rattle.fl_session.specs.Reads.{line_seen};
 ghost use Rattle.fl_session.specs.Execute.{Executes};
@@ -44,8 +45,11 @@ pub trait Executor {
     /// The states of the machine for which it stands, where the store is configured so.
     ghost stands: { Self → Config → Machine → Type 0 };
 
-    /// How often its medium failed.
-    ghost faults: { Self → ℕ };
+    /// What holds of it always.
+    ghost sound: { Self → Type 0 };
+
+    /// The flash on which it stands.
+    ghost flash: { Self → FlashState };
 
     /// Executes a command and writes its replies. Where the sink fails, all but the cursors and the cost is as it is
     /// after the command.
@@ -55,9 +59,11 @@ pub trait Executor {
         room: &LineRoom,
         out: &mut K,
     ) -> Result<(), SinkFailed>
-        requires { IsRunnable (command_view command.now room.now) }
-        ensures later { faults self.old ≤ faults self.new }
+        requires sound { sound self.old }
+        requires runnable { IsRunnable (command_view command.now room.now) }
+        ensures sound { sound self.new }
+        ensures goes { Goes (flash self.old) (flash self.new) }
         ensures sink { HasCause (K.faults out.old) (K.faults out.new) result }
         ensures step { (config : Config) (old : Machine) → stands self.old config old →
-            Executes config old (command_view command.now room.now) (stands self.new config) (faults self.old) (faults self.new) (K.written out.old) (K.written out.new) result };
+            Executes config old (command_view command.now room.now) (stands self.new config) (flash self.old).media.faults (flash self.new).media.faults (K.written out.old) (K.written out.new) result };
 }

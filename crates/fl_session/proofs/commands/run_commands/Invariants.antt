@@ -1,5 +1,6 @@
 use Rattle.std.proofs.Common.{◌≡◌, ℕ, ◌+◌, ◌^◌, ◌<◌, ◌≤◌, List, [], ◌++◌, Some, true}
 use Rattle.fl_model.specs.Record.{Config}
+use Rattle.fl_flash.specs.Flash.{Goes}
 use Rattle.fl_script.specs.CommandView.{command_view}
 use Rattle.fl_session.specs.Next.{IsToRun}
 use Rattle.fl_session.specs.Loop.{Tail}
@@ -16,11 +17,12 @@ invariant-lines g l =
       reads : IsToRun l.lines.line (command_view l.command l.room);
       source_later : S.faults l.fn.script ≤ S.faults l.script;
       sink_later : K.faults l.fn.out ≤ K.faults l.out;
-      later : T.faults l.fn.session ≤ T.faults l.session;
+      sound : T.sound l.session;
+      goes : Goes (T.flash l.fn.session) (T.flash l.session);
       runs : (config : Config) (left : List ℕ) → S.left l.fn.script ≡ Some left → (l.fn.lines.closed ≡ true → l.fn.lines.ahead ++ left ≡ []) →
           InHand
           (record { number = l.fn.number; first = l.fn.lines.line; text = l.fn.lines.ahead ++ left; most = l.fn.lines.most; closed = l.fn.lines.closed })
-          config (T.stands l.fn.session config) (T.stands l.session config) (T.faults l.fn.session) (T.faults l.session) (K.written l.fn.out) (K.written l.out)
+          config (T.stands l.fn.session config) (T.stands l.session config) (T.flash l.fn.session).media.faults (T.flash l.session).media.faults (K.written l.fn.out) (K.written l.out)
           l.line l.lines (S.left l.script);
     }
 
