@@ -11,3 +11,4 @@ pub mod Ready
 pub mod Ending
 pub mod Pieces
 pub mod Going
+pub mod Executing

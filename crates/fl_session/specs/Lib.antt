@@ -11,3 +11,5 @@ pub mod Loop
 pub mod Given
 pub mod Begin
 pub mod Opening
+pub mod Pages
+pub mod Standing

@@ -13,20 +13,10 @@ use fl_script::{Command, LineRoom};
 fn is_built(command: &Command) -> bool
     ensures { (room : List ℕ) → result ≡ forms.is_built (command_view command.now room) }
 {
-    match command {
-        Command::Get { .. }
-        | Command::Blob { .. }
-        | Command::Open { .. }
-        | Command::Next { .. }
-        | Command::Close { .. }
-        | Command::Select { .. }
-        | Command::Project { .. }
-        | Command::Agg { .. }
-        | Command::Join { .. }
-        | Command::Cost
-        | Command::Load { .. } => false,
-        _ => true,
-    }
+    matches!(
+        command,
+        Command::Nothing | Command::Off | Command::Device { .. } | Command::Table { .. }
+    )
 }
 
 pub(crate) fn is_config(command: &Command) -> bool
