@@ -12,3 +12,4 @@ pub mod Ending
 pub mod Pieces
 pub mod Going
 pub mod Executing
+pub mod StepsOf

@@ -28,7 +28,9 @@ pub struct Session<'m, M: Media, T: Stored> {
 impl<'m, M: Media, T: Stored> Session<'m, M, T> {
     /// A session that isn't mounted.
     pub(crate) fn new(flash: SimFlash<'m, M>, table: T, name: Name, buf: PageBuf) -> Self
-        ensures { result ≡ record { flash = flash; table = table; name = name; buf = buf; mounted = false } }
+        ensures flash { ⟦<SimFlash<'m, M> as Flash>⟧.state result.flash ≡ ⟦<SimFlash<'m, M> as Flash>⟧.state flash.entry }
+        ensures rooms { (result.table ≡ table) × (result.name ≡ name) × (result.buf ≡ buf) }
+        ensures off { result.mounted ≡ false }
     {
         Session {
             flash,
