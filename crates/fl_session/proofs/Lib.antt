@@ -13,3 +13,5 @@ pub mod Pieces
 pub mod Going
 pub mod Executing
 pub mod StepsOf
+pub mod Images
+pub mod Rested
