@@ -4,7 +4,7 @@ ghost use Rattle.fl_flash.specs.Flash.{page_at, Goes, OffChangesNothing};
 ghost use Rattle.fl_model.specs.Work.{Device};
 ghost use Rattle.fl_ring.specs.Causes.{CausedBy};
 ghost use Rattle.fl_ring.specs.Newest.{number_of};
-ghost use Rattle.fl_ring.specs.Place.{shape_of, StandsFor, LiesOn};
+ghost use Rattle.fl_ring.specs.Place.{shape_of, next_of, oldest_of, StandsFor, LiesOn};
 ghost use Rattle.fl_ring.specs.Ring.{RingState, IsRing, OutsideStands, is_due_at, sealed, erased};
 ghost use Rattle.fl_ring.specs.Sealing.{IsReady, Seals, SealWork};
 ghost use Rattle.fl_ring.specs.Step.{IsWatched};
@@ -17,9 +17,9 @@ impl Ring {
     /// After an error the ring is to be mounted again.
     pub fn seal<F: Flash>(&mut self, flash: &mut F, body: &[u8]) -> Result<(), FlashFault>
         requires lies { LiesOn self.old (F.state flash.old) }
-        requires body { length body.now + 8 ≡ self.old.size }
-        requires numbered { number_of body.now ≡ self.old.next }
-        requires left { self.old.next + 1 < 2 ^ 32 }
+        requires body { length body.now + 8 ≡ (shape_of self.old).size }
+        requires numbered { number_of body.now ≡ next_of self.old }
+        requires left { next_of self.old + 1 < 2 ^ 32 }
         ensures goes { Goes (F.state flash.old) (F.state flash.new) }
         ensures same { shape_of self.new ≡ shape_of self.old }
         ensures lies { OnOk result (LiesOn self.new (F.state flash.new)) }
@@ -31,7 +31,7 @@ impl Ring {
         ensures off { OffChangesNothing (F.state flash.old) result (F.state flash.new) }
         ensures reads { (F.state flash.new).work.reads ≡ (F.state flash.old).work.reads }
         ensures media_reads { (F.state flash.new).media.reads ≤ (F.state flash.old).media.reads + 1 }
-        ensures work { OnOk result (SealWork (F.state flash.old).work (is_due_at (shape_of self.old) (self.old.next + 1) (self.old.next + 1 - self.old.oldest)) (F.state flash.new).work) }
+        ensures work { OnOk result (SealWork (F.state flash.old).work (is_due_at (shape_of self.old) (next_of self.old + 1) (next_of self.old + 1 - oldest_of self.old)) (F.state flash.new).work) }
     {
         self.begin_page(flash, body)?;
         self.commit_page(flash)?;
