@@ -6,7 +6,7 @@ ghost use Rattle.fl_ring.specs.Causes.{CausedBy};
 ghost use Rattle.fl_ring.specs.Newest.{number_of};
 ghost use Rattle.fl_ring.specs.Place.{shape_of, next_of, oldest_of, StandsFor, LiesOn};
 ghost use Rattle.fl_ring.specs.Ring.{RingState, IsRing, OutsideStands, is_due_at, sealed, erased};
-ghost use Rattle.fl_ring.specs.Sealing.{IsReady, Seals, SealWork};
+ghost use Rattle.fl_ring.specs.Sealing.{IsReady, Seals, SealWork, SealCalls};
 ghost use Rattle.fl_ring.specs.Step.{IsWatched};
 
 use crate::ring::Ring;
@@ -25,6 +25,7 @@ impl Ring {
         ensures lies { OnOk result (LiesOn self.new (F.state flash.new)) }
         ensures seals { (s : RingState) → (rose : Bool) → (device : Device) → IsReady self.old (F.state flash.old) s → IsWatched (F.state flash.old) (F.state flash.new) rose device
             → Seals s body.now rose device self.old result self.new (F.state flash.new) }
+        ensures calls { SealCalls (shape_of self.old) (next_of self.old) (is_due_at (shape_of self.old) (next_of self.old + 1) (next_of self.old + 1 - oldest_of self.old)) body.now (F.state flash.old) result (F.state flash.new) }
         ensures numbers { OnOk result ((s : RingState) → StandsFor self.old s → IsRing (shape_of self.old) s → StandsFor self.new (erased (sealed (shape_of self.old) s body.now))) }
         ensures outside { IsTrue (F.state flash.old).media.tells → OutsideStands (shape_of self.old) (page_at (F.state flash.old)) (page_at (F.state flash.new)) }
         ensures cause { IfErr result (λ e. CausedBy (F.state flash.old) e (F.state flash.new)) }
