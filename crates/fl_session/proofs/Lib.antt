@@ -9,3 +9,5 @@ pub mod Configuring
 pub mod Beginning
 pub mod Ready
 pub mod Ending
+pub mod Pieces
+pub mod Going

@@ -3,6 +3,7 @@
 
 mod begin;
 mod commands;
+mod lines;
 mod next;
 mod status;
 mod stream;

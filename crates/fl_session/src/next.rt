@@ -5,7 +5,8 @@ ghost use Rattle.fl_session.specs.Built as forms;
 ghost use Rattle.fl_session.specs.Next.{NextCommand, NextRun, is_config_line};
 
 use crate::Status;
-use crate::stream::{LineStream, LinesFault, Reader};
+use crate::lines::{Lines, LinesFault};
+use crate::stream::Reader;
 use fl_base::Source;
 use fl_script::{Command, LineRoom};
 
@@ -35,14 +36,14 @@ pub(crate) fn is_config(command: &Command) -> bool
 }
 
 /// The command of the next line, which has this number. None says that the script has ended.
-pub(crate) fn next_command<L: LineStream, R: Reader, S: Source>(
-    lines: &mut L,
+pub(crate) fn next_command<R: Reader, S: Source>(
+    lines: &mut Lines,
     reader: &R,
     room: &mut LineRoom,
     script: &mut S,
     number: u64,
 ) -> Result<Option<Command>, Status>
-    ensures { NextCommand (L.state lines.old) (S.left script.old) (S.faults script.old) number result room.new (L.state lines.new) (S.left script.new) (S.faults script.new) }
+    ensures { NextCommand lines.old (S.left script.old) (S.faults script.old) number result room.new lines.new (S.left script.new) (S.faults script.new) }
 {
     match lines.advance(script) {
         Ok(true) => {}
@@ -63,14 +64,14 @@ pub(crate) fn next_command<L: LineStream, R: Reader, S: Source>(
 }
 
 /// The same behind the configuration, where no line may configure.
-pub(crate) fn next_run<L: LineStream, R: Reader, S: Source>(
-    lines: &mut L,
+pub(crate) fn next_run<R: Reader, S: Source>(
+    lines: &mut Lines,
     reader: &R,
     room: &mut LineRoom,
     script: &mut S,
     number: u64,
 ) -> Result<Option<Command>, Status>
-    ensures { NextRun (L.state lines.old) (S.left script.old) (S.faults script.old) number result room.new (L.state lines.new) (S.left script.new) (S.faults script.new) }
+    ensures { NextRun lines.old (S.left script.old) (S.faults script.old) number result room.new lines.new (S.left script.new) (S.faults script.new) }
 {
     match next_command(lines, reader, room, script, number) {
         Ok(Some(command)) => {
