@@ -4,7 +4,6 @@ pub mod Texts
 pub mod Ends
 pub mod Number
 pub mod Execute
-pub mod Reads
 pub mod Stream
 pub mod Next
 pub mod Loop
