@@ -175,16 +175,16 @@ unbuilt_line : (knots : ℕ) (text : List ℕ) (now : Lines) (number : ℕ) (old
 unbuilt_line knots text now number old new left left_now c h gives reads u =
     elim (the_next text h.before old new h.left_is left_now h.reading gives) [
       | fits g is_open ↦ record {
-          before = h.before;
-          line = new.line;
-          others = lines_within new.most (new.ahead ++ left_now);
-          split = g.lines ∙ append_assoc h.before (new.line ∷ []) (lines_within new.most (new.ahead ++ left_now));
-          number_is = h.numbered;
-          command = c;
-          reads = reads;
-          unbuilt = u;
-          unended = unended knots h.before now h.configures;
-        }
+        before = h.before;
+        line = new.line;
+        others = lines_within new.most (new.ahead ++ left_now);
+        split = g.lines ∙ append_assoc h.before (new.line ∷ []) (lines_within new.most (new.ahead ++ left_now));
+        number_is = h.numbered;
+        command = c;
+        reads = reads;
+        unbuilt = u;
+        unended = unended knots h.before now h.configures;
+      }
       | too_long t long ↦ absurd (not_long c (sym reads ∙ too_long-command new.line long))
     ]
 
@@ -251,9 +251,9 @@ ends-unbuilt_config knots text now next number n old new left left_now f f_now c
     let g = nx.advances.gives h.left_is h.left_told h.reading.ended in
     let k : Gives old (old.ahead ++ h.left_is) (Ok true) new g.0 = subst (λ r. Gives old (old.ahead ++ h.left_is) r new g.0) nx.next.0 g.2 in
     let starts : start_of knots (h.before ++ new.line ∷ []) ≡ Unended (Some (u.config knots)) (length h.before + 1 + 1) =
-        configures-line knots h.before now new.line [] (Ok (command_view c room)) h.configures nx.next.1.reads
-        ∙ (u.goes_on knots (length h.before + 1) new.line [] (λ x. start_from knots (length h.before + 1 + 1) x [])
-        ∙ ap (λ w. Unended w (length h.before + 1 + 1)) (u.whole_is knots)) in
+    configures-line knots h.before now new.line [] (Ok (command_view c room)) h.configures nx.next.1.reads
+    ∙ (u.goes_on knots (length h.before + 1) new.line [] (λ x. start_from knots (length h.before + 1 + 1) x [])
+    ∙ ap (λ w. Unended w (length h.before + 1 + 1)) (u.whole_is knots)) in
     subst (λ m. EndsBefore knots text m) (sym e)
     (unbuilt_line knots text now number old new left g.0 (command_view c room) h k nx.next.1.reads (inr (subst IsUnbuiltConfig (sym starts) (u.unbuilt knots))))
 

@@ -148,7 +148,7 @@ runs-into config told around stands stands_now commands o h = record {
       let b = o.begins old s in
       let ran = h old b.0 (subst (λ c. IsReady c old) (sym o.config_is) b.1) in
       let seen = ran_into-seen around.config old commands (StandsAlike stands_now) (StandsAfter config (Some told.content_now)) around.faults around.faults_now around.told around.told_now
-          (after-alike config (Some told.content_now) stands_now o.ends) ran in
+      (after-alike config (Some told.content_now) stands_now o.ends) ran in
       let earlier = ran_into-earlier around.config old commands (StandsAfter config (Some told.content_now)) told.faults around.faults around.faults_now around.told around.told_now o.faults seen in
       subst (λ c. RanInto c old commands (StandsAfter config (Some told.content_now)) told.faults told.faults_now told.written told.written_now) o.config_is
       (subst (λ f. RanInto around.config old commands (StandsAfter config (Some told.content_now)) told.faults f told.written told.written_now) o.faults_now
@@ -182,8 +182,8 @@ ends-of_commands knots text now number state left_now config told around stands 
     let t = taken-whole knots text now number state left_now h.taken a h.is_open in
     let count : length text ≡ length a.given.front + length (state.ahead ++ a.left) = ap length (a.given.split h.is_open) ∙ length-append a.given.front (state.ahead ++ a.left) in
     let lines : whole_lines (take (length a.given.front + h.taken) text) ≡ a.before ++ state.line ∷ whole_lines (take h.taken (state.ahead ++ a.left)) =
-        ap whole_lines t.0
-        ∙ (a.given.whole h.is_open (take h.taken (state.ahead ++ a.left)) ∙ append_assoc a.before (state.line ∷ []) (whole_lines (take h.taken (state.ahead ++ a.left)))) in
+    ap whole_lines t.0
+    ∙ (a.given.whole h.is_open (take h.taken (state.ahead ++ a.left)) ∙ append_assoc a.before (state.line ∷ []) (whole_lines (take h.taken (state.ahead ++ a.left)))) in
     record {
       taken = length a.given.front + h.taken;
       within = omega (arith, h.within);

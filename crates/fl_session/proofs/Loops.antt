@@ -140,17 +140,17 @@ pub in_hand-next : (tail : Tail) (config : Config) (stands stands_now : Machine 
 in_hand-next tail config stands stands_now faults now told told_now number old new left left_now c h reads gives =
     elim (next_line tail h.given old new left left_now h.reading h.was_open gives) [
       | fits g is_open ↦ record {
-          ran = tail.first ∷ h.given;
-          given = h.given ++ new.line ∷ [];
-          left_is = left_now;
-          left_told = refl;
-          order = refl;
-          reading = g;
-          all_run = h.all_run;
-          numbered = h.numbered;
-          runs = h.runs;
-          was_open = λ e. absurd (not_open (sym e ∙ is_open));
-        }
+        ran = tail.first ∷ h.given;
+        given = h.given ++ new.line ∷ [];
+        left_is = left_now;
+        left_told = refl;
+        order = refl;
+        reading = g;
+        all_run = h.all_run;
+        numbered = h.numbered;
+        runs = h.runs;
+        was_open = λ e. absurd (not_open (sym e ∙ is_open));
+      }
       | too_long t long ↦ absurd (not_long (sym reads ∙ too_long-command new.line long))
     ]
   where
@@ -204,15 +204,15 @@ pub ends-unbuilt : (tail : Tail) (config : Config) (stands stands_now : Machine 
 ends-unbuilt tail config stands stands_now faults now told told_now number old new left left_now h u gives =
     elim (next_line tail h.given old new left left_now h.reading h.was_open gives) [
       | fits g is_open ↦ record {
-          before = h.given;
-          line = new.line;
-          others = lines_within new.most (new.ahead ++ left_now);
-          split = ap (λ ls. tail.first ∷ ls) (g.lines ∙ append_assoc h.given (new.line ∷ []) (lines_within new.most (new.ahead ++ left_now)));
-          number_is = h.numbered;
-          unbuilt = u;
-          accepts = all_run-all tail.number (tail.first ∷ h.given) h.all_run;
-          runs = h.runs;
-        }
+        before = h.given;
+        line = new.line;
+        others = lines_within new.most (new.ahead ++ left_now);
+        split = ap (λ ls. tail.first ∷ ls) (g.lines ∙ append_assoc h.given (new.line ∷ []) (lines_within new.most (new.ahead ++ left_now)));
+        number_is = h.numbered;
+        unbuilt = u;
+        accepts = all_run-all tail.number (tail.first ∷ h.given) h.all_run;
+        runs = h.runs;
+      }
       | too_long t long ↦ absurd (not_long (sym u.reads ∙ too_long-command new.line long))
     ]
   where

@@ -62,9 +62,9 @@ take-line line rest most h =
 
 pub same_test : (a b c d : ℕ) → (a < b → c < d) → (c < d → a < b) → nat_lt a b ≡ nat_lt c d
 same_test a b c d f g = elim (cases_lt a b) [
-    | inl h ↦ lt-ltb a b h ∙ sym (lt-ltb c d (f h))
-    | inr h ↦ le-ltb a b h ∙ sym (elim (cases_lt c d) [ inl k ↦ absurd (omega (arith, g k)) | inr k ↦ le-ltb c d k ])
-  ]
+  | inl h ↦ lt-ltb a b h ∙ sym (lt-ltb c d (f h))
+  | inr h ↦ le-ltb a b h ∙ sym (elim (cases_lt c d) [ inl k ↦ absurd (omega (arith, g k)) | inr k ↦ le-ltb c d k ])
+]
 
 long-line : (line rest : List ℕ) (most : ℕ) → length line < most → nat_lt most (length (line ++ 10 ∷ rest)) ≡ nat_lt (most - (length line + 1)) (length rest)
 long-line line rest most h =

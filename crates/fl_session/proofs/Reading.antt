@@ -29,7 +29,7 @@ pub given-line : (most : ℕ) (text : List ℕ) (given : List (List ℕ)) (most_
 given-line most text given most_now rest line rest_now g e h short =
     let count : length rest ≡ length line + (length rest_now + 1) = ap length e ∙ (length-append line (10 ∷ rest_now) ∙ omega arith) in
     let joined : (xs : List ℕ) → (g.front ++ (line ++ 10 ∷ [])) ++ xs ≡ g.front ++ (line ++ 10 ∷ xs) =
-        λ xs. append_assoc g.front (line ++ 10 ∷ []) xs ∙ ap (λ ys. g.front ++ ys) (append_assoc line (10 ∷ []) xs) in
+    λ xs. append_assoc g.front (line ++ 10 ∷ []) xs ∙ ap (λ ys. g.front ++ ys) (append_assoc line (10 ∷ []) xs) in
     record {
       lines = g.lines ∙ (ap (λ r. given ++ lines_within most_now r) e
           ∙ (ap (λ r. given ++ r) (within-line line rest_now most_now h short)
@@ -88,8 +88,8 @@ pub given-taken : (most : ℕ) (text : List ℕ) (given : List (List ℕ)) (most
 given-taken most text given most_now rest ahead left g e h short =
     let split : text ≡ g.front ++ (ahead ++ left) = g.split refl ∙ ap (λ r. g.front ++ r) e in
     let cut : take (length g.front + length ahead) text ≡ g.front ++ ahead =
-        ap (take (length g.front + length ahead)) split
-        ∙ (take-append-add g.front (ahead ++ left) (length ahead) ∙ ap (λ r. g.front ++ r) (take-append_seam ahead left)) in
+    ap (take (length g.front + length ahead)) split
+    ∙ (take-append-add g.front (ahead ++ left) (length ahead) ∙ ap (λ r. g.front ++ r) (take-append_seam ahead left)) in
     record {
       taken = length g.front + length ahead;
       within = omega (arith, ap length split, length-append g.front (ahead ++ left), length-append ahead left);
@@ -108,10 +108,10 @@ given-most most text given most_now rest ahead left g e h full short more =
     let cut : take most_now rest ≡ ahead = ap (take most_now) e ∙ (ap (λ n. take n (ahead ++ left)) (sym full) ∙ take-append_seam ahead left) in
     let rest_is : rest_of (take most_now rest) ≡ ahead = ap rest_of cut ∙ rest-rest ahead h in
     let no_long : long_rest (take most_now rest) ≡ [] =
-        ap (λ r. if nat_lt 4096 (length r) then r ∷ [] else []) rest_is ∙ ap (λ b. if b then ahead ∷ [] else []) (le-ltb 4096 (length ahead) short) in
+    ap (λ r. if nat_lt 4096 (length r) then r ∷ [] else []) rest_is ∙ ap (λ b. if b then ahead ∷ [] else []) (le-ltb 4096 (length ahead) short) in
     let none : lines_within most_now rest ≡ [] =
-        ap (λ b. if b then whole_lines (take most_now rest) ++ long_rest (take most_now rest) else lines_of rest) is_long
-        ∙ (ap (λ ls. ls ++ long_rest (take most_now rest)) (ap whole_lines cut ∙ whole-rest ahead h) ∙ no_long) in (
+    ap (λ b. if b then whole_lines (take most_now rest) ++ long_rest (take most_now rest) else lines_of rest) is_long
+    ∙ (ap (λ ls. ls ++ long_rest (take most_now rest)) (ap whole_lines cut ∙ whole-rest ahead h) ∙ no_long) in (
       g.lines ∙ (ap (λ r. given ++ r) none ∙ append-nil given),
       ltb-true most (length text) (g.long ∙ is_long),
     )
@@ -173,8 +173,8 @@ long_cases : (most : ℕ) (rest front others : List ℕ) (b : Bool) → rest ≡
     FirstLong (if b then whole_lines (take most rest) ++ long_rest (take most rest) else lines_of rest)
 long_cases most rest front others true e h long few =
     let cut : take most rest ≡ front ++ take (most - length front) others =
-        ap (take most) e
-        ∙ (ap (λ n. take n (front ++ others)) (let k : most ≡ length front + (most - length front) = omega arith in k) ∙ take-append-add front others (most - length front)) in
+    ap (take most) e
+    ∙ (ap (λ n. take n (front ++ others)) (let k : most ≡ length front + (most - length front) = omega arith in k) ∙ take-append-add front others (most - length front)) in
     let b = first-part front (take (most - length front) others) h in
     let parts : parts_of (take most rest) ≡ (front ++ b.first) ∷ b.others = ap parts_of cut ∙ b.parts_are in
     subst

@@ -68,14 +68,14 @@ blank-part head n at end h =
     let k = at - length head in
     let at_is : at ≡ length head + k = omega arith in
     let cut : drop at (head ++ replicate n 255) ≡ replicate (n - k) 255 =
-        ap (λ m. drop m (head ++ replicate n 255)) at_is ∙ (drop-append-add head (replicate n 255) k ∙ drop-replicate k n 255) in
+    ap (λ m. drop m (head ++ replicate n 255)) at_is ∙ (drop-append-add head (replicate n 255) k ∙ drop-replicate k n 255) in
     ap (λ l. is_blank (take (end - at) l)) cut ∙ blank-take (end - at) (n - k)
 
 -- a medium that was opened stands for a state between two runs
 new-header : (config : Config) (old new : MediaState) → Opened config old new → new.content ≡ new_content config → length (header config) ≡ 1024
 new-header config old new h e =
     let count : medium_len config ≡ length (header config) + (medium_len config - 1024) =
-        sym h.len ∙ (ap length e ∙ (length-append (header config) (replicate (medium_len config - 1024) 255) ∙ ap (λ n. length (header config) + n) (length-replicate {A = ℕ} (medium_len config - 1024) 255))) in
+    sym h.len ∙ (ap length e ∙ (length-append (header config) (replicate (medium_len config - 1024) 255) ∙ ap (λ n. length (header config) + n) (length-replicate {A = ℕ} (medium_len config - 1024) 255))) in
     omega (arith, count)
 
 pub new-rests : (config : Config) (old new : MediaState) (f : FlashState) → f.start ≡ 1024 → f.geometry ≡ config.geometry → f.media.content ≡ new.content →
@@ -85,8 +85,8 @@ new-rests config old new f start geometry content room one h e =
     let rooms : AllByRecursion HasRoom (one.plan ∷ []) = subst (λ ps. AllByRecursion HasRoom ps) one.plans_are room in
     let shape : IsShape (shape_of one.plan DataRing) = record { blocks = rooms.0.blocks; pages = rooms.0.pages } in
     let blank : (n : ℕ) → is_blank (page_at f (place_in 0 one.plan DataRing n)) ≡ true =
-        λ n. ap (λ c. is_blank (slice_range c (f.start + place_in 0 one.plan DataRing n * f.geometry.page) (f.start + place_in 0 one.plan DataRing n * f.geometry.page + f.geometry.page))) (content ∙ e)
-        ∙ blank-part (header config) (medium_len config - 1024) (f.start + place_in 0 one.plan DataRing n * f.geometry.page) (f.start + place_in 0 one.plan DataRing n * f.geometry.page + f.geometry.page) (omega (arith, size, start)) in
+    λ n. ap (λ c. is_blank (slice_range c (f.start + place_in 0 one.plan DataRing n * f.geometry.page) (f.start + place_in 0 one.plan DataRing n * f.geometry.page + f.geometry.page))) (content ∙ e)
+    ∙ blank-part (header config) (medium_len config - 1024) (f.start + place_in 0 one.plan DataRing n * f.geometry.page) (f.start + place_in 0 one.plan DataRing n * f.geometry.page + f.geometry.page) (omega (arith, size, start)) in
     let rests : Rests f 0 one.plan (fresh_table one.plan) = blank-rests f 0 one.plan one.plain shape blank in
     let image : IsTableImage config f.media.content 0 one.plan (fresh_table one.plan) = rests-image config 0 one.plan (fresh_table one.plan) f start geometry rests in
     let images : AreTableImages config new.content 0 (one.plan ∷ []) (fresh_table one.plan ∷ []) = (subst (λ c. IsTableImage config c 0 one.plan (fresh_table one.plan)) content image, tt) in

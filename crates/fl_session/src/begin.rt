@@ -8,8 +8,8 @@ ghost use Rattle.fl_session.specs.Next as words;
 ghost use Rattle.fl_session.specs.Begin.{ConfiguresBy, IsFresh, BeginsAt, EndsBegin, HoldsFirst, IsOfScript};
 
 use crate::Status;
-use crate::next::{is_config, next_command};
 use crate::lines::Lines;
+use crate::next::{is_config, next_command};
 use crate::stream::ConfigLines;
 use fl_base::Source;
 use fl_script::{Command, LineRoom};
@@ -53,11 +53,7 @@ pub(crate) struct Begun {
     pub number: u64,
 }
 
-fn finish<C: ConfigLines>(
-    config: &C,
-    first: Option<Command>,
-    number: u64,
-) -> Result<Begun, Status>
+fn finish<C: ConfigLines>(config: &C, first: Option<Command>, number: u64) -> Result<Begun, Status>
     ensures ok { IfOk result (λ b. (b ≡ record { first = first; number = number }) × ((knots : ℕ) → is_some (whole knots (C.lines config.now)) ≡ true)) }
     ensures incomplete { IfErr result (λ status. (status ≡ Status.Config 0) × ((knots : ℕ) → whole knots (C.lines config.now) ≡ None)) }
 {

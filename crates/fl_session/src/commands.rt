@@ -8,8 +8,8 @@ ghost use Rattle.fl_session.specs.Next.{IsToRun};
 ghost use Rattle.fl_session.specs.Loop.{EndsCommands};
 
 use crate::Status;
-use crate::next::next_run;
 use crate::lines::Lines;
+use crate::next::next_run;
 use crate::stream::Executor;
 use fl_base::{Sink, Source};
 use fl_script::{Command, LineRoom};

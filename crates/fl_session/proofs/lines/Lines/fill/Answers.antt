@@ -14,15 +14,15 @@ returns-clause-taken g c =
     let xs = c.deref_mut.result.now in
     let size : length xs ≡ 4097 = omega (arith, ap length c.deref_mut.ensures.value, c.copy_within.ensures.len, c.self.invariant.0) in
     let front : take len xs ≡ c.args.self.now.ahead =
-        ap (take len) (c.deref_mut.ensures.value ∙ c.copy_within.ensures.items)
-        ∙ (copied s.buf.items s.from s.to (omega arith) (omega (arith, c.self.invariant)) ∙ ap (λ (x : LinesState). x.ahead) c.self.view_is) in
+    ap (take len) (c.deref_mut.ensures.value ∙ c.copy_within.ensures.items)
+    ∙ (copied s.buf.items s.from s.to (omega arith) (omega (arith, c.self.invariant)) ∙ ap (λ (x : LinesState). x.ahead) c.self.view_is) in
     let zs : length (take len xs) ≡ len = length-take-le len xs (omega (arith, size, c.self.invariant)) in
     let ahead : length c.args.self.now.ahead ≡ len = ap length (sym front) ∙ zs in
     let most : c.args.self.now.most ≡ s.most = ap (λ (x : LinesState). x.most) (sym c.self.view_is) in
     let end : (c.min-end.result ≤ 4097) × (len < c.min-end.result) =
-        (omega (arith, c.min-end.ensures), omega (arith, c.min-end.ensures, ahead, most, c.requires.room, c.requires.more)) in
+    (omega (arith, c.min-end.ensures), omega (arith, c.min-end.ensures, ahead, most, c.requires.room, c.requires.more)) in
     let into : length c.read.new.into ≡ c.min-end.result - len =
-        c.read.auto.into ∙ length-take-le (c.min-end.result - len) (drop len xs) (omega (arith, length-drop len xs, size, end.0)) in
+    c.read.auto.into ∙ length-take-le (c.min-end.result - len) (drop len xs) (omega (arith, length-drop len xs, size, end.0)) in
     fills SourceFailed _ _ c.read.new.into _ _ c.in_ok-count.count
     (front-read (take len xs) c.read.new.into _ _ len c.in_ok-count.count _ _ zs h.count refl (omega (arith, h.count, into, end.0, end.1, c.copy_within.ensures.len, c.self.invariant.0))
     ∙ ap (λ z. z ++ take c.in_ok-count.count c.read.new.into) front)
