@@ -1,5 +1,7 @@
 -- What the opening of an image does to its medium.
-use Rattle.std.specs.Prelude.{◌≡◌, ℕ, ◌≤◌, IsTrue, ◌⊎◌, List, [], length}
+use Rattle.std.specs.Prelude.{◌≡◌, ℕ, ◌≤◌, IsTrue, Result, Ok, Err, List, [], length}
+use Rattle.fl_session.specs.declared.stream.ImageRefusal.{ImageRefusal}
+use Rattle.fl_session.specs.declared.stream.ImageRefusal.TheVariants.{Media, Other}
 use Rattle.fl_base.specs.Causes.{Rose}
 use Rattle.fl_model.specs.Record.{Config}
 use Rattle.fl_model.specs.Image.{medium_len}
@@ -23,3 +25,14 @@ pub record HalfOpened (config : Config) (old new : MediaState) : Type 0 where
 pub record Foreign (config : Config) (old new : MediaState) (wanted found at : ℕ) : Type 0 where
   pub other : IsTrue old.tells → IsOther config old.content wanted found at
   pub kept : IsTrue old.tells → new.content ≡ old.content
+
+-- an image is opened
+abbrev pub OpensAs : Config → MediaState → Result (Unit {0}) ImageRefusal → MediaState → Type 0
+OpensAs config old (Ok done) new = Opened config old new
+OpensAs config old (Err Media) new = HalfOpened config old new
+OpensAs config old (Err (Other wanted found at)) new = Foreign config old new wanted found at
+
+-- what no call changes of a medium
+pub record MediaGoes (old new : MediaState) : Type 0 where
+  pub tells : new.tells ≡ old.tells
+  pub faults : old.faults ≤ new.faults

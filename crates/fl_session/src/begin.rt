@@ -28,7 +28,8 @@ fn configure<C: ConfigLines>(
     number: u64,
 ) -> Result<bool, Status>
     requires { forms.is_built (command_view command.now room.now) ≡ true }
-    ensures { ConfiguresBy (C.lines config.old) (command_view command.now room.now) number result (C.lines config.new) }
+    ensures by { ConfiguresBy (C.lines config.old) (command_view command.now room.now) number result (C.lines config.new) }
+    ensures built { IfOk result (λ goes_on. forms.are_built (C.lines config.old).plans ≡ true → forms.are_built (C.lines config.new).plans ≡ true) }
 {
     if is_nothing(command) {
         return Ok(true);
@@ -74,6 +75,7 @@ pub(crate) fn read_config<C: ConfigLines, S: Source>(
     requires first { C.lines config.old ≡ no_lines }
     requires fresh { IsFresh lines.old }
     ensures whole { IfOk result (λ b. (knots : ℕ) → is_some (whole knots (C.lines config.new)) ≡ true) }
+    ensures built { IfOk result (λ b. forms.are_built (C.lines config.new).plans ≡ true) }
     ensures in_hand { IfOk result (λ b. HoldsFirst b.first b.number room.new lines.new) }
     ensures begins { IfOk result (λ b. (knots : ℕ) (text : List ℕ) → S.left script.old ≡ Some text →
         BeginsAt knots text (C.lines config.new) b.first b.number lines.new (S.left script.new)) }
