@@ -17,6 +17,8 @@ use Rattle.fl_session.specs.Stream.{LinesState}
 use Rattle.fl_session.specs.Given.{Given}
 use Rattle.fl_session.specs.Execute.{Around, IsReady, IsAlike, StandsAlike, RanAll, RanPart}
 use Rattle.fl_session.specs.Loop.{Tail, lines_in, EndsAll, EndsBad, EndsUnbuilt, EndsInReply, EndsTaken, EndsCommands}
+use Rattle.fl_script.specs.declared.command.Command as code
+use Rattle.fl_session.specs.Run.{tail_of, RunsFrom}
 use Rattle.fl_session.specs.Begin.{AtCommand, AtEnd, EndsInConfig, EndsBefore, EndsBegin, IsUnended}
 use Rattle.fl_session.specs.Ends.{Told, IsUntouched, IsOwn, RunsAll, RunsInto, IsOther, start_in, EndsEarly, EndsDone, EndsLine, EndsInto, EndsMaking, EndsConfig, EndsOther, EndsAt, EndsRead, Ends}
 use Rattle.fl_session.specs.declared.status.Status.{Status}
@@ -54,10 +56,6 @@ ends-in_begin knots text left told (NotYet n) h e u = record {
   ends = unended-untouched (start_of knots h.before) told h.unended u;
 }
 ends-in_begin knots text left told status h e u = absurd h
-
--- the lines from the command on that ended the configuration
-abbrev pub tail_of : ℕ → LinesState → List ℕ → Tail
-tail_of number state left = record { number = number; first = state.line; text = state.ahead ++ left; most = state.most; closed = state.closed }
 
 start-of_lines : (knots : ℕ) (text : List ℕ) (now : Lines) (number : ℕ) (state : LinesState) (left_now : Option (List ℕ)) (config : Config) →
     (a : AtCommand knots text now number state left_now) → whole knots now ≡ Some config → start_of knots (lines_read text) ≡ Ready config number (state.line ∷ lines_within state.most (state.ahead ++ a.left))
@@ -235,3 +233,39 @@ ends-empty knots text now number config told a w own stands later written = (
     },
   ),
 )
+
+all-seen : (around : Around) (s s' r r' : Machine → Type 0) (commands : List Command) → ((m : Machine) → r m → s m) → ((m : Machine) → s' m → r' m) → RanAll around s s' commands → RanAll around r r' commands
+all-seen around s s' r r' commands f g h old k ready =
+    ran-seen around.config old commands s' r' around.faults around.faults_now around.told around.told_now g (h old (f old k) ready)
+
+-- the same commands, seen through other relations to the states before and after them
+commands-seen : (tail : Tail) (left : Option (List ℕ)) (around : Around) (s s' r r' : Machine → Type 0) (status : Status) → ((m : Machine) → r m → s m) → ((m : Machine) → s' m → r' m) →
+    EndsCommands tail left around s s' status → EndsCommands tail left around r r' status
+commands-seen tail left around s s' r r' Done f g h = (h.0, record { accepts = h.1.accepts; runs = all-seen around s s' r r' _ f g h.1.runs })
+commands-seen tail left around s s' r r' (Line n) f g h = record { refuses = h.refuses; runs = all-seen around s s' r r' _ f g h.runs }
+commands-seen tail left around s s' r r' ScriptRead f g h =
+    record { is_open = h.is_open; taken = h.taken; within = h.within; few = h.few; left = h.left; accepts = h.accepts; runs = all-seen around s s' r r' _ f g h.runs }
+commands-seen tail left around s s' r r' OutWrite f g h = record {
+  commands = h.commands;
+  others = h.others;
+  split = h.split;
+  runs = λ old k ready.
+      ran_into-seen around.config old h.commands (StandsAlike s') (StandsAlike r') around.faults around.faults_now around.told around.told_now (λ m a. (a.0, g a.0 a.1, a.2)) (h.runs old (f old k) ready);
+}
+commands-seen tail left around s s' r r' ScriptLong f g h = (h.0, record { accepts = h.1.accepts; runs = all-seen around s s' r r' _ f g h.1.runs })
+commands-seen tail left around s s' r r' (NotYet n) f g h = record {
+  before = h.before;
+  line = h.line;
+  others = h.others;
+  split = h.split;
+  number_is = h.number_is;
+  unbuilt = h.unbuilt;
+  accepts = h.accepts;
+  runs = all-seen around s s' r r' _ f g h.runs;
+}
+commands-seen tail left around s s' r r' status f g h = absurd h
+
+pub runs-seen : (first : Option code.Command) (number : ℕ) (state : LinesState) (left : List ℕ) (left_now : Option (List ℕ)) (around : Around) (s s' r r' : Machine → Type 0) (status : Status) → ((m : Machine) → r m → s m) → ((m : Machine) → s' m → r' m) →
+    RunsFrom first number state left left_now around s s' status → RunsFrom first number state left left_now around r r' status
+runs-seen None number state left left_now around s s' r r' status f g h = record { done = h.done; written = h.written; goes_on = λ m k. g m (h.goes_on m (f m k)) }
+runs-seen (Some first) number state left left_now around s s' r r' status f g h = commands-seen (tail_of number state left) left_now around s s' r r' status f g h

@@ -15,3 +15,4 @@ pub mod Executing
 pub mod StepsOf
 pub mod Images
 pub mod Rested
+pub mod Over

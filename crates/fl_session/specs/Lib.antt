@@ -12,3 +12,4 @@ pub mod Begin
 pub mod Opening
 pub mod Pages
 pub mod Standing
+pub mod Run

@@ -5,6 +5,7 @@ mod begin;
 mod commands;
 mod lines;
 mod next;
+mod run;
 mod session;
 mod status;
 mod stored;

@@ -1,0 +1,39 @@
+-- What a session over an opened image does.
+use Rattle.std.specs.Prelude.{◌≡◌, ℕ, ◌+◌, ◌*◌, ◌≤◌, IsTrue, Option, Some, None, List, length, ◌++◌, sum_by}
+use Rattle.fl_base.specs.declared.types.Geometry.{Geometry}
+use Rattle.fl_flash.specs.Media.{MediaState}
+use Rattle.fl_flash.specs.Room.{RoomSizes}
+use Rattle.fl_model.specs.Record.{Config}
+use Rattle.fl_model.specs.Image.{medium_len}
+use Rattle.fl_machine.specs.Machine.{Machine}
+use Rattle.fl_machine.specs.Script.{StandsAfter}
+use Rattle.fl_script.specs.declared.command.Command as code
+use Rattle.fl_session.specs.declared.status.Status.{Status}
+use Rattle.fl_session.specs.declared.status.Status.TheVariants.{Done}
+use Rattle.fl_session.specs.Stream.{LinesState}
+use Rattle.fl_session.specs.Execute.{Around}
+use Rattle.fl_session.specs.Loop.{Tail, EndsCommands}
+use Rattle.fl_session.specs.Standing.{RestsOn}
+
+-- the lines from the command on that ended the configuration
+abbrev pub tail_of : ℕ → LinesState → List ℕ → Tail
+tail_of number state left = record { number = number; first = state.line; text = state.ahead ++ left; most = state.most; closed = state.closed }
+
+abbrev pub around_of : Config → MediaState → MediaState → Option (List ℕ) → Option (List ℕ) → Around
+around_of config old new told told_now = record { config = config; faults = old.faults; faults_now = new.faults; told = told; told_now = told_now }
+
+-- nothing was run
+pub record RunsNothing (around : Around) (stands stands_now : Machine → Type 0) (status : Status) : Type 0 where
+  pub done : status ≡ Done
+  pub written : around.told_now ≡ around.told
+  pub goes_on : (m : Machine) → stands m → stands_now m
+
+-- the commands from the first on were run, if there is one
+abbrev pub RunsFrom : Option code.Command → ℕ → LinesState → List ℕ → Option (List ℕ) → Around → (Machine → Type 0) → (Machine → Type 0) → Status → Type 0
+RunsFrom None number state left left_now around stands stands_now status = RunsNothing around stands stands_now status
+RunsFrom (Some first) number state left left_now around stands stands_now status = EndsCommands (tail_of number state left) left_now around stands stands_now status
+
+-- there is room for a flash of so many blocks
+pub record HasRoom (room : RoomSizes) (geometry : Geometry) (blocks : ℕ) : Type 0 where
+  pub bytes : geometry.block * geometry.page ≤ room.bytes
+  pub flags : blocks * geometry.block ≤ room.pages

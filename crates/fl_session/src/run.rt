@@ -1,0 +1,114 @@
+// The run of a script over an image.
+ghost use Rattle.std.specs.Prelude.{◌≡◌, ℕ, ◌+◌, ◌*◌, ◌^◌, ◌<◌, ◌≤◌, true, Bool, IsTrue, Some, None, [], List, ◌++◌, length, is_some, IfOk, vec_len, sum_by};
+ghost use Rattle.fl_base.specs.Causes.{Rose};
+ghost use Rattle.fl_flash.specs.Flash.{FlashState, Goes};
+ghost use Rattle.fl_flash.specs.Places.{extent};
+ghost use Rattle.fl_base.specs.declared.types.Geometry.{Geometry};
+ghost use Rattle.fl_model.specs.Record.{Config, blocks_of};
+ghost use Rattle.fl_words.specs.Config.{whole};
+ghost use Rattle.fl_session.specs.Built.{are_built};
+ghost use Rattle.fl_session.specs.Begin.{HoldsFirst};
+ghost use Rattle.fl_session.specs.Opening.{MediaGoes};
+ghost use Rattle.fl_session.specs.Run.{RunsFrom, HasRoom, around_of};
+ghost use Rattle.fl_session.specs.Standing.{RestsOn};
+ghost use Rattle.fl_machine.specs.Script.{StandsAfter};
+
+use crate::Status;
+use crate::begin::{Begun, read_config};
+use crate::commands::run_commands;
+use crate::lines::Lines;
+use crate::session::Session;
+use crate::stored::Stored;
+use crate::stream::{ConfigLines, Executor, ImageRefusal};
+use fl_base::{NoMemory, Sink, Source};
+use fl_flash::{FlashRoom, Media, PageBuf, SimFlash};
+use fl_script::{Command, LineRoom};
+use std::alloc::Global;
+
+/// The bytes of the medium before the first page.
+const HEADER: u64 = 1024;
+
+/// What a session needs, taken before its image is opened.
+#[derive(Drop)]
+struct Rooms<T: Stored> {
+    table: T,
+    buf: PageBuf,
+    flash: FlashRoom,
+}
+
+fn make_rooms<C: ConfigLines, T: Stored>(alloc: Global, config: &C) -> Result<Rooms<T>, NoMemory>
+    requires { is_some (whole 0 (C.lines config.now)) ≡ true }
+    ensures lies { IfOk result (λ r. (f : FlashState) → (C.lines config.now).device ≡ Some f.geometry → f.blocks ≡ sum_by blocks_of (C.lines config.now).plans → T.lies r.table f) }
+    ensures page { IfOk result (λ r. (g : Geometry) → (C.lines config.now).device ≡ Some g → length r.buf.bytes ≡ g.page) }
+    ensures flash { IfOk result (λ r. (g : Geometry) → (C.lines config.now).device ≡ Some g → HasRoom r.flash g (sum_by blocks_of (C.lines config.now).plans)) }
+{
+    let geometry = config.geometry();
+    Ok(Rooms {
+        table: T::plan(alloc, config)?,
+        buf: PageBuf::new(alloc, geometry.page)?,
+        flash: FlashRoom::new(alloc, geometry, config.blocks())?,
+    })
+}
+
+// Runs the commands from the first on, if there is one.
+fn run_first<E: Executor, S: Source, K: Sink>(
+    session: &mut E,
+    first: Option<Command>,
+    number: u64,
+    lines: &mut Lines,
+    room: &mut LineRoom,
+    script: &mut S,
+    out: &mut K,
+) -> Status
+    requires sound { E.sound session.old }
+    requires in_hand { HoldsFirst first number room.old lines.old }
+    ensures runs { (configured : Config) (left : List ℕ) → S.left script.old ≡ Some left → (lines.old.closed ≡ true → lines.old.ahead ++ left ≡ []) →
+        RunsFrom first number lines.old left (S.left script.new) (around_of configured (E.flash session.old).media (E.flash session.new).media (K.written out.old) (K.written out.new))
+        (E.stands session.old configured) (E.stands session.new configured) result }
+    ensures goes { Goes (E.flash session.old) (E.flash session.new) }
+    ensures read { result ≡ Status.ScriptRead → Rose (S.faults script.old) (S.faults script.new) }
+    ensures write { result ≡ Status.OutWrite → Rose (K.faults out.old) (K.faults out.new) }
+    ensures make { result ≡ Status.MediaMake → ⊥ }
+    ensures later { (S.faults script.old ≤ S.faults script.new) × (K.faults out.old ≤ K.faults out.new) }
+{
+    match first {
+        None => Status::Done,
+        Some(first) => run_commands(session, first, number, lines, room, script, out),
+    }
+}
+
+/// Runs the commands of a script from the first on, over an image that was opened.
+fn run_session<C: ConfigLines, T: Stored, M: Media, S: Source, K: Sink>(
+    media: &mut M,
+    config: &C,
+    rooms: Rooms<T>,
+    begun: Begun,
+    lines: &mut Lines,
+    room: &mut LineRoom,
+    script: &mut S,
+    out: &mut K,
+) -> Status
+    requires whole { is_some (whole 0 (C.lines config.now)) ≡ true }
+    requires built { are_built (C.lines config.now).plans ≡ true }
+    requires in_hand { HoldsFirst begun.first begun.number room.old lines.old }
+    requires reach { (g : Geometry) → (C.lines config.now).device ≡ Some g → 1024 + extent g (sum_by blocks_of (C.lines config.now).plans) ≤ length (M.state media.old).content }
+    requires lies { (f : FlashState) → (C.lines config.now).device ≡ Some f.geometry → f.blocks ≡ sum_by blocks_of (C.lines config.now).plans → T.lies rooms.table f }
+    requires page { (g : Geometry) → (C.lines config.now).device ≡ Some g → length rooms.buf.bytes ≡ g.page }
+    requires flash { (g : Geometry) → (C.lines config.now).device ≡ Some g → HasRoom rooms.flash g (sum_by blocks_of (C.lines config.now).plans) }
+    ensures runs { (configured : Config) (left : List ℕ) → whole configured.knots (C.lines config.now) ≡ Some configured → IsTrue (M.state media.old).tells → S.left script.old ≡ Some left → (lines.old.closed ≡ true → lines.old.ahead ++ left ≡ []) →
+        RunsFrom begun.first begun.number lines.old left (S.left script.new) (around_of configured (M.state media.old) (M.state media.new) (K.written out.old) (K.written out.new))
+        (RestsOn configured (M.state media.old).content) (StandsAfter configured (Some (M.state media.new).content)) result }
+    ensures goes { MediaGoes (M.state media.old) (M.state media.new) }
+    ensures read { result ≡ Status.ScriptRead → Rose (S.faults script.old) (S.faults script.new) }
+    ensures write { result ≡ Status.OutWrite → Rose (K.faults out.old) (K.faults out.new) }
+    ensures make { result ≡ Status.MediaMake → ⊥ }
+    ensures later { (S.faults script.old ≤ S.faults script.new) × (K.faults out.old ≤ K.faults out.new) }
+{
+    let Begun { first, number } = begun;
+    let Rooms { table, buf, flash } = rooms;
+    let flash = SimFlash::with_room(media, config.geometry(), config.blocks(), HEADER, flash);
+    let mut session = Session::new(flash, table, config.name(), buf);
+    let status = run_first(&mut session, first, number, lines, room, script, out);
+    let _media = session.end();
+    status
+}
