@@ -1,6 +1,6 @@
 -- How a run ends, from how its configuration was read, how its image was opened and how its commands were run.
 use Rattle.std.proofs.Common.{◌≡◌, ℕ, ◌+◌, ◌-◌, ◌^◌, ◌<◌, ◌≤◌, Bool, true, false, ◌⊎◌, inl, inr, IsTrue, Option, Some, None, Result, Ok, Err, List, [], ◌∷◌, ◌++◌, length, take, drop, nat_lt, refl, sym, ◌∙◌, ap, subst, append_assoc, append-nil, length-append, arith}
-use Rattle.std.specs.Prelude.{if◌then◌else◌}
+use Rattle.std.specs.Prelude.{if◌then◌else◌, is_some}
 use Rattle.std.proofs.lemmas.Bool.{lt-ltb, le-ltb, ltb-false, ltb-true}
 use Rattle.std.proofs.Math.Seq.{take-append-add, drop-append-add}
 use Rattle.fl_base.specs.Causes.{Appends}
@@ -18,9 +18,9 @@ use Rattle.fl_session.specs.Given.{Given}
 use Rattle.fl_session.specs.Execute.{Around, IsReady, IsAlike, StandsAlike, RanAll, RanPart}
 use Rattle.fl_session.specs.Loop.{Tail, lines_in, EndsAll, EndsBad, EndsUnbuilt, EndsInReply, EndsTaken, EndsCommands}
 use Rattle.fl_script.specs.declared.command.Command as code
-use Rattle.fl_session.specs.Run.{tail_of, RunsFrom}
-use Rattle.fl_session.specs.Begin.{AtCommand, AtEnd, EndsInConfig, EndsBefore, EndsBegin, IsUnended}
-use Rattle.fl_session.specs.Ends.{Told, IsUntouched, IsOwn, RunsAll, RunsInto, IsOther, start_in, EndsEarly, EndsDone, EndsLine, EndsInto, EndsMaking, EndsConfig, EndsOther, EndsAt, EndsRead, Ends}
+use Rattle.fl_session.specs.Run.{tail_of, RunsFrom, IsOfCommands}
+use Rattle.fl_session.specs.Begin.{AtCommand, AtEnd, EndsInConfig, EndsBefore, EndsBegin, BeginsAt, IsUnended}
+use Rattle.fl_session.specs.Ends.{Told, IsUntouched, IsOwn, RunsAll, RunsInto, IsOther, start_in, EndsEarly, EndsDone, EndsLine, EndsInto, EndsMaking, EndsConfig, EndsOther, EndsAt, EndsRead, Ends, IsEarlyBy}
 use Rattle.fl_session.specs.declared.status.Status.{Status}
 use Rattle.fl_session.specs.declared.status.Status.TheVariants.{Done, Usage, Line, ScriptRead, OutWrite, MediaMake, Config as BadConfiguration, OtherConfig, ScriptLong, NoMemory, NotYet}
 use Rattle.fl_session.proofs.Running.{ran-none, ran-seen, ran_into-seen}
@@ -265,7 +265,37 @@ commands-seen tail left around s s' r r' (NotYet n) f g h = record {
 }
 commands-seen tail left around s s' r r' status f g h = absurd h
 
-pub runs-seen : (first : Option code.Command) (number : ℕ) (state : LinesState) (left : List ℕ) (left_now : Option (List ℕ)) (around : Around) (s s' r r' : Machine → Type 0) (status : Status) → ((m : Machine) → r m → s m) → ((m : Machine) → s' m → r' m) →
+pub runs-seen : (first : Option code.Command) (number : ℕ) (state : LinesState) (left left_now : Option (List ℕ)) (around : Around) (s s' r r' : Machine → Type 0) (status : Status) → ((m : Machine) → r m → s m) → ((m : Machine) → s' m → r' m) →
     RunsFrom first number state left left_now around s s' status → RunsFrom first number state left left_now around r r' status
 runs-seen None number state left left_now around s s' r r' status f g h = record { done = h.done; written = h.written; goes_on = λ m k. g m (h.goes_on m (f m k)) }
-runs-seen (Some first) number state left left_now around s s' r r' status f g h = commands-seen (tail_of number state left) left_now around s s' r r' status f g h
+runs-seen (Some first) number state left left_now around s s' r r' status f g h = λ l e ended. commands-seen (tail_of number state l) left_now around s s' r r' status f g (h l e ended)
+
+-- how a run ends over an image that was opened
+pub ends-of_run : (knots : ℕ) (text : List ℕ) (now : Lines) (first : Option code.Command) (number : ℕ) (state : LinesState) (left : Option (List ℕ)) (config : Config) (told : Told) (around : Around) (stands stands_now : Machine → Type 0) (status : Status) →
+    BeginsAt knots text now first number state left → whole knots now ≡ Some config → Over config told around stands stands_now → told.faults ≤ told.faults_now →
+    RunsFrom first number state left told.left_now around stands stands_now status → Ends knots text told status
+ends-of_run knots text now None number state left config told around stands stands_now status a w o later h =
+    subst (λ s. Ends knots text told s) (sym h.done)
+    (ends-empty knots text now number config told a w o.own (λ old s. o.ends old (h.goes_on old (o.begins old s).0)) later (sym o.written_now ∙ (h.written ∙ o.written)))
+ends-of_run knots text now (Some first) number state left config told around stands stands_now status a w o later h =
+    ends-of_commands knots text now number state left config told around stands stands_now status a w o (h a.left a.left_is a.given.ended)
+
+-- the configuration is ready
+pub begins-ready : (knots : ℕ) (text : List ℕ) (now : Lines) (first : Option code.Command) (number : ℕ) (state : LinesState) (left : Option (List ℕ)) (config : Config) → BeginsAt knots text now first number state left → whole knots now ≡ Some config →
+    (n : ℕ) × (lines : List (List ℕ)) × (start_in knots text ≡ Ready config n lines)
+begins-ready knots text now None number state left config a w = (number, [], start-at_end knots text now number config a w)
+begins-ready knots text now (Some first) number state left config a w = (number, state.line ∷ lines_within state.most (state.ahead ++ a.left), start-at_command knots text now number state left config a w)
+
+pub some-of : {X : Type 0} (o : Option X) → is_some o ≡ true → (x : X) × (o ≡ Some x)
+some-of None e = cc
+some-of (Some x) e = (x, refl)
+
+-- the statuses of the commands aren't early
+pub commands-early : (old new : MediaState) (told told_now : Option (List ℕ)) (status : Status) → IsOfCommands status → IsEarlyBy old new told told_now status
+commands-early old new told told_now Done h = tt
+commands-early old new told told_now (Line n) h = tt
+commands-early old new told told_now ScriptRead h = tt
+commands-early old new told told_now OutWrite h = tt
+commands-early old new told told_now ScriptLong h = tt
+commands-early old new told told_now (NotYet n) h = tt
+commands-early old new told told_now status h = absurd h

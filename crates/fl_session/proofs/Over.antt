@@ -50,7 +50,7 @@ one-of lines config built parts = built-one config.plans (ap are_built (sym part
 pub session-runs : (config : Config) (Stands Stands' : FlashState → Plan → Table → Type 0) (f f' : FlashState) (old new : MediaState) (mounted mounted' : Bool) (geometry : Geometry) (blocks : ℕ) (origin : GName) →
     f ≡ on_medium geometry blocks 1024 origin true None 0 (record { reads = 0; programs = 0; erases = 0 }) old → geometry ≡ config.geometry → new ≡ f'.media → IsTrue old.tells → IsOne config.plans →
     ((p : Plan) (t : Table) → Stands' f' p t → Rests f' 0 p (lose t)) → mounted ≡ false →
-    (first : Option code.Command) (number : ℕ) (state : LinesState) (left : List ℕ) (left_now told told_now : Option (List ℕ)) (status : Status) →
+    (first : Option code.Command) (number : ℕ) (state : LinesState) (left left_now told told_now : Option (List ℕ)) (status : Status) →
     RunsFrom first number state left left_now (around_of config f.media f'.media told told_now) (SessionStands config Stands f mounted) (SessionStands config Stands' f' mounted') status →
     RunsFrom first number state left left_now (around_of config old new told told_now) (RestsOn config old.content) (StandsAfter config (Some new.content)) status
 session-runs config Stands Stands' f f' old new mounted mounted' geometry blocks origin is g_is media tells one settles off first number state left left_now told told_now status h =

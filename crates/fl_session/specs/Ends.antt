@@ -1,6 +1,7 @@
 -- How a run over a script and a medium ends, by its status.
 use Rattle.std.specs.Prelude.{◌≡◌, ℕ, ◌+◌, ◌-◌, ◌<◌, ◌≤◌, Bool, true, false, ◌⊎◌, IsTrue, Option, Some, None, Ok, List, [], ◌∷◌, ◌++◌, length, take, drop, replicate, slice_get, if◌then◌else◌}
 use Rattle.fl_base.specs.Causes.{Rose, Appends}
+use Rattle.fl_flash.specs.Media.{MediaState}
 use Rattle.fl_model.specs.Record.{Config}
 use Rattle.fl_model.specs.Image.{medium_len}
 use Rattle.fl_words.specs.Command.{Command}
@@ -165,19 +166,40 @@ Ends knots text told NoMemory =
     Appends told.written told.written_now [] × ((told.content_now ≡ told.content) ⊎ IsNew (start_in knots text) told)
 Ends knots text told (NotYet n) = EndsAt knots (lines_read text) told n
 
+-- what the outside told before and after
+abbrev pub told_of : MediaState → MediaState → Option (List ℕ) → Option (List ℕ) → Option (List ℕ) → Told
+told_of old new left_now written written_now = record {
+  content = old.content;
+  content_now = new.content;
+  left_now = left_now;
+  written = written;
+  written_now = written_now;
+  faults = old.faults;
+  faults_now = new.faults;
+}
+
 -- The early statuses, whoever tells the script. Nothing was written, and the medium is unchanged
-abbrev pub IsEarly : Bool → List ℕ → List ℕ → Option (List ℕ) → Option (List ℕ) → Type 0
-IsEarly tells content content_now told told_now = Appends told told_now [] × (IsTrue tells → content_now ≡ content)
+pub record IsEarly (old new : MediaState) (told told_now : Option (List ℕ)) : Type 0 where
+  pub written : Appends told told_now []
+  pub content : IsTrue old.tells → new.content ≡ old.content
 
 -- .. or it was empty before it was made
-abbrev pub IsHalfMade : Bool → List ℕ → List ℕ → Option (List ℕ) → Option (List ℕ) → Type 0
-IsHalfMade tells content content_now told told_now =
-    Appends told told_now [] × (IsTrue tells → (content ≡ [] → ⊥) → content_now ≡ content)
+pub record IsHalfMade (old new : MediaState) (told told_now : Option (List ℕ)) : Type 0 where
+  pub written : Appends told told_now []
+  pub content : IsTrue old.tells → (old.content ≡ [] → ⊥) → new.content ≡ old.content
 
 -- .. or it is unchanged or newly made and blank
-abbrev pub IsMadeAtMost : Bool → List ℕ → List ℕ → Option (List ℕ) → Option (List ℕ) → Type 0
-IsMadeAtMost tells content content_now told told_now =
-    Appends told told_now [] × (IsTrue tells → (content_now ≡ content) ⊎ ((content ≡ []) × ((config : Config) × (content_now ≡ new_content config))))
+pub record IsMadeAtMost (old new : MediaState) (told told_now : Option (List ℕ)) : Type 0 where
+  pub written : Appends told told_now []
+  pub content : IsTrue old.tells → (new.content ≡ old.content) ⊎ ((old.content ≡ []) × ((config : Config) × (new.content ≡ new_content config)))
+
+abbrev pub IsEarlyBy : MediaState → MediaState → Option (List ℕ) → Option (List ℕ) → Status → Type 0
+IsEarlyBy old new told told_now Usage = IsEarly old new told told_now
+IsEarlyBy old new told told_now (BadConfiguration n) = IsEarly old new told told_now
+IsEarlyBy old new told told_now (OtherConfig wanted found at) = IsEarly old new told told_now
+IsEarlyBy old new told told_now MediaMake = IsHalfMade old new told told_now
+IsEarlyBy old new told told_now NoMemory = IsMadeAtMost old new told told_now
+IsEarlyBy old new told told_now status = Unit {0}
 
 -- A script of commands that are all in the grammar and in their places, over a medium that is empty or of its configuration
 abbrev pub IsWhole : Start → List ℕ → Type 0

@@ -1,5 +1,5 @@
 -- What a session over an opened image does.
-use Rattle.std.specs.Prelude.{◌≡◌, ℕ, ◌+◌, ◌*◌, ◌≤◌, IsTrue, Option, Some, None, List, length, ◌++◌, sum_by}
+use Rattle.std.specs.Prelude.{◌≡◌, ℕ, ◌+◌, ◌*◌, ◌≤◌, IsTrue, true, Option, Some, None, List, [], length, ◌++◌, sum_by}
 use Rattle.fl_base.specs.declared.types.Geometry.{Geometry}
 use Rattle.fl_flash.specs.Media.{MediaState}
 use Rattle.fl_flash.specs.Room.{RoomSizes}
@@ -9,7 +9,7 @@ use Rattle.fl_machine.specs.Machine.{Machine}
 use Rattle.fl_machine.specs.Script.{StandsAfter}
 use Rattle.fl_script.specs.declared.command.Command as code
 use Rattle.fl_session.specs.declared.status.Status.{Status}
-use Rattle.fl_session.specs.declared.status.Status.TheVariants.{Done}
+use Rattle.fl_session.specs.declared.status.Status.TheVariants.{Done, Line, ScriptRead, OutWrite, ScriptLong, NotYet}
 use Rattle.fl_session.specs.Stream.{LinesState}
 use Rattle.fl_session.specs.Execute.{Around}
 use Rattle.fl_session.specs.Loop.{Tail, EndsCommands}
@@ -28,10 +28,21 @@ pub record RunsNothing (around : Around) (stands stands_now : Machine → Type 0
   pub written : around.told_now ≡ around.told
   pub goes_on : (m : Machine) → stands m → stands_now m
 
--- the commands from the first on were run, if there is one
-abbrev pub RunsFrom : Option code.Command → ℕ → LinesState → List ℕ → Option (List ℕ) → Around → (Machine → Type 0) → (Machine → Type 0) → Status → Type 0
+-- the commands from the first on were run, if there is one and the source tells
+abbrev pub RunsFrom : Option code.Command → ℕ → LinesState → Option (List ℕ) → Option (List ℕ) → Around → (Machine → Type 0) → (Machine → Type 0) → Status → Type 0
 RunsFrom None number state left left_now around stands stands_now status = RunsNothing around stands stands_now status
-RunsFrom (Some first) number state left left_now around stands stands_now status = EndsCommands (tail_of number state left) left_now around stands stands_now status
+RunsFrom (Some first) number state left left_now around stands stands_now status =
+    (l : List ℕ) → left ≡ Some l → (state.closed ≡ true → state.ahead ++ l ≡ []) → EndsCommands (tail_of number state l) left_now around stands stands_now status
+
+-- a status of the commands
+abbrev pub IsOfCommands : Status → Type 0
+IsOfCommands Done = Unit {0}
+IsOfCommands (Line n) = Unit {0}
+IsOfCommands ScriptRead = Unit {0}
+IsOfCommands OutWrite = Unit {0}
+IsOfCommands ScriptLong = Unit {0}
+IsOfCommands (NotYet n) = Unit {0}
+IsOfCommands status = ⊥
 
 -- there is room for a flash of so many blocks
 pub record HasRoom (room : RoomSizes) (geometry : Geometry) (blocks : ℕ) : Type 0 where

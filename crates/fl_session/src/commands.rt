@@ -6,6 +6,7 @@ ghost use Rattle.fl_flash.specs.Flash.{Goes};
 ghost use Rattle.fl_script.specs.CommandView.{command_view};
 ghost use Rattle.fl_session.specs.Next.{IsToRun};
 ghost use Rattle.fl_session.specs.Loop.{EndsCommands};
+ghost use Rattle.fl_session.specs.Run.{IsOfCommands};
 
 use crate::Status;
 use crate::lines::Lines;
@@ -36,7 +37,7 @@ pub(crate) fn run_commands<T: Executor, S: Source, K: Sink>(
         (T.stands session.old config) (T.stands session.new config) result }
     ensures read { result ≡ Status.ScriptRead → Rose (S.faults script.old) (S.faults script.new) }
     ensures write { result ≡ Status.OutWrite → Rose (K.faults out.old) (K.faults out.new) }
-    ensures make { result ≡ Status.MediaMake → ⊥ }
+    ensures statuses { IsOfCommands result }
     ensures later { (S.faults script.old ≤ S.faults script.new) × (K.faults out.old ≤ K.faults out.new) }
     ensures goes { Goes (T.flash session.old) (T.flash session.new) }
 {

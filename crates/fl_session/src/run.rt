@@ -8,8 +8,9 @@ ghost use Rattle.fl_model.specs.Record.{Config, blocks_of};
 ghost use Rattle.fl_words.specs.Config.{whole};
 ghost use Rattle.fl_session.specs.Built.{are_built};
 ghost use Rattle.fl_session.specs.Begin.{HoldsFirst};
+ghost use Rattle.fl_session.specs.Ends.{Ends, told_of, IsEarlyBy};
 ghost use Rattle.fl_session.specs.Opening.{MediaGoes};
-ghost use Rattle.fl_session.specs.Run.{RunsFrom, HasRoom, around_of};
+ghost use Rattle.fl_session.specs.Run.{RunsFrom, HasRoom, around_of, IsOfCommands};
 ghost use Rattle.fl_session.specs.Standing.{RestsOn};
 ghost use Rattle.fl_machine.specs.Script.{StandsAfter};
 
@@ -24,6 +25,9 @@ use fl_base::{NoMemory, Sink, Source};
 use fl_flash::{FlashRoom, Media, PageBuf, SimFlash};
 use fl_script::{Command, LineRoom};
 use std::alloc::Global;
+
+/// The knots that a table's spline keeps.
+pub const KNOTS: usize = 64;
 
 /// The bytes of the medium before the first page.
 const HEADER: u64 = 1024;
@@ -62,13 +66,12 @@ fn run_first<E: Executor, S: Source, K: Sink>(
 ) -> Status
     requires sound { E.sound session.old }
     requires in_hand { HoldsFirst first number room.old lines.old }
-    ensures runs { (configured : Config) (left : List ℕ) → S.left script.old ≡ Some left → (lines.old.closed ≡ true → lines.old.ahead ++ left ≡ []) →
-        RunsFrom first number lines.old left (S.left script.new) (around_of configured (E.flash session.old).media (E.flash session.new).media (K.written out.old) (K.written out.new))
+    ensures runs { (configured : Config) → RunsFrom first number lines.old (S.left script.old) (S.left script.new) (around_of configured (E.flash session.old).media (E.flash session.new).media (K.written out.old) (K.written out.new))
         (E.stands session.old configured) (E.stands session.new configured) result }
     ensures goes { Goes (E.flash session.old) (E.flash session.new) }
     ensures read { result ≡ Status.ScriptRead → Rose (S.faults script.old) (S.faults script.new) }
     ensures write { result ≡ Status.OutWrite → Rose (K.faults out.old) (K.faults out.new) }
-    ensures make { result ≡ Status.MediaMake → ⊥ }
+    ensures statuses { IsOfCommands result }
     ensures later { (S.faults script.old ≤ S.faults script.new) × (K.faults out.old ≤ K.faults out.new) }
 {
     match first {
@@ -95,13 +98,13 @@ fn run_session<C: ConfigLines, T: Stored, M: Media, S: Source, K: Sink>(
     requires lies { (f : FlashState) → (C.lines config.now).device ≡ Some f.geometry → f.blocks ≡ sum_by blocks_of (C.lines config.now).plans → T.lies rooms.table f }
     requires page { (g : Geometry) → (C.lines config.now).device ≡ Some g → length rooms.buf.bytes ≡ g.page }
     requires flash { (g : Geometry) → (C.lines config.now).device ≡ Some g → HasRoom rooms.flash g (sum_by blocks_of (C.lines config.now).plans) }
-    ensures runs { (configured : Config) (left : List ℕ) → whole configured.knots (C.lines config.now) ≡ Some configured → IsTrue (M.state media.old).tells → S.left script.old ≡ Some left → (lines.old.closed ≡ true → lines.old.ahead ++ left ≡ []) →
-        RunsFrom begun.first begun.number lines.old left (S.left script.new) (around_of configured (M.state media.old) (M.state media.new) (K.written out.old) (K.written out.new))
+    ensures runs { (configured : Config) → whole configured.knots (C.lines config.now) ≡ Some configured → IsTrue (M.state media.old).tells →
+        RunsFrom begun.first begun.number lines.old (S.left script.old) (S.left script.new) (around_of configured (M.state media.old) (M.state media.new) (K.written out.old) (K.written out.new))
         (RestsOn configured (M.state media.old).content) (StandsAfter configured (Some (M.state media.new).content)) result }
     ensures goes { MediaGoes (M.state media.old) (M.state media.new) }
     ensures read { result ≡ Status.ScriptRead → Rose (S.faults script.old) (S.faults script.new) }
     ensures write { result ≡ Status.OutWrite → Rose (K.faults out.old) (K.faults out.new) }
-    ensures make { result ≡ Status.MediaMake → ⊥ }
+    ensures statuses { IsOfCommands result }
     ensures later { (S.faults script.old ≤ S.faults script.new) × (K.faults out.old ≤ K.faults out.new) }
 {
     let Begun { first, number } = begun;
@@ -111,4 +114,43 @@ fn run_session<C: ConfigLines, T: Stored, M: Media, S: Source, K: Sink>(
     let status = run_first(&mut session, first, number, lines, room, script, out);
     let _media = session.end();
     status
+}
+
+/// Runs a script over an image, whose words were read.
+fn run_script<C: ConfigLines, T: Stored, M: Media, S: Source, K: Sink>(
+    alloc: Global,
+    media: &mut M,
+    script: &mut S,
+    out: &mut K,
+) -> Status
+    ensures ends { (text : List ℕ) → IsTrue (M.state media.old).tells → S.left script.old ≡ Some text →
+        Ends KNOTS text (told_of (M.state media.old) (M.state media.new) (S.left script.new) (K.written out.old) (K.written out.new)) result }
+    ensures words { result ≡ Status.Usage → ⊥ }
+    ensures read { result ≡ Status.ScriptRead → Rose (S.faults script.old) (S.faults script.new) }
+    ensures write { result ≡ Status.OutWrite → Rose (K.faults out.old) (K.faults out.new) }
+    ensures make { result ≡ Status.MediaMake → Rose (M.state media.old).faults (M.state media.new).faults }
+    ensures early { IsEarlyBy (M.state media.old) (M.state media.new) (K.written out.old) (K.written out.new) result }
+    ensures goes { MediaGoes (M.state media.old) (M.state media.new) }
+    ensures later { (S.faults script.old ≤ S.faults script.new) × (K.faults out.old ≤ K.faults out.new) }
+{
+    let Ok(mut lines) = Lines::new(alloc) else {
+        return Status::NoMemory;
+    };
+    let Ok(mut room) = LineRoom::new(alloc) else {
+        return Status::NoMemory;
+    };
+    let mut config = C::new();
+    let begun = match read_config(&mut config, &mut lines, &mut room, script) {
+        Ok(begun) => begun,
+        Err(status) => return status,
+    };
+    let rooms: Rooms<T> = match make_rooms(alloc, &config) {
+        Ok(rooms) => rooms,
+        Err(_) => return Status::NoMemory,
+    };
+    match config.open_image(media) {
+        Ok(()) => run_session(media, &config, rooms, begun, &mut lines, &mut room, script, out),
+        Err(ImageRefusal::Media) => Status::MediaMake,
+        Err(ImageRefusal::Other { wanted, found, at }) => Status::OtherConfig { wanted, found, at },
+    }
 }

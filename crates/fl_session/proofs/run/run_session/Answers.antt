@@ -4,7 +4,7 @@ use Rattle.fl_session.proofs.Over.{whole-parts, one-of, session-runs}
 use Rattle.fl_session.proofs.run.run_session.Goals as goal
 
 pub returns-clause-runs : goal.returns-clause-runs
-returns-clause-runs g c = λ configured left w told l ended.
+returns-clause-runs g c = λ configured w told.
     let lines = g.C.ConfigLines.lines c.args.config.now in
     let parts = whole-parts configured.knots lines configured w in
     let one = one-of lines configured c.requires.built parts in
@@ -12,5 +12,5 @@ returns-clause-runs g c = λ configured left w told l ended.
     let e : g.M.Media.state c.media-1.given.0 ≡ g.M.Media.state c.end-media.result.now = search rules in
     session-runs configured _ _ _ _ _ _ _ _ c.geometry.result c.blocks-2.result _ (c.new-session.ensures.flash ∙ c.with_room-flash.ensures) same (e ∙ c.end-media.ensures.state) told one
     (λ p t k. g.met.T.Stored.settles c.run_first-status.new.session.table _ p t k) c.new-session.ensures.off
-    _ _ _ left _ _ _ _
-    (c.run_first-status.ensures.runs configured left l ended)
+    _ _ _ _ _ _ _ _
+    (c.run_first-status.ensures.runs configured)
