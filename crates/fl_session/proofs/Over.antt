@@ -1,37 +1,53 @@
 -- A session that was begun over an opened image, and ended.
-use Rattle.std.proofs.Common.{◌≡◌, ℕ, ◌+◌, Bool, true, false, IsTrue, Option, Some, None, List, [], ◌∷◌, ◌++◌, refl, sym, ◌∙◌, ap, subst}
+use Rattle.std.proofs.Common.{◌≡◌, ℕ, ◌+◌, Bool, true, false, IsTrue, Option, Some, None, Err, List, [], ◌∷◌, ◌++◌, ◌≤◌, sum_by, refl, sym, ◌∙◌, ap, subst, le_trans, arith}
+use Rattle.std.specs.Prelude.{if◌then◌else◌}
 use base.Fml.{GName}
 use Rattle.fl_base.specs.declared.types.Geometry.{Geometry}
 use Rattle.fl_flash.specs.Flash.{FlashState}
 use Rattle.fl_flash.specs.Media.{MediaState}
 use Rattle.fl_flash.specs.Sim.{on_medium}
-use Rattle.fl_model.specs.Record.{Config, Plan}
+use Rattle.fl_flash.specs.Places.{extent}
+use Rattle.fl_model.specs.Image.{medium_len}
+use Rattle.fl_model.specs.Record.{Config, Plan, blocks_of}
 use Rattle.fl_model.specs.Table.{Table, lose}
 use Rattle.fl_words.specs.Config.{Lines, whole, whole_of}
 use Rattle.fl_machine.specs.Machine.{Machine}
-use Rattle.fl_machine.specs.Script.{StandsAfter}
+use Rattle.fl_machine.specs.Script.{StandsAfter, start_of, ended}
+use Rattle.fl_machine.proofs.Accepted.{StartHasRoom, accepted-room, accepted-room-ended}
 use Rattle.fl_script.specs.declared.command.Command as code
 use Rattle.fl_session.specs.declared.status.Status.{Status}
 use Rattle.fl_session.specs.Built.{are_built}
 use Rattle.fl_session.specs.Stream.{LinesState}
 use Rattle.fl_session.specs.Pages.{Rests}
 use Rattle.fl_session.specs.Standing.{SessionStands, RestsOn}
-use Rattle.fl_session.specs.Run.{RunsFrom, around_of}
-use Rattle.fl_session.proofs.Ending.{runs-seen}
-use Rattle.fl_session.proofs.Rested.{IsOne, built-one, session-begins, session-ends}
+use Rattle.fl_session.specs.Run.{RunsFrom, around_of, IsOfCommands, refused_status}
+use Rattle.fl_session.specs.declared.status.Status.TheVariants.{Usage, MediaMake, OtherConfig}
+use Rattle.fl_session.specs.declared.stream.ImageRefusal.{ImageRefusal}
+use Rattle.fl_session.specs.declared.stream.ImageRefusal.TheVariants.{Media, Other}
+use Rattle.fl_base.specs.Causes.{Rose}
+use Rattle.fl_session.specs.Texts.{is_long, lines_read}
+use Rattle.fl_session.specs.Begin.{BeginsAt}
+use Rattle.fl_session.specs.Opening.{Opened, HalfOpened, Foreign, OpensAs}
+use Rattle.fl_session.specs.Ends.{Ends, told_of, start_in, EndsMaking, EndsOther, IsEarlyBy}
+use Rattle.fl_session.proofs.Running.{nothing-added}
+use Rattle.fl_session.proofs.Ready.{ready-room, stands-ready}
+use Rattle.fl_session.proofs.Ending.{runs-seen, ends-of_run, begins-ready}
+use Rattle.fl_session.proofs.Rested.{IsOne, built-one, session-begins, session-ends, opened-rests}
 
 -- the parts of a whole configuration
-pub record AreParts (lines : Lines) (config : Config) : Type 0 where
+pub record AreParts (knots : ℕ) (lines : Lines) (config : Config) : Type 0 where
+  pub knots_are : config.knots ≡ knots
   pub device : lines.device ≡ Some config.geometry
   pub plans : lines.plans ≡ config.plans
   pub some : config.plans ≡ [] → ⊥
 
-parts_of : (knots : ℕ) (lines : Lines) (device : Option Geometry) (plans : List Plan) (config : Config) → lines.device ≡ device → lines.plans ≡ plans → whole_of knots device plans ≡ Some config → AreParts lines config
+parts_of : (knots : ℕ) (lines : Lines) (device : Option Geometry) (plans : List Plan) (config : Config) → lines.device ≡ device → lines.plans ≡ plans → whole_of knots device plans ≡ Some config → AreParts knots lines config
 parts_of knots lines None plans config d p e = cc
 parts_of knots lines (Some geometry) [] config d p e = cc
 parts_of knots lines (Some geometry) (plan ∷ plans) config d p e =
     let same : record { geometry = geometry; plans = plan ∷ plans; knots = knots } ≡ config = cc in
     record {
+      knots_are = ap (λ (c : Config). c.knots) (sym same);
       device = d ∙ ap (λ (c : Config). Some c.geometry) same;
       plans = p ∙ ap (λ (c : Config). c.plans) same;
       some = λ none. absurd (filled (ap (λ (c : Config). c.plans) same ∙ none));
@@ -40,11 +56,11 @@ parts_of knots lines (Some geometry) (plan ∷ plans) config d p e =
     filled : plan ∷ plans ≡ [] → ⊥
     filled k = cc
 
-pub whole-parts : (knots : ℕ) (lines : Lines) (config : Config) → whole knots lines ≡ Some config → AreParts lines config
+pub whole-parts : (knots : ℕ) (lines : Lines) (config : Config) → whole knots lines ≡ Some config → AreParts knots lines config
 whole-parts knots lines config e = parts_of knots lines lines.device lines.plans config refl refl e
 
-pub one-of : (lines : Lines) (config : Config) → are_built lines.plans ≡ true → AreParts lines config → IsOne config.plans
-one-of lines config built parts = built-one config.plans (ap are_built (sym parts.plans) ∙ built) parts.some
+pub one-of : (knots : ℕ) (lines : Lines) (config : Config) → are_built lines.plans ≡ true → AreParts knots lines config → IsOne config.plans
+one-of knots lines config built parts = built-one config.plans (ap are_built (sym parts.plans) ∙ built) parts.some
 
 -- what was run in the session was run over the medium
 pub session-runs : (config : Config) (Stands Stands' : FlashState → Plan → Table → Type 0) (f f' : FlashState) (old new : MediaState) (mounted mounted' : Bool) (geometry : Geometry) (blocks : ℕ) (origin : GName) →
@@ -64,3 +80,71 @@ session-runs config Stands Stands' f f' old new mounted mounted' geometry blocks
     let from : RunsFrom first number state left left_now (around_of config old f'.media told told_now) (RestsOn config old.content) (StandsAfter config (Some f'.media.content)) status =
         subst (λ (x : FlashState). RunsFrom first number state left left_now (around_of config x.media f'.media told told_now) (RestsOn config old.content) (StandsAfter config (Some f'.media.content)) status) is seen in
     subst (λ x. RunsFrom first number state left left_now (around_of config old x told told_now) (RestsOn config old.content) (StandsAfter config (Some x.content)) status) (sym media) from
+
+-- the medium reaches to the end of the flash
+pub reach-of : (knots : ℕ) (lines : Lines) (config : Config) (len : ℕ) (geometry : Geometry) → AreParts knots lines config → lines.device ≡ Some geometry → len ≡ medium_len config → 1024 + extent geometry (sum_by blocks_of lines.plans) ≤ len
+reach-of knots lines config len geometry parts e size =
+    let same : geometry ≡ config.geometry = cc (e, parts.device) in
+    let all : 1024 + extent geometry (sum_by blocks_of lines.plans) ≡ medium_len config = rw (same, parts.plans) refl in
+    omega (arith, all, size)
+
+start-room : (knots : ℕ) (text : List ℕ) → StartHasRoom (start_in knots text)
+start-room knots text = by_test (is_long text)
+  where
+    by_test : (b : Bool) → StartHasRoom (if b then start_of knots (lines_read text) else ended (start_of knots (lines_read text)))
+    by_test true = accepted-room knots (lines_read text)
+    by_test false = accepted-room-ended knots (lines_read text)
+
+-- a run over an image that was opened
+pub ends-opened : (knots : ℕ) (text : List ℕ) (lines : Lines) (first : Option code.Command) (number : ℕ) (state : LinesState) (left left_now told told_now : Option (List ℕ)) (config : Config) (old mid new : MediaState) (origin : GName) (status : Status) →
+    BeginsAt knots text lines first number state left → whole knots lines ≡ Some config → are_built lines.plans ≡ true → IsTrue old.tells → Opened config old mid → old.faults ≤ mid.faults → mid.faults ≤ new.faults →
+    RunsFrom first number state left left_now (around_of config mid new told told_now) (RestsOn config mid.content) (StandsAfter config (Some new.content)) status →
+    Ends knots text (told_of old new left_now told told_now) status
+ends-opened knots text lines first number state left left_now told told_now config old mid new origin status begins w built tells opened later later' h =
+    let ready = begins-ready knots text lines first number state left config begins w in
+    let room = ready-room config ready.0 ready.1 (start_in knots text) (start-room knots text) ready.2 in
+    let one = one-of knots lines config built (whole-parts knots lines config w) in
+    let f : FlashState = record { geometry = config.geometry; blocks = 0; start = 1024; origin = origin; media = mid; is_on = true; armed = None; cuts = 0; work = record { reads = 0; programs = 0; erases = 0 } } in
+    ends-of_run knots text lines first number state left config (told_of old new left_now told told_now) (around_of config mid new told told_now) (RestsOn config mid.content) (StandsAfter config (Some new.content)) status begins w
+    (record {
+      config_is = refl;
+      faults_now = refl;
+      faults = later;
+      written = refl;
+      written_now = refl;
+      own = opened.own tells;
+      begins = λ m s. (opened-rests config old mid f m refl refl refl room one tells opened s, stands-ready config old.content m room s);
+      ends = λ m s. s;
+    })
+    (le_trans later later') h
+
+-- a run whose image wasn't opened: the medium failed, or is another's
+pub ends-half : (knots : ℕ) (text : List ℕ) (lines : Lines) (first : Option code.Command) (number : ℕ) (state : LinesState) (left left_now told : Option (List ℕ)) (config : Config) (old new : MediaState) →
+    BeginsAt knots text lines first number state left → whole knots lines ≡ Some config → IsTrue old.tells → HalfOpened config old new → Ends knots text (told_of old new left_now told told) MediaMake
+ends-half knots text lines first number state left left_now told config old new begins w tells h =
+    let ready = begins-ready knots text lines first number state left config begins w in
+    subst (λ s. EndsMaking s (told_of old new left_now told told)) (sym ready.2) (nothing-added told, h.kept tells, h.part tells)
+
+pub ends-foreign : (knots : ℕ) (text : List ℕ) (lines : Lines) (first : Option code.Command) (number : ℕ) (state : LinesState) (left left_now told : Option (List ℕ)) (config : Config) (old new : MediaState) (wanted found at : ℕ) →
+    BeginsAt knots text lines first number state left → whole knots lines ≡ Some config → IsTrue old.tells → Foreign config old new wanted found at → Ends knots text (told_of old new left_now told told) (OtherConfig wanted found at)
+ends-foreign knots text lines first number state left left_now told config old new wanted found at begins w tells h =
+    let ready = begins-ready knots text lines first number state left config begins w in
+    subst (λ s. EndsOther s (told_of old new left_now told told) wanted found at) (sym ready.2) (h.other tells, record { content = h.kept tells; written = nothing-added told })
+
+-- the statuses of the commands
+pub commands-words : (status : Status) → IsOfCommands status → status ≡ Usage → ⊥
+commands-words status h e = subst IsOfCommands e h
+
+pub ends-refused : (knots : ℕ) (text : List ℕ) (lines : Lines) (first : Option code.Command) (number : ℕ) (state : LinesState) (left left_now told : Option (List ℕ)) (config : Config) (old new : MediaState) (refusal : ImageRefusal) →
+    BeginsAt knots text lines first number state left → whole knots lines ≡ Some config → IsTrue old.tells → OpensAs config old (Err refusal) new → Ends knots text (told_of old new left_now told told) (refused_status refusal)
+ends-refused knots text lines first number state left left_now told config old new Media begins w tells h = ends-half knots text lines first number state left left_now told config old new begins w tells h
+ends-refused knots text lines first number state left left_now told config old new (Other wanted found at) begins w tells h =
+    ends-foreign knots text lines first number state left left_now told config old new wanted found at begins w tells h
+
+pub early-refused : (config : Config) (old new : MediaState) (told : Option (List ℕ)) (refusal : ImageRefusal) → OpensAs config old (Err refusal) new → IsEarlyBy old new told told (refused_status refusal)
+early-refused config old new told Media h = record { written = nothing-added told; content = h.kept }
+early-refused config old new told (Other wanted found at) h = record { written = nothing-added told; content = h.kept }
+
+pub make-refused : (config : Config) (old new : MediaState) (refusal : ImageRefusal) → OpensAs config old (Err refusal) new → refused_status refusal ≡ MediaMake → Rose old.faults new.faults
+make-refused config old new Media h e = h.rose
+make-refused config old new (Other wanted found at) h e = cc

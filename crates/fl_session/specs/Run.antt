@@ -9,7 +9,9 @@ use Rattle.fl_machine.specs.Machine.{Machine}
 use Rattle.fl_machine.specs.Script.{StandsAfter}
 use Rattle.fl_script.specs.declared.command.Command as code
 use Rattle.fl_session.specs.declared.status.Status.{Status}
-use Rattle.fl_session.specs.declared.status.Status.TheVariants.{Done, Line, ScriptRead, OutWrite, ScriptLong, NotYet}
+use Rattle.fl_session.specs.declared.status.Status.TheVariants.{Done, Line, ScriptRead, OutWrite, MediaMake, OtherConfig, ScriptLong, NotYet}
+use Rattle.fl_session.specs.declared.stream.ImageRefusal.{ImageRefusal}
+use Rattle.fl_session.specs.declared.stream.ImageRefusal.TheVariants.{Media, Other}
 use Rattle.fl_session.specs.Stream.{LinesState}
 use Rattle.fl_session.specs.Execute.{Around}
 use Rattle.fl_session.specs.Loop.{Tail, EndsCommands}
@@ -48,3 +50,8 @@ IsOfCommands status = ⊥
 pub record HasRoom (room : RoomSizes) (geometry : Geometry) (blocks : ℕ) : Type 0 where
   pub bytes : geometry.block * geometry.page ≤ room.bytes
   pub flags : blocks * geometry.block ≤ room.pages
+
+-- how a run ends whose image isn't opened
+abbrev pub refused_status : ImageRefusal → Status
+refused_status Media = MediaMake
+refused_status (Other wanted found at) = OtherConfig wanted found at

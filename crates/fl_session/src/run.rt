@@ -1,5 +1,5 @@
 // The run of a script over an image.
-ghost use Rattle.std.specs.Prelude.{◌≡◌, ℕ, ◌+◌, ◌*◌, ◌^◌, ◌<◌, ◌≤◌, true, Bool, IsTrue, Some, None, [], List, ◌++◌, length, is_some, IfOk, vec_len, sum_by};
+ghost use Rattle.std.specs.Prelude.{◌≡◌, ℕ, ◌+◌, ◌*◌, ◌^◌, ◌<◌, ◌≤◌, ◌↔◌, map, string_bytes, true, Bool, IsTrue, Some, None, [], List, ◌++◌, length, is_some, IfOk, vec_len, sum_by};
 ghost use Rattle.fl_base.specs.Causes.{Rose};
 ghost use Rattle.fl_flash.specs.Flash.{FlashState, Goes};
 ghost use Rattle.fl_flash.specs.Places.{extent};
@@ -8,9 +8,10 @@ ghost use Rattle.fl_model.specs.Record.{Config, blocks_of};
 ghost use Rattle.fl_words.specs.Config.{whole};
 ghost use Rattle.fl_session.specs.Built.{are_built};
 ghost use Rattle.fl_session.specs.Begin.{HoldsFirst};
+ghost use Rattle.fl_session.specs.Words.{image_named};
 ghost use Rattle.fl_session.specs.Ends.{Ends, told_of, IsEarlyBy};
 ghost use Rattle.fl_session.specs.Opening.{MediaGoes};
-ghost use Rattle.fl_session.specs.Run.{RunsFrom, HasRoom, around_of, IsOfCommands};
+ghost use Rattle.fl_session.specs.Run.{RunsFrom, HasRoom, around_of, IsOfCommands, refused_status};
 ghost use Rattle.fl_session.specs.Standing.{RestsOn};
 ghost use Rattle.fl_machine.specs.Script.{StandsAfter};
 
@@ -18,6 +19,7 @@ use crate::Status;
 use crate::begin::{Begun, read_config};
 use crate::commands::run_commands;
 use crate::lines::Lines;
+use crate::image_of;
 use crate::session::Session;
 use crate::stored::Stored;
 use crate::stream::{ConfigLines, Executor, ImageRefusal};
@@ -116,7 +118,17 @@ fn run_session<C: ConfigLines, T: Stored, M: Media, S: Source, K: Sink>(
     status
 }
 
-/// Runs a script over an image, whose words were read.
+// How a run ends whose image isn't opened.
+fn status_of(refusal: ImageRefusal) -> Status
+    ensures { result ≡ refused_status refusal }
+{
+    match refusal {
+        ImageRefusal::Media => Status::MediaMake,
+        ImageRefusal::Other { wanted, found, at } => Status::OtherConfig { wanted, found, at },
+    }
+}
+
+// Runs a script over an image, whose words were read.
 fn run_script<C: ConfigLines, T: Stored, M: Media, S: Source, K: Sink>(
     alloc: Global,
     media: &mut M,
@@ -150,7 +162,36 @@ fn run_script<C: ConfigLines, T: Stored, M: Media, S: Source, K: Sink>(
     };
     match config.open_image(media) {
         Ok(()) => run_session(media, &config, rooms, begun, &mut lines, &mut room, script, out),
-        Err(ImageRefusal::Media) => Status::MediaMake,
-        Err(ImageRefusal::Other { wanted, found, at }) => Status::OtherConfig { wanted, found, at },
+        Err(refusal) => status_of(refusal),
     }
+}
+
+/// Runs a script over an image: reads the words and the configuration, opens the image, and executes line after line.
+/// Each reply is written before the next line is read.
+pub fn run_over<C: ConfigLines, T: Stored, M: Media, S: Source, K: Sink>(
+    alloc: Global,
+    words: &[String],
+    media: &mut M,
+    script: &mut S,
+    out: &mut K,
+) -> Status
+    // What is written is a run of the machine, and the medium stands for the state after it.
+    ensures run { (text : List ℕ) → IsTrue (M.state media.old).tells → S.left script.old ≡ Some text →
+        Ends KNOTS text (told_of (M.state media.old) (M.state media.new) (S.left script.new) (K.written out.old) (K.written out.new)) result }
+
+    // Each status has its cause.
+    ensures usage { (result ≡ Status.Usage) ↔ (image_named (map (λ word. string_bytes word) words.now) ≡ None) }
+    ensures read { result ≡ Status.ScriptRead → Rose (S.faults script.old) (S.faults script.new) }
+    ensures write { result ≡ Status.OutWrite → Rose (K.faults out.old) (K.faults out.new) }
+    ensures make { result ≡ Status.MediaMake → Rose (M.state media.old).faults (M.state media.new).faults }
+
+    // An early status leaves medium and sink as they were, whoever tells the script.
+    ensures early { IsEarlyBy (M.state media.old) (M.state media.new) (K.written out.old) (K.written out.new) result }
+    ensures goes { MediaGoes (M.state media.old) (M.state media.new) }
+    ensures later { (S.faults script.old ≤ S.faults script.new) × (K.faults out.old ≤ K.faults out.new) }
+{
+    if image_of(words).is_none() {
+        return Status::Usage;
+    }
+    run_script::<C, T, M, S, K>(alloc, media, script, out)
 }

@@ -7,7 +7,7 @@ pub returns-clause-runs : goal.returns-clause-runs
 returns-clause-runs g c = λ configured w told.
     let lines = g.C.ConfigLines.lines c.args.config.now in
     let parts = whole-parts configured.knots lines configured w in
-    let one = one-of lines configured c.requires.built parts in
+    let one = one-of configured.knots lines configured c.requires.built parts in
     let same : c.geometry.result ≡ configured.geometry = cc (c.geometry.ensures.device, parts.device) in
     let e : g.M.Media.state c.media-1.given.0 ≡ g.M.Media.state c.end-media.result.now = search rules in
     session-runs configured _ _ _ _ _ _ _ _ c.geometry.result c.blocks-2.result _ (c.new-session.ensures.flash ∙ c.with_room-flash.ensures) same (e ∙ c.end-media.ensures.state) told one
