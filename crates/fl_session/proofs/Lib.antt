@@ -16,3 +16,4 @@ pub mod StepsOf
 pub mod Images
 pub mod Rested
 pub mod Over
+pub mod Completing

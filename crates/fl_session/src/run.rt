@@ -9,7 +9,7 @@ ghost use Rattle.fl_words.specs.Config.{whole};
 ghost use Rattle.fl_session.specs.Built.{are_built};
 ghost use Rattle.fl_session.specs.Begin.{HoldsFirst};
 ghost use Rattle.fl_session.specs.Words.{image_named};
-ghost use Rattle.fl_session.specs.Ends.{Ends, told_of, IsEarlyBy};
+ghost use Rattle.fl_session.specs.Ends.{Ends, told_of, IsEarlyBy, IsWhole, RunsToEnd, start_in};
 ghost use Rattle.fl_session.specs.Opening.{MediaGoes};
 ghost use Rattle.fl_session.specs.Run.{RunsFrom, HasRoom, around_of, IsOfCommands, refused_status};
 ghost use Rattle.fl_session.specs.Standing.{RestsOn};
@@ -189,6 +189,12 @@ pub fn run_over<C: ConfigLines, T: Stored, M: Media, S: Source, K: Sink>(
     ensures early { IsEarlyBy (M.state media.old) (M.state media.new) (K.written out.old) (K.written out.new) result }
     ensures goes { MediaGoes (M.state media.old) (M.state media.new) }
     ensures later { (S.faults script.old ≤ S.faults script.new) × (K.faults out.old ≤ K.faults out.new) }
+
+    // Where no cause holds and no count rises, the script is run to its end, or memory is wanted, or a line isn't built.
+    ensures complete { (text : List ℕ) → IsTrue (M.state media.old).tells → S.left script.old ≡ Some text → length text ≤ 2 ^ 24 →
+        (image_named (map (λ word. string_bytes word) words.now) ≡ None → ⊥) → IsWhole (start_in KNOTS text) (M.state media.old).content →
+        (Rose (S.faults script.old) (S.faults script.new) → ⊥) → (Rose (K.faults out.old) (K.faults out.new) → ⊥) → (Rose (M.state media.old).faults (M.state media.new).faults → ⊥) →
+        RunsToEnd result }
 {
     if image_of(words).is_none() {
         return Status::Usage;
