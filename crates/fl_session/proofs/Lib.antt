@@ -11,3 +11,7 @@ pub mod Ready
 pub mod Ending
 pub mod Pieces
 pub mod Going
+pub mod Executing
+pub mod StepsOf
+pub mod Images
+pub mod Rested

@@ -10,7 +10,7 @@ ghost use Rattle.fl_session.specs.Begin.{ConfiguresBy, IsFresh, BeginsAt, EndsBe
 use crate::Status;
 use crate::next::{is_config, next_command};
 use crate::lines::Lines;
-use crate::stream::{ConfigLines, Reader};
+use crate::stream::ConfigLines;
 use fl_base::Source;
 use fl_script::{Command, LineRoom};
 
@@ -69,10 +69,9 @@ fn finish<C: ConfigLines>(
 }
 
 /// Reads the lines of the configuration, and the command that ends it.
-pub(crate) fn read_config<C: ConfigLines, R: Reader, S: Source>(
+pub(crate) fn read_config<C: ConfigLines, S: Source>(
     config: &mut C,
     lines: &mut Lines,
-    reader: &R,
     room: &mut LineRoom,
     script: &mut S,
 ) -> Result<Begun, Status>
@@ -90,7 +89,7 @@ pub(crate) fn read_config<C: ConfigLines, R: Reader, S: Source>(
 {
     let mut number: u64 = 1;
     'lines: loop {
-        match next_command(lines, reader, room, script, number) {
+        match next_command(lines, room, script, number) {
             Ok(Some(command)) => match configure(config, &command, room, number) {
                 Ok(true) => {}
                 Ok(false) => return finish(config, Some(command), number),

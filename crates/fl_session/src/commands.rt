@@ -10,18 +10,17 @@ ghost use Rattle.fl_session.specs.Loop.{EndsCommands};
 use crate::Status;
 use crate::next::next_run;
 use crate::lines::Lines;
-use crate::stream::{Executor, Reader};
+use crate::stream::Executor;
 use fl_base::{Sink, Source};
 use fl_script::{Command, LineRoom};
 
 /// Executes a command, which is the line of this number, and then those of the lines behind it. Each reply is written
 /// before the next line is read.
-pub(crate) fn run_commands<T: Executor, R: Reader, S: Source, K: Sink>(
+pub(crate) fn run_commands<T: Executor, S: Source, K: Sink>(
     session: &mut T,
     first: Command,
     number: u64,
     lines: &mut Lines,
-    reader: &R,
     room: &mut LineRoom,
     script: &mut S,
     out: &mut K,
@@ -49,7 +48,7 @@ pub(crate) fn run_commands<T: Executor, R: Reader, S: Source, K: Sink>(
             Err(_) => return Status::OutWrite,
         }
         line += 1;
-        match next_run(lines, reader, room, script, line) {
+        match next_run(lines, room, script, line) {
             Ok(Some(next)) => command = next,
             Ok(None) => return Status::Done,
             Err(status) => return status,

@@ -4,21 +4,14 @@ ghost use Rattle.fl_words.specs.Config.{Lines, configured, whole};
 ghost use Rattle.fl_session.specs.Next.{is_config_line};
 ghost use Rattle.fl_base.specs.Causes.{HasCause};
 ghost use Rattle.fl_model.specs.Record.{Config};
-ghost use Rattle.fl_words.specs.Grammar.{command_of};
 ghost use Rattle.fl_machine.specs.Machine.{Machine};
 ghost use Rattle.fl_flash.specs.Flash.{FlashState, Goes};
 ghost use Rattle.fl_script.specs.CommandView.{command_view};
-ghost use Rattle.fl_session.specs.Reads.{line_seen};
 ghost use Rattle.fl_session.specs.Execute.{Executes};
 ghost use Rattle.fl_session.specs.Built.{IsRunnable, are_built};
 
 use fl_base::{Sink, SinkFailed};
-use fl_script::{Command, LineFault, LineRoom};
-
-pub trait Reader {
-    fn read(&self, bytes: &[u8], room: &mut LineRoom) -> Result<Command, LineFault>
-        ensures { line_seen result room.new ≡ command_of bytes.now };
-}
+use fl_script::{Command, LineRoom};
 
 /// A configuration line is refused.
 #[derive(Clone, Copy, Debug)]
