@@ -1,0 +1,5 @@
+pub mod WriterState
+pub mod Writer
+pub mod Header
+pub mod Page
+pub mod View
