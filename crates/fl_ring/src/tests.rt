@@ -1,12 +1,12 @@
 // Images made by hand, a forged block, and a cut of each kind at each operation.
-ghost use Rattle.std.specs.Prelude.{◌≡◌, ◌≤◌, ◌<◌, ◌+◌, length, OnOk, IfOk};
+ghost use Rattle.std.specs.Prelude.{◌≡◌, ◌≤◌, ◌<◌, ◌+◌, length, vec_len, OnOk, IfOk};
 ghost use Rattle.fl_flash.specs.Flash.{Goes};
 ghost use Rattle.fl_ring.specs.Place.{shape_of, LiesOn};
 
 use crate::{Ring, RingFault};
 use fl_base::{CutKind, Geometry, NoMemory, RingPlace, put_u32};
 use fl_flash::{Flash, FlashFault, MemMedia, PageBuf, SimFlash};
-use std::alloc::Global;
+use std::alloc::{AllocError, Global};
 use std::test::Fail;
 
 const PLACE: RingPlace = RingPlace {
@@ -38,22 +38,23 @@ fn write_page(page: Page, into: &mut [u8])
     }
 }
 
-// A flash of four blocks of two pages, with a ring on the last three.
-fn image(alloc: Global, pages: [Page; 6]) -> Result<MemMedia, NoMemory>
-    ensures { IfOk result (λ m. length m.content ≡ 512) }
+// Four blocks of two pages, with a ring on the last three.
+fn image(alloc: Global, pages: [Page; 6]) -> Result<Vec<u8>, AllocError>
+    ensures { IfOk result (λ v. vec_len v ≡ 512) }
 {
     let mut bytes = vec![in alloc; 255; 512]?;
     for i in 0..6 {
         write_page(pages[i], &mut bytes[128 + 64 * i..192 + 64 * i]);
     }
-    MemMedia::new(alloc, bytes, 512)
+    Ok(bytes)
 }
 
 // The oldest and the next number that a mount finds, and how many programs and erases it needs.
 type Mounted = (Result<(u32, u32), RingFault>, u64, u64);
 
 fn mount_image(alloc: Global, pages: [Page; 6], at_least: u32) -> Result<Mounted, NoMemory> {
-    let mut media = image(alloc, pages)?;
+    let bytes = image(alloc, pages)?;
+    let mut media = MemMedia::new(alloc, bytes, 512)?;
     let mut buf = PageBuf::new(alloc, 64)?;
     let mut flash = SimFlash::new(alloc, &mut media, Geometry { page: 64, block: 2 }, 4, 0)?;
     let found = match Ring::mount(&mut flash, PLACE, at_least, &mut buf) {
@@ -125,7 +126,8 @@ type Cut = (Result<(), FlashFault>, Result<(u32, u32), RingFault>);
 fn cut_at(alloc: Global, n: u64, kind: CutKind) -> Result<Cut, NoMemory>
     requires { 1 ≤ n }
 {
-    let mut media = image(alloc, [Blank; 6])?;
+    let bytes = image(alloc, [Blank; 6])?;
+    let mut media = MemMedia::new(alloc, bytes, 512)?;
     let mut buf = PageBuf::new(alloc, 64)?;
     let mut flash = SimFlash::new(alloc, &mut media, Geometry { page: 64, block: 2 }, 4, 0)?;
     let cut = match Ring::mount(&mut flash, PLACE, 0, &mut buf) {
