@@ -1,12 +1,12 @@
 // Images made by hand, a forged block, and a cut of each kind at each operation.
-ghost use Rattle.std.specs.Prelude.{◌≡◌, ◌≤◌, ◌<◌, ◌+◌, length, OnOk, IfOk};
+ghost use Rattle.std.specs.Prelude.{◌≡◌, ◌≤◌, ◌<◌, ◌+◌, length, vec_len, OnOk, IfOk};
 ghost use Rattle.fl_flash.specs.Flash.{Goes};
 ghost use Rattle.fl_ring.specs.Place.{shape_of, LiesOn};
 
 use crate::{Ring, RingFault};
 use fl_base::{CutKind, Geometry, NoMemory, RingPlace, put_u32};
 use fl_flash::{Flash, FlashFault, MemMedia, PageBuf, SimFlash};
-use std::alloc::Global;
+use std::alloc::{AllocError, Global};
 use std::test::Fail;
 
 const PLACE: RingPlace = RingPlace {
@@ -38,22 +38,23 @@ fn write_page(page: Page, into: &mut [u8])
     }
 }
 
-// A flash of four blocks of two pages, with a ring on the last three.
-fn image(alloc: Global, pages: [Page; 6]) -> Result<MemMedia, NoMemory>
-    ensures { IfOk result (λ m. length m.content ≡ 512) }
+// Four blocks of two pages, with a ring on the last three.
+fn image(alloc: Global, pages: [Page; 6]) -> Result<Vec<u8>, AllocError>
+    ensures { IfOk result (λ v. vec_len v ≡ 512) }
 {
     let mut bytes = vec![in alloc; 255; 512]?;
     for i in 0..6 {
         write_page(pages[i], &mut bytes[128 + 64 * i..192 + 64 * i]);
     }
-    MemMedia::new(alloc, bytes, 512)
+    Ok(bytes)
 }
 
 // The oldest and the next number that a mount finds, and how many programs and erases it needs.
 type Mounted = (Result<(u32, u32), RingFault>, u64, u64);
 
 fn mount_image(alloc: Global, pages: [Page; 6], at_least: u32) -> Result<Mounted, NoMemory> {
-    let mut media = image(alloc, pages)?;
+    let bytes = image(alloc, pages)?;
+    let mut media = MemMedia::new(alloc, bytes, 512)?;
     let mut buf = PageBuf::new(alloc, 64)?;
     let mut flash = SimFlash::new(alloc, &mut media, Geometry { page: 64, block: 2 }, 4, 0)?;
     let found = match Ring::mount(&mut flash, PLACE, at_least, &mut buf) {
@@ -125,7 +126,8 @@ type Cut = (Result<(), FlashFault>, Result<(u32, u32), RingFault>);
 fn cut_at(alloc: Global, n: u64, kind: CutKind) -> Result<Cut, NoMemory>
     requires { 1 ≤ n }
 {
-    let mut media = image(alloc, [Blank; 6])?;
+    let bytes = image(alloc, [Blank; 6])?;
+    let mut media = MemMedia::new(alloc, bytes, 512)?;
     let mut buf = PageBuf::new(alloc, 64)?;
     let mut flash = SimFlash::new(alloc, &mut media, Geometry { page: 64, block: 2 }, 4, 0)?;
     let cut = match Ring::mount(&mut flash, PLACE, 0, &mut buf) {
@@ -185,37 +187,42 @@ fn a_cut_at_each_operation(rt: HostRuntime) -> Result<(), Fail> {
     Ok(())
 }
 
-// The erase of the block ahead leaves four committed pages of greater numbers, which fit their places.
-#[test]
-fn a_forged_block_is_not_believed(rt: HostRuntime) -> Result<(), Fail> {
-    let alloc = rt.alloc();
-    let mut forged = vec![in alloc; 255; 256]?;
+// Four committed pages of numbers that fit their places, and are greater than any that was given.
+fn forged_block(alloc: Global) -> Result<Vec<u8>, AllocError> {
+    let mut bytes = vec![in alloc; 255; 256]?;
     for i in 0..4 {
-        write_page(Sealed(1008 + i as u32), &mut forged[64 * i..64 + 64 * i]);
+        write_page(Sealed(1008 + i as u32), &mut bytes[64 * i..64 + 64 * i]);
     }
-    let blank = vec![in alloc; 255; 768]?;
-    let mut media = MemMedia::new(alloc, blank, 768)?;
+    Ok(bytes)
+}
+
+// Twelve seals on a new ring of blocks of four pages; the erase of the block ahead, after the eleventh, leaves these bytes.
+fn tear_erase(alloc: Global, forged: Vec<u8>) -> Result<(Cut, u64, u64), NoMemory> {
+    let bytes = vec![in alloc; 255; 1024]?;
+    let mut media = MemMedia::new(alloc, bytes, 1024)?;
     let mut buf = PageBuf::new(alloc, 64)?;
-    let place = RingPlace {
-        first_block: 0,
-        blocks: 3,
-    };
-    let mut flash = SimFlash::new(alloc, &mut media, Geometry { page: 64, block: 4 }, 3, 0)?;
-    let cut = match Ring::mount(&mut flash, place, 0, &mut buf) {
+    let mut flash = SimFlash::new(alloc, &mut media, Geometry { page: 64, block: 4 }, 4, 0)?;
+    let cut = match Ring::mount(&mut flash, PLACE, 0, &mut buf) {
         Ok(mut ring) => {
             flash.tear(23, forged);
             seal_many(&mut ring, &mut flash, 12)
         }
         Err(_) => Ok(()),
     };
-    assert_eq!(rt; cut, Err(FlashFault::PowerLost));
     flash.power_on();
-    let found = match Ring::mount(&mut flash, place, 0, &mut buf) {
+    let found = match Ring::mount(&mut flash, PLACE, 0, &mut buf) {
         Ok(ring) => Ok((ring.oldest(), ring.next_number())),
         Err(fault) => Err(fault),
     };
-    assert_eq!(rt; found, Ok((4, 11)));
-    assert_eq!(rt; (flash.work().programs, flash.work().erases), (22, 2));
+    let work = flash.work();
     let _media = flash.into_media();
+    Ok(((cut, found), work.programs, work.erases))
+}
+
+#[test]
+fn a_forged_block_is_not_believed(rt: HostRuntime) -> Result<(), Fail> {
+    let forged = forged_block(rt.alloc())?;
+    let want = (Err(FlashFault::PowerLost), Ok((4, 11)));
+    assert_eq!(rt; tear_erase(rt.alloc(), forged)?, (want, 22, 2));
     Ok(())
 }
