@@ -16,7 +16,7 @@ use Rattle.fl_schema.proofs.RoundTrip.{length-bytes_of_row}
 use Rattle.fl_page.specs.Header.{header_bytes}
 use Rattle.fl_page.specs.WriterState.{WriterState}
 use Rattle.fl_page.specs.Writer.{Gathers}
-use Rattle.fl_page.proofs.Rows.{rows_from-rows, slice_get-rows_from}
+use Rattle.fl_page.proofs.RowBytes.{rows_from-rows, slice_get-rows_from}
 
 -- how many bytes the rows have
 rows_len : (layout : RowLayout) (rows : List Row) (w : WriterState) → w.end ≤ length w.body → Gathers layout rows w → length (flat_map (bytes_of_row layout) rows) + 16 ≡ w.end
@@ -112,7 +112,7 @@ Gathers-cleared layout other rows w least within is =
       storable = tt;
     }
 
-layout_some : (key : KeyWidth) (types : List ColumnType) (blobs : Bool) → 0 < layout_len (layout_with key types blobs)
+pub layout_some : (key : KeyWidth) (types : List ColumnType) (blobs : Bool) → 0 < layout_len (layout_with key types blobs)
 layout_some Four types blobs = omega arith
 layout_some Eight types blobs = omega arith
 

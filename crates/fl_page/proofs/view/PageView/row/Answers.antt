@@ -4,7 +4,7 @@ use Rattle.fl_model.specs.Record.{RowLayout, layout_len}
 use Rattle.fl_model.specs.Row.{row_in}
 use Rattle.fl_schema.specs.Schema.{kind_layout, bytes_of}
 use Rattle.fl_schema.specs.Form.{types_in}
-use Rattle.fl_page.proofs.Rows.{slice_get-rows_from}
+use Rattle.fl_page.proofs.RowBytes.{slice_get-rows_from}
 use Rattle.fl_page.proofs.view.PageView.row.Goals as goal
 
 pub returns-clause-bytes : goal.returns-clause-bytes
