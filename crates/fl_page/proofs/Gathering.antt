@@ -1,5 +1,5 @@
 -- A page writer, step by step.
-use Rattle.std.proofs.Common.{◌≡◌, ℕ, suc, ◌+◌, ◌-◌, ◌*◌, ◌<◌, ◌≤◌, Bool, Some, slice_get, slice_range, List, [], ◌∷◌, ◌++◌, length, take, drop, replicate, refl, sym, ap, ◌∙◌, arith, append_assoc, length-append, length-drop, length-take}
+use Rattle.std.proofs.Common.{◌≡◌, ℕ, ◌+◌, ◌-◌, ◌*◌, ◌<◌, ◌≤◌, Bool, Some, slice_get, slice_range, List, [], ◌∷◌, ◌++◌, length, take, drop, replicate, refl, sym, ap, ◌∙◌, arith, append_assoc, length-append, length-drop}
 use Rattle.std.proofs.lemmas.List.{take_at, drop_at, drop-drop, drop-take, drop-replicate, length-replicate, length-take-le, replicate-append-replicate, append-nil, drop-append-le}
 use Rattle.std.proofs.Math.Nat.{lt_of_mul-lt-mul_right}
 use Rattle.std.specs.List.{flat_map, AllByRecursion}
@@ -16,7 +16,7 @@ use Rattle.fl_schema.proofs.RoundTrip.{length-bytes_of_row}
 use Rattle.fl_page.specs.Header.{header_bytes}
 use Rattle.fl_page.specs.WriterState.{WriterState}
 use Rattle.fl_page.specs.Writer.{Gathers}
-use Rattle.fl_page.proofs.Rows.{rows_from-rows, slice_get-rows_from}
+use Rattle.fl_page.proofs.RowBytes.{rows_from-rows, slice_get-rows_from}
 
 -- how many bytes the rows have
 rows_len : (layout : RowLayout) (rows : List Row) (w : WriterState) → w.end ≤ length w.body → Gathers layout rows w → length (flat_map (bytes_of_row layout) rows) + 16 ≡ w.end
@@ -112,7 +112,7 @@ Gathers-cleared layout other rows w least within is =
       storable = tt;
     }
 
-layout_some : (key : KeyWidth) (types : List ColumnType) (blobs : Bool) → 0 < layout_len (layout_with key types blobs)
+pub layout_some : (key : KeyWidth) (types : List ColumnType) (blobs : Bool) → 0 < layout_len (layout_with key types blobs)
 layout_some Four types blobs = omega arith
 layout_some Eight types blobs = omega arith
 

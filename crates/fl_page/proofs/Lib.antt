@@ -1,2 +1,3 @@
-pub mod Rows
+pub mod RowBytes
 pub mod Gathering
+pub mod DataPages

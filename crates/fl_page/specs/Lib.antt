@@ -3,3 +3,5 @@ pub mod Writer
 pub mod Header
 pub mod Page
 pub mod View
+pub mod Contents
+pub mod Steps

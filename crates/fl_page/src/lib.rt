@@ -3,9 +3,14 @@
 
 mod fault;
 mod header;
+mod rows;
 mod view;
 mod writer;
 
 pub use fault::{BadPage, ReadFault};
+pub use rows::{RowHere, Rows};
 pub use view::PageView;
 pub use writer::PageWriter;
+
+#[cfg(test)]
+mod tests;

@@ -21,6 +21,7 @@ impl<'b, const COLS: usize> PageView<'b, COLS> {
     ghost use Rattle.std.specs.Prelude.{ℕ, ◌<◌, Some, slice_get, slice_range, MatchResult};
     ghost use Rattle.fl_model.specs.Row.{row_in};
     ghost use Rattle.fl_schema.specs.Schema.{layout_of, layout_of_row, bytes_of, row_of};
+    ghost use Rattle.fl_page.specs.Header.{page_count};
     ghost use Rattle.fl_page.specs.Page.{IsGoodPage, bad_page, row_at, key_at};
     ghost use Rattle.fl_page.specs.View.{page_of, layout_of_page, count_of, rows_of};
 
@@ -32,7 +33,7 @@ impl<'b, const COLS: usize> PageView<'b, COLS> {
     ) -> Result<PageView<'b, COLS>, BadPage>
         requires { 24 ≤ length bytes.now }
         ensures { MatchResult result
-            (λ view. (page_of view ≡ bytes.now) × (layout_of_page view ≡ layout_of schema.now) × IsGoodPage (layout_of schema.now) number bytes.now)
+            (λ view. (page_of view ≡ bytes.now) × (layout_of_page view ≡ layout_of schema.now) × (count_of view ≡ page_count bytes.now) × IsGoodPage (layout_of schema.now) number bytes.now)
             (λ bad. (bad ≡ bad_page number bytes.now) × (IsGoodPage (layout_of schema.now) number bytes.now → ⊥)) }
     {
         let found = number_in(bytes);
@@ -63,6 +64,7 @@ impl<'b, const COLS: usize> PageView<'b, COLS> {
         requires { i < count_of self.now }
         ensures layout { layout_of_row result ≡ layout_of_page self.now }
         ensures bytes { bytes_of result ≡ row_at (layout_of_page self.now) (page_of self.now) i }
+        ensures row { slice_get (rows_of self.now) i ≡ Some (row_of result) }
     {
         let len = self.kind.row_len() as usize;
         let at = HEADER + i * len;

@@ -59,9 +59,10 @@ impl PageWriter {
         requires fits { FitsRow (layout_of schema.now) (record { key = key; values = values.now; blob = blob }) }
         requires room { self.old.end + layout_len (layout_of schema.now) ≤ length self.old.body }
         ensures exact { self.new ≡ record {
-            body = splice self.old.body self.old.end (bytes_of_row (layout_of schema.now) (record { key = key; values = values.now; blob = blob }));
-            count = self.old.count + 1;
-            end = self.old.end + layout_len (layout_of schema.now); } }
+          body = splice self.old.body self.old.end (bytes_of_row (layout_of schema.now) (record { key = key; values = values.now; blob = blob }));
+          count = self.old.count + 1;
+          end = self.old.end + layout_len (layout_of schema.now);
+        } }
         ensures rows { (rows : List Row) → Gathers (layout_of schema.now) rows self.old →
             Gathers (layout_of schema.now) (rows ++ (record { key = key; values = values.now; blob = blob }) ∷ []) self.new }
         ensures size { length self.new.body ≡ length self.old.body }

@@ -1,4 +1,4 @@
-use Rattle.std.proofs.Common.{arith, ◌++◌, ◌∷◌, [], rules, sym, subst}
+use Rattle.std.proofs.Common.{arith, ◌++◌, ◌∷◌, [], sym, subst}
 use Rattle.std.proofs.lemmas.Grind.{common_steps}
 use Rattle.fl_model.specs.Row.{Row}
 use Rattle.fl_schema.specs.Schema.{types_of, layout_of}

@@ -1,5 +1,5 @@
 -- The rows in bytes that stand one after another.
-use Rattle.std.proofs.Common.{◌≡◌, ℕ, zero, suc, ◌+◌, ◌-◌, ◌*◌, ◌<◌, ◌≤◌, Bool, Option, Some, slice_get, List, [], ◌∷◌, ◌++◌, length, take, drop, refl, sym, ap, ◌∙◌, arith, append_assoc, length-append}
+use Rattle.std.proofs.Common.{◌≡◌, ℕ, zero, suc, ◌+◌, ◌*◌, ◌<◌, Bool, Some, slice_get, List, [], ◌∷◌, ◌++◌, length, take, drop, refl, ap, ◌∙◌, arith, append_assoc}
 use Rattle.std.proofs.lemmas.List.{take_at, drop_at, drop-drop}
 use Rattle.std.specs.List.{flat_map, AllByRecursion}
 use Rattle.fl_model.specs.Record.{layout_len}
@@ -19,9 +19,10 @@ module _ (key : KeyWidth) (types : List ColumnType) (blobs : Bool) where
       let here = bytes_of_row (layout_with key types blobs) row in
       let there = flat_map (bytes_of_row (layout_with key types blobs)) rows in
       let size = length-bytes_of_row key types blobs row store.fits in
-      let split : here ++ there ++ behind ≡ here ++ (there ++ behind) = append_assoc here there behind in
-      (ap (λ (l : List ℕ). take (layout_len (layout_with key types blobs)) l) split ∙ take_at here (there ++ behind) (layout_len (layout_with key types blobs)) size,
-       ap (λ (l : List ℕ). drop (layout_len (layout_with key types blobs)) l) split ∙ drop_at here (there ++ behind) (layout_len (layout_with key types blobs)) size)
+      let split : here ++ there ++ behind ≡ here ++ (there ++ behind) = append_assoc here there behind in (
+        ap (λ (l : List ℕ). take (layout_len (layout_with key types blobs)) l) split ∙ take_at here (there ++ behind) (layout_len (layout_with key types blobs)) size,
+        ap (λ (l : List ℕ). drop (layout_len (layout_with key types blobs)) l) split ∙ drop_at here (there ++ behind) (layout_len (layout_with key types blobs)) size,
+      )
 
   -- what was written is read again
   pub rows_from-rows : (rows : List Row) (behind : List ℕ) → AllByRecursion (IsStorable (layout_with key types blobs)) rows
