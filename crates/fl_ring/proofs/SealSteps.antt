@@ -1,14 +1,15 @@
 -- How the operations of a seal make the whole.
-use Rattle.std.proofs.Common.{◌≡◌, ℕ, ◌+◌, ◌-◌, ◌^◌, ◌≤◌, ◌<◌, Bool, true, false, if◌then◌else◌, List, [], ◌∷◌, ◌++◌, length, Some, Result, Ok, Err, OnOk, refl, sym, ◌∙◌, ap, subst, arith}
-use Rattle.fl_flash.specs.Flash.{FlashState, Goes, page_at}
+use Rattle.std.proofs.Common.{◌≡◌, ℕ, ◌+◌, ◌-◌, ◌*◌, ◌^◌, ◌≤◌, ◌<◌, Bool, true, false, if◌then◌else◌, List, [], ◌∷◌, ◌++◌, length, replicate, Some, Result, Ok, Err, OnOk, inl, inr, refl, sym, ◌∙◌, ap, subst, arith}
+use Rattle.fl_flash.specs.Flash.{FlashState, Goes, page_at, ProgramsPage, ErasesBlock}
 use Rattle.fl_flash.specs.declared.flash.FlashFault.{FlashFault}
 use Rattle.fl_mark.specs.Mark.{all_are}
 use Rattle.fl_model.specs.Work.{Device, Body, Mark, Erase, counted, PartEnd, Whole, CutIn, FailedIn}
 use Rattle.fl_ring.specs.declared.ring.Ring.{Ring}
 use Rattle.fl_ring.specs.Operations.{change, seal_kinds}
 use Rattle.fl_ring.specs.Place.{shape_of, StandsFor}
-use Rattle.fl_ring.specs.Ring.{Shape, RingState, OnRing, count, is_due_at, begun, appended, trimmed, sealed, erased}
-use Rattle.fl_ring.specs.Sealing.{IsReady, AnswersEnd, Performed, Seals}
+use Rattle.fl_ring.specs.Ring.{Shape, RingState, OnRing, place, count, is_due_at, begun, appended, trimmed, sealed, erased}
+use Rattle.fl_ring.specs.Repairing.{ahead_first}
+use Rattle.fl_ring.specs.Sealing.{IsReady, AnswersEnd, Performed, Seals, ErasesWhere, SealCalls}
 use Rattle.fl_ring.specs.Step.{IsWatched, StepDone, StepEnds}
 use Rattle.fl_ring.proofs.Advancing.{due_as}
 use Rattle.fl_ring.proofs.Performing.{performed_err, performed_more, performed_none, performed_last}
@@ -67,3 +68,15 @@ module _ (ring : Ring) (s : RingState) (body : List ℕ) (rose : Bool) (device :
 
     pub waits : due ≡ true → (sealed r s body).dirty ≡ true
     waits e = dirty_as due is ∙ e
+
+-- the calls of a seal that was done up to its erase
+pub calls_marked : (r : Shape) (next : ℕ) (due : Bool) (body : List ℕ) (old begun marked new : FlashState) (result : Result (Unit {0}) FlashFault)
+    → ProgramsPage old (place r next) 0 body (Ok tt) begun → ProgramsPage begun (place r next) (r.size - 8) (replicate 4 0) (Ok tt) marked → ErasesWhere r next due marked result new → SealCalls r next due body old result new
+calls_marked r next due body old begun marked new result first second last = inl (record { begun = begun; marked = marked; body_first = first; mark_then = second; erase_last = last })
+
+pub no_erase : (r : Shape) (next : ℕ) (due : Bool) (marked : FlashState) → due ≡ false → ErasesWhere r next due marked (Ok tt) marked
+no_erase r next due marked e = subst (λ (b : Bool). ErasesWhere r next b marked (Ok tt) marked) (sym e) (refl, refl)
+
+pub an_erase : (r : Shape) (next block : ℕ) (due : Bool) (marked new : FlashState) (result : Result (Unit {0}) FlashFault) → due ≡ true → block * r.per_block ≡ ahead_first r (next + 1) → ErasesBlock marked block result new
+    → ErasesWhere r next due marked result new
+an_erase r next block due marked new result e at erases = subst (λ (b : Bool). ErasesWhere r next b marked result new) (sym e) (record { block = block; at = at; erases = erases })

@@ -24,6 +24,7 @@ impl Ring {
         requires body { length body.now + 8 ≡ self.now.size }
         requires numbered { number_of body.now + 1 < 2 ^ 32 }
         ensures operates { Operates (shape_of self.now) Body (F.state flash.old) result (F.state flash.new) }
+        ensures programs { ProgramsPage (F.state flash.old) (place (shape_of self.now) self.now.next) 0 body.now result (F.state flash.new) }
         ensures step { (s : RingState) → (rose : Bool) → (device : Device) → IsReady self.now (F.state flash.old) s → IsWatched (F.state flash.old) (F.state flash.new) rose device
             → StepEnds (shape_of self.now) Body s (begun s) rose device result (F.state flash.new) }
         ensures page { OnOk result ((s : RingState) → IsTrue (F.state flash.old).media.tells → IsReady self.now (F.state flash.old) s
@@ -36,6 +37,7 @@ impl Ring {
     pub(crate) fn commit_page<F: Flash>(&self, flash: &mut F) -> Result<(), FlashFault>
         requires lies { LiesOn self.now (F.state flash.old) }
         ensures operates { Operates (shape_of self.now) Mark (F.state flash.old) result (F.state flash.new) }
+        ensures programs { ProgramsPage (F.state flash.old) (place (shape_of self.now) self.now.next) (self.now.size - 8) (replicate 4 0) result (F.state flash.new) }
         ensures step { (s : RingState) → (body : List ℕ) → (rose : Bool) → (device : Device) → StandsFor self.now s → OnRing (shape_of self.now) (page_at (F.state flash.old)) s → s.torn ≡ true
             → page_at (F.state flash.old) (place (shape_of self.now) s.next) ≡ body ++ blank_end → length body + 8 ≡ self.now.size → all_are 255 body ≡ false
             → IsWatched (F.state flash.old) (F.state flash.new) rose device

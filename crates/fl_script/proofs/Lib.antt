@@ -1,2 +1,11 @@
 pub mod Sending
 pub mod Digits16
+pub mod Blobs
+pub mod Digits
+pub mod Few
+pub mod Lists
+pub mod Long
+pub mod Puts
+pub mod Reading
+pub mod Splitting
+pub mod Texts

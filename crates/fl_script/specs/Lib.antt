@@ -1,3 +1,4 @@
 pub mod CommandView
 pub mod ReplyView
 pub mod Written
+pub mod Lines

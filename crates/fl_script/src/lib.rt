@@ -2,12 +2,19 @@
 #![tactic(auto)]
 
 mod command;
+mod put;
+mod queries;
+mod read;
 mod reply;
 mod reply_line;
 mod room;
+mod settings;
+mod word;
+mod words;
 mod write;
 
 pub use command::{Command, LineFault};
+pub use read::read_line;
 pub use reply::{BlobNote, Reply};
 pub use room::LineRoom;
 pub use write::{write_digits, write_reply};

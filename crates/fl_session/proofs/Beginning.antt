@@ -18,8 +18,8 @@ use Rattle.fl_session.specs.Stream.{LinesState, Gives, TakesPart}
 use Rattle.fl_session.specs.Next.{NextCommand, EndsThere, IsRefused}
 use Rattle.fl_session.specs.Loop.{Tail}
 use Rattle.fl_session.specs.Begin.{IsFresh, GoesOn, EndsIt, Refuses, Unmakes, IsUnended, AtCommand, AtEnd, EndsInConfig, EndsBefore, EndsBegin, BeginsAt, ConfiguresBy}
-use Rattle.fl_session.specs.declared.stream.LinesFault.{LinesFault}
-use Rattle.fl_session.specs.declared.stream.LinesFault.TheVariants.{Failed, Long}
+use Rattle.fl_session.specs.declared.lines.LinesFault.{LinesFault}
+use Rattle.fl_session.specs.declared.lines.LinesFault.TheVariants.{Failed, Long}
 use Rattle.fl_session.specs.declared.status.Status.{Status}
 use Rattle.fl_session.specs.declared.status.Status.TheVariants.{Done, Usage, Line, ScriptRead, OutWrite, MediaMake, Config as BadConfiguration, OtherConfig, ScriptLong, NoMemory, NotYet}
 use Rattle.fl_session.proofs.Reading.{given-none, given-all, given-taken, given-most}
@@ -42,10 +42,13 @@ configured-first knots text now state left none fresh told = record {
   left_told = told;
   reading =
       subst (λ m. Given most_bytes text [] state.closed m (state.ahead ++ text)) (sym fresh.most)
-      (subst (λ a. Given most_bytes text [] state.closed most_bytes (a ++ text)) (sym fresh.ahead) (given-none most_bytes text state.closed));
+      (subst (λ a. Given most_bytes text [] state.closed most_bytes (a ++ text)) (sym fresh.ahead) (given-none most_bytes text state.closed (λ c. absurd (open_now (sym c ∙ fresh.is_open)))));
   configures = subst (λ l. Configures knots [] l) (sym none) (configures-none knots);
   numbered = refl;
 }
+  where
+    open_now : true ≡ false → ⊥
+    open_now e = cc
 
 -- the text as a tail, for the next line of it
 abbrev whole_tail : List ℕ → Tail
@@ -79,7 +82,7 @@ pub given-command : (knots : ℕ) (text : List ℕ) (now : Lines) (number : ℕ)
     (h : Configured knots text now number old left) → NextCommand old left f number (Ok (Some c)) room new left_now f_now →
     (l : List ℕ) × (left_now ≡ Some l) × Given most_bytes text (h.before ++ new.line ∷ []) new.closed new.most (new.ahead ++ l)
 given-command knots text now number old new left left_now f f_now c room h n =
-    let g = n.advances.gives h.left_is h.left_told in
+    let g = n.advances.gives h.left_is h.left_told h.reading.ended in
     let k : Gives old (old.ahead ++ h.left_is) (Ok true) new g.0 = subst (λ r. Gives old (old.ahead ++ h.left_is) r new g.0) n.next.0 g.2 in (
       g.0,
       g.1,
@@ -119,7 +122,7 @@ at-command knots text now next number old new left left_now f f_now c room h n e
 pub at-end : (knots : ℕ) (text : List ℕ) (now : Lines) (number : ℕ) (old new : LinesState) (left left_now : Option (List ℕ)) (f f_now : ℕ) (room : List ℕ) →
     Configured knots text now number old left → NextCommand old left f number (Ok None) room new left_now f_now → AtEnd knots text now number
 at-end knots text now number old new left left_now f f_now room h n =
-    let g = n.advances.gives h.left_is h.left_told in
+    let g = n.advances.gives h.left_is h.left_told h.reading.ended in
     let k : old.ahead ++ h.left_is ≡ [] = subst (λ r. Gives old (old.ahead ++ h.left_is) r new g.0) n.next g.2 in
     let all = given-all most_bytes text h.before old.closed old.most (old.ahead ++ h.left_is) h.reading k in
     record {
@@ -224,7 +227,7 @@ ends-cases knots text now number old new left left_now (Err Long) status h gives
 pub ends-begin : (knots : ℕ) (text : List ℕ) (now : Lines) (number : ℕ) (old new : LinesState) (left left_now : Option (List ℕ)) (f f_now : ℕ) (room : List ℕ) (status : Status) →
     Configured knots text now number old left → NextCommand old left f number (Err status) room new left_now f_now → EndsBegin knots text left_now status
 ends-begin knots text now number old new left left_now f f_now room status h n =
-    let g = n.advances.gives h.left_is h.left_told in
+    let g = n.advances.gives h.left_is h.left_told h.reading.ended in
     subst (λ l. EndsBegin knots text l status) (sym g.1) (ends-cases knots text now number old new left g.0 n.given status h g.2 n.next)
 
 -- a line of the configuration is refused
@@ -245,7 +248,7 @@ pub ends-unbuilt_config : (knots : ℕ) (text : List ℕ) (now next : Lines) (nu
     Configured knots text now number old left → NextCommand old left f number (Ok (Some c)) room new left_now f_now → Unmakes now (command_view c room) next → n ≡ number →
     EndsBefore knots text n
 ends-unbuilt_config knots text now next number n old new left left_now f f_now c room h nx u e =
-    let g = nx.advances.gives h.left_is h.left_told in
+    let g = nx.advances.gives h.left_is h.left_told h.reading.ended in
     let k : Gives old (old.ahead ++ h.left_is) (Ok true) new g.0 = subst (λ r. Gives old (old.ahead ++ h.left_is) r new g.0) nx.next.0 g.2 in
     let starts : start_of knots (h.before ++ new.line ∷ []) ≡ Unended (Some (u.config knots)) (length h.before + 1 + 1) =
         configures-line knots h.before now new.line [] (Ok (command_view c room)) h.configures nx.next.1.reads

@@ -9,3 +9,9 @@ pub mod Configuring
 pub mod Beginning
 pub mod Ready
 pub mod Ending
+pub mod Pieces
+pub mod Going
+pub mod Executing
+pub mod StepsOf
+pub mod Images
+pub mod Rested

@@ -14,8 +14,8 @@ use Rattle.fl_script.specs.declared.command.Command as code
 use Rattle.fl_script.specs.CommandView.{command_view}
 use Rattle.fl_session.specs.Next.{IsUnbuilt, EndsThere, NextRun}
 use Rattle.fl_session.specs.Loop.{Tail, lines_in, EndsAll, EndsBad, EndsUnbuilt, EndsInReply, EndsTaken, EndsCommands}
-use Rattle.fl_session.specs.declared.stream.LinesFault.{LinesFault}
-use Rattle.fl_session.specs.declared.stream.LinesFault.TheVariants.{Failed, Long}
+use Rattle.fl_session.specs.declared.lines.LinesFault.{LinesFault}
+use Rattle.fl_session.specs.declared.lines.LinesFault.TheVariants.{Failed, Long}
 use Rattle.fl_session.specs.declared.status.Status.{Status}
 use Rattle.fl_session.specs.declared.status.Status.TheVariants.{Done, Usage, Line, ScriptRead, OutWrite, MediaMake, Config as BadConfiguration, OtherConfig, ScriptLong, NoMemory, NotYet}
 use Rattle.fl_session.specs.Given.{Given}
@@ -40,10 +40,10 @@ pub record InHand (tail : Tail) (config : Config) (stands stands_now : Machine �
   pub runs : RanAll (around_to config faults now told told_now) stands stands_now (accepted ran)
   pub was_open : tail.closed ≡ true → state.closed ≡ true
 
-pub in_hand-first : (tail : Tail) (config : Config) (stands : Machine → Type 0) (faults : ℕ) (told : Option (List ℕ)) (state : LinesState) (left : List ℕ) (left_now : Option (List ℕ)) → left_now ≡ Some left →
+pub in_hand-first : (tail : Tail) (config : Config) (stands : Machine → Type 0) (faults : ℕ) (told : Option (List ℕ)) (state : LinesState) (left : List ℕ) (left_now : Option (List ℕ)) → left_now ≡ Some left → (state.closed ≡ true → state.ahead ++ left ≡ []) →
     tail.first ≡ state.line → tail.text ≡ state.ahead ++ left → tail.most ≡ state.most → tail.closed ≡ state.closed →
     InHand tail config stands stands faults faults told told tail.number state left_now
-in_hand-first tail config stands faults told state left left_now told_left first text most closed = record {
+in_hand-first tail config stands faults told state left left_now told_left ended first text most closed = record {
   ran = [];
   given = [];
   left_is = left;
@@ -51,7 +51,7 @@ in_hand-first tail config stands faults told state left left_now told_left first
   order = ap (λ l. l ∷ []) (sym first);
   reading =
       subst (λ t. Given tail.most tail.text [] state.closed state.most t) text
-      (subst (λ m. Given tail.most tail.text [] state.closed m tail.text) most (given-none tail.most tail.text state.closed));
+      (subst (λ m. Given tail.most tail.text [] state.closed m tail.text) most (given-none tail.most tail.text state.closed (λ c. text ∙ ended c)));
   all_run = all_run-none;
   numbered = omega arith;
   runs = λ old h ready. ran-none config old stands faults told h;
@@ -269,12 +269,11 @@ ends-there_run tail config stands stands_now faults now told told_now number old
     ends-long tail config stands stands_now faults now told told_now number old new left gives.0 h gives.1 gives.2 gives.3
 ends-there_run tail config stands stands_now faults now told told_now number old new left left_now (Err Long) status h gives e = absurd e
 
--- a step of the same configuration
-pub step-config : {E : Type 0} (config config_now : Config) (c : Command) (stands stands_now : Machine → Type 0) (mid now : ℕ) (told_mid told_now : Option (List ℕ)) (result result_is : Result (Unit {0}) E) → config_now ≡ config → result ≡ result_is →
-    ((m : Machine) → stands m → Executes config_now m c stands_now mid now told_mid told_now result) → (m : Machine) → stands m → Executes config m c stands_now mid now told_mid told_now result_is
-step-config config config_now c stands stands_now mid now told_mid told_now result result_is e r h m s =
-    subst (λ k. Executes k m c stands_now mid now told_mid told_now result_is) e
-    (subst (λ x. Executes config_now m c stands_now mid now told_mid told_now x) r (h m s))
+-- a step whose result is known
+pub step-result : {E : Type 0} (config : Config) (c : Command) (stands stands_now : Machine → Type 0) (mid now : ℕ) (told_mid told_now : Option (List ℕ)) (result result_is : Result (Unit {0}) E) → result ≡ result_is →
+    ((m : Machine) → stands m → Executes config m c stands_now mid now told_mid told_now result) → (m : Machine) → stands m → Executes config m c stands_now mid now told_mid told_now result_is
+step-result config c stands stands_now mid now told_mid told_now result result_is r h m s =
+    subst (λ x. Executes config m c stands_now mid now told_mid told_now x) r (h m s)
 
 -- all lines that were given were run, and this is left of the script
 abbrev pub Done_so_far : Tail → Config → (Machine → Type 0) → (Machine → Type 0) → ℕ → ℕ → Option (List ℕ) → Option (List ℕ) → ℕ → LinesState → Option (List ℕ) → Type 0
@@ -285,7 +284,7 @@ pub then-in_hand : (tail : Tail) (config : Config) (stands stands_now : Machine 
     Done_so_far tail config stands stands_now faults now told told_now number old left → NextRun old left f number (Ok (Some c)) room new left_now f_now →
     InHand tail config stands stands_now faults now told told_now number new left_now
 then-in_hand tail config stands stands_now faults now told told_now number old new left left_now f f_now c room d n =
-    let g = n.advances.gives d.0 d.1 in
+    let g = n.advances.gives d.0 d.1 d.2.reading.ended in
     subst (λ l. InHand tail config stands stands_now faults now told told_now number new l) (sym g.1)
     (in_hand-next tail config stands stands_now faults now told told_now number old new d.0 g.0 (command_view c room) d.2 n.next.1.reads
     (subst (λ r. Gives old (old.ahead ++ d.0) r new g.0) n.next.0 g.2))
@@ -294,7 +293,7 @@ pub then-done : (tail : Tail) (config : Config) (stands stands_now : Machine →
     Done_so_far tail config stands stands_now faults now told told_now number old left → NextRun old left f number (Ok None) room new left_now f_now →
     (length tail.text ≤ tail.most) × EndsAll tail (around_to config faults now told told_now) stands stands_now
 then-done tail config stands stands_now faults now told told_now number old new left left_now f f_now room d n =
-    let g = n.advances.gives d.0 d.1 in
+    let g = n.advances.gives d.0 d.1 d.2.reading.ended in
     let k : old.ahead ++ d.0 ≡ [] = subst (λ r. Gives old (old.ahead ++ d.0) r new g.0) n.next g.2 in
     ends-done tail config stands stands_now faults now told told_now number old d.0 d.2 k
 
@@ -302,6 +301,6 @@ pub then-ends : (tail : Tail) (config : Config) (stands stands_now : Machine →
     Done_so_far tail config stands stands_now faults now told told_now number old left → NextRun old left f number (Err status) room new left_now f_now →
     EndsCommands tail left_now (around_to config faults now told told_now) stands stands_now status
 then-ends tail config stands stands_now faults now told told_now number old new left left_now f f_now room status d n =
-    let g = n.advances.gives d.0 d.1 in
+    let g = n.advances.gives d.0 d.1 d.2.reading.ended in
     subst (λ l. EndsCommands tail l (around_to config faults now told told_now) stands stands_now status) (sym g.1)
     (ends-there_run tail config stands stands_now faults now told told_now number old new d.0 g.0 n.given status d.2 g.2 n.next)

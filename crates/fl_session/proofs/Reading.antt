@@ -11,8 +11,9 @@ use Rattle.fl_session.specs.Given.{Given}
 use Rattle.fl_session.specs.Texts.{parts_of, all_but_last, whole_lines, rest_of, long_rest, lines_within}
 use Rattle.fl_session.proofs.Parts.{OneLine, within-line, whole-line, whole-rest, rest-rest, lines-rest, parts-some, same_test}
 
-pub given-none : (most : ℕ) (text : List ℕ) (closed : Bool) → Given most text [] closed most text
-given-none most text closed = record {
+pub given-none : (most : ℕ) (text : List ℕ) (closed : Bool) → (closed ≡ true → text ≡ []) → Given most text [] closed most text
+given-none most text closed ended = record {
+  ended = ended;
   lines = refl;
   long = refl;
   front = [];
@@ -34,6 +35,7 @@ given-line most text given most_now rest line rest_now g e h short =
           ∙ (ap (λ r. given ++ r) (within-line line rest_now most_now h short)
           ∙ sym (append_assoc given (line ∷ []) (lines_within (most_now - (length line + 1)) rest_now))));
       long = g.long ∙ same_test most_now (length rest) (most_now - (length line + 1)) (length rest_now) (λ k. omega arith) (λ k. omega arith);
+      ended = λ c. cc;
       front = g.front ++ (line ++ 10 ∷ []);
       split = λ c. g.split c ∙ (ap (λ r. g.front ++ r) e ∙ sym (joined rest_now));
       bytes = λ c. omega (arith, g.bytes c, length-append g.front (line ++ 10 ∷ []), length-append line (10 ∷ []));
@@ -58,6 +60,7 @@ given-last most text given most_now most_then rest line rest_now g e none h some
           ∙ (ap (λ r. given ++ r) (all_within most_now line short ∙ lines-rest line h some)
           ∙ (sym (append-nil (given ++ line ∷ [])) ∙ ap (λ r. (given ++ line ∷ []) ++ r) (sym nothing))));
       long = g.long ∙ (le-ltb most_now (length rest) (omega arith) ∙ sym (le-ltb most_then (length rest_now) (omega (arith, ap length none))));
+      ended = λ c. none;
       front = [];
       split = λ c. cc;
       bytes = λ c. cc;

@@ -8,18 +8,11 @@ use Rattle.fl_words.specs.Command.{Command}
 
 -- the commands
 abbrev pub is_built : Command → Bool
-is_built (command.Get name key) = false
-is_built (command.Blob name key) = false
-is_built (command.Open cursor name range span) = false
-is_built (command.Next cursor count) = false
-is_built (command.Close cursor) = false
-is_built (command.Select name range column op value) = false
-is_built (command.Project name range columns) = false
-is_built (command.Agg name range column width) = false
-is_built (command.Join left right range) = false
-is_built command.Cost = false
-is_built (command.Load name count step seed) = false
-is_built c = true
+is_built command.Nothing = true
+is_built command.Off = true
+is_built (command.Device page block) = true
+is_built (command.Table line) = true
+is_built c = false
 
 -- the configurations: one table, without an index ring and without variable data
 abbrev pub is_built_plan : Plan → Bool

@@ -1,5 +1,5 @@
 -- A text of which lines are read one after another.
-use Rattle.std.specs.Prelude.{◌≡◌, ℕ, ◌+◌, Bool, false, nat_lt, List, ◌++◌, length}
+use Rattle.std.specs.Prelude.{◌≡◌, ℕ, ◌+◌, Bool, true, false, nat_lt, List, [], ◌++◌, length}
 use Rattle.fl_session.specs.Texts.{whole_lines, lines_within}
 
 -- The lines that were given of a text, of which at most so many bytes are read, and what is left of both. Where the last
@@ -7,6 +7,7 @@ use Rattle.fl_session.specs.Texts.{whole_lines, lines_within}
 pub record Given (most : ℕ) (text : List ℕ) (given : List (List ℕ)) (closed : Bool) (most_now : ℕ) (rest : List ℕ) : Type 0 where
   pub lines : lines_within most text ≡ given ++ lines_within most_now rest
   pub long : nat_lt most (length text) ≡ nat_lt most_now (length rest)
+  pub ended : closed ≡ true → rest ≡ []
   pub front : List ℕ
   pub split : closed ≡ false → text ≡ front ++ rest
   pub bytes : closed ≡ false → most ≡ length front + most_now

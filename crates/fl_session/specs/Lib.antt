@@ -4,10 +4,11 @@ pub mod Texts
 pub mod Ends
 pub mod Number
 pub mod Execute
-pub mod Reads
 pub mod Stream
 pub mod Next
 pub mod Loop
 pub mod Given
 pub mod Begin
 pub mod Opening
+pub mod Pages
+pub mod Standing

@@ -6,8 +6,8 @@ use Rattle.fl_words.specs.Grammar.{command_of}
 use Rattle.fl_machine.specs.Script.{runs}
 use Rattle.fl_script.specs.declared.command.Command.{Command}
 use Rattle.fl_script.specs.CommandView.{command_view}
-use Rattle.fl_session.specs.declared.stream.LinesFault.{LinesFault}
-use Rattle.fl_session.specs.declared.stream.LinesFault.TheVariants.{Failed, Long}
+use Rattle.fl_session.specs.declared.lines.LinesFault.{LinesFault}
+use Rattle.fl_session.specs.declared.lines.LinesFault.TheVariants.{Failed, Long}
 use Rattle.fl_session.specs.declared.status.Status.{Status}
 use Rattle.fl_session.specs.declared.status.Status.TheVariants.{Done, Usage, Line, ScriptRead, OutWrite, MediaMake, Config, OtherConfig, ScriptLong, NoMemory, NotYet}
 use Rattle.fl_session.specs.Stream.{LinesState, Advances}

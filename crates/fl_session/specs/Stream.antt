@@ -1,8 +1,8 @@
 -- A stream of the lines of a script.
-use Rattle.std.specs.Prelude.{◌≡◌, ℕ, ◌+◌, ◌-◌, ◌<◌, ◌≤◌, Bool, true, false, ◌==◌, ◌⊎◌, All, Option, Some, Result, Ok, Err, List, [], ◌∷◌, ◌++◌, length}
+use Rattle.std.specs.Prelude.{◌≡◌, ℕ, ◌+◌, ◌-◌, ◌<◌, ◌≤◌, Bool, true, false, ◌==◌, ◌⊎◌, All, Option, Some, None, Result, Ok, Err, List, [], ◌∷◌, ◌++◌, length, take, drop}
 use Rattle.fl_base.specs.Causes.{Rose}
-use Rattle.fl_session.specs.declared.stream.LinesFault.{LinesFault}
-use Rattle.fl_session.specs.declared.stream.LinesFault.TheVariants.{Failed, Long}
+use Rattle.fl_session.specs.declared.lines.LinesFault.{LinesFault}
+use Rattle.fl_session.specs.declared.lines.LinesFault.TheVariants.{Failed, Long}
 
 pub record LinesState : Type 0 where
   -- the line that was given last
@@ -13,6 +13,14 @@ pub record LinesState : Type 0 where
   pub most : ℕ
   -- whether the last line was given, which has no newline
   pub closed : Bool
+
+-- so many bytes were given as a line, and a newline
+abbrev pub after_line : ℕ → LinesState → LinesState
+after_line len s = record { line = take len s.ahead; ahead = drop (len + 1) s.ahead; most = s.most - (len + 1); closed = s.closed }
+
+-- all that was ahead was given as a line
+abbrev pub after_rest : LinesState → LinesState
+after_rest s = record { line = s.ahead; ahead = []; most = s.most - length s.ahead; closed = s.closed }
 
 -- a text without a newline
 abbrev pub IsOneLine : List ℕ → Type 0
@@ -67,4 +75,14 @@ pub record Advances (old : LinesState) (left : Option (List ℕ)) (faults : ℕ)
   pub later : faults ≤ faults_now
   pub failed : result ≡ Err Failed → Rose faults faults_now
   pub shrinks : result ≡ Ok true → new.most < old.most
-  pub gives : (l : List ℕ) → left ≡ Some l → (l_now : List ℕ) × (left_now ≡ Some l_now) × Gives old (old.ahead ++ l) result new l_now
+  pub gives : (l : List ℕ) → left ≡ Some l → (old.closed ≡ true → old.ahead ++ l ≡ []) → (l_now : List ℕ) × (left_now ≡ Some l_now) × Gives old (old.ahead ++ l) result new l_now
+
+-- bytes are taken from the source, behind those that are ahead
+pub record FillsBy (old left : List ℕ) (n : ℕ) (new left_now : List ℕ) : Type 0 where
+  pub split : old ++ left ≡ new ++ left_now
+  pub end : n ≡ 0 → (left ≡ []) × (new ≡ old)
+
+abbrev pub Fills : {E : Type 0} → List ℕ → Option (List ℕ) → Result ℕ E → List ℕ → Option (List ℕ) → Type 0
+Fills old None result new left_now = Unit {0}
+Fills old (Some left) (Ok n) new left_now = (l : List ℕ) × (left_now ≡ Some l) × FillsBy old left n new l
+Fills old (Some left) (Err e) new left_now = (new ≡ old) × (left_now ≡ Some left)

@@ -9,7 +9,8 @@ ghost use Rattle.fl_session.specs.Begin.{ConfiguresBy, IsFresh, BeginsAt, EndsBe
 
 use crate::Status;
 use crate::next::{is_config, next_command};
-use crate::stream::{ConfigLines, LineStream, Reader};
+use crate::lines::Lines;
+use crate::stream::ConfigLines;
 use fl_base::Source;
 use fl_script::{Command, LineRoom};
 
@@ -68,19 +69,18 @@ fn finish<C: ConfigLines>(
 }
 
 /// Reads the lines of the configuration, and the command that ends it.
-pub(crate) fn read_config<C: ConfigLines, L: LineStream, R: Reader, S: Source>(
+pub(crate) fn read_config<C: ConfigLines, S: Source>(
     config: &mut C,
-    lines: &mut L,
-    reader: &R,
+    lines: &mut Lines,
     room: &mut LineRoom,
     script: &mut S,
 ) -> Result<Begun, Status>
     requires first { C.lines config.old ≡ no_lines }
-    requires fresh { IsFresh (L.state lines.old) }
+    requires fresh { IsFresh lines.old }
     ensures whole { IfOk result (λ b. (knots : ℕ) → is_some (whole knots (C.lines config.new)) ≡ true) }
-    ensures in_hand { IfOk result (λ b. HoldsFirst b.first b.number room.new (L.state lines.new)) }
+    ensures in_hand { IfOk result (λ b. HoldsFirst b.first b.number room.new lines.new) }
     ensures begins { IfOk result (λ b. (knots : ℕ) (text : List ℕ) → S.left script.old ≡ Some text →
-        BeginsAt knots text (C.lines config.new) b.first b.number (L.state lines.new) (S.left script.new)) }
+        BeginsAt knots text (C.lines config.new) b.first b.number lines.new (S.left script.new)) }
     ensures ends { IfErr result (λ status. (knots : ℕ) (text : List ℕ) → S.left script.old ≡ Some text →
         EndsBegin knots text (S.left script.new) status) }
     ensures read { IfErr result (λ status. status ≡ Status.ScriptRead → Rose (S.faults script.old) (S.faults script.new)) }
@@ -89,7 +89,7 @@ pub(crate) fn read_config<C: ConfigLines, L: LineStream, R: Reader, S: Source>(
 {
     let mut number: u64 = 1;
     'lines: loop {
-        match next_command(lines, reader, room, script, number) {
+        match next_command(lines, room, script, number) {
             Ok(Some(command)) => match configure(config, &command, room, number) {
                 Ok(true) => {}
                 Ok(false) => return finish(config, Some(command), number),

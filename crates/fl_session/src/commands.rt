@@ -1,40 +1,44 @@
 // Commands, one after another.
-ghost use Rattle.std.specs.Prelude.{◌≡◌, ℕ, ◌+◌, ◌^◌, ◌<◌, ◌≤◌, List, ◌++◌, length, Some, Ok};
+ghost use Rattle.std.specs.Prelude.{◌≡◌, ℕ, ◌+◌, ◌^◌, ◌<◌, ◌≤◌, List, ◌++◌, length, Some, Ok, true, []};
 ghost use Rattle.fl_base.specs.Causes.{Rose};
+ghost use Rattle.fl_model.specs.Record.{Config};
+ghost use Rattle.fl_flash.specs.Flash.{Goes};
 ghost use Rattle.fl_script.specs.CommandView.{command_view};
 ghost use Rattle.fl_session.specs.Next.{IsToRun};
 ghost use Rattle.fl_session.specs.Loop.{EndsCommands};
 
 use crate::Status;
 use crate::next::next_run;
-use crate::stream::{Executor, LineStream, Reader};
+use crate::lines::Lines;
+use crate::stream::Executor;
 use fl_base::{Sink, Source};
 use fl_script::{Command, LineRoom};
 
 /// Executes a command, which is the line of this number, and then those of the lines behind it. Each reply is written
 /// before the next line is read.
-pub(crate) fn run_commands<T: Executor, L: LineStream, R: Reader, S: Source, K: Sink>(
+pub(crate) fn run_commands<T: Executor, S: Source, K: Sink>(
     session: &mut T,
     first: Command,
     number: u64,
-    lines: &mut L,
-    reader: &R,
+    lines: &mut Lines,
     room: &mut LineRoom,
     script: &mut S,
     out: &mut K,
 ) -> Status
-    requires numbered { number + (L.state lines.old).most < 2 ^ 32 }
-    requires reads { IsToRun (L.state lines.old).line (command_view first room.old) }
-    ensures runs { (left : List ℕ) → S.left script.old ≡ Some left →
+    requires sound { T.sound session.old }
+    requires numbered { number + lines.old.most < 2 ^ 32 }
+    requires reads { IsToRun lines.old.line (command_view first room.old) }
+    ensures runs { (config : Config) (left : List ℕ) → S.left script.old ≡ Some left → (lines.old.closed ≡ true → lines.old.ahead ++ left ≡ []) →
         EndsCommands
-        (record { number = number; first = (L.state lines.old).line; text = (L.state lines.old).ahead ++ left; most = (L.state lines.old).most; closed = (L.state lines.old).closed })
+        (record { number = number; first = lines.old.line; text = lines.old.ahead ++ left; most = lines.old.most; closed = lines.old.closed })
         (S.left script.new)
-        (record { config = T.config session.old; faults = T.faults session.old; faults_now = T.faults session.new; told = K.written out.old; told_now = K.written out.new })
-        (T.stands session.old) (T.stands session.new) result }
+        (record { config = config; faults = (T.flash session.old).media.faults; faults_now = (T.flash session.new).media.faults; told = K.written out.old; told_now = K.written out.new })
+        (T.stands session.old config) (T.stands session.new config) result }
     ensures read { result ≡ Status.ScriptRead → Rose (S.faults script.old) (S.faults script.new) }
     ensures write { result ≡ Status.OutWrite → Rose (K.faults out.old) (K.faults out.new) }
     ensures make { result ≡ Status.MediaMake → ⊥ }
-    ensures later { (S.faults script.old ≤ S.faults script.new) × (K.faults out.old ≤ K.faults out.new) × (T.faults session.old ≤ T.faults session.new) }
+    ensures later { (S.faults script.old ≤ S.faults script.new) × (K.faults out.old ≤ K.faults out.new) }
+    ensures goes { Goes (T.flash session.old) (T.flash session.new) }
 {
     let mut command = first;
     let mut line = number;
@@ -44,7 +48,7 @@ pub(crate) fn run_commands<T: Executor, L: LineStream, R: Reader, S: Source, K: 
             Err(_) => return Status::OutWrite,
         }
         line += 1;
-        match next_run(lines, reader, room, script, line) {
+        match next_run(lines, room, script, line) {
             Ok(Some(next)) => command = next,
             Ok(None) => return Status::Done,
             Err(status) => return status,

@@ -3,8 +3,11 @@
 
 mod begin;
 mod commands;
+mod lines;
 mod next;
+mod session;
 mod status;
+mod stored;
 mod stream;
 mod words;
 

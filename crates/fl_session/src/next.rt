@@ -5,27 +5,17 @@ ghost use Rattle.fl_session.specs.Built as forms;
 ghost use Rattle.fl_session.specs.Next.{NextCommand, NextRun, is_config_line};
 
 use crate::Status;
-use crate::stream::{LineStream, LinesFault, Reader};
+use crate::lines::{Lines, LinesFault};
 use fl_base::Source;
-use fl_script::{Command, LineRoom};
+use fl_script::{Command, LineRoom, read_line};
 
 fn is_built(command: &Command) -> bool
     ensures { (room : List ℕ) → result ≡ forms.is_built (command_view command.now room) }
 {
-    match command {
-        Command::Get { .. }
-        | Command::Blob { .. }
-        | Command::Open { .. }
-        | Command::Next { .. }
-        | Command::Close { .. }
-        | Command::Select { .. }
-        | Command::Project { .. }
-        | Command::Agg { .. }
-        | Command::Join { .. }
-        | Command::Cost
-        | Command::Load { .. } => false,
-        _ => true,
-    }
+    matches!(
+        command,
+        Command::Nothing | Command::Off | Command::Device { .. } | Command::Table { .. }
+    )
 }
 
 pub(crate) fn is_config(command: &Command) -> bool
@@ -35,14 +25,13 @@ pub(crate) fn is_config(command: &Command) -> bool
 }
 
 /// The command of the next line, which has this number. None says that the script has ended.
-pub(crate) fn next_command<L: LineStream, R: Reader, S: Source>(
-    lines: &mut L,
-    reader: &R,
+pub(crate) fn next_command<S: Source>(
+    lines: &mut Lines,
     room: &mut LineRoom,
     script: &mut S,
     number: u64,
 ) -> Result<Option<Command>, Status>
-    ensures { NextCommand (L.state lines.old) (S.left script.old) (S.faults script.old) number result room.new (L.state lines.new) (S.left script.new) (S.faults script.new) }
+    ensures { NextCommand lines.old (S.left script.old) (S.faults script.old) number result room.new lines.new (S.left script.new) (S.faults script.new) }
 {
     match lines.advance(script) {
         Ok(true) => {}
@@ -50,7 +39,7 @@ pub(crate) fn next_command<L: LineStream, R: Reader, S: Source>(
         Err(LinesFault::Failed) => return Err(Status::ScriptRead),
         Err(LinesFault::Long) => return Err(Status::ScriptLong),
     }
-    match reader.read(lines.line(), room) {
+    match read_line(lines.line(), room) {
         Err(_) => Err(Status::Line { line: number }),
         Ok(command) => {
             if is_built(&command) {
@@ -63,16 +52,15 @@ pub(crate) fn next_command<L: LineStream, R: Reader, S: Source>(
 }
 
 /// The same behind the configuration, where no line may configure.
-pub(crate) fn next_run<L: LineStream, R: Reader, S: Source>(
-    lines: &mut L,
-    reader: &R,
+pub(crate) fn next_run<S: Source>(
+    lines: &mut Lines,
     room: &mut LineRoom,
     script: &mut S,
     number: u64,
 ) -> Result<Option<Command>, Status>
-    ensures { NextRun (L.state lines.old) (S.left script.old) (S.faults script.old) number result room.new (L.state lines.new) (S.left script.new) (S.faults script.new) }
+    ensures { NextRun lines.old (S.left script.old) (S.faults script.old) number result room.new lines.new (S.left script.new) (S.faults script.new) }
 {
-    match next_command(lines, reader, room, script, number) {
+    match next_command(lines, room, script, number) {
         Ok(Some(command)) => {
             if is_config(&command) {
                 Err(Status::Line { line: number })

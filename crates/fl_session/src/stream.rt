@@ -4,38 +4,14 @@ ghost use Rattle.fl_words.specs.Config.{Lines, configured, whole};
 ghost use Rattle.fl_session.specs.Next.{is_config_line};
 ghost use Rattle.fl_base.specs.Causes.{HasCause};
 ghost use Rattle.fl_model.specs.Record.{Config};
-ghost use Rattle.fl_words.specs.Grammar.{command_of};
 ghost use Rattle.fl_machine.specs.Machine.{Machine};
+ghost use Rattle.fl_flash.specs.Flash.{FlashState, Goes};
 ghost use Rattle.fl_script.specs.CommandView.{command_view};
-ghost use Rattle.fl_session.specs.Reads.{line_seen};
-ghost use Rattle.fl_session.specs.Stream.{LinesState, Advances};
 ghost use Rattle.fl_session.specs.Execute.{Executes};
 ghost use Rattle.fl_session.specs.Built.{IsRunnable, are_built};
 
-use fl_base::{Sink, SinkFailed, Source};
-use fl_script::{Command, LineFault, LineRoom};
-
-/// Why no line is given.
-#[derive(Clone, Copy, Debug, PartialEq, Eq)]
-pub enum LinesFault {
-    Failed,
-    Long,
-}
-
-pub trait LineStream {
-    ghost state: { Self → LinesState };
-
-    fn advance<S: Source>(&mut self, script: &mut S) -> Result<bool, LinesFault>
-        ensures { Advances (state self.old) (S.left script.old) (S.faults script.old) result (state self.new) (S.left script.new) (S.faults script.new) };
-
-    fn line(&self) -> &[u8]
-        ensures { result.now ≡ (state self.now).line };
-}
-
-pub trait Reader {
-    fn read(&self, bytes: &[u8], room: &mut LineRoom) -> Result<Command, LineFault>
-        ensures { line_seen result room.new ≡ command_of bytes.now };
-}
+use fl_base::{Sink, SinkFailed};
+use fl_script::{Command, LineRoom};
 
 /// A configuration line is refused.
 #[derive(Clone, Copy, Debug)]
@@ -57,23 +33,30 @@ pub trait ConfigLines {
         ensures { result ≡ are_built (lines self.now).plans };
 }
 
+/// What executes commands.
 pub trait Executor {
-    ghost config: { Self → Config };
+    /// The states of the machine for which it stands, where the store is configured so.
+    ghost stands: { Self → Config → Machine → Type 0 };
 
-    ghost stands: { Self → Machine → Type 0 };
+    /// What holds of it always.
+    ghost sound: { Self → Type 0 };
 
-    ghost faults: { Self → ℕ };
+    /// The flash on which it stands.
+    ghost flash: { Self → FlashState };
 
+    /// Executes a command and writes its replies. Where the sink fails, all but the cursors and the cost is as it is
+    /// after the command.
     fn execute<K: Sink>(
         &mut self,
         command: &Command,
         room: &LineRoom,
         out: &mut K,
     ) -> Result<(), SinkFailed>
-        requires { IsRunnable (command_view command.now room.now) }
-        ensures config { config self.new ≡ config self.old }
-        ensures later { faults self.old ≤ faults self.new }
+        requires sound { sound self.old }
+        requires runnable { IsRunnable (command_view command.now room.now) }
+        ensures sound { sound self.new }
+        ensures goes { Goes (flash self.old) (flash self.new) }
         ensures sink { HasCause (K.faults out.old) (K.faults out.new) result }
-        ensures step { (old : Machine) → stands self.old old →
-            Executes (config self.old) old (command_view command.now room.now) (stands self.new) (faults self.old) (faults self.new) (K.written out.old) (K.written out.new) result };
+        ensures step { (config : Config) (old : Machine) → stands self.old config old →
+            Executes config old (command_view command.now room.now) (stands self.new config) (flash self.old).media.faults (flash self.new).media.faults (K.written out.old) (K.written out.new) result };
 }

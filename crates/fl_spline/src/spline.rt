@@ -24,7 +24,7 @@ pub struct Spline<const KNOTS: usize> {
 impl<const KNOTS: usize> Spline<KNOTS> {
     ghost use Rattle.std.specs.Prelude.{◌≡◌, ◌<◌, ◌+◌, ℕ, List, [], ◌∷◌, ◌++◌, length, false, Option, Some, None, IfSome, MatchOption, slice_get, option_map};
     ghost use Rattle.fl_model.specs.Spline.{is_covered, estimate};
-    ghost use Rattle.fl_spline.specs.Points.{IsFurther};
+    ghost use Rattle.fl_spline.specs.Points.{IsFurther, Rises};
     ghost use Rattle.fl_spline.specs.Scan.{Scan, scan_step, Holds};
     ghost use Rattle.fl_spline.specs.Spline.{kept, SplineOf};
     ghost use Rattle.fl_spline.specs.Segment.{point_at, IsSegment, InWindow};
@@ -99,6 +99,14 @@ impl<const KNOTS: usize> Spline<KNOTS> {
         ensures { result ≡ point_at (kept self.now) i }
     {
         self.knots[i]
+    }
+
+    /// The knots that are kept, oldest first.
+    pub fn as_slice(&self) -> &[(u64, u32)]
+        ensures knots { result.now ≡ kept self.now }
+        ensures rises { Rises (kept self.now) }
+    {
+        self.knots.as_slice()
     }
 
     /// The least key that is covered: the key of the oldest kept knot.

@@ -5,12 +5,11 @@ use Rattle.fl_session.proofs.begin.read_config.Given as goal
 abbrev pub invariant-lines : goal.invariant-lines
 invariant-lines g l =
     let S = g.S.Source in
-    let state = g.L.LineStream.state in
     record {
-      numbered : l.number + (state l.lines).most < 2 ^ 32;
+      numbered : l.number + l.lines.most < 2 ^ 32;
       later : S.faults l.fn.script ≤ S.faults l.script;
-      configured : (knots : ℕ) (text : List ℕ) → S.left l.fn.script ≡ Some text → Configured knots text (g.C.ConfigLines.lines l.config) l.number (state l.lines) (S.left l.script);
+      configured : (knots : ℕ) (text : List ℕ) → S.left l.fn.script ≡ Some text → Configured knots text (g.C.ConfigLines.lines l.config) l.number l.lines (S.left l.script);
     }
 
 abbrev pub decreases-lines : goal.decreases-lines
-decreases-lines g l = (g.L.LineStream.state l.lines).most
+decreases-lines g l = l.lines.most

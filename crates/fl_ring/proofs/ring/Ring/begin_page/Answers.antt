@@ -1,7 +1,7 @@
-use Rattle.std.proofs.Common.{◌+◌, ◌^◌, ◌<◌, get_or, ℕ, ◌∙◌, ap, sym, refl, arith}
+use Rattle.std.proofs.Common.{◌+◌, ◌^◌, ◌<◌, get_or, ℕ, ◌∙◌, ap, sym, subst, refl, arith}
 use Rattle.fl_ring.specs.Place.{shape_of}
 use Rattle.fl_ring.specs.Ring.{place, begun}
-use Rattle.fl_flash.specs.Flash.{page_at}
+use Rattle.fl_flash.specs.Flash.{page_at, ProgramsPage}
 use Rattle.fl_model.specs.Work.{Body}
 use Rattle.fl_ring.proofs.Begins.{begin_any, begin_bytes, begin_ok, begin_exact}
 use Rattle.fl_ring.proofs.Exists.{lies_exists}
@@ -40,3 +40,6 @@ returns-clause-page g c = on_ok_from c.program.result (λ u is_ok s told ready.
     let bytes : (i : ℕ) → get_or body i 0 < 2 ^ 8 = λ i. omega (arith, c.type_inv.body i) in
     ap (page_at new) (sym at)
     ∙ begin_bytes ring s c.args.body.now f new c.place_of.result at c.requires.lies.page ready.on ready.whole ready.clean c.requires.body bytes c.requires.numbered (ok_at c.program.result u is_ok (c.program.ensures.ok told)))
+
+pub returns-clause-programs : goal.returns-clause-programs
+returns-clause-programs g c = subst (λ (p : ℕ). ProgramsPage (g.F.Flash.state c.args.flash.now) p 0 c.args.body.now c.program.result (g.F.Flash.state c.program.new.self)) c.place_of.ensures.place c.program.ensures

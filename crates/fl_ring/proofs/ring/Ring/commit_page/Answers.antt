@@ -1,4 +1,4 @@
-use Rattle.std.proofs.Common.{◌≡◌, ◌+◌, ◌-◌, ℕ, [], ◌∷◌, List, length, ◌∙◌, ap, sym, subst, refl, arith}
+use Rattle.std.proofs.Common.{◌≡◌, ◌+◌, ◌-◌, ℕ, [], ◌∷◌, List, length, replicate, ◌∙◌, ap, sym, subst, refl, arith}
 use Rattle.fl_flash.specs.Flash.{page_at, all_zero, ProgramsPage}
 use Rattle.fl_model.specs.Work.{Mark}
 use Rattle.fl_ring.specs.Place.{shape_of}
@@ -34,3 +34,12 @@ returns-clause-step g c = λ s body rose device stands on torn here fits begun w
     (commit_any ring s body f new p at c.requires.lies.page on torn here_p fits begun)
     (commit_exact ring s body f new p at c.requires.lies.page on torn here_p fits begun (g.met.F.Flash.reaches c.args.flash.now) exists did.goes
     (others_by ring f new result Mark refl p (length body) ring.next zeros c.place_of.ensures.place did watched.told))
+
+pub returns-clause-programs : goal.returns-clause-programs
+returns-clause-programs g c =
+    let ring = c.args.self.now in
+    let f = g.F.Flash.state c.args.flash.now in
+    let new = g.F.Flash.state c.program.new.self in
+    let from : c.commit_at.result ≡ ring.size - 8 = omega (arith, c.commit_at.ensures) in
+    subst (λ (p : ℕ). ProgramsPage f p (ring.size - 8) (replicate 4 0) c.program.result new) c.place_of.ensures.place
+    (subst (λ (l : List ℕ). ProgramsPage f c.place_of.result (ring.size - 8) l c.program.result new) c.mark.ensures (subst (λ (n : ℕ). ProgramsPage f c.place_of.result n c.mark.result c.program.result new) from c.program.ensures))

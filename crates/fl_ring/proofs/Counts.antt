@@ -1,0 +1,72 @@
+-- The steps of a ring are those of the model.
+use Rattle.std.proofs.Common.{◌≡◌, ℕ, zero, suc, ◌+◌, ◌-◌, ◌*◌, ◌%◌, ◌<◌, ◌≤◌, Bool, true, false, ◌&&◌, ◌||◌, ◌==◌, nat_lt, if◌then◌else◌, IsTrue, List, [], ◌∷◌, ◌++◌, map, length, drop, get_or, is_some, Option, Some, None, IfSome, inl, inr, refl, sym, ◌∙◌, ap, subst, arith}
+use Rattle.std.specs.List.{list_any, drop-map}
+use Rattle.std.proofs.lemmas.Bool.{and_parts, lt-ltb}
+use Rattle.std.proofs.lemmas.List.{length-map, map_push}
+use Rattle.std.proofs.lemmas.Nat.Gcd.{dvd_of_mod-eq-zero}
+use Rattle.fl_model.specs.Ring as model
+use Rattle.fl_model.specs.Mount as mount
+use Rattle.fl_ring.specs.Counts.{page_count, ring_counts, model_shape, HoldsSome}
+use Rattle.fl_ring.specs.Numbers.{least_alike, renumbered}
+use Rattle.fl_ring.specs.Ring.{Shape, RingState, count, oldest, room, IsRing, is_due, is_due_at, begun, appended, trimmed, sealed, voided, erased}
+
+module _ (count_of : List ℕ → ℕ) where
+  pub counts_begun : (s : RingState) → ring_counts count_of (begun s) ≡ model.begun (ring_counts count_of s)
+  counts_begun s = refl
+
+  pub counts_erased : (s : RingState) → ring_counts count_of (erased s) ≡ model.erased (ring_counts count_of s)
+  counts_erased s = refl
+
+  pub counts_length : (s : RingState) → length (ring_counts count_of s).counts ≡ count s
+  counts_length s = length-map s.kept (page_count count_of)
+
+  module _ (r : Shape) where
+    trims : (s : RingState) → ring_counts count_of (trimmed r s) ≡ model.trim (model_shape r) (ring_counts count_of s)
+    trims s =
+        by_due (is_due r s)
+        ∙ ap (λ (n : ℕ). if is_due_at r s.next n then record (ring_counts count_of s) { counts = drop r.per_block (ring_counts count_of s).counts; dirty = true } else ring_counts count_of s) (sym (counts_length s))
+      where
+        by_due : (b : Bool) → ring_counts count_of (if b then record s { kept = drop r.per_block s.kept; dirty = true } else s)
+            ≡ (if b then record (ring_counts count_of s) { counts = drop r.per_block (ring_counts count_of s).counts; dirty = true } else ring_counts count_of s)
+        by_due true = ap (λ (l : List ℕ). record (ring_counts count_of s) { counts = l; dirty = true }) (sym (drop-map (page_count count_of) r.per_block s.kept))
+        by_due false = refl
+
+    kept_one : (s : RingState) (x : Option (List ℕ)) → ring_counts count_of (trimmed r (appended s x)) ≡ model.sealed (model_shape r) (page_count count_of x) (ring_counts count_of s)
+    kept_one s x =
+        trims (appended s x)
+        ∙ ap (λ (l : List ℕ). model.trim (model_shape r) (record (ring_counts count_of s) { counts = l; next = s.next + 1; torn = false })) (map_push (page_count count_of) s.kept x)
+
+    pub counts_sealed : (s : RingState) (body : List ℕ) → ring_counts count_of (sealed r s body) ≡ model.sealed (model_shape r) (count_of body) (ring_counts count_of s)
+    counts_sealed s body = kept_one s (Some body)
+
+    pub counts_voided : (s : RingState) → ring_counts count_of (voided r s) ≡ model.sealed (model_shape r) 0 (ring_counts count_of s)
+    counts_voided s = kept_one s None
+
+    -- pages with records are the committed ones
+    any_some : (kept : List (Option (List ℕ))) → ((i : ℕ) → i < length kept → IfSome (get_or kept i None) (λ body. 0 < count_of body)) → list_any (nat_lt 0) (map (page_count count_of) kept) ≡ list_any is_some kept
+    any_some [] some = refl
+    any_some (None ∷ kept) some = any_some kept (λ i lt. some (suc i) (omega arith))
+    any_some (Some body ∷ kept) some =
+        ap (λ (b : Bool). b || list_any (nat_lt 0) (map (page_count count_of) kept)) (lt-ltb 0 (count_of body) (some 0 (omega arith)))
+
+    pub counts_renumbered : (at_least : ℕ) (s : RingState) → HoldsSome count_of s → ring_counts count_of (renumbered r at_least s) ≡ mount.renumbered (model_shape r) at_least (ring_counts count_of s)
+    counts_renumbered at_least s some =
+        by_any (list_any is_some s.kept)
+        ∙ ap (λ (b : Bool). if b then ring_counts count_of s else record (ring_counts count_of s) { next = least_alike (room r) s.next (at_least + length s.kept) }) (sym (any_some s.kept some))
+        ∙ ap (λ (n : ℕ). if list_any (nat_lt 0) (ring_counts count_of s).counts then ring_counts count_of s else record (ring_counts count_of s) { next = least_alike (room r) s.next (at_least + n) }) (sym (counts_length s))
+      where
+        by_any : (b : Bool) → ring_counts count_of (if b then s else record s { next = least_alike (room r) s.next (at_least + length s.kept) })
+            ≡ (if b then ring_counts count_of s else record (ring_counts count_of s) { next = least_alike (room r) s.next (at_least + length s.kept) })
+        by_any true = refl
+        by_any false = refl
+
+    pub counts_ring : (s : RingState) → IsRing r s → model.IsRing (model_shape r) (ring_counts count_of s)
+    counts_ring s ring = record {
+      not_negative = omega (arith, counts_length s, ring.not_negative);
+      whole_blocks = dvd_of_mod-eq-zero r.per_block (ap (λ (n : ℕ). (s.next - n) % r.per_block) (counts_length s) ∙ ring.whole_blocks);
+      whole_rounds = λ few. dvd_of_mod-eq-zero (r.blocks * r.per_block) (ap (λ (n : ℕ). (s.next - n) % (r.blocks * r.per_block)) (counts_length s) ∙ ring.whole_rounds (omega (arith, few, counts_length s)));
+      kept = omega (arith, counts_length s, ring.most);
+      kept_at_end = λ at. omega (arith, counts_length s, ring.most_ahead at);
+      dirty_at_end = λ dirty. let w = ring.dirty_when dirty in (w.0, counts_length s ∙ w.1);
+      not_both = λ both. let b = and_parts s.torn s.dirty both in ring.not_both b.0 b.1;
+    }

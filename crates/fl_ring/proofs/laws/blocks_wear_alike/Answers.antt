@@ -1,0 +1,5 @@
+use Rattle.fl_ring.proofs.Wearing.{wears_alike}
+use Rattle.fl_ring.proofs.laws.blocks_wear_alike.Goals as goal
+
+pub returns : goal.returns
+returns c = wears_alike

@@ -1,0 +1,62 @@
+-- The words of a line of so many.
+use Rattle.std.proofs.Common.{◌≡◌, ℕ, ◌<◌, ◌≤◌, ◌⊎◌, List, [], ◌∷◌, length, map, get_or, Result, Ok, Err, refl, arith, Bor, inl, inr}
+use Rattle.fl_words.specs.Grammar.{LineFault, Number, number, ◌>>=◌}
+use Rattle.fl_words.specs.Command.{Command}
+use Rattle.fl_script.specs.Lines.{IsBadRange}
+
+abbrev pub blank : Bor (List ℕ)
+blank = record { ref_ptr = (0, 0); now = [] }
+
+abbrev pub word_at : List (Bor (List ℕ)) → ℕ → List ℕ
+word_at words i = (get_or words i blank).now
+
+pub four : (words : List (Bor (List ℕ))) → 4 ≤ length words → length words < 5
+    → map (λ word. word.now) words ≡ word_at words 0 ∷ word_at words 1 ∷ word_at words 2 ∷ word_at words 3 ∷ []
+four [] least most = absurd (omega (arith, least))
+four (a ∷ []) least most = absurd (omega (arith, least))
+four (a ∷ b ∷ []) least most = absurd (omega (arith, least))
+four (a ∷ b ∷ c ∷ []) least most = absurd (omega (arith, least))
+four (a ∷ b ∷ c ∷ d ∷ []) least most = refl
+four (a ∷ b ∷ c ∷ d ∷ e ∷ words) least most = absurd (omega (arith, most))
+
+pub five : (words : List (Bor (List ℕ))) → 5 ≤ length words → length words < 6
+    → map (λ word. word.now) words ≡ word_at words 0 ∷ word_at words 1 ∷ word_at words 2 ∷ word_at words 3 ∷ word_at words 4 ∷ []
+five [] least most = absurd (omega (arith, least))
+five (a ∷ []) least most = absurd (omega (arith, least))
+five (a ∷ b ∷ []) least most = absurd (omega (arith, least))
+five (a ∷ b ∷ c ∷ []) least most = absurd (omega (arith, least))
+five (a ∷ b ∷ c ∷ d ∷ []) least most = absurd (omega (arith, least))
+five (a ∷ b ∷ c ∷ d ∷ e ∷ []) least most = refl
+five (a ∷ b ∷ c ∷ d ∷ e ∷ f ∷ words) least most = absurd (omega (arith, most))
+
+pub six : (words : List (Bor (List ℕ))) → 6 ≤ length words → length words < 7
+    → map (λ word. word.now) words ≡ word_at words 0 ∷ word_at words 1 ∷ word_at words 2 ∷ word_at words 3 ∷ word_at words 4 ∷ word_at words 5 ∷ []
+six [] least most = absurd (omega (arith, least))
+six (a ∷ []) least most = absurd (omega (arith, least))
+six (a ∷ b ∷ []) least most = absurd (omega (arith, least))
+six (a ∷ b ∷ c ∷ []) least most = absurd (omega (arith, least))
+six (a ∷ b ∷ c ∷ d ∷ []) least most = absurd (omega (arith, least))
+six (a ∷ b ∷ c ∷ d ∷ e ∷ []) least most = absurd (omega (arith, least))
+six (a ∷ b ∷ c ∷ d ∷ e ∷ f ∷ []) least most = refl
+six (a ∷ b ∷ c ∷ d ∷ e ∷ f ∷ g ∷ words) least most = absurd (omega (arith, most))
+
+pub eleven : (words : List (Bor (List ℕ))) → 11 ≤ length words → length words < 12
+    → map (λ word. word.now) words ≡ word_at words 0 ∷ word_at words 1 ∷ word_at words 2 ∷ word_at words 3 ∷ word_at words 4 ∷ word_at words 5 ∷ word_at words 6 ∷ word_at words 7 ∷ word_at words 8 ∷ word_at words 9 ∷ word_at words 10 ∷ []
+eleven [] least most = absurd (omega (arith, least))
+eleven (a ∷ []) least most = absurd (omega (arith, least))
+eleven (a ∷ b ∷ []) least most = absurd (omega (arith, least))
+eleven (a ∷ b ∷ c ∷ []) least most = absurd (omega (arith, least))
+eleven (a ∷ b ∷ c ∷ d ∷ []) least most = absurd (omega (arith, least))
+eleven (a ∷ b ∷ c ∷ d ∷ e ∷ []) least most = absurd (omega (arith, least))
+eleven (a ∷ b ∷ c ∷ d ∷ e ∷ f ∷ []) least most = absurd (omega (arith, least))
+eleven (a ∷ b ∷ c ∷ d ∷ e ∷ f ∷ g ∷ []) least most = absurd (omega (arith, least))
+eleven (a ∷ b ∷ c ∷ d ∷ e ∷ f ∷ g ∷ h ∷ []) least most = absurd (omega (arith, least))
+eleven (a ∷ b ∷ c ∷ d ∷ e ∷ f ∷ g ∷ h ∷ i ∷ []) least most = absurd (omega (arith, least))
+eleven (a ∷ b ∷ c ∷ d ∷ e ∷ f ∷ g ∷ h ∷ i ∷ j ∷ []) least most = absurd (omega (arith, least))
+eleven (a ∷ b ∷ c ∷ d ∷ e ∷ f ∷ g ∷ h ∷ i ∷ j ∷ k ∷ []) least most = refl
+eleven (a ∷ b ∷ c ∷ d ∷ e ∷ f ∷ g ∷ h ∷ i ∷ j ∷ k ∷ l ∷ words) least most = absurd (omega (arith, most))
+
+-- where low or high isn't a number
+pub bad_range : (low high : List ℕ) → IsBadRange low high → (f : ℕ → ℕ → Result Command LineFault) → (number low >>= λ l. number high >>= λ h. f l h) ≡ Err Number
+bad_range low high (inl bad) f = rw bad refl
+bad_range low high (inr (value, good, bad)) f = rw (good, bad) refl

@@ -1,0 +1,8 @@
+use Rattle.std.proofs.Common.{◌≡◌, map, Err, refl, rules, sym}
+use Rattle.fl_words.specs.Grammar as grammar
+use Rattle.fl_script.proofs.Few.{four}
+use Rattle.fl_script.proofs.queries.project_line.Goals as goal
+
+pub returns : goal.returns
+returns c =
+    rw (four c.args.words.now c.in-len4.len_at_least c.in-len4.len_below, c.in_ok-name.ensures.0, c.in_ok-columns.ensures, c.in_ok-range.ensures.0, c.in_ok-range.ensures.1, c.in_ok-name.ensures.1) (search rules)

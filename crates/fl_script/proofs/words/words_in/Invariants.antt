@@ -1,0 +1,15 @@
+use Rattle.std.proofs.Common.{◌≡◌, ◌≤◌, ◌++◌, length, map}
+use Rattle.std.specs.List.{All}
+use Rattle.fl_words.specs.Grammar.{words_in}
+use Rattle.fl_script.proofs.words.words_in.Given as goal
+
+abbrev pub decreases-loop-word : goal.decreases-loop-word
+decreases-loop-word l = length l.rest
+
+abbrev pub invariant-loop-word : goal.invariant-loop-word
+invariant-loop-word l = record {
+  words : map (λ word. word.now) l.words.items ++ words_in l.rest ≡ words_in l.line;
+  short : All (λ word. length word.now ≤ length l.line) l.words.items;
+  room : length l.words.items ≤ 22;
+  rest : length l.rest ≤ length l.line;
+}

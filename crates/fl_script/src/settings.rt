@@ -1,0 +1,117 @@
+// Lines that set the store up, and what the lines of several commands share.
+ghost use Rattle.std.specs.Prelude.{◌≡◌, ◌≤◌, ℕ, List, map, [], length, true, IsOk, MatchResult};
+ghost use Rattle.std.specs.List.{All};
+ghost use Rattle.fl_words.specs.Grammar as grammar;
+ghost use Rattle.fl_script.specs.Lines.{line_view, leaves};
+ghost use Rattle.fl_script.specs.CommandView.{command_view, fault_view};
+ghost use Rattle.fl_words.specs.Command as command;
+
+use crate::word::{cut_kind, is, name, number, number_in, signed};
+use crate::{Command, LineFault, LineRoom};
+use fl_base::{CutKind, Name};
+
+/// `device` PAGE BLOCK
+pub(crate) fn device_line(words: &[&[u8]]) -> Result<Command, LineFault>
+    ensures { line_view result [] ≡ grammar.device_line (map (λ word. word.now) words.now) }
+{
+    let [page, block] = words else {
+        return Err(LineFault::Form);
+    };
+    Ok(Command::Device {
+        page: number(page)?,
+        block: number(block)?,
+    })
+}
+
+/// `table` NAME KEY COLUMNS DATA INDEX VAR BITS BASE WIDTH ERROR BLOB
+pub(crate) fn table_line(words: &[&[u8]], room: &mut LineRoom) -> Result<Command, LineFault>
+    requires { All (λ word. length word.now ≤ 4096) words.now }
+    ensures command { line_view result room.new ≡ grammar.table_line (map (λ word. word.now) words.now) }
+    ensures room { IsOk result → leaves result ≡ true }
+{
+    let [
+        table,
+        key,
+        columns,
+        rows,
+        index,
+        var,
+        bits,
+        base,
+        width,
+        error,
+        blob,
+    ] = words
+    else {
+        return Err(LineFault::Form);
+    };
+    let name = name(table)?;
+    room.copy(columns);
+    Ok(Command::Table {
+        name,
+        key: number(key)?,
+        rows: number(rows)?,
+        index: number(index)?,
+        var: number(var)?,
+        bits: number(bits)?,
+        base: signed(base)?,
+        width: number(width)?,
+        error: number(error)?,
+        blob: number(blob)?,
+    })
+}
+
+/// `cut` N and `before`, `after`, `half` or `noise` SEED
+pub(crate) fn cut_line(words: &[&[u8]]) -> Result<Command, LineFault>
+    ensures { line_view result [] ≡ grammar.cut_line (map (λ word. word.now) words.now) }
+{
+    match words {
+        [n, kind] => {
+            let kind = cut_kind(kind)?;
+            let n = number_in(1, u64::MAX, n)?;
+            Ok(Command::Cut { n, kind })
+        }
+        [n, kind, seed] if is(kind, b"noise") => {
+            let n = number_in(1, u64::MAX, n)?;
+            let kind = CutKind::Noise(number(seed)?);
+            Ok(Command::Cut { n, kind })
+        }
+        _ => Err(LineFault::Form),
+    }
+}
+
+/// A line of its first word alone.
+pub(crate) fn bare_line(made: Command, words: &[&[u8]]) -> Result<Command, LineFault>
+    ensures { line_view result [] ≡ grammar.bare_line (command_view made []) (map (λ word. word.now) words.now) }
+{
+    if words.is_empty() {
+        Ok(made)
+    } else {
+        Err(LineFault::Form)
+    }
+}
+
+/// NAME alone
+pub(crate) fn only_name(words: &[&[u8]]) -> Result<Name, LineFault>
+    ensures { MatchResult result
+        (λ name. (make : List ℕ → command.Command) → grammar.name_line make (map (λ word. word.now) words.now) ≡ Ok (make name))
+        (λ e. (make : List ℕ → command.Command) → (grammar.name_line make (map (λ word. word.now) words.now) ≡ Err (fault_view e))) }
+{
+    let [table] = words else {
+        return Err(LineFault::Form);
+    };
+    name(table)
+}
+
+/// NAME KEY
+pub(crate) fn name_and_key(words: &[&[u8]]) -> Result<(Name, u64), LineFault>
+    ensures { MatchResult result
+        (λ found. (make : List ℕ → ℕ → command.Command) → grammar.key_line make (map (λ word. word.now) words.now) ≡ Ok (make found.0 found.1))
+        (λ e. (make : List ℕ → ℕ → command.Command) → (grammar.key_line make (map (λ word. word.now) words.now) ≡ Err (fault_view e))) }
+{
+    let [table, key] = words else {
+        return Err(LineFault::Form);
+    };
+    let name = name(table)?;
+    Ok((name, number(key)?))
+}

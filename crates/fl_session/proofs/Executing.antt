@@ -1,0 +1,46 @@
+-- A command that was executed.
+use Rattle.std.proofs.Common.{◌≡◌, ℕ, Bool, true, false, IsTrue, Option, Some, None, Result, Ok, Err, List, [], ◌∷◌, ◌++◌, refl, sym, ◌∙◌, ap, subst, append-nil}
+use Rattle.fl_base.specs.Causes.{Rose}
+use Rattle.fl_model.specs.Record.{Config}
+use Rattle.fl_words.specs.Command.{Command}
+use Rattle.fl_words.specs.Reply.{Reply, text, texts}
+use Rattle.fl_machine.specs.Machine.{Machine}
+use Rattle.fl_machine.specs.Step.{Moment, Step}
+use Rattle.fl_script.specs.Written.{Written}
+use Rattle.fl_session.specs.Execute.{Executes, IsAlike}
+
+pub alike-same : (m : Machine) → IsAlike m m
+alike-same m = record { tables = refl; mounted = refl; device = refl }
+
+-- a step whose replies were written
+pub executes-by : (E : Type 0) (config : Config) (old : Machine) (command : Command) (stands : Machine → Type 0) (faults faults_now : ℕ) (told told_now : Option (List ℕ)) (result : Result (Unit {0}) E) (moment : Moment) →
+    moment.command ≡ command → Step config old moment → stands moment.after → (IsTrue moment.rose → Rose faults faults_now) → Written {E = E} told told_now result (texts moment.replies) →
+    Executes config old command stands faults faults_now told told_now result
+executes-by E config old command stands faults faults_now told told_now (Ok done) moment is step s rose w = record {
+  moment = moment;
+  command_is = is;
+  step = step;
+  after = moment.after;
+  stands_after = s;
+  alike = alike-same moment.after;
+  same = refl;
+  rose = rose;
+  told_all = w;
+  told_front = tt;
+}
+executes-by E config old command stands faults faults_now told told_now (Err e) moment is step s rose w = record {
+  moment = moment;
+  command_is = is;
+  step = step;
+  after = moment.after;
+  stands_after = s;
+  alike = alike-same moment.after;
+  same = tt;
+  rose = rose;
+  told_all = tt;
+  told_front = w;
+}
+
+-- one reply
+pub one-text : (reply : Reply) → texts (reply ∷ []) ≡ text reply
+one-text reply = append-nil (text reply)
