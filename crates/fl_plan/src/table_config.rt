@@ -46,6 +46,20 @@ fn is_bad_ring(place: Option<RingPlace>) -> bool
 }
 
 impl TableConfig {
+    /// The blocks of the ring of index pages; none where there is no such ring.
+    pub fn index_blocks(&self) -> u32
+        ensures { result ≡ blocks_in self.now.index }
+    {
+        blocks_in(self.index)
+    }
+
+    /// The blocks of the ring of variable data; none where there is no such ring.
+    pub fn var_blocks(&self) -> u32
+        ensures { result ≡ blocks_in self.now.var }
+    {
+        blocks_in(self.var)
+    }
+
     /// The blocks of all its rings.
     pub fn blocks(&self) -> u64
         ensures { (label : Label) → result ≡ blocks_of (plan_of_table label self.now) }

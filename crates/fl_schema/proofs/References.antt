@@ -1,5 +1,5 @@
 -- References to blobs in ten bytes.
-use Rattle.std.proofs.Common.{◌≡◌, ℕ, suc, ◌+◌, ◌-◌, ◌*◌, ◌^◌, ◌<◌, ◌≤◌, Bool, ◌&&◌, ◌==◌, if◌then◌else◌, inl, inr, Option, Some, None, List, [], ◌∷◌, ◌++◌, length, take, drop, get_or, slice_range, unwrap_or, refl, sym, ap, ◌∙◌, arith, append_assoc, length-append, length-take, length-drop}
+use Rattle.std.proofs.Common.{◌≡◌, ℕ, suc, ◌+◌, ◌-◌, ◌*◌, ◌^◌, ◌<◌, ◌≤◌, Bool, ◌&&◌, ◌==◌, if◌then◌else◌, inl, inr, Some, None, List, [], ◌∷◌, ◌++◌, length, take, drop, get_or, slice_range, refl, sym, ap, ◌∙◌, arith, append_assoc, length-append, length-take, length-drop}
 use Rattle.std.proofs.Math.Seq.{take-add}
 use Rattle.std.proofs.Math.Nat.{one-le-pow, pow-suc}
 use Rattle.std.proofs.lemmas.Bool.{cases_lt}
@@ -12,7 +12,7 @@ use Rattle.fl_base.specs.Bytes.{splice}
 use Rattle.fl_base.proofs.Ranges.{drop-splice}
 use Rattle.fl_schema.proofs.Writing.{take-splice_end}
 use Rattle.fl_base.specs.declared.types.BlobRef.{BlobRef}
-use Rattle.fl_model.specs.Row.{le, number_of, reference_in, reference_bytes}
+use Rattle.fl_model.specs.Row.{number_of, reference_in}
 
 abbrev pub all_255 : List ℕ → Bool
 all_255 bytes = list_all (λ byte. byte == 255) bytes
@@ -49,11 +49,6 @@ splice-splice xs at at' bs cs is room =
     ap (λ (l : List ℕ). l ++ (cs ++ drop (at' + length cs) (splice xs at bs))) (take-splice_end xs at at' bs (omega arith) is)
     ∙ append_assoc (take at xs) bs (cs ++ drop (at' + length cs) (splice xs at bs))
     ∙ ap (λ (l : List ℕ). take at xs ++ l) (sym (append_assoc bs cs (drop (at' + length cs) (splice xs at bs))) ∙ ap (λ (l : List ℕ). bs ++ cs ++ l) rest)
-
-pub reference_written : (blob : Option BlobRef) (fields : BlobRef) → fields ≡ unwrap_or blob (record { page = 4294967295; offset = 65535; length = 4294967295 })
-    → le 4 fields.page ++ le 2 fields.offset ++ le 4 fields.length ≡ reference_bytes blob
-reference_written None fields is = ap (λ (f : BlobRef). le 4 f.page ++ le 2 f.offset ++ le 4 f.length) is
-reference_written (Some blob) fields is = ap (λ (f : BlobRef). le 4 f.page ++ le 2 f.offset ++ le 4 f.length) is
 
 -- ---- what is read
 

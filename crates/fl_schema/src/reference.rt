@@ -1,7 +1,7 @@
 // Where a row's blob stands, in ten bytes.
-ghost use Rattle.std.specs.Prelude.{◌≡◌, ◌+◌, ◌≤◌, length, drop};
+ghost use Rattle.std.specs.Prelude.{◌≡◌, ◌+◌, ◌≤◌, ◌++◌, IfSome, length, drop};
 ghost use Rattle.fl_base.specs.Bytes.{splice};
-ghost use Rattle.fl_model.specs.Row.{reference_bytes, reference_in};
+ghost use Rattle.fl_model.specs.Row.{FitsBytes, le, reference_bytes, reference_in};
 
 use fl_base::{BlobRef, get_u16, get_u32, put_u16, put_u32};
 
@@ -15,15 +15,27 @@ const NO_BLOB: BlobRef = BlobRef {
     length: u32::MAX,
 };
 
-/// Writes a reference to the ten bytes from `at`.
-pub(crate) fn write_reference(into: &mut [u8], at: usize, blob: Option<BlobRef>)
+// Writes the three numbers of a reference.
+fn write_fields(into: &mut [u8], at: usize, blob: BlobRef)
     requires { at + 10 ≤ length into.old }
-    ensures { into.new ≡ splice into.old at (reference_bytes blob) }
+    ensures bytes { into.new ≡ splice into.old at (le 4 blob.page ++ le 2 blob.offset ++ le 4 blob.length) }
+    ensures fits { FitsBytes blob }
 {
-    let blob = blob.unwrap_or(NO_BLOB);
     put_u32(into, at, blob.page);
     put_u16(into, at + 4, blob.offset);
     put_u32(into, at + 6, blob.length);
+}
+
+/// Writes a reference to the ten bytes from `at`.
+pub(crate) fn write_reference(into: &mut [u8], at: usize, blob: Option<BlobRef>)
+    requires { at + 10 ≤ length into.old }
+    ensures bytes { into.new ≡ splice into.old at (reference_bytes blob) }
+    ensures fits { IfSome blob FitsBytes }
+{
+    match blob {
+        Some(blob) => write_fields(into, at, blob),
+        None => write_fields(into, at, NO_BLOB),
+    }
 }
 
 /// The reference in the ten bytes from `at`.

@@ -73,7 +73,7 @@ impl KeyWidth {
 impl<const COLS: usize> Schema<COLS> {
     ghost use Rattle.std.specs.Prelude.{ℤ, List, Option, ◌<◌, None, Some, MatchResult, length, slice_get};
     ghost use Rattle.fl_model.specs.Record.{greatest_key};
-    ghost use Rattle.fl_model.specs.Row.{Row, FitsRow, bytes_of_row};
+    ghost use Rattle.fl_model.specs.Row.{Row, FitsRow, IsStorable, bytes_of_row};
     ghost use Rattle.fl_schema.specs.Refusal.{refusal_of};
     ghost use Rattle.fl_schema.specs.Schema.{types_of, layout_of, kind_layout};
 
@@ -160,7 +160,8 @@ impl<const COLS: usize> Schema<COLS> {
     pub fn encode(&self, key: u64, values: &[i64], blob: Option<BlobRef>, into: &mut [u8])
         requires fits { FitsRow (layout_of self.now) (record { key = key; values = values.now; blob = blob }) }
         requires room { length into.old ≡ layout_len (layout_of self.now) }
-        ensures { into.new ≡ bytes_of_row (layout_of self.now) (record { key = key; values = values.now; blob = blob }) }
+        ensures bytes { into.new ≡ bytes_of_row (layout_of self.now) (record { key = key; values = values.now; blob = blob }) }
+        ensures storable { IsStorable (layout_of self.now) (record { key = key; values = values.now; blob = blob }) }
     {
         self.key.write(key, into);
         for (i, column) in self.columns.as_slice().iter().enumerate() {

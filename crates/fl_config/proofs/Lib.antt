@@ -1,0 +1,10 @@
+pub mod Names
+pub mod Parts
+pub mod Told
+pub mod Made
+pub mod Takes
+pub mod Tables
+pub mod TableAt
+pub mod Texts
+pub mod Growing
+pub mod Opened

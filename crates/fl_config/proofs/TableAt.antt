@@ -1,0 +1,72 @@
+-- A table by its number.
+use Rattle.std.proofs.Common.{◌≡◌, ℕ, zero, suc, ◌+◌, ◌<◌, Option, Some, None, List, [], ◌∷◌, length, map, take, get_or, zero-add, arith, refl, sym, ◌∙◌, ap, subst}
+use Rattle.std.specs.Prelude.{IfSome, sum_by, slice_get, ℤ}
+use Rattle.std.proofs.lemmas.List.{length-map, take-map}
+use Rattle.fl_base.specs.declared.types.Geometry.{Geometry}
+use Rattle.fl_bitmap.specs.declared.buckets.Buckets.{Buckets}
+use Rattle.fl_model.specs.Record.{blocks_of}
+use Rattle.fl_words.specs.Config.{Lines}
+use Rattle.fl_plan.specs.declared.table_config.TableConfig.{TableConfig}
+use Rattle.fl_plan.specs.Plan.{IsConfigOf, base_in, width_in}
+use Rattle.fl_plan.specs.Limits.{IsWithinLimits}
+use Rattle.fl_plan.specs.Refusal.{config_fault}
+use Rattle.fl_config.specs.declared.entry.Entry.{Entry}
+use Rattle.fl_config.specs.Entry.{plan_in}
+use Rattle.fl_config.specs.Places.{StandsFrom}
+use Rattle.fl_config.specs.Standing.{AreTables, AreLines}
+use Rattle.fl_config.proofs.Tables.{taken-at}
+
+base-again : (base : ℤ) (buckets : Option Buckets) → base_in (base_in base buckets) buckets ≡ base_in base buckets
+base-again base None = refl
+base-again base (Some buckets) = refl
+
+width-again : (width : ℕ) (buckets : Option Buckets) → width_in (width_in width buckets) buckets ≡ width_in width buckets
+width-again width None = refl
+width-again width (Some buckets) = refl
+
+pub config-of : (entry : Entry) (first : ℕ) → StandsFrom first entry.config → IsConfigOf entry.config (plan_in entry)
+config-of entry first stands = record {
+  is = rw (base-again entry.base entry.config.buckets, width-again entry.width entry.config.buckets) refl;
+  index = rw stands.rows stands.index;
+  var = rw stands.rows stands.var;
+}
+
+pub plan-at : (entries : List Entry) (i : ℕ) (d : Entry) → i < length entries → slice_get (map plan_in entries) i ≡ Some (plan_in (get_or entries i d))
+plan-at [] i d lt = absurd (omega (arith, lt))
+plan-at (entry ∷ entries) zero d lt = refl
+plan-at (entry ∷ entries) (suc i) d lt = plan-at entries i d (omega (arith, lt))
+
+-- what is told of a table
+pub record TableIs (lines : Lines) (i : ℕ) (config : TableConfig) : Type 0 where
+  pub plan : IfSome (slice_get lines.plans i) (λ plan. IsConfigOf config plan)
+  pub first : config.rows.first_block ≡ sum_by blocks_of (take i lines.plans)
+  pub device : lines.device ≡ Some config.geometry
+  pub limits : IsWithinLimits config
+  pub passes : config_fault config ≡ None
+
+here-at : (geometry : Geometry) (blocks : ℕ) (entries : List Entry) (i : ℕ) (d : Entry) → AreTables geometry blocks entries → i < length entries →
+    TableIs (record { device = Some geometry; plans = map plan_in entries }) i (get_or entries i d).config
+here-at geometry blocks entries i d are lt =
+    let taken = taken-at geometry 0 entries i d are.taken lt in
+    let first : 0 + sum_by blocks_of (map plan_in (take i entries)) ≡ sum_by blocks_of (take i (map plan_in entries)) =
+    zero-add (sum_by blocks_of (map plan_in (take i entries))) ∙ ap (λ l. sum_by blocks_of l) (sym (take-map plan_in i entries)) in
+    record {
+      plan = rw (plan-at entries i d lt) (config-of (get_or entries i d) _ taken.stands);
+      first = taken.stands.rows ∙ first;
+      device = ap (λ g. Some g) (sym taken.geometry_is);
+      limits = taken.limits;
+      passes = taken.passes;
+    }
+
+of-lines : (device : Option Geometry) (blocks : ℕ) (entries : List Entry) (i : ℕ) (d : Entry) → AreLines device blocks entries → i < length entries →
+    TableIs (record { device = device; plans = map plan_in entries }) i (get_or entries i d).config
+of-lines None blocks entries i d are lt = absurd (omega (arith, lt, ap (λ (l : List Entry). length l) are.0))
+of-lines (Some geometry) blocks entries i d are lt = here-at geometry blocks entries i d are lt
+
+pub table-is : (lines : Lines) (device : Option Geometry) (blocks : ℕ) (entries xs : List Entry) (i : ℕ) (d : Entry) →
+    record { device = device; plans = map plan_in entries } ≡ lines → AreLines device blocks entries → xs ≡ entries → i < length lines.plans →
+    TableIs lines i (get_or xs i d).config
+table-is lines device blocks entries xs i d view are same lt =
+    let here : i < length entries = omega (arith, lt, ap (λ (l : Lines). length l.plans) view, length-map entries plan_in) in
+    subst (λ (l : Lines). TableIs l i (get_or xs i d).config) view
+    (subst (λ (l : List Entry). TableIs (record { device = device; plans = map plan_in entries }) i (get_or l i d).config) (sym same) (of-lines device blocks entries i d are here))

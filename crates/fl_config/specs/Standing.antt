@@ -1,0 +1,34 @@
+-- What holds of the tables that were taken.
+use Rattle.std.specs.Prelude.{◌≡◌, ℕ, ◌+◌, ◌≤◌, false, None, Option, Some, List, [], ◌∷◌, length, map, sum_by}
+use Rattle.fl_base.specs.declared.types.Geometry.{Geometry}
+use Rattle.fl_model.specs.Record.{blocks_of}
+use Rattle.fl_words.specs.Config.{too_large}
+use Rattle.fl_plan.specs.Limits.{IsWithin, IsWithinLimits}
+use Rattle.fl_plan.specs.Refusal.{config_fault}
+use Rattle.fl_config.specs.declared.entry.Entry.{Entry}
+use Rattle.fl_config.specs.Entry.{plan_in}
+use Rattle.fl_config.specs.Places.{StandsFrom}
+
+-- a table of this device that is not refused, and begins at a block
+pub record IsTaken (geometry : Geometry) (first : ℕ) (entry : Entry) : Type 0 where
+  pub geometry_is : entry.config.geometry ≡ geometry
+  pub stands : StandsFrom first entry.config
+  pub limits : IsWithinLimits entry.config
+  pub passes : config_fault entry.config ≡ None
+
+-- each begins where the ones before it end
+abbrev pub AreTaken : Geometry → ℕ → List Entry → Type 0
+AreTaken geometry first [] = Unit {0}
+AreTaken geometry first (entry ∷ entries) = IsTaken geometry first entry × AreTaken geometry (first + blocks_of (plan_in entry)) entries
+
+pub record AreTables (geometry : Geometry) (blocks : ℕ) (entries : List Entry) : Type 0 where
+  pub within : IsWithin geometry
+  pub few : length entries ≤ 4
+  pub taken : AreTaken geometry 0 entries
+  pub blocks_are : blocks ≡ sum_by blocks_of (map plan_in entries)
+  pub size : too_large geometry (map plan_in entries) ≡ false
+
+-- the device and the tables so far
+abbrev pub AreLines : Option Geometry → ℕ → List Entry → Type 0
+AreLines None blocks entries = (entries ≡ []) × (blocks ≡ 0)
+AreLines (Some geometry) blocks entries = AreTables geometry blocks entries

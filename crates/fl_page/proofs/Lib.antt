@@ -1,0 +1,3 @@
+pub mod RowBytes
+pub mod Gathering
+pub mod DataPages

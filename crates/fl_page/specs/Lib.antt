@@ -1,0 +1,7 @@
+pub mod WriterState
+pub mod Writer
+pub mod Header
+pub mod Page
+pub mod View
+pub mod Contents
+pub mod Steps

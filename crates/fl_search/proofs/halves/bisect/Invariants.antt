@@ -1,0 +1,23 @@
+use Rattle.std.proofs.Common.{◌+◌, ◌-◌, ◌≤◌, ℕ, max, Option}
+use Rattle.fl_model.specs.Spline.{bits}
+use Rattle.fl_search.specs.Search.{IsPageOf, Ascends, voids_in}
+use Rattle.fl_search.proofs.Pages.{NoneStarts}
+use Rattle.fl_search.proofs.halves.bisect.Given as goal
+
+abbrev pub invariant-loop-low : goal.invariant-loop-low
+invariant-loop-low g l = record {
+  from : l.oldest ≤ l.low;
+  to : l.high ≤ l.end;
+  low : l.low ≤ max l.oldest l.end;
+  has : (n : ℕ) → g.K.FirstKeys.has l.initial.keys n → g.K.FirstKeys.has l.keys n;
+  tells : (first : ℕ → Option ℕ) → g.K.FirstKeys.tells l.initial.keys first → g.K.FirstKeys.tells l.keys first;
+  found : (first : ℕ → Option ℕ) → g.K.FirstKeys.tells l.initial.keys first → IsPageOf first l.oldest l.low l.key l.found;
+  beyond : (first : ℕ → Option ℕ) → g.K.FirstKeys.tells l.initial.keys first → Ascends first l.oldest l.end → NoneStarts first l.key l.high l.end;
+  most : g.K.FirstKeys.calls l.keys + (l.high - l.low) ≤ g.K.FirstKeys.calls l.initial.keys + (l.end - l.oldest);
+  few : (first : ℕ → Option ℕ) → g.K.FirstKeys.tells l.initial.keys first
+      → g.K.FirstKeys.calls l.keys + bits (l.high - l.low) + voids_in first l.low l.high ≤ g.K.FirstKeys.calls l.initial.keys + bits (l.end - l.oldest) + voids_in first l.oldest l.end;
+  later : g.K.FirstKeys.faults l.initial.keys ≤ g.K.FirstKeys.faults l.keys;
+}
+
+abbrev pub decreases-loop-low : goal.decreases-loop-low
+decreases-loop-low g l = l.high - l.low

@@ -1,0 +1,35 @@
+// A search downwards.
+use crate::fault::ReadFault;
+use crate::keys::FirstKeys;
+
+ghost use Rattle.std.specs.Prelude.{◌≡◌, ◌+◌, ◌-◌, ◌≤◌, ◌<◌, ℕ, Option, IfOk};
+ghost use Rattle.fl_base.specs.Causes.{HasCause};
+ghost use Rattle.fl_search.specs.Search.{IsPageOf, looked_at, RoseBy};
+
+/// The greatest page from `oldest` to `top` that isn't void and whose first key is at most `key`.
+///
+/// It asks for the first key of `top` and of each page below, down to the one that it answers.
+pub fn near<K: FirstKeys>(keys: &mut K, oldest: u32, top: u32, key: u64) -> Result<Option<u32>, ReadFault>
+    requires { (n : ℕ) → oldest ≤ n → n ≤ top → K.has keys.old n }
+    ensures page { (first : ℕ → Option ℕ) → K.tells keys.old first → IfOk result (λ page. IsPageOf first oldest (top + 1) key page) }
+    ensures calls { IfOk result (λ page. RoseBy (looked_at oldest (top + 1) page) (K.calls keys.old) (K.calls keys.new)) }
+    ensures most { K.calls keys.new ≤ K.calls keys.old + (top + 1 - oldest) }
+    ensures limit { (first : ℕ → Option ℕ) (page : Option ℕ) → K.tells keys.old first → IsPageOf first oldest (top + 1) key page
+        → K.calls keys.new ≤ K.calls keys.old + looked_at oldest (top + 1) page }
+    ensures cause { HasCause (K.faults keys.old) (K.faults keys.new) result }
+    ensures tells { (first : ℕ → Option ℕ) → K.tells keys.old first → K.tells keys.new first }
+    ensures has { (n : ℕ) → K.has keys.old n → K.has keys.new n }
+{
+    // In 64 bits, since the page after `top` may have no number.
+    let mut end = u64::from(top) + 1;
+    while end > u64::from(oldest) {
+        end -= 1;
+        let number = end as u32;
+        if let Some(first) = keys.first_key(number)? {
+            if first <= key {
+                return Ok(Some(number));
+            }
+        }
+    }
+    Ok(None)
+}

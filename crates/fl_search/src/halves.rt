@@ -1,0 +1,63 @@
+// A search by halves.
+use crate::fault::ReadFault;
+use crate::keys::FirstKeys;
+
+ghost use Rattle.std.specs.Prelude.{◌≡◌, ◌+◌, ◌-◌, ◌≤◌, ◌<◌, ℕ, Option, IfSome, IfOk, OnErr, MatchResult};
+ghost use Rattle.fl_base.specs.Causes.{HasCause};
+ghost use Rattle.fl_model.specs.Spline.{bits};
+ghost use Rattle.fl_search.specs.Search.{IsPageOf, IsLastFull, Ascends, voids_in, probed};
+
+/// The last page from `oldest` to before `end` that isn't void, and its first key.
+fn last_full<K: FirstKeys>(keys: &mut K, oldest: u32, end: u32) -> Result<Option<(u32, u64)>, ReadFault>
+    requires { (n : ℕ) → oldest ≤ n → n < end → K.has keys.old n }
+    ensures last { (first : ℕ → Option ℕ) → K.tells keys.old first → IfOk result (λ last. IsLastFull first oldest end last) }
+    ensures within { IfOk result (λ last. IfSome last (λ last. (oldest ≤ last.0) × (last.0 < end))) }
+    ensures most { MatchResult result (λ last. K.calls keys.new ≤ K.calls keys.old + probed oldest end last) (λ fault. K.calls keys.new ≤ K.calls keys.old + (end - oldest)) }
+    ensures few { (first : ℕ → Option ℕ) → K.tells keys.old first → OnErr result (K.calls keys.new ≤ K.calls keys.old + voids_in first oldest end + 1) }
+    ensures cause { HasCause (K.faults keys.old) (K.faults keys.new) result }
+    ensures tells { (first : ℕ → Option ℕ) → K.tells keys.old first → K.tells keys.new first }
+    ensures has { (n : ℕ) → K.has keys.old n → K.has keys.new n }
+{
+    let mut number = end;
+    while number > oldest {
+        number -= 1;
+        if let Some(first) = keys.first_key(number)? {
+            return Ok(Some((number, first)));
+        }
+    }
+    Ok(None)
+}
+
+/// The greatest page from `oldest` to before `end` that isn't void and whose first key is at most `key`, where the
+/// first keys of these pages ascend.
+///
+/// It halves the pages that are left by the first key of the middle one or, where that is void, of the last one
+/// before it that isn't.
+pub fn bisect<K: FirstKeys>(keys: &mut K, oldest: u32, end: u32, key: u64) -> Result<Option<u32>, ReadFault>
+    requires { (n : ℕ) → oldest ≤ n → n < end → K.has keys.old n }
+    ensures page { (first : ℕ → Option ℕ) → K.tells keys.old first → Ascends first oldest end → IfOk result (λ page. IsPageOf first oldest end key page) }
+    ensures most { K.calls keys.new ≤ K.calls keys.old + (end - oldest) }
+    ensures few { (first : ℕ → Option ℕ) → K.tells keys.old first → K.calls keys.new ≤ K.calls keys.old + bits (end - oldest) + voids_in first oldest end }
+    ensures cause { HasCause (K.faults keys.old) (K.faults keys.new) result }
+    ensures tells { (first : ℕ → Option ℕ) → K.tells keys.old first → K.tells keys.new first }
+    ensures has { (n : ℕ) → K.has keys.old n → K.has keys.new n }
+{
+    let mut found = None;
+    let mut low = oldest;
+    let mut high = end;
+    while low < high {
+        let middle = low + (high - low) / 2;
+        match last_full(keys, low, middle + 1)? {
+            None => low = middle + 1,
+            Some((page, first)) => {
+                if first <= key {
+                    found = Some(page);
+                    low = middle + 1;
+                } else {
+                    high = page;
+                }
+            }
+        }
+    }
+    Ok(found)
+}
