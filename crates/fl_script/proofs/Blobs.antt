@@ -1,8 +1,8 @@
 -- Blob words against the decoding of hexadecimal text.
-use Rattle.std.proofs.Common.{◌≡◌, ℕ, ◌+◌, ◌*◌, ◌/◌, ◌%◌, ◌<◌, ◌≤◌, Bool, true, false, Option, Some, None, Result, Ok, Err, MatchResult, List, [], ◌∷◌, length, refl, sym, ap, ◌∙◌, arith, cond, eqb, eqb-true, eq-eqb, take, ◌++◌, length-append}
+use Rattle.std.proofs.Common.{◌≡◌, ℕ, ◌+◌, ◌*◌, ◌/◌, ◌%◌, ◌≤◌, Bool, true, false, Option, Some, None, Result, Ok, Err, MatchResult, List, [], ◌∷◌, length, refl, sym, ap, ◌∙◌, arith, eqb, eqb-true, eq-eqb, take, ◌++◌, length-append}
 use Rattle.std.proofs.lemmas.List.{take_at}
 use Rattle.std.proofs.lemmas.Bool.Decides.{nat_tests}
-use Rattle.hex.specs.Hex.{decode_sized, decode_pairs, hex_digit_value, value_at, pair_value, digit_or_error, ◌>>=◌}
+use Rattle.hex.specs.Hex.{decode_sized, decode_pairs, hex_digit_value, digit_or_error, ◌>>=◌}
 use Rattle.hex.specs.declared.error.FromHexError.{FromHexError}
 use Rattle.fl_words.specs.Grammar.{hex_bytes, hex_value, onto_bytes, blob_word}
 use Rattle.fl_model.specs.Record.{bytes_equal}

@@ -1,9 +1,9 @@
 -- A number, read digit by digit.
-use Rattle.std.proofs.Common.{◌≡◌, ℕ, ◌+◌, ◌-◌, ◌*◌, ◌<◌, ◌≤◌, Bool, true, false, ◌&&◌, nat_le, if◌then◌else◌, List, [], ◌∷◌, length, take, drop, get_or, Result, Ok, Err, refl, sym, ap, ◌∙◌, arith, cond}
+use Rattle.std.proofs.Common.{◌≡◌, ℕ, ◌+◌, ◌-◌, ◌*◌, ◌<◌, ◌≤◌, true, false, ◌&&◌, nat_le, if◌then◌else◌, List, [], ◌∷◌, length, drop, get_or, Result, Ok, Err, ◌∙◌, arith}
 use Rattle.std.specs.List.{list_all, fold}
 use Rattle.std.proofs.lemmas.List.{at_drop_more, at_drop_all}
 use Rattle.std.proofs.lemmas.Bool.Decides.{nat_tests}
-use Rattle.fl_words.specs.Grammar.{LineFault, Number, is_digit, are_digits, value_of, number, greatest_number}
+use Rattle.fl_words.specs.Grammar.{LineFault, Number, is_digit, number, greatest_number}
 
 -- the number that a value and the digits behind it are
 abbrev pub number_from : ℕ → List ℕ → Result ℕ LineFault

@@ -1,5 +1,5 @@
 -- The words of a line of so many.
-use Rattle.std.proofs.Common.{◌≡◌, ℕ, ◌<◌, ◌≤◌, ◌⊎◌, List, [], ◌∷◌, length, map, get_or, Result, Ok, Err, refl, arith, Bor, inl, inr}
+use Rattle.std.proofs.Common.{◌≡◌, ℕ, ◌<◌, ◌≤◌, List, [], ◌∷◌, length, map, get_or, Result, Err, refl, arith, Bor, inl, inr}
 use Rattle.fl_words.specs.Grammar.{LineFault, Number, number, ◌>>=◌}
 use Rattle.fl_words.specs.Command.{Command}
 use Rattle.fl_script.specs.Lines.{IsBadRange}

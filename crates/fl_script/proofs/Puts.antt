@@ -1,12 +1,12 @@
 -- The values of a put and its blob word.
-use Rattle.std.proofs.Common.{◌≡◌, ℕ, ◌+◌, ◌<◌, ◌≤◌, Bool, true, false, List, [], ◌∷◌, ◌++◌, length, map, Option, Some, None, Result, Ok, Err, codes, refl, sym, ap, ◌∙◌, arith, cond, Bor, append_assoc, take, drop, ◌-◌, ◌&&◌, nat_le}
+use Rattle.std.proofs.Common.{◌≡◌, ℕ, ◌<◌, ◌≤◌, Bool, true, false, List, [], ◌∷◌, ◌++◌, length, map, Option, Some, None, Result, Err, codes, refl, sym, ap, ◌∙◌, arith, cond, Bor, append_assoc, take, drop, ◌-◌, ◌&&◌, nat_le}
 use Rattle.std.proofs.lemmas.Bool.Decides.{nat_tests}
 use Rattle.fl_script.proofs.Few.{word_at}
 use Rattle.std.proofs.lemmas.List.{map-append, length-map, take_all}
 use Rattle.fl_model.specs.Record.{bytes_equal}
 use Rattle.fl_words.specs.Command.{Command}
 use Rattle.fl_words.specs.Grammar.{LineFault, Form, blob_split, blob_word, put_blob, put_parts, part, form, is_name, put_line}
-use Rattle.fl_script.specs.Lines.{word_of, blob_bytes, just}
+use Rattle.fl_script.specs.Lines.{blob_bytes, just}
 
 abbrev marked : Bool → List (List ℕ) → List ℕ → List ℕ → List (List ℕ) × Option (List ℕ)
 marked t values mark blob = cond t (values, Some blob) (values ++ mark ∷ blob ∷ [], None)

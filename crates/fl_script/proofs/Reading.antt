@@ -1,11 +1,10 @@
 -- A line by its first words.
-use Rattle.std.proofs.Common.{◌≡◌, ℕ, ◌+◌, ◌<◌, ◌≤◌, Bool, true, false, nat_lt, List, [], ◌∷◌, length, map, take, get_or, Result, Ok, Err, refl, sym, subst, ap, ◌∙◌, arith, cond, eqb, suc, Bor}
+use Rattle.std.proofs.Common.{◌≡◌, ℕ, ◌≤◌, true, false, nat_lt, List, [], ◌∷◌, length, take, Result, Ok, Err, refl, sym, subst, ap, ◌∙◌, arith, eqb, suc, Bor}
 use Rattle.std.specs.List.{All, starts_with}
 use Rattle.std.specs.Result.{is_err}
 use Rattle.std.proofs.lemmas.Bool.Decides.{nat_tests}
 use Rattle.std.proofs.lemmas.Bool.{false≢true}
-use Rattle.fl_words.specs.Grammar.{LineFault, words_in, without_return, words_command, line_of, command_of}
-use Rattle.fl_words.specs.Command.{Command}
+use Rattle.fl_words.specs.Grammar.{words_in, without_return, words_command, line_of, command_of}
 use Rattle.fl_script.specs.declared.command.Command as code
 use Rattle.fl_script.specs.declared.command.LineFault as fault
 use Rattle.fl_script.specs.Lines.{line_view}

@@ -3,6 +3,7 @@ ghost use Rattle.std.specs.Prelude.{◌≡◌, ◌≤◌, [], length, take, IfOk
 ghost use Rattle.fl_words.specs.Grammar as grammar;
 
 use crate::LineFault;
+use crate::read::LINE_BYTES;
 use crate::word::is;
 use fl_base::NoMemory;
 use std::alloc::Global;
@@ -58,7 +59,7 @@ impl LineRoom {
     pub fn new(alloc: Global) -> Result<LineRoom, NoMemory>
         ensures { IfOk result (λ room. room ≡ []) }
     {
-        let buf = Vec::from_elem(alloc, 0, 4096)?;
+        let buf = Vec::from_elem(alloc, 0, LINE_BYTES)?;
         Ok(LineRoom { buf, len: 0 })
     }
 

@@ -1,4 +1,4 @@
-use Rattle.std.proofs.Common.{◌≡◌, map, Err, refl, rules, sym}
+use Rattle.std.proofs.Common.{◌≡◌, map, Err, refl, rules}
 use Rattle.fl_words.specs.Grammar as grammar
 use Rattle.fl_script.proofs.Few.{five, bad_range, word_at}
 use Rattle.fl_script.proofs.queries.agg_line.Goals as goal

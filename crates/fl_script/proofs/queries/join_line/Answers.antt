@@ -1,5 +1,4 @@
-use Rattle.std.proofs.Common.{◌≡◌, map, Err, refl, rules, sym}
-use Rattle.fl_words.specs.Grammar as grammar
+use Rattle.std.proofs.Common.{rules}
 use Rattle.fl_script.proofs.Few.{four}
 use Rattle.fl_script.proofs.queries.join_line.Goals as goal
 

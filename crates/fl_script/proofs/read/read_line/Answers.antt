@@ -1,4 +1,4 @@
-use Rattle.std.proofs.Common.{◌≡◌, sym, ◌∙◌, arith}
+use Rattle.std.proofs.Common.{sym, ◌∙◌, arith}
 use Rattle.fl_script.proofs.Reading.{others_short, as_line, by_fault}
 use Rattle.fl_script.proofs.read.read_line.Goals as goal
 

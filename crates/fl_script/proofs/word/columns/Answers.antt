@@ -2,7 +2,7 @@ use Rattle.std.proofs.Common.{◌≡◌, None, length, eqb, sym, ◌∙◌, refl
 use Rattle.std.proofs.lemmas.List.{length_push}
 use Rattle.std.proofs.lemmas.Iterator.Consumers.{YieldsList-turn, YieldsList-end}
 use Rattle.std.proofs.lemmas.Iterator.Splits.{YieldsList-from_slice_split}
-use Rattle.fl_script.proofs.Lists.{columns_begin, columns_at, columns_bad_at, columns_full_at, columns_end, room_left}
+use Rattle.fl_script.proofs.Lists.{columns_at, columns_bad_at, columns_full_at, columns_end, room_left}
 use Rattle.fl_words.specs.Grammar as grammar
 use Rattle.fl_script.proofs.word.columns.Goals as goal
 

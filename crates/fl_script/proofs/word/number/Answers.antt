@@ -1,6 +1,5 @@
-use Rattle.std.proofs.Common.{◌≡◌, true, false, sym, ◌∙◌, ap, refl, arith}
-use Rattle.fl_words.specs.Grammar as grammar
-use Rattle.fl_script.proofs.Digits.{begins, digit_at, other_at, large_at, end_at}
+use Rattle.std.proofs.Common.{sym, ◌∙◌, refl, arith}
+use Rattle.fl_script.proofs.Digits.{large_at, end_at}
 use Rattle.fl_script.proofs.word.number.Goals as goal
 
 pub returns-in_default : goal.returns-in_default
