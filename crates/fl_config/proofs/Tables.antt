@@ -10,7 +10,7 @@ use Rattle.fl_plan.specs.Limits.{IsWithin}
 use Rattle.fl_plan.specs.Refusal.{pages_misfit}
 use Rattle.fl_config.specs.declared.entry.Entry.{Entry}
 use Rattle.fl_config.specs.Entry.{plan_in}
-use Rattle.fl_config.specs.Standing.{IsTaken, AreTaken, AreTables}
+use Rattle.fl_config.specs.Standing.{IsTaken, AreTaken, AreTables, AreLines}
 use Rattle.fl_config.proofs.Takes.{sum-push}
 
 -- few blocks fit
