@@ -11,7 +11,7 @@ use Rattle.fl_plan.specs.Refusal.{pages_misfit}
 use Rattle.fl_config.specs.declared.entry.Entry.{Entry}
 use Rattle.fl_config.specs.Entry.{plan_in}
 use Rattle.fl_config.specs.Standing.{IsTaken, AreTaken, AreTables, AreLines}
-use Rattle.fl_config.proofs.Takes.{sum-push}
+use Rattle.fl_config.proofs.Takes.{sum-push, large-is}
 
 -- few blocks fit
 pub fits-few : (geometry : Geometry) (blocks : ℕ) → IsWithin geometry → pages_misfit geometry blocks ≡ false → blocks ≤ 65536

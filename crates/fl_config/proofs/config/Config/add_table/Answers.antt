@@ -1,6 +1,5 @@
 use Rattle.std.proofs.Common.{◌≡◌, ◌+◌, arith, sym, subst}
 use Rattle.fl_model.specs.Record.{blocks_of}
-use Rattle.fl_plan.specs.Plan.{Label}
 use Rattle.fl_config.specs.Entry.{plan_in}
 use Rattle.fl_config.specs.Standing.{AreTables, AreLines}
 use Rattle.fl_config.proofs.Tables.{added}
