@@ -1,9 +1,9 @@
 // The configuration so far.
-ghost use Rattle.std.specs.Prelude.{◌≡◌, ◌<◌, ◌≤◌, false, Some, None, IsTrue, IfSome, length, map, slice_get, take, sum_by};
+ghost use Rattle.std.specs.Prelude.{◌≡◌, ◌<◌, ◌≤◌, false, Some, None, IsTrue, IfSome, length, map, slice_get, take, sum_by, ℕ, is_some};
 ghost use Rattle.fl_model.specs.Record.{blocks_of};
 ghost use Rattle.fl_model.specs.Record.{Config as Configured};
 ghost use Rattle.fl_model.specs.Image.{medium_len};
-ghost use Rattle.fl_words.specs.Config.{too_large};
+ghost use Rattle.fl_words.specs.Config.{too_large, whole};
 ghost use Rattle.fl_plan.specs.Plan.{IsConfigOf};
 ghost use Rattle.fl_plan.specs.Limits.{IsWithin, IsWithinLimits};
 ghost use Rattle.fl_plan.specs.Refusal.{config_fault};
@@ -25,8 +25,8 @@ pub(crate) const HEADER: usize = 1024;
 pub struct Config {
     device: Option<Geometry>,
     tables: ArrayVec<Entry, 4>,
-    // Of all rings.
-    blocks: u32,
+    // The blocks of all rings.
+    device_blocks: u32,
 }
 
 impl Model for Config {
@@ -39,7 +39,7 @@ impl Model for Config {
 
     ghost view = { λ c. record { device = c.device; plans = map plan_in c.tables.items } };
 
-    ghost invariant = { λ c. AreLines c.device c.blocks c.tables.items };
+    ghost invariant = { λ c. AreLines c.device c.device_blocks c.tables.items };
 }
 
 impl Config {
@@ -58,7 +58,7 @@ impl Config {
         Config {
             device: None,
             tables: ArrayVec::new(),
-            blocks: 0,
+            device_blocks: 0,
         }
     }
 
@@ -120,15 +120,16 @@ impl Config {
         let Some(geometry) = self.device else {
             return Err(ConfigRefusal::TableFirst);
         };
-        let table = table_of(geometry, &self.tables, self.blocks, line)?;
-        self.blocks += table.config.blocks() as u32;
+        let table = table_of(geometry, &self.tables, self.device_blocks, line)?;
+        self.device_blocks += table.config.blocks() as u32;
         self.tables.push(table);
         Ok(())
     }
 
     /// Whether there are a device line and a table line at least.
     pub fn is_complete(&self) -> bool
-        ensures { result ≡ is_whole self.now }
+        ensures exact { result ≡ is_whole self.now }
+        ensures whole { (knots : ℕ) → result ≡ is_some (whole knots self.now) }
     {
         self.device.is_some() && !self.tables.is_empty()
     }
@@ -147,7 +148,7 @@ impl Config {
         ensures exact { result ≡ sum_by blocks_of self.now.plans }
         ensures fits { IfSome self.now.device (λ geometry. too_large geometry self.now.plans ≡ false) }
     {
-        self.blocks
+        self.device_blocks
     }
 
     /// The bytes of an image: the header and each page of the device.
