@@ -89,17 +89,23 @@ step-none first low m high le le' fits voids =
 pub step-low : (first : ℕ → Option ℕ) (low p x m high : ℕ) → m ≤ high → high < 2 ^ 64 → low < high → 2 * (high - m) ≤ high - low → IsLastAt first low m p x
     → bits (high - m) + voids_in first m high + (m - p) ≤ bits (high - low) + voids_in first low high
 step-low first low p x m high le fits lt half last =
-    omega (arith, voids-split first low m high (omega (arith, last.from, last.before)) le,
-    voids-end first low (p + 1) m (omega (arith, last.from)) (omega (arith, last.before)) (λ n from before. last.later n (omega arith) before),
-    bits-half (high - m) (high - low) half (omega arith) (omega arith))
+    omega (
+      arith,
+      voids-split first low m high (omega (arith, last.from, last.before)) le,
+      voids-end first low (p + 1) m (omega (arith, last.from)) (omega (arith, last.before)) (λ n from before. last.later n (omega arith) before),
+      bits-half (high - m) (high - low) half (omega arith) (omega arith),
+    )
 
 pub step-high : (first : ℕ → Option ℕ) (low p x m high : ℕ) → m ≤ high → high < 2 ^ 64 → low < high → 2 * (p - low) ≤ high - low → IsLastAt first low m p x
     → bits (p - low) + voids_in first low p + (m - p) ≤ bits (high - low) + voids_in first low high
 step-high first low p x m high le fits lt half last =
-    omega (arith, voids-split first low m high (omega (arith, last.from, last.before)) le,
-    voids-split first low p m last.from (omega (arith, last.before)),
-    voids-end first p (p + 1) m (omega arith) (omega (arith, last.before)) (λ n from before. last.later n (omega arith) before),
-    bits-half (p - low) (high - low) half (omega arith) (omega arith))
+    omega (
+      arith,
+      voids-split first low m high (omega (arith, last.from, last.before)) le,
+      voids-split first low p m last.from (omega (arith, last.before)),
+      voids-end first p (p + 1) m (omega arith) (omega (arith, last.before)) (λ n from before. last.later n (omega arith) before),
+      bits-half (p - low) (high - low) half (omega arith) (omega arith),
+    )
 
 pub step-fault : (first : ℕ → Option ℕ) (low m high : ℕ) → low ≤ m → m ≤ high → low < high → high < 2 ^ 64
     → voids_in first low m + 1 ≤ bits (high - low) + voids_in first low high
@@ -112,22 +118,22 @@ found-none first oldest low m key None le is voids = λ n from before. ⊎_elim
     (λ after. starts-void first key n (voids n after before))
     (cases_lt n low)
 found-none first oldest low m key (Some page) le is voids = record {
-      from = is.from;
-      before = omega (arith, is.before);
-      here = is.here;
-      later = λ n after before. ⊎_elim
-          (λ less. is.later n after less)
-          (λ above. starts-void first key n (voids n above before))
-          (cases_lt n low);
-    }
+  from = is.from;
+  before = omega (arith, is.before);
+  here = is.here;
+  later = λ n after before. ⊎_elim
+      (λ less. is.later n after less)
+      (λ above. starts-void first key n (voids n above before))
+      (cases_lt n low);
+}
 
 pub found-some : (first : ℕ → Option ℕ) (oldest low m key p x : ℕ) → oldest ≤ low → IsLastAt first low m p x → x ≤ key → IsPageOf first oldest m key (Some p)
 found-some first oldest low m key p x le last below = record {
-      from = omega (arith, last.from);
-      before = last.before;
-      here = starts-low first key p x last.here below;
-      later = λ n after before. starts-void first key n (last.later n after before);
-    }
+  from = omega (arith, last.from);
+  before = last.before;
+  here = starts-low first key p x last.here below;
+  later = λ n after before. starts-void first key n (last.later n after before);
+}
 
 -- no page from one whose first key is above the key on starts by it
 after-key : (first : ℕ → Option ℕ) (key n x : ℕ) (y : Option ℕ) → first n ≡ y → key < x → ((z : ℕ) → y ≡ Some z → x < z) → starts_by first key n ≡ false
@@ -148,11 +154,11 @@ found-end first oldest low high end key None met le is none = λ n from before. 
     (λ after. none n (omega arith) before)
     (cases_lt n low)
 found-end first oldest low high end key (Some page) met le is none = record {
-      from = is.from;
-      before = omega (arith, is.from, is.before);
-      here = is.here;
-      later = λ n after before. ⊎_elim
-          (λ less. is.later n after less)
-          (λ above. none n (omega arith) before)
-          (cases_lt n low);
-    }
+  from = is.from;
+  before = omega (arith, is.from, is.before);
+  here = is.here;
+  later = λ n after before. ⊎_elim
+      (λ less. is.later n after less)
+      (λ above. none n (omega arith) before)
+      (cases_lt n low);
+}

@@ -1,15 +1,20 @@
 // A search downwards.
-use crate::fault::ReadFault;
-use crate::keys::FirstKeys;
-
 ghost use Rattle.std.specs.Prelude.{◌≡◌, ◌+◌, ◌-◌, ◌≤◌, ◌<◌, ℕ, Option, IfOk};
 ghost use Rattle.fl_base.specs.Causes.{HasCause};
 ghost use Rattle.fl_search.specs.Search.{IsPageOf, looked_at, RoseBy};
 
+use crate::keys::FirstKeys;
+use fl_page::ReadFault;
+
 /// The greatest page from `oldest` to `top` that isn't void and whose first key is at most `key`.
 ///
 /// It asks for the first key of `top` and of each page below, down to the one that it answers.
-pub fn near<K: FirstKeys>(keys: &mut K, oldest: u32, top: u32, key: u64) -> Result<Option<u32>, ReadFault>
+pub fn near<K: FirstKeys>(
+    keys: &mut K,
+    oldest: u32,
+    top: u32,
+    key: u64,
+) -> Result<Option<u32>, ReadFault>
     requires { (n : ℕ) → oldest ≤ n → n ≤ top → K.has keys.old n }
     ensures page { (first : ℕ → Option ℕ) → K.tells keys.old first → IfOk result (λ page. IsPageOf first oldest (top + 1) key page) }
     ensures calls { IfOk result (λ page. RoseBy (looked_at oldest (top + 1) page) (K.calls keys.old) (K.calls keys.new)) }

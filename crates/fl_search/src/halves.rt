@@ -1,14 +1,18 @@
 // A search by halves.
-use crate::fault::ReadFault;
-use crate::keys::FirstKeys;
-
 ghost use Rattle.std.specs.Prelude.{◌≡◌, ◌+◌, ◌-◌, ◌≤◌, ◌<◌, ℕ, Option, IfSome, IfOk, OnErr, MatchResult};
 ghost use Rattle.fl_base.specs.Causes.{HasCause};
 ghost use Rattle.fl_model.specs.Spline.{bits};
 ghost use Rattle.fl_search.specs.Search.{IsPageOf, IsLastFull, Ascends, voids_in, probed};
 
+use crate::keys::FirstKeys;
+use fl_page::ReadFault;
+
 /// The last page from `oldest` to before `end` that isn't void, and its first key.
-fn last_full<K: FirstKeys>(keys: &mut K, oldest: u32, end: u32) -> Result<Option<(u32, u64)>, ReadFault>
+fn last_full<K: FirstKeys>(
+    keys: &mut K,
+    oldest: u32,
+    end: u32,
+) -> Result<Option<(u32, u64)>, ReadFault>
     requires { (n : ℕ) → oldest ≤ n → n < end → K.has keys.old n }
     ensures last { (first : ℕ → Option ℕ) → K.tells keys.old first → IfOk result (λ last. IsLastFull first oldest end last) }
     ensures within { IfOk result (λ last. IfSome last (λ last. (oldest ≤ last.0) × (last.0 < end))) }
@@ -33,7 +37,12 @@ fn last_full<K: FirstKeys>(keys: &mut K, oldest: u32, end: u32) -> Result<Option
 ///
 /// It halves the pages that are left by the first key of the middle one or, where that is void, of the last one
 /// before it that isn't.
-pub fn bisect<K: FirstKeys>(keys: &mut K, oldest: u32, end: u32, key: u64) -> Result<Option<u32>, ReadFault>
+pub fn bisect<K: FirstKeys>(
+    keys: &mut K,
+    oldest: u32,
+    end: u32,
+    key: u64,
+) -> Result<Option<u32>, ReadFault>
     requires { (n : ℕ) → oldest ≤ n → n < end → K.has keys.old n }
     ensures page { (first : ℕ → Option ℕ) → K.tells keys.old first → Ascends first oldest end → IfOk result (λ page. IsPageOf first oldest end key page) }
     ensures most { K.calls keys.new ≤ K.calls keys.old + (end - oldest) }

@@ -1,5 +1,5 @@
 // Where first keys come from.
-use crate::fault::ReadFault;
+use fl_page::ReadFault;
 
 /// Gives the first keys of pages, by their numbers. A page that is void has none.
 pub trait FirstKeys {

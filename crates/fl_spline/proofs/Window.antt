@@ -4,7 +4,6 @@ use Rattle.std.specs.Prelude.{slice_get, unwrap_or, IfSome, ◌&&◌}
 use Rattle.std.specs.List.{list_all, AllByRecursion}
 use Rattle.std.specs.Int.{abs_diff}
 use Rattle.std.proofs.Math.Nat.{mul-le-mul_left, mul_comm}
-use Rattle.std.proofs.Math.Numerals.{add-one}
 use Rattle.std.proofs.lemmas.Bool.{cases_lt, leb-true, le-leb, lt-ltb, le-ltb}
 use Rattle.fl_model.specs.Spline.{is_near, reach, knots_after, knots_of, retained, is_covered, estimate}
 use Rattle.fl_spline.specs.Points.{IsPast, Rises, last_of}
@@ -264,12 +263,31 @@ windows (suc turns) error key a (p ∷ os) up le =
     subst (λ ks. Against error key (a ∷ ks) (a ∷ p ∷ os)) (sym (knots-next turns error a p os m refl)) next
 
 -- in the words of the contract
-window-from : (error key page : ℕ) (ps : List (ℕ × ℕ)) → Window error key page ps → (i : ℕ) → suc i < length ps
-    → (point_at ps i).0 ≤ key → key < (point_at ps (suc i)).0 → ((point_at ps i).1 ≤ page + error) × (page ≤ (point_at ps (suc i)).1 + error)
-window-from error key page [] w i lt = absurd (omega (arith, lt))
-window-from error key page (p ∷ []) w i lt = absurd (omega (arith, lt))
-window-from error key page (p ∷ q ∷ ps) w zero lt = w.0
-window-from error key page (p ∷ q ∷ ps) w (suc i) lt = window-from error key page (q ∷ ps) w.1 i (omega arith)
+window-low : (error key page : ℕ) (ps : List (ℕ × ℕ)) → Climbs ps → Window error key page ps → (i : ℕ) → i < length ps
+    → (point_at ps i).0 ≤ key → (point_at ps i).1 ≤ page + error
+window-low error key page [] up w i lt le = absurd (omega (arith, lt))
+window-low error key page (p ∷ []) up w zero lt le = let same : page ≡ p.1 = w le in omega (arith, same)
+window-low error key page (p ∷ []) up w (suc i) lt le = absurd (omega (arith, lt))
+window-low error key page (p ∷ q ∷ ps) up w (suc i) lt le = window-low error key page (q ∷ ps) up.1 w.1 i (omega arith) le
+window-low error key page (p ∷ q ∷ ps) up w zero lt le = ⊎_elim
+    (λ before. (w.0 le before).0)
+    (λ after. let later = window-low error key page (q ∷ ps) up.1 w.1 0 (omega arith) after in omega (arith, later, up.0.0.1))
+    (cases_lt key q.0)
+
+-- pages rise too
+page-rises : (p : ℕ × ℕ) (ps : List (ℕ × ℕ)) → Climbs (p ∷ ps) → (i : ℕ) → i < length (p ∷ ps) → p.1 ≤ (point_at (p ∷ ps) i).1
+page-rises p ps up zero lt = omega arith
+page-rises p [] up (suc i) lt = absurd (omega (arith, lt))
+page-rises p (q ∷ ps) up (suc i) lt = let later = page-rises q ps up.1 i (omega arith) in omega (arith, later, up.0.0.1)
+
+window-high : (error key page : ℕ) (p : ℕ × ℕ) (ps : List (ℕ × ℕ)) → Climbs (p ∷ ps) → p.0 ≤ key → Window error key page (p ∷ ps) → (i : ℕ) → i < length (p ∷ ps)
+    → key < (point_at (p ∷ ps) i).0 → page ≤ (point_at (p ∷ ps) i).1 + error
+window-high error key page p ps up le w zero lt after = absurd (omega (arith, le, after))
+window-high error key page p [] up le w (suc i) lt after = absurd (omega (arith, lt))
+window-high error key page p (q ∷ ps) up le w (suc i) lt after = ⊎_elim
+    (λ before. let near = (w.0 le before).1 in let rising = page-rises q ps up.1 i (omega arith) in omega (arith, near, rising))
+    (λ from. window-high error key page q ps up.1 from w.1 i (omega arith) after)
+    (cases_lt key q.0)
 
 last_of-after : (p q : ℕ × ℕ) (ps : List (ℕ × ℕ)) → last_of (p ∷ q ∷ ps) ≡ last_of (q ∷ ps)
 last_of-after p q ps =
@@ -287,11 +305,14 @@ pub in-window : (limit error key : ℕ) (points : List (ℕ × ℕ)) → Rises p
     → InWindow error points key (estimate (retained limit error points) key)
 in-window limit error key [] up covered = record { from = λ i lt. absurd (omega (arith, lt)); to = λ i lt. absurd (omega (arith, lt)); end = tt }
 in-window limit error key (a ∷ ps) up covered =
-    let w = windows (length ps) error key a ps (climbs (a ∷ ps) up) (omega arith) (length (knots_of error (a ∷ ps)) - limit) covered in
+    let climb = climbs (a ∷ ps) up in
+    let d = length (knots_of error (a ∷ ps)) - limit in
+    let w = windows (length ps) error key a ps climb (omega arith) d covered in
     let page = estimate (retained limit error (a ∷ ps)) key in
+    let least = covered-from key d a (knots_after error (length ps) a ps) (knots-past (length ps) error a ps climb) covered in
     record {
-      from = λ i lt le before. (window-from error key page (a ∷ ps) w i (omega arith) le (rw add-one at before)).0;
-      to = λ i lt le before. rw add-one ((window-from error key page (a ∷ ps) w i (omega arith) le (rw add-one at before)).1);
+      from = window-low error key page (a ∷ ps) climb w;
+      to = window-high error key page a ps climb least w;
       end = window-end error key page (a ∷ ps) w;
     }
 

@@ -11,11 +11,9 @@ pub record IsSegment (knots : List (ℕ × ℕ)) (key i : ℕ) : Type 0 where
   pub at_most : (point_at knots i).0 ≤ key
   pub last : (j : ℕ) → i < j → j < length knots → key < (point_at knots j).0
 
--- the estimate of a key between two neighbouring points is from the page of the first minus the error to the page of
--- the second plus the error; from the last point on it is that point's page
+-- no point whose key is at most the key has a page above the estimate plus the error, no point past the key has one
+-- below the estimate minus the error, and from the last point on the estimate is that point's page
 pub record InWindow (error : ℕ) (points : List (ℕ × ℕ)) (key estimate : ℕ) : Type 0 where
-  pub from : (i : ℕ) → i + 1 < length points → (point_at points i).0 ≤ key → key < (point_at points (i + 1)).0
-      → (point_at points i).1 ≤ estimate + error
-  pub to : (i : ℕ) → i + 1 < length points → (point_at points i).0 ≤ key → key < (point_at points (i + 1)).0
-      → estimate ≤ (point_at points (i + 1)).1 + error
+  pub from : (i : ℕ) → i < length points → (point_at points i).0 ≤ key → (point_at points i).1 ≤ estimate + error
+  pub to : (i : ℕ) → i < length points → key < (point_at points i).0 → estimate ≤ (point_at points i).1 + error
   pub end : IfSome (last_of points) (λ end. end.0 ≤ key → estimate ≡ end.1)

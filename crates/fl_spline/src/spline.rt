@@ -26,7 +26,7 @@ impl<const KNOTS: usize> Spline<KNOTS> {
     ghost use Rattle.fl_model.specs.Spline.{is_covered, estimate};
     ghost use Rattle.fl_spline.specs.Points.{IsFurther, Rises};
     ghost use Rattle.fl_spline.specs.Scan.{Scan, scan_step, Holds};
-    ghost use Rattle.fl_spline.specs.Spline.{kept, SplineOf};
+    ghost use Rattle.fl_spline.specs.Spline.{error_of, kept, SplineOf};
     ghost use Rattle.fl_spline.specs.Segment.{point_at, IsSegment, InWindow};
 
     /// A spline of no points. Its knots' lines are to pass the points within `error` pages.
@@ -43,7 +43,7 @@ impl<const KNOTS: usize> Spline<KNOTS> {
 
     /// Forgets the points.
     pub fn clear(&mut self)
-        ensures { (error : ℕ) (points : List (ℕ × ℕ)) → SplineOf error points self.old → SplineOf error [] self.new }
+        ensures { SplineOf (error_of self.old) [] self.new }
     {
         self.knots.clear();
     }
@@ -53,6 +53,7 @@ impl<const KNOTS: usize> Spline<KNOTS> {
     /// This compares four products, and moves no point but a knot that falls out of the newest KNOTS.
     pub fn add(&mut self, x: u64, y: u32)
         requires { IsFurther (kept self.old) (x, y) }
+        ensures error { error_of self.new ≡ error_of self.old }
         ensures last { last_of (kept self.new) ≡ Some (x, y) }
         ensures spline { (error : ℕ) (points : List (ℕ × ℕ)) → SplineOf error points self.old → SplineOf error (points ++ (x, y) ∷ []) self.new }
     {
@@ -128,7 +129,7 @@ impl<const KNOTS: usize> Spline<KNOTS> {
 
     /// The page that the line of the key's segment `i` gives for it, rounded down, or the last knot's page from
     /// the last knot on. Between two neighbouring points it is at least the first one's page less the error, and
-    /// at most the second one's page plus the error.
+    /// at most the second one's page plus the error; from the last point on it is that point's page.
     pub fn estimate(&self, i: usize, key: u64) -> u32
         requires { IsSegment (kept self.now) key i }
         ensures value { result ≡ estimate (kept self.now) key }

@@ -31,8 +31,12 @@ loop-low-preserved-in-None g c =
       beyond = inv.beyond;
       most = omega (arith, inv.most, calls);
       few = λ first told.
-          omega (arith, inv.few first told, calls,
-          step-none first low m high (omega arith) (omega arith) (omega arith) (rw c.in-None.is at (after.last first (inv.tells first told))));
+          omega (
+            arith,
+            inv.few first told,
+            calls,
+            step-none first low m high (omega arith) (omega arith) (omega arith) (rw c.in-None.is at (after.last first (inv.tells first told))),
+          );
       later = omega (arith, inv.later, after.cause.later);
     }
 
@@ -58,8 +62,12 @@ loop-low-preserved-then-first-key g c =
       beyond = inv.beyond;
       most = omega (arith, inv.most, calls, within);
       few = λ first told.
-          omega (arith, inv.few first told, calls,
-          step-low first low page c.in-Some.first m high (omega arith) (omega arith) (omega arith) (omega arith) (rw c.in-Some.is at (after.last first (inv.tells first told))));
+          omega (
+            arith,
+            inv.few first told,
+            calls,
+            step-low first low page c.in-Some.first m high (omega arith) (omega arith) (omega arith) (omega arith) (rw c.in-Some.is at (after.last first (inv.tells first told))),
+          );
       later = omega (arith, inv.later, after.cause.later);
     }
 
@@ -85,7 +93,11 @@ loop-low-preserved g c =
           none-from first c.args.oldest low m c.args.end c.args.key page c.in-Some.first inv.from up (rw c.in-Some.is at (after.last first (inv.tells first told))) c.if-first-key.false;
       most = omega (arith, inv.most, calls, within);
       few = λ first told.
-          omega (arith, inv.few first told, calls,
-          step-high first low page c.in-Some.first m high (omega arith) (omega arith) (omega arith) (omega (arith, within)) (rw c.in-Some.is at (after.last first (inv.tells first told))));
+          omega (
+            arith,
+            inv.few first told,
+            calls,
+            step-high first low page c.in-Some.first m high (omega arith) (omega arith) (omega arith) (omega (arith, within)) (rw c.in-Some.is at (after.last first (inv.tells first told))),
+          );
       later = omega (arith, inv.later, after.cause.later);
     }

@@ -23,16 +23,16 @@ returns-in-Some-clause-last g c = λ first told.
 
 pub loop-number-preserved : goal.loop-number-preserved
 loop-number-preserved g c = record {
-      within = omega (arith, c.loop-number.invariant.within);
-      bound = omega (arith, c.loop-number.invariant.bound);
-      has = λ n h. c.in_ok-first.ensures.has n (c.loop-number.invariant.has n h);
-      tells = λ first told. c.in_ok-first.ensures.tells first (c.loop-number.invariant.tells first told);
-      voids = λ first told.
-          let key = c.in_ok-first.ensures.key first (c.loop-number.invariant.tells first told) in
-          void-more first (c.loop-number.number - 1) c.args.end (λ n from before. c.loop-number.invariant.voids first told n (omega arith) before) (sym key ∙ c.in_default.is);
-      few = omega (arith, c.loop-number.invariant.few, c.in_ok-first.ensures.one);
-      later = omega (arith, c.loop-number.invariant.later, c.in_ok-first.ensures.cause.later);
-    }
+  within = omega (arith, c.loop-number.invariant.within);
+  bound = omega (arith, c.loop-number.invariant.bound);
+  has = λ n h. c.in_ok-first.ensures.has n (c.loop-number.invariant.has n h);
+  tells = λ first told. c.in_ok-first.ensures.tells first (c.loop-number.invariant.tells first told);
+  voids = λ first told.
+      let key = c.in_ok-first.ensures.key first (c.loop-number.invariant.tells first told) in
+      void-more first (c.loop-number.number - 1) c.args.end (λ n from before. c.loop-number.invariant.voids first told n (omega arith) before) (sym key ∙ c.in_default.is);
+  few = omega (arith, c.loop-number.invariant.few, c.in_ok-first.ensures.one);
+  later = omega (arith, c.loop-number.invariant.later, c.in_ok-first.ensures.cause.later);
+}
 
 pub returns-clause-last : goal.returns-clause-last
 returns-clause-last g c = λ first told n from before. c.loop-number.invariant.voids first told n (omega arith) before

@@ -1,0 +1,50 @@
+// First keys from a list, for tests. One call fails.
+ghost use Rattle.std.specs.Prelude.{◌≡◌};
+
+use crate::FirstKeys;
+use fl_flash::FlashFault;
+use fl_page::ReadFault;
+
+#[derive(Drop)]
+pub(crate) struct Listed {
+    firsts: [Option<u64>; 8],
+    failing: u64,
+    calls: u64,
+    faults: u64,
+}
+
+impl Listed {
+    pub(crate) fn new(firsts: [Option<u64>; 8], failing: u64) -> Self {
+        Listed {
+            firsts,
+            failing,
+            calls: 0,
+            faults: 0,
+        }
+    }
+
+    pub(crate) fn calls(&self) -> u64 {
+        self.calls
+    }
+}
+
+impl FirstKeys for Listed {
+    ghost use Rattle.std.specs.Prelude.{◌≡◌, ◌<◌, ℕ, Option, None, slice_index_or};
+
+    ghost has = { λ s n. n < 8 };
+
+    ghost tells = { λ s first. (n : ℕ) → n < 8 → first n ≡ slice_index_or s.firsts n None };
+
+    ghost calls = { λ s. s.calls };
+
+    ghost faults = { λ s. s.faults };
+
+    fn first_key(&mut self, number: u32) -> Result<Option<u64>, ReadFault> {
+        self.calls = self.calls.saturating_add(1);
+        if self.calls == self.failing {
+            self.faults = self.faults.saturating_add(1);
+            return Err(ReadFault::Flash(FlashFault::Media));
+        }
+        Ok(self.firsts[number as usize])
+    }
+}
