@@ -1,6 +1,8 @@
 -- The configuration, line by line.
 use Rattle.std.proofs.Common.{◌≡◌, ℕ, ◌+◌, ◌<◌, ◌≤◌, Bool, true, false, Option, Some, None, Result, Ok, Err, List, [], ◌∷◌, ◌++◌, length, refl, sym, ◌∙◌, ap, subst, append_assoc, length-append, arith}
-use Rattle.std.specs.Prelude.{OnOk, is_err}
+use Rattle.std.specs.Prelude.{is_err}
+use Rattle.fl_plan.specs.declared.refusal.ConfigRefusal.{ConfigRefusal}
+use Rattle.fl_config.specs.Taking.{Takes}
 use Rattle.fl_base.specs.declared.types.Geometry.{Geometry}
 use Rattle.fl_model.specs.Record.{Config, Plan}
 use Rattle.fl_words.specs.Command as command
@@ -67,7 +69,7 @@ configured-unmakes old now c e h built =
       unbuilt = λ knots. ap are_built (w.plans_are knots) ∙ built;
     }
 
--- what holds of an Ok
-pub on_ok : {T E : Type 0} (r : Result T E) (P : Type 0) → is_err r ≡ false → OnOk r P → P
-on_ok (Ok x) P e h = h
-on_ok (Err x) P e h = cc
+-- a line that was taken
+pub takes-ok : (old new : Lines) (c : Command) (r : Result (Unit {0}) ConfigRefusal) → is_err r ≡ false → Takes old c r new → configured old c ≡ Ok new
+takes-ok old new c (Ok done) e h = h
+takes-ok old new c (Err refusal) e h = cc

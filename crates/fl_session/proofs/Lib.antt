@@ -17,3 +17,4 @@ pub mod Images
 pub mod Rested
 pub mod Over
 pub mod Completing
+pub mod BuiltOne

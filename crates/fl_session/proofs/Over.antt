@@ -1,5 +1,5 @@
 -- A session that was begun over an opened image, and ended.
-use Rattle.std.proofs.Common.{◌≡◌, ℕ, ◌+◌, Bool, true, false, IsTrue, Option, Some, None, Err, List, [], ◌∷◌, ◌++◌, ◌≤◌, sum_by, refl, sym, ◌∙◌, ap, subst, le_trans, arith}
+use Rattle.std.proofs.Common.{◌≡◌, ℕ, ◌+◌, Bool, true, false, IsTrue, Option, Some, None, Result, Ok, Err, inl, inr, length, take, List, [], ◌∷◌, ◌++◌, ◌≤◌, sum_by, refl, sym, ◌∙◌, ap, subst, le_trans, arith}
 use Rattle.std.specs.Prelude.{if◌then◌else◌}
 use base.Fml.{GName}
 use Rattle.fl_base.specs.declared.types.Geometry.{Geometry}
@@ -22,13 +22,17 @@ use Rattle.fl_session.specs.Pages.{Rests}
 use Rattle.fl_session.specs.Standing.{SessionStands, RestsOn}
 use Rattle.fl_session.specs.Run.{RunsFrom, around_of, IsOfCommands, refused_status}
 use Rattle.fl_session.specs.declared.status.Status.TheVariants.{Usage, MediaMake, OtherConfig}
-use Rattle.fl_session.specs.declared.stream.ImageRefusal.{ImageRefusal}
-use Rattle.fl_session.specs.declared.stream.ImageRefusal.TheVariants.{Media, Other}
+use Rattle.fl_config.specs.declared.image.ImageRefusal.{ImageRefusal}
+use Rattle.fl_config.specs.declared.image.ImageRefusal.TheVariants.{Media, Other}
 use Rattle.fl_base.specs.Causes.{Rose}
 use Rattle.fl_session.specs.Texts.{is_long, lines_read}
 use Rattle.fl_session.specs.Begin.{BeginsAt}
-use Rattle.fl_session.specs.Opening.{Opened, HalfOpened, Foreign, OpensAs}
-use Rattle.fl_session.specs.Ends.{Ends, told_of, start_in, EndsMaking, EndsOther, IsEarlyBy}
+use Rattle.fl_session.specs.Opening.{Opened, HalfOpened, Foreign, OpensAs, MediaGoes}
+use Rattle.fl_session.specs.Ends.{Ends, told_of, start_in, EndsMaking, EndsOther, IsEarlyBy, Differs}
+use Rattle.fl_words.specs.Medium.{header}
+use Rattle.fl_config.specs.Opening as opening
+use Rattle.fl_config.specs.Opening.{Opens}
+use Rattle.fl_config.specs.Whole.{is_whole, is_whole_of, Makes}
 use Rattle.fl_session.proofs.Running.{nothing-added}
 use Rattle.fl_session.proofs.Ready.{ready-room, stands-ready}
 use Rattle.fl_session.proofs.Ending.{runs-seen, ends-of_run, begins-ready}
@@ -71,14 +75,14 @@ pub session-runs : (config : Config) (Stands Stands' : FlashState → Plan → T
     RunsFrom first number state left left_now (around_of config old new told told_now) (RestsOn config old.content) (StandsAfter config (Some new.content)) status
 session-runs config Stands Stands' f f' old new mounted mounted' geometry blocks origin is g_is media tells one settles off first number state left left_now told told_now status h =
     let begin : (m : Machine) → RestsOn config old.content m → SessionStands config Stands f mounted m =
-        λ m r. subst (λ b. SessionStands config Stands f b m) (sym off)
-        (subst (λ x. SessionStands config Stands x false m) (sym is)
-        (session-begins config Stands (on_medium geometry blocks 1024 origin true None 0 (record { reads = 0; programs = 0; erases = 0 }) old) m tells refl g_is refl refl refl one r)) in
+    λ m r. subst (λ b. SessionStands config Stands f b m) (sym off)
+    (subst (λ x. SessionStands config Stands x false m) (sym is)
+    (session-begins config Stands (on_medium geometry blocks 1024 origin true None 0 (record { reads = 0; programs = 0; erases = 0 }) old) m tells refl g_is refl refl refl one r)) in
     let end : (m : Machine) → SessionStands config Stands' f' mounted' m → StandsAfter config (Some f'.media.content) m = λ m s. session-ends config Stands' f' mounted' m settles s in
     let seen = runs-seen first number state left left_now (around_of config f.media f'.media told told_now) (SessionStands config Stands f mounted) (SessionStands config Stands' f' mounted')
-        (RestsOn config old.content) (StandsAfter config (Some f'.media.content)) status begin end h in
+    (RestsOn config old.content) (StandsAfter config (Some f'.media.content)) status begin end h in
     let from : RunsFrom first number state left left_now (around_of config old f'.media told told_now) (RestsOn config old.content) (StandsAfter config (Some f'.media.content)) status =
-        subst (λ (x : FlashState). RunsFrom first number state left left_now (around_of config x.media f'.media told told_now) (RestsOn config old.content) (StandsAfter config (Some f'.media.content)) status) is seen in
+    subst (λ (x : FlashState). RunsFrom first number state left left_now (around_of config x.media f'.media told told_now) (RestsOn config old.content) (StandsAfter config (Some f'.media.content)) status) is seen in
     subst (λ x. RunsFrom first number state left left_now (around_of config old x told told_now) (RestsOn config old.content) (StandsAfter config (Some x.content)) status) (sym media) from
 
 -- the medium reaches to the end of the flash
@@ -148,3 +152,44 @@ early-refused config old new told (Other wanted found at) h = record { written =
 pub make-refused : (config : Config) (old new : MediaState) (refusal : ImageRefusal) → OpensAs config old (Err refusal) new → refused_status refusal ≡ MediaMake → Rose old.faults new.faults
 make-refused config old new Media h e = h.rose
 make-refused config old new (Other wanted found at) h e = cc
+
+-- a whole configuration
+whole-cases : (knots : ℕ) (device : Option Geometry) (plans : List Plan) → IsTrue (is_whole_of device plans) → (config : Config) × (whole_of knots device plans ≡ Some config)
+whole-cases knots None plans e = cc
+whole-cases knots (Some geometry) [] e = cc
+whole-cases knots (Some geometry) (plan ∷ plans) e = (record { geometry = geometry; plans = plan ∷ plans; knots = knots }, refl)
+
+pub whole-of : (knots : ℕ) (lines : Lines) → IsTrue (is_whole lines) → (config : Config) × (whole knots lines ≡ Some config)
+whole-of knots lines e = whole-cases knots lines.device lines.plans e
+
+pub makes-of : (knots : ℕ) (lines : Lines) (config : Config) → whole knots lines ≡ Some config → Makes lines config
+makes-of knots lines config e = ap (λ n. whole n lines) (whole-parts knots lines config e).knots_are ∙ e
+
+differs : (config : Config) (old : MediaState) (wanted found at : ℕ) → opening.Differs (header config) (take 1024 old.content) at wanted found → Differs (header config) (take 1024 old.content) at wanted found
+differs config old wanted found at h = record { same = h.same; wanted_is = h.wanted_is; found_is = h.found_is; differ = h.differ }
+
+-- an image that was opened, in the words of a run
+pub opens-as : (config : Config) (old : MediaState) (result : Result (Unit {0}) ImageRefusal) (new : MediaState) → Opens (medium_len config) (header config) old result new → OpensAs config old result new
+opens-as config old (Ok done) new (inl h) = record {
+  len = h.len_is;
+  own = λ t. inl h.empty;
+  made = λ t e. h.content (subst IsTrue refl t);
+  kept = λ t some. absurd (some h.empty);
+}
+opens-as config old (Ok done) new (inr h) = record {
+  len = ap length h.same ∙ h.len_is;
+  own = λ t. inr (h.len_is, h.head_is t);
+  made = λ t e. absurd (h.some e);
+  kept = λ t some. h.same;
+}
+opens-as config old (Err Media) new h = record { rose = h.rose; kept = λ t some. h.same some; part = λ t e. h.part e }
+opens-as config old (Err (Other wanted found at)) new h = record { other = λ t. (h.some, elim h.other [ inl k ↦ inl k | inr k ↦ inr (k.0, differs config old wanted found at (k.1 t)) ]); kept = λ t. h.same }
+
+pub opens-goes : (len : ℕ) (head : List ℕ) (old : MediaState) (result : Result (Unit {0}) ImageRefusal) (new : MediaState) → Opens len head old result new → MediaGoes old new
+opens-goes len head old (Ok done) new (inl h) = record { tells = h.tells; faults = h.later }
+opens-goes len head old (Ok done) new (inr h) = record { tells = h.tells; faults = h.later }
+opens-goes len head old (Err Media) new h = record { tells = h.tells; faults = h.later }
+opens-goes len head old (Err (Other wanted found at)) new h = record { tells = h.tells; faults = h.later }
+
+pub media-goes_on : (old mid new : MediaState) → MediaGoes old mid → MediaGoes mid new → MediaGoes old new
+media-goes_on old mid new a b = record { tells = b.tells ∙ a.tells; faults = le_trans a.faults b.faults }

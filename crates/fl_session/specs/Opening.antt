@@ -1,7 +1,7 @@
 -- What the opening of an image does to its medium.
 use Rattle.std.specs.Prelude.{◌≡◌, ℕ, ◌≤◌, IsTrue, Result, Ok, Err, List, [], length}
-use Rattle.fl_session.specs.declared.stream.ImageRefusal.{ImageRefusal}
-use Rattle.fl_session.specs.declared.stream.ImageRefusal.TheVariants.{Media, Other}
+use Rattle.fl_config.specs.declared.image.ImageRefusal.{ImageRefusal}
+use Rattle.fl_config.specs.declared.image.ImageRefusal.TheVariants.{Media, Other}
 use Rattle.fl_base.specs.Causes.{Rose}
 use Rattle.fl_model.specs.Record.{Config}
 use Rattle.fl_model.specs.Image.{medium_len}

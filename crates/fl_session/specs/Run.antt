@@ -10,8 +10,8 @@ use Rattle.fl_machine.specs.Script.{StandsAfter}
 use Rattle.fl_script.specs.declared.command.Command as code
 use Rattle.fl_session.specs.declared.status.Status.{Status}
 use Rattle.fl_session.specs.declared.status.Status.TheVariants.{Done, Line, ScriptRead, OutWrite, MediaMake, OtherConfig, ScriptLong, NotYet}
-use Rattle.fl_session.specs.declared.stream.ImageRefusal.{ImageRefusal}
-use Rattle.fl_session.specs.declared.stream.ImageRefusal.TheVariants.{Media, Other}
+use Rattle.fl_config.specs.declared.image.ImageRefusal.{ImageRefusal}
+use Rattle.fl_config.specs.declared.image.ImageRefusal.TheVariants.{Media, Other}
 use Rattle.fl_session.specs.Stream.{LinesState}
 use Rattle.fl_session.specs.Execute.{Around}
 use Rattle.fl_session.specs.Loop.{Tail, EndsCommands}

@@ -1,17 +1,19 @@
 // The configuration of a script, line by line.
-ghost use Rattle.std.specs.Prelude.{◌≡◌, ◌≤◌, ℕ, List, Option, true, Some, None, IfOk, IfErr, is_some};
+ghost use Rattle.std.specs.Prelude.{◌≡◌, ◌≤◌, ℕ, List, Option, true, Some, None, IfOk, IfErr, IsTrue};
 ghost use Rattle.fl_base.specs.Causes.{Rose};
 ghost use Rattle.fl_words.specs.Config.{whole, no_lines};
+ghost use Rattle.fl_config.specs.Whole.{is_whole};
 ghost use Rattle.fl_script.specs.CommandView.{command_view};
 ghost use Rattle.fl_session.specs.Built as forms;
 ghost use Rattle.fl_session.specs.Next as words;
 ghost use Rattle.fl_session.specs.Begin.{ConfiguresBy, IsFresh, BeginsAt, EndsBegin, HoldsFirst, IsOfScript};
 
 use crate::Status;
+use crate::built::is_built_config;
 use crate::lines::Lines;
 use crate::next::{is_config, next_command};
-use crate::stream::ConfigLines;
 use fl_base::Source;
+use fl_config::Config;
 use fl_script::{Command, LineRoom};
 
 fn is_nothing(command: &Command) -> bool
@@ -21,15 +23,15 @@ fn is_nothing(command: &Command) -> bool
 }
 
 /// Goes on with the configuration, where the command is a line of it or nothing; else it ends the configuration.
-fn configure<C: ConfigLines>(
-    config: &mut C,
+fn configure(
+    config: &mut Config,
     command: &Command,
     room: &LineRoom,
     number: u64,
 ) -> Result<bool, Status>
     requires { forms.is_built (command_view command.now room.now) ≡ true }
-    ensures by { ConfiguresBy (C.lines config.old) (command_view command.now room.now) number result (C.lines config.new) }
-    ensures built { IfOk result (λ goes_on. forms.are_built (C.lines config.old).plans ≡ true → forms.are_built (C.lines config.new).plans ≡ true) }
+    ensures by { ConfiguresBy config.old (command_view command.now room.now) number result config.new }
+    ensures built { IfOk result (λ goes_on. forms.are_built config.old.plans ≡ true → forms.are_built config.new.plans ≡ true) }
 {
     if is_nothing(command) {
         return Ok(true);
@@ -40,7 +42,7 @@ fn configure<C: ConfigLines>(
     if config.add(command, room).is_err() {
         return Err(Status::Config { line: number });
     }
-    if config.is_built() {
+    if is_built_config(config) {
         Ok(true)
     } else {
         Err(Status::NotYet { line: number })
@@ -54,9 +56,9 @@ pub(crate) struct Begun {
     pub number: u64,
 }
 
-fn finish<C: ConfigLines>(config: &C, first: Option<Command>, number: u64) -> Result<Begun, Status>
-    ensures ok { IfOk result (λ b. (b ≡ record { first = first; number = number }) × ((knots : ℕ) → is_some (whole knots (C.lines config.now)) ≡ true)) }
-    ensures incomplete { IfErr result (λ status. (status ≡ Status.Config 0) × ((knots : ℕ) → whole knots (C.lines config.now) ≡ None)) }
+fn finish(config: &Config, first: Option<Command>, number: u64) -> Result<Begun, Status>
+    ensures ok { IfOk result (λ b. (b ≡ record { first = first; number = number }) × IsTrue (is_whole config.now)) }
+    ensures incomplete { IfErr result (λ status. (status ≡ Status.Config 0) × ((knots : ℕ) → whole knots config.now ≡ None)) }
 {
     if config.is_complete() {
         Ok(Begun { first, number })
@@ -66,19 +68,19 @@ fn finish<C: ConfigLines>(config: &C, first: Option<Command>, number: u64) -> Re
 }
 
 /// Reads the lines of the configuration, and the command that ends it.
-pub(crate) fn read_config<C: ConfigLines, S: Source>(
-    config: &mut C,
+pub(crate) fn read_config<S: Source>(
+    config: &mut Config,
     lines: &mut Lines,
     room: &mut LineRoom,
     script: &mut S,
 ) -> Result<Begun, Status>
-    requires first { C.lines config.old ≡ no_lines }
+    requires first { config.old ≡ no_lines }
     requires fresh { IsFresh lines.old }
-    ensures whole { IfOk result (λ b. (knots : ℕ) → is_some (whole knots (C.lines config.new)) ≡ true) }
-    ensures built { IfOk result (λ b. forms.are_built (C.lines config.new).plans ≡ true) }
+    ensures whole { IfOk result (λ b. IsTrue (is_whole config.new)) }
+    ensures built { IfOk result (λ b. forms.are_built config.new.plans ≡ true) }
     ensures in_hand { IfOk result (λ b. HoldsFirst b.first b.number room.new lines.new) }
     ensures begins { IfOk result (λ b. (knots : ℕ) (text : List ℕ) → S.left script.old ≡ Some text →
-        BeginsAt knots text (C.lines config.new) b.first b.number lines.new (S.left script.new)) }
+        BeginsAt knots text config.new b.first b.number lines.new (S.left script.new)) }
     ensures ends { IfErr result (λ status. (knots : ℕ) (text : List ℕ) → S.left script.old ≡ Some text →
         EndsBegin knots text (S.left script.new) status) }
     ensures read { IfErr result (λ status. status ≡ Status.ScriptRead → Rose (S.faults script.old) (S.faults script.new)) }

@@ -9,9 +9,9 @@ ghost use Rattle.fl_session.specs.Loop.{EndsCommands};
 ghost use Rattle.fl_session.specs.Run.{IsOfCommands};
 
 use crate::Status;
+use crate::executor::Executor;
 use crate::lines::Lines;
 use crate::next::next_run;
-use crate::stream::Executor;
 use fl_base::{Sink, Source};
 use fl_script::{Command, LineRoom};
 

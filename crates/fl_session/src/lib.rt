@@ -2,14 +2,15 @@
 #![tactic(auto)]
 
 mod begin;
+mod built;
 mod commands;
+mod executor;
 mod lines;
 mod next;
 mod run;
 mod session;
 mod status;
 mod stored;
-mod stream;
 mod words;
 
 pub use status::Status;

@@ -4,8 +4,9 @@ ghost use Rattle.fl_base.specs.Causes.{Rose};
 ghost use Rattle.fl_flash.specs.Flash.{FlashState, Goes};
 ghost use Rattle.fl_flash.specs.Places.{extent};
 ghost use Rattle.fl_base.specs.declared.types.Geometry.{Geometry};
-ghost use Rattle.fl_model.specs.Record.{Config, blocks_of};
+ghost use Rattle.fl_model.specs.Record.{Config as Configuration, blocks_of};
 ghost use Rattle.fl_words.specs.Config.{whole};
+ghost use Rattle.fl_config.specs.Whole.{is_whole};
 ghost use Rattle.fl_session.specs.Built.{are_built};
 ghost use Rattle.fl_session.specs.Begin.{HoldsFirst};
 ghost use Rattle.fl_session.specs.Words.{image_named};
@@ -15,15 +16,15 @@ ghost use Rattle.fl_session.specs.Run.{RunsFrom, HasRoom, around_of, IsOfCommand
 ghost use Rattle.fl_session.specs.Standing.{RestsOn};
 ghost use Rattle.fl_machine.specs.Script.{StandsAfter};
 
-use crate::Status;
 use crate::begin::{Begun, read_config};
 use crate::commands::run_commands;
+use crate::executor::Executor;
 use crate::lines::Lines;
-use crate::image_of;
 use crate::session::Session;
 use crate::stored::Stored;
-use crate::stream::{ConfigLines, Executor, ImageRefusal};
+use crate::{Status, image_of};
 use fl_base::{NoMemory, Sink, Source};
+use fl_config::{Config, ImageRefusal};
 use fl_flash::{FlashRoom, Media, PageBuf, SimFlash};
 use fl_script::{Command, LineRoom};
 use std::alloc::Global;
@@ -42,11 +43,11 @@ struct Rooms<T: Stored> {
     flash: FlashRoom,
 }
 
-fn make_rooms<C: ConfigLines, T: Stored>(alloc: Global, config: &C) -> Result<Rooms<T>, NoMemory>
-    requires { is_some (whole 0 (C.lines config.now)) ≡ true }
-    ensures lies { IfOk result (λ r. (f : FlashState) → (C.lines config.now).device ≡ Some f.geometry → f.blocks ≡ sum_by blocks_of (C.lines config.now).plans → T.lies r.table f) }
-    ensures page { IfOk result (λ r. (g : Geometry) → (C.lines config.now).device ≡ Some g → length r.buf.bytes ≡ g.page) }
-    ensures flash { IfOk result (λ r. (g : Geometry) → (C.lines config.now).device ≡ Some g → HasRoom r.flash g (sum_by blocks_of (C.lines config.now).plans)) }
+fn make_rooms<T: Stored>(alloc: Global, config: &Config) -> Result<Rooms<T>, NoMemory>
+    requires { IsTrue (is_whole config.now) }
+    ensures lies { IfOk result (λ r. (f : FlashState) → config.now.device ≡ Some f.geometry → f.blocks ≡ sum_by blocks_of config.now.plans → T.lies r.table f) }
+    ensures page { IfOk result (λ r. (g : Geometry) → config.now.device ≡ Some g → length r.buf.bytes ≡ g.page) }
+    ensures flash { IfOk result (λ r. (g : Geometry) → config.now.device ≡ Some g → HasRoom r.flash g (sum_by blocks_of config.now.plans)) }
 {
     let geometry = config.geometry();
     Ok(Rooms {
@@ -68,7 +69,7 @@ fn run_first<E: Executor, S: Source, K: Sink>(
 ) -> Status
     requires sound { E.sound session.old }
     requires in_hand { HoldsFirst first number room.old lines.old }
-    ensures runs { (configured : Config) → RunsFrom first number lines.old (S.left script.old) (S.left script.new) (around_of configured (E.flash session.old).media (E.flash session.new).media (K.written out.old) (K.written out.new))
+    ensures runs { (configured : Configuration) → RunsFrom first number lines.old (S.left script.old) (S.left script.new) (around_of configured (E.flash session.old).media (E.flash session.new).media (K.written out.old) (K.written out.new))
         (E.stands session.old configured) (E.stands session.new configured) result }
     ensures goes { Goes (E.flash session.old) (E.flash session.new) }
     ensures read { result ≡ Status.ScriptRead → Rose (S.faults script.old) (S.faults script.new) }
@@ -83,9 +84,9 @@ fn run_first<E: Executor, S: Source, K: Sink>(
 }
 
 /// Runs the commands of a script from the first on, over an image that was opened.
-fn run_session<C: ConfigLines, T: Stored, M: Media, S: Source, K: Sink>(
+fn run_session<T: Stored, M: Media, S: Source, K: Sink>(
     media: &mut M,
-    config: &C,
+    config: &Config,
     rooms: Rooms<T>,
     begun: Begun,
     lines: &mut Lines,
@@ -93,14 +94,14 @@ fn run_session<C: ConfigLines, T: Stored, M: Media, S: Source, K: Sink>(
     script: &mut S,
     out: &mut K,
 ) -> Status
-    requires whole { is_some (whole 0 (C.lines config.now)) ≡ true }
-    requires built { are_built (C.lines config.now).plans ≡ true }
+    requires whole { IsTrue (is_whole config.now) }
+    requires built { are_built config.now.plans ≡ true }
     requires in_hand { HoldsFirst begun.first begun.number room.old lines.old }
-    requires reach { (g : Geometry) → (C.lines config.now).device ≡ Some g → 1024 + extent g (sum_by blocks_of (C.lines config.now).plans) ≤ length (M.state media.old).content }
-    requires lies { (f : FlashState) → (C.lines config.now).device ≡ Some f.geometry → f.blocks ≡ sum_by blocks_of (C.lines config.now).plans → T.lies rooms.table f }
-    requires page { (g : Geometry) → (C.lines config.now).device ≡ Some g → length rooms.buf.bytes ≡ g.page }
-    requires flash { (g : Geometry) → (C.lines config.now).device ≡ Some g → HasRoom rooms.flash g (sum_by blocks_of (C.lines config.now).plans) }
-    ensures runs { (configured : Config) → whole configured.knots (C.lines config.now) ≡ Some configured → IsTrue (M.state media.old).tells →
+    requires reach { (g : Geometry) → config.now.device ≡ Some g → 1024 + extent g (sum_by blocks_of config.now.plans) ≤ length (M.state media.old).content }
+    requires lies { (f : FlashState) → config.now.device ≡ Some f.geometry → f.blocks ≡ sum_by blocks_of config.now.plans → T.lies rooms.table f }
+    requires page { (g : Geometry) → config.now.device ≡ Some g → length rooms.buf.bytes ≡ g.page }
+    requires flash { (g : Geometry) → config.now.device ≡ Some g → HasRoom rooms.flash g (sum_by blocks_of config.now.plans) }
+    ensures runs { (configured : Configuration) → whole configured.knots config.now ≡ Some configured → IsTrue (M.state media.old).tells →
         RunsFrom begun.first begun.number lines.old (S.left script.old) (S.left script.new) (around_of configured (M.state media.old) (M.state media.new) (K.written out.old) (K.written out.new))
         (RestsOn configured (M.state media.old).content) (StandsAfter configured (Some (M.state media.new).content)) result }
     ensures goes { MediaGoes (M.state media.old) (M.state media.new) }
@@ -112,7 +113,7 @@ fn run_session<C: ConfigLines, T: Stored, M: Media, S: Source, K: Sink>(
     let Begun { first, number } = begun;
     let Rooms { table, buf, flash } = rooms;
     let flash = SimFlash::with_room(media, config.geometry(), config.blocks(), HEADER, flash);
-    let mut session = Session::new(flash, table, config.name(), buf);
+    let mut session = Session::new(flash, table, config.name(0), buf);
     let status = run_first(&mut session, first, number, lines, room, script, out);
     let _media = session.end();
     status
@@ -129,7 +130,7 @@ fn status_of(refusal: ImageRefusal) -> Status
 }
 
 // Runs a script over an image, whose words were read.
-fn run_script<C: ConfigLines, T: Stored, M: Media, S: Source, K: Sink>(
+fn run_script<T: Stored, M: Media, S: Source, K: Sink>(
     alloc: Global,
     media: &mut M,
     script: &mut S,
@@ -151,7 +152,7 @@ fn run_script<C: ConfigLines, T: Stored, M: Media, S: Source, K: Sink>(
     let Ok(mut room) = LineRoom::new(alloc) else {
         return Status::NoMemory;
     };
-    let mut config = C::new();
+    let mut config = Config::new();
     let begun = match read_config(&mut config, &mut lines, &mut room, script) {
         Ok(begun) => begun,
         Err(status) => return status,
@@ -161,14 +162,16 @@ fn run_script<C: ConfigLines, T: Stored, M: Media, S: Source, K: Sink>(
         Err(_) => return Status::NoMemory,
     };
     match config.open_image(media) {
-        Ok(()) => run_session(media, &config, rooms, begun, &mut lines, &mut room, script, out),
+        Ok(()) => run_session(
+            media, &config, rooms, begun, &mut lines, &mut room, script, out,
+        ),
         Err(refusal) => status_of(refusal),
     }
 }
 
 /// Runs a script over an image: reads the words and the configuration, opens the image, and executes line after line.
 /// Each reply is written before the next line is read.
-pub fn run_over<C: ConfigLines, T: Stored, M: Media, S: Source, K: Sink>(
+pub fn run_over<T: Stored, M: Media, S: Source, K: Sink>(
     alloc: Global,
     words: &[String],
     media: &mut M,
@@ -199,5 +202,5 @@ pub fn run_over<C: ConfigLines, T: Stored, M: Media, S: Source, K: Sink>(
     if image_of(words).is_none() {
         return Status::Usage;
     }
-    run_script::<C, T, M, S, K>(alloc, media, script, out)
+    run_script::<T, M, S, K>(alloc, media, script, out)
 }

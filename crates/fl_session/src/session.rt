@@ -10,8 +10,8 @@ ghost use Rattle.fl_session.specs.Built.{IsRunnable};
 ghost use Rattle.fl_session.specs.Execute.{Executes};
 ghost use Rattle.fl_session.specs.Standing.{SessionStands, IsSound};
 
+use crate::executor::Executor;
 use crate::stored::Stored;
-use crate::stream::Executor;
 use fl_base::{Name, Sink, SinkFailed};
 use fl_flash::{Flash, Media, PageBuf, SimFlash};
 use fl_script::{Command, LineRoom, Reply, write_reply};

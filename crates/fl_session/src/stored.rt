@@ -1,7 +1,7 @@
 // Stand-ins for the table.
-ghost use Rattle.std.specs.Prelude.{◌≡◌, ℕ, true, is_some, Some, IfOk, sum_by};
+ghost use Rattle.std.specs.Prelude.{◌≡◌, ℕ, IsTrue, Some, IfOk, sum_by};
 ghost use Rattle.fl_model.specs.Record.{blocks_of};
-ghost use Rattle.fl_words.specs.Config.{whole};
+ghost use Rattle.fl_config.specs.Whole.{is_whole};
 ghost use Rattle.fl_flash.specs.Flash.{FlashState};
 ghost use Rattle.fl_model.specs.Record.{Plan};
 ghost use Rattle.fl_model.specs.Table as model;
@@ -9,8 +9,8 @@ ghost use Rattle.fl_model.specs.Table.{lose};
 ghost use Rattle.fl_session.specs.Pages.{Rests};
 ghost use Rattle.fl_session.specs.Standing.{IsSamePages};
 
-use crate::stream::ConfigLines;
 use fl_base::NoMemory;
+use fl_config::Config;
 use std::alloc::Global;
 
 /// What a table does.
@@ -22,9 +22,9 @@ pub trait Stored: Drop {
     ghost lies: { Self → FlashState → Type 0 };
 
     /// Plans the table of a configuration of one table: takes all its memory.
-    fn plan<C: ConfigLines>(alloc: Global, config: &C) -> Result<Self, NoMemory>
-        requires { is_some (whole 0 (C.lines config.now)) ≡ true }
-        ensures { IfOk result (λ t. (f : FlashState) → (C.lines config.now).device ≡ Some f.geometry → f.blocks ≡ sum_by blocks_of (C.lines config.now).plans → lies t f) };
+    fn plan(alloc: Global, config: &Config) -> Result<Self, NoMemory>
+        requires { IsTrue (is_whole config.now) }
+        ensures { IfOk result (λ t. (f : FlashState) → config.now.device ≡ Some f.geometry → f.blocks ≡ sum_by blocks_of config.now.plans → lies t f) };
 
     /// What is in memory alone is lost.
     ghost settles: { (t : Self) (f : FlashState) (plan : Plan) (table : model.Table) → stands t f plan table → Rests f 0 plan (lose table) };

@@ -8,9 +8,9 @@ invariant-lines g l =
     let S = g.S.Source in
     record {
       numbered : l.number + l.lines.most < 2 ^ 32;
-      built : are_built (g.C.ConfigLines.lines l.config).plans ≡ true;
+      built : are_built (l.config).plans ≡ true;
       later : S.faults l.fn.script ≤ S.faults l.script;
-      configured : (knots : ℕ) (text : List ℕ) → S.left l.fn.script ≡ Some text → Configured knots text (g.C.ConfigLines.lines l.config) l.number l.lines (S.left l.script);
+      configured : (knots : ℕ) (text : List ℕ) → S.left l.fn.script ≡ Some text → Configured knots text (l.config) l.number l.lines (S.left l.script);
     }
 
 abbrev pub decreases-lines : goal.decreases-lines

@@ -1,8 +1,10 @@
-use Rattle.std.proofs.Common.{◌≡◌, ℕ, IsTrue, Some, refl, sym, ◌∙◌, ap, subst, arith}
+use Rattle.std.proofs.Common.{◌≡◌, ℕ, IsTrue, Some, Ok, Err, refl, sym, ◌∙◌, ap, subst, arith}
 use Rattle.fl_words.specs.Config.{whole}
+use Rattle.fl_words.specs.Medium.{header}
+use Rattle.fl_model.specs.Image.{medium_len}
 use Rattle.fl_session.proofs.Running.{nothing-added}
-use Rattle.fl_session.proofs.Ending.{ends-in_begin, some-of, commands-early}
-use Rattle.fl_session.proofs.Over.{whole-parts, reach-of, ends-opened, ends-refused, early-refused, make-refused, commands-words}
+use Rattle.fl_session.proofs.Ending.{ends-in_begin, commands-early}
+use Rattle.fl_session.proofs.Over.{whole-parts, reach-of, ends-opened, whole-of, makes-of, opens-as, opens-goes, media-goes_on, ends-refused, early-refused, make-refused, commands-words}
 use Rattle.fl_session.proofs.run.run_script.Goals as goal
 
 pub returns-in-Err-clause-ends : goal.returns-in-Err-clause-ends
@@ -11,18 +13,19 @@ returns-in-Err-clause-ends g c = λ text told l.
 
 pub run_session-requires-clause-reach : goal.run_session-requires-clause-reach
 run_session-requires-clause-reach g c = λ geometry e.
-    let lines = g.C.ConfigLines.lines c.read_config.new.config in
-    let w = some-of (whole 0 lines) (c.in-Ok-read_config.ensures.whole 0) in
-    reach-of 0 lines w.0 _ geometry (whole-parts 0 lines w.0 w.1) e (c.in-Ok-open_image.ensures.opens 0 w.0 w.1).len
+    let lines = c.read_config.new.config in
+    let w = whole-of 0 lines c.in-Ok-read_config.ensures.whole in
+    reach-of 0 lines w.0 _ geometry (whole-parts 0 lines w.0 w.1) e (opens-as w.0 _ (Ok tt) _ (c.in-Ok-open_image.ensures w.0 (makes-of 0 lines w.0 w.1))).len
 
 pub returns-in-Ok-open_image-clause-ends : goal.returns-in-Ok-open_image-clause-ends
 returns-in-Ok-open_image-clause-ends g c = λ text told l.
-    let lines = g.C.ConfigLines.lines c.read_config.new.config in
-    let w = some-of (whole 64 lines) (c.in-Ok-read_config.ensures.whole 64) in
+    let lines = c.read_config.new.config in
+    let w = whole-of 64 lines c.in-Ok-read_config.ensures.whole in
+    let goes = opens-goes (medium_len w.0) (header w.0) (g.M.Media.state c.args.media.now) (Ok tt) (g.M.Media.state c.open_image.new.media) (c.in-Ok-open_image.ensures w.0 (makes-of 64 lines w.0 w.1)) in
     ends-opened 64 text lines c.in-Ok-read_config.begun.first c.in-Ok-read_config.begun.number _ _ _ _ _ w.0
     (g.M.Media.state c.args.media.now) (g.M.Media.state c.open_image.new.media) (g.M.Media.state c.run_session.new.media) c.args.media.ghost_name _
-    (c.in-Ok-read_config.ensures.begins 64 text l) w.1 c.in-Ok-read_config.ensures.built told (c.in-Ok-open_image.ensures.opens 64 w.0 w.1) c.open_image.ensures.goes.faults c.run_session.ensures.goes.faults
-    (c.run_session.ensures.runs w.0 (ap (λ n. whole n lines) (whole-parts 64 lines w.0 w.1).knots_are ∙ w.1) (subst IsTrue (sym c.open_image.ensures.goes.tells) told))
+    (c.in-Ok-read_config.ensures.begins 64 text l) w.1 c.in-Ok-read_config.ensures.built told (opens-as w.0 (g.M.Media.state c.args.media.now) (Ok tt) (g.M.Media.state c.open_image.new.media) (c.in-Ok-open_image.ensures w.0 (makes-of 64 lines w.0 w.1))) goes.faults c.run_session.ensures.goes.faults
+    (c.run_session.ensures.runs w.0 (ap (λ n. whole n lines) (whole-parts 64 lines w.0 w.1).knots_are ∙ w.1) (subst IsTrue (sym goes.tells) told))
 
 pub returns-in-Ok-open_image-clause-words : goal.returns-in-Ok-open_image-clause-words
 returns-in-Ok-open_image-clause-words g c = commands-words _ c.run_session.ensures.statuses
@@ -32,18 +35,29 @@ returns-in-Ok-open_image-clause-early g c = commands-early _ _ _ _ _ c.run_sessi
 
 pub returns-clause-ends : goal.returns-clause-ends
 returns-clause-ends g c = λ text told l.
-    let lines = g.C.ConfigLines.lines c.read_config.new.config in
-    let w = some-of (whole 64 lines) (c.in-Ok-read_config.ensures.whole 64) in
+    let lines = c.read_config.new.config in
+    let w = whole-of 64 lines c.in-Ok-read_config.ensures.whole in
     rw c.status_of.ensures
     (ends-refused 64 text lines c.in-Ok-read_config.begun.first c.in-Ok-read_config.begun.number _ _ _ _ w.0 (g.M.Media.state c.args.media.now) (g.M.Media.state c.open_image.new.media)
-    c.in-Err-open_image.refusal (c.in-Ok-read_config.ensures.begins 64 text l) w.1 told (c.in-Err-open_image.ensures.opens 64 w.0 w.1))
+    c.in-Err-open_image.refusal (c.in-Ok-read_config.ensures.begins 64 text l) w.1 told (opens-as w.0 (g.M.Media.state c.args.media.now) (Err c.in-Err-open_image.refusal) (g.M.Media.state c.open_image.new.media) (c.in-Err-open_image.ensures w.0 (makes-of 64 lines w.0 w.1))))
 
 pub returns-clause-make : goal.returns-clause-make
 returns-clause-make g c = λ e.
-    let w = some-of (whole 0 (g.C.ConfigLines.lines c.read_config.new.config)) (c.in-Ok-read_config.ensures.whole 0) in
-    make-refused w.0 _ _ c.in-Err-open_image.refusal (c.in-Err-open_image.ensures.opens 0 w.0 w.1) (sym c.status_of.ensures ∙ e)
+    let w = whole-of 0 c.read_config.new.config c.in-Ok-read_config.ensures.whole in
+    make-refused w.0 _ _ c.in-Err-open_image.refusal (opens-as w.0 (g.M.Media.state c.args.media.now) (Err c.in-Err-open_image.refusal) (g.M.Media.state c.open_image.new.media) (c.in-Err-open_image.ensures w.0 (makes-of 0 c.read_config.new.config w.0 w.1))) (sym c.status_of.ensures ∙ e)
 
 pub returns-clause-early : goal.returns-clause-early
 returns-clause-early g c =
-    let w = some-of (whole 0 (g.C.ConfigLines.lines c.read_config.new.config)) (c.in-Ok-read_config.ensures.whole 0) in
-    rw c.status_of.ensures (early-refused w.0 _ _ _ c.in-Err-open_image.refusal (c.in-Err-open_image.ensures.opens 0 w.0 w.1))
+    let w = whole-of 0 c.read_config.new.config c.in-Ok-read_config.ensures.whole in
+    rw c.status_of.ensures (early-refused w.0 _ _ _ c.in-Err-open_image.refusal (opens-as w.0 (g.M.Media.state c.args.media.now) (Err c.in-Err-open_image.refusal) (g.M.Media.state c.open_image.new.media) (c.in-Err-open_image.ensures w.0 (makes-of 0 c.read_config.new.config w.0 w.1))))
+
+pub returns-in-Ok-open_image-clause-goes : goal.returns-in-Ok-open_image-clause-goes
+returns-in-Ok-open_image-clause-goes g c =
+    let w = whole-of 0 c.read_config.new.config c.in-Ok-read_config.ensures.whole in
+    let goes = opens-goes (medium_len w.0) (header w.0) (g.M.Media.state c.args.media.now) (Ok tt) (g.M.Media.state c.open_image.new.media) (c.in-Ok-open_image.ensures w.0 (makes-of 0 c.read_config.new.config w.0 w.1)) in
+    media-goes_on (g.M.Media.state c.args.media.now) (g.M.Media.state c.open_image.new.media) (g.M.Media.state c.run_session.new.media) goes c.run_session.ensures.goes
+
+pub returns-clause-goes : goal.returns-clause-goes
+returns-clause-goes g c =
+    let w = whole-of 0 c.read_config.new.config c.in-Ok-read_config.ensures.whole in
+    opens-goes (medium_len w.0) (header w.0) (g.M.Media.state c.args.media.now) (Err c.in-Err-open_image.refusal) (g.M.Media.state c.open_image.new.media) (c.in-Err-open_image.ensures w.0 (makes-of 0 c.read_config.new.config w.0 w.1))

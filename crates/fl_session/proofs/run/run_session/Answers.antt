@@ -5,7 +5,7 @@ use Rattle.fl_session.proofs.run.run_session.Goals as goal
 
 pub returns-clause-runs : goal.returns-clause-runs
 returns-clause-runs g c = λ configured w told.
-    let lines = g.C.ConfigLines.lines c.args.config.now in
+    let lines = c.args.config.now in
     let parts = whole-parts configured.knots lines configured w in
     let one = one-of configured.knots lines configured c.requires.built parts in
     let same : c.geometry.result ≡ configured.geometry = cc (c.geometry.ensures.device, parts.device) in
