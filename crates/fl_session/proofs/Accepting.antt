@@ -1,12 +1,11 @@
 -- The lines of a script that were run, and how a configuration goes on line by line.
-use Rattle.std.proofs.Common.{◌≡◌, ℕ, ◌+◌, ◌<◌, Bool, true, false, Option, Some, None, Result, Ok, Err, List, [], ◌∷◌, ◌++◌, length, refl, sym, ◌∙◌, ap, subst, append_assoc, append-nil, length-append, arith, nat_lt}
+use Rattle.std.proofs.Common.{◌≡◌, ℕ, ◌+◌, ◌<◌, Some, None, Result, Err, List, [], ◌∷◌, ◌++◌, length, refl, sym, ◌∙◌, ap, append_assoc, append-nil, length-append, arith}
 use Rattle.std.specs.Prelude.{if◌then◌else◌}
 use Rattle.std.proofs.lemmas.Bool.{lt-ltb}
 use Rattle.fl_words.specs.Command.{Command}
 use Rattle.fl_words.specs.Grammar.{LineFault, TooLong, command_of, words_command, words_in, without_return}
-use Rattle.fl_words.specs.Config.{Lines, configured, whole, no_lines, ConfigFault}
-use Rattle.fl_words.specs.Command as command
-use Rattle.fl_machine.specs.Script.{Start, Ready, Unended, BadLine, BadConfig, start_with, start_config, start_line, start_from, start_of, runs, runs_read, accepted, accepted_onto, first_refused, refused_onto}
+use Rattle.fl_words.specs.Config.{Lines, whole, no_lines}
+use Rattle.fl_machine.specs.Script.{Unended, start_line, start_from, start_of, runs, accepted, accepted_onto, first_refused, refused_onto}
 
 -- lines that are all run
 pub record AllRun (lines : List (List ℕ)) : Type 0 where

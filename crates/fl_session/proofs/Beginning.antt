@@ -1,17 +1,17 @@
 -- The lines of a configuration, one after another.
-use Rattle.std.proofs.Common.{◌≡◌, ℕ, ◌+◌, ◌-◌, ◌<◌, ◌≤◌, Bool, true, false, ◌⊎◌, inl, inr, Option, Some, None, Result, Ok, Err, List, [], ◌∷◌, ◌++◌, length, take, drop, nat_lt, refl, sym, ◌∙◌, ap, subst, append_assoc, append-nil, length-append, arith}
+use Rattle.std.proofs.Common.{◌≡◌, ℕ, ◌+◌, ◌<◌, Bool, true, false, ◌⊎◌, inl, inr, Option, Some, None, Result, Ok, Err, List, [], ◌∷◌, ◌++◌, length, refl, sym, ◌∙◌, ap, subst, append_assoc, length-append, arith}
 use Rattle.std.specs.Prelude.{if◌then◌else◌, IfOk, IfErr}
 use Rattle.fl_session.specs.declared.begin.Begun.{Begun}
-use Rattle.std.proofs.lemmas.Bool.{lt-ltb, le-ltb, ltb-false}
+use Rattle.std.proofs.lemmas.Bool.{le-ltb, ltb-false}
 use Rattle.fl_words.specs.Command as words
 use Rattle.fl_words.specs.Grammar as grammar
 use Rattle.fl_words.specs.Grammar.{command_of}
 use Rattle.fl_words.specs.Config.{Lines, no_lines, whole}
-use Rattle.fl_machine.specs.Script.{Start, Ready, Unended, BadLine, BadConfig, start_with, start_line, start_from, start_of, ended}
+use Rattle.fl_machine.specs.Script.{Unended, BadLine, BadConfig, start_with, start_from, start_of, ended}
 use Rattle.fl_script.specs.declared.command.Command as code
 use Rattle.fl_script.specs.CommandView.{command_view}
 use Rattle.fl_session.specs.Built.{is_built}
-use Rattle.fl_session.specs.Texts.{most_bytes, whole_lines, lines_read, lines_within, is_long}
+use Rattle.fl_session.specs.Texts.{most_bytes, lines_read, lines_within, is_long}
 use Rattle.fl_session.specs.Ends.{start_in, IsUnbuiltConfig}
 use Rattle.fl_session.specs.Given.{Given}
 use Rattle.fl_session.specs.Stream.{LinesState, Gives, TakesPart}
@@ -21,7 +21,7 @@ use Rattle.fl_session.specs.Begin.{IsFresh, GoesOn, EndsIt, Refuses, Unmakes, Is
 use Rattle.fl_session.specs.declared.lines.LinesFault.{LinesFault}
 use Rattle.fl_session.specs.declared.lines.LinesFault.TheVariants.{Failed, Long}
 use Rattle.fl_session.specs.declared.status.Status.{Status}
-use Rattle.fl_session.specs.declared.status.Status.TheVariants.{Done, Usage, Line, ScriptRead, OutWrite, MediaMake, Config as BadConfiguration, OtherConfig, ScriptLong, NoMemory, NotYet}
+use Rattle.fl_session.specs.declared.status.Status.TheVariants.{Line, ScriptRead, Config as BadConfiguration, ScriptLong, NotYet}
 use Rattle.fl_session.proofs.Reading.{given-none, given-all, given-taken, given-most}
 use Rattle.fl_session.proofs.Accepting.{Configures, configures-none, configures-end, configures-line, configures-more, too_long-command}
 use Rattle.fl_session.proofs.Loops.{NextLine, fits, too_long, next_line}

@@ -1,10 +1,10 @@
 -- A script of commands in their places is run to its end.
-use Rattle.std.proofs.Common.{◌≡◌, ℕ, ◌<◌, ◌≤◌, inl, inr, ◌⊎◌, Option, Some, None, List, [], length, take, refl, sym, ◌∙◌, ap, subst, arith}
+use Rattle.std.proofs.Common.{◌≡◌, ℕ, ◌≤◌, inl, inr, ◌⊎◌, Some, None, List, length, take, refl, sym, ◌∙◌, subst, arith}
 use Rattle.std.specs.List.{slice_get}
 use Rattle.fl_model.specs.Record.{Config}
 use Rattle.fl_model.specs.Image.{medium_len}
 use Rattle.fl_words.specs.Medium.{header}
-use Rattle.fl_machine.specs.Script.{Start, Ready, Unended, BadLine, BadConfig, first_refused}
+use Rattle.fl_machine.specs.Script.{Start, Ready, Unended, BadLine, BadConfig}
 use Rattle.fl_session.specs.Texts.{most_bytes}
 use Rattle.fl_session.specs.Ends.{Told, Ends, IsOwn, IsOther, Differs, IsWhole, RunsToEnd, start_in, EndsLine, EndsConfig, EndsOther}
 use Rattle.fl_session.specs.declared.status.Status.{Status}

@@ -1,5 +1,5 @@
 -- The configuration, line by line.
-use Rattle.std.proofs.Common.{◌≡◌, ℕ, ◌+◌, ◌<◌, ◌≤◌, Bool, true, false, Option, Some, None, Result, Ok, Err, List, [], ◌∷◌, ◌++◌, length, refl, sym, ◌∙◌, ap, subst, append_assoc, length-append, arith}
+use Rattle.std.proofs.Common.{◌≡◌, ℕ, true, false, Option, Some, None, Result, Ok, Err, List, [], ◌∷◌, ◌++◌, refl, sym, ◌∙◌, ap}
 use Rattle.std.specs.Prelude.{is_err}
 use Rattle.fl_plan.specs.declared.refusal.ConfigRefusal.{ConfigRefusal}
 use Rattle.fl_config.specs.Taking.{Takes}
@@ -8,8 +8,8 @@ use Rattle.fl_model.specs.Record.{Config, Plan}
 use Rattle.fl_words.specs.Command as command
 use Rattle.fl_words.specs.Command.{Command, TableLine}
 use Rattle.fl_words.specs.Config.{Lines, ConfigFault, configured, with_device, with_table_line, unless, first_fault, device_faults, table_faults, plan_of, whole, whole_of}
-use Rattle.fl_machine.specs.Script.{Start, start_line, start_config}
-use Rattle.fl_session.specs.Built.{are_built, is_built_config}
+use Rattle.fl_machine.specs.Script.{start_config}
+use Rattle.fl_session.specs.Built.{are_built}
 use Rattle.fl_session.specs.Next.{is_config_line}
 use Rattle.fl_session.specs.Begin.{GoesOn, Unmakes}
 

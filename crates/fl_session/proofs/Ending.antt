@@ -1,30 +1,26 @@
 -- How a run ends, from how its configuration was read, how its image was opened and how its commands were run.
-use Rattle.std.proofs.Common.{◌≡◌, ℕ, ◌+◌, ◌-◌, ◌^◌, ◌<◌, ◌≤◌, Bool, true, false, ◌⊎◌, inl, inr, IsTrue, Option, Some, None, Result, Ok, Err, List, [], ◌∷◌, ◌++◌, length, take, drop, nat_lt, refl, sym, ◌∙◌, ap, subst, append_assoc, append-nil, length-append, arith}
+use Rattle.std.proofs.Common.{◌≡◌, ℕ, ◌+◌, ◌≤◌, Bool, true, false, inl, inr, Option, Some, None, List, [], ◌∷◌, ◌++◌, length, take, drop, refl, sym, ◌∙◌, ap, subst, append_assoc, length-append, arith}
 use Rattle.std.specs.Prelude.{if◌then◌else◌, is_some}
 use Rattle.std.proofs.lemmas.Bool.{lt-ltb, le-ltb, ltb-false, ltb-true}
 use Rattle.std.proofs.Math.Seq.{take-append-add, drop-append-add}
-use Rattle.fl_base.specs.Causes.{Appends}
 use Rattle.fl_model.specs.Record.{Config}
-use Rattle.fl_model.specs.Image.{medium_len}
 use Rattle.fl_flash.specs.Media.{MediaState}
 use Rattle.fl_words.specs.Command.{Command}
-use Rattle.fl_words.specs.Grammar.{command_of}
 use Rattle.fl_words.specs.Config.{Lines, whole}
 use Rattle.fl_machine.specs.Machine.{Machine}
-use Rattle.fl_machine.specs.Script.{Start, Ready, Unended, BadLine, BadConfig, start_with, start_of, ended, accepted, first_refused, StandsFor, StandsAfter, Ran, RanInto, RoseBy}
+use Rattle.fl_machine.specs.Script.{Start, Ready, Unended, BadLine, BadConfig, start_with, start_of, ended, StandsFor, StandsAfter, Ran, RanInto, RoseBy}
 use Rattle.fl_session.specs.Texts.{most_bytes, whole_lines, lines_read, lines_within, is_long}
 use Rattle.fl_session.specs.Stream.{LinesState}
-use Rattle.fl_session.specs.Given.{Given}
-use Rattle.fl_session.specs.Execute.{Around, IsReady, IsAlike, StandsAlike, RanAll, RanPart}
-use Rattle.fl_session.specs.Loop.{Tail, lines_in, EndsAll, EndsBad, EndsUnbuilt, EndsInReply, EndsTaken, EndsCommands}
+use Rattle.fl_session.specs.Execute.{Around, IsReady, StandsAlike, RanAll, RanPart}
+use Rattle.fl_session.specs.Loop.{Tail, EndsCommands}
 use Rattle.fl_script.specs.declared.command.Command as code
 use Rattle.fl_session.specs.Run.{tail_of, RunsFrom, IsOfCommands}
-use Rattle.fl_session.specs.Begin.{AtCommand, AtEnd, EndsInConfig, EndsBefore, EndsBegin, BeginsAt, IsUnended}
-use Rattle.fl_session.specs.Ends.{Told, IsUntouched, IsOwn, RunsAll, RunsInto, IsOther, start_in, EndsEarly, EndsDone, EndsLine, EndsInto, EndsMaking, EndsConfig, EndsOther, EndsAt, EndsRead, Ends, IsEarlyBy}
+use Rattle.fl_session.specs.Begin.{AtCommand, AtEnd, EndsBegin, BeginsAt, IsUnended}
+use Rattle.fl_session.specs.Ends.{Told, IsUntouched, IsOwn, RunsAll, RunsInto, start_in, EndsEarly, EndsDone, EndsLine, EndsInto, EndsConfig, Ends, IsEarlyBy}
 use Rattle.fl_session.specs.declared.status.Status.{Status}
-use Rattle.fl_session.specs.declared.status.Status.TheVariants.{Done, Usage, Line, ScriptRead, OutWrite, MediaMake, Config as BadConfiguration, OtherConfig, ScriptLong, NoMemory, NotYet}
+use Rattle.fl_session.specs.declared.status.Status.TheVariants.{Done, Line, ScriptRead, OutWrite, Config as BadConfiguration, ScriptLong, NotYet}
 use Rattle.fl_session.proofs.Running.{ran-none, ran-seen, ran_into-seen}
-use Rattle.fl_session.proofs.Ready.{stands-ready, ready-room, after-alike}
+use Rattle.fl_session.proofs.Ready.{after-alike}
 
 unended-untouched : (start : Start) (told : Told) → IsUnended start → IsUntouched told → EndsEarly start told
 unended-untouched (Unended config n) told u h = h

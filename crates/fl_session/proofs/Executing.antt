@@ -1,5 +1,5 @@
 -- A command that was executed.
-use Rattle.std.proofs.Common.{◌≡◌, ℕ, Bool, true, false, IsTrue, Option, Some, None, Result, Ok, Err, List, [], ◌∷◌, ◌++◌, refl, sym, ◌∙◌, ap, subst, append-nil}
+use Rattle.std.proofs.Common.{◌≡◌, ℕ, IsTrue, Option, Result, Ok, Err, List, [], ◌∷◌, refl, append-nil}
 use Rattle.fl_base.specs.Causes.{Rose}
 use Rattle.fl_model.specs.Record.{Config}
 use Rattle.fl_words.specs.Command.{Command}

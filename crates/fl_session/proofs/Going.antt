@@ -1,5 +1,5 @@
 -- A flash over several calls.
-use Rattle.std.proofs.Common.{◌≡◌, ℕ, ◌+◌, ◌≤◌, IsTrue, List, length, take, drop, refl, sym, ◌∙◌, ap, subst, arith, le_trans}
+use Rattle.std.proofs.Common.{◌≡◌, ◌+◌, IsTrue, take, drop, refl, sym, ◌∙◌, subst, arith, le_trans}
 use Rattle.fl_flash.specs.Flash.{FlashState, Goes}
 use Rattle.fl_flash.specs.Places.{extent}
 

@@ -1,5 +1,5 @@
 -- The loop over the commands of a script, step by step.
-use Rattle.std.proofs.Common.{◌≡◌, ℕ, suc, ◌+◌, ◌-◌, ◌<◌, ◌≤◌, Bool, true, false, ◌⊎◌, inl, inr, Option, Some, None, Result, Ok, Err, List, [], ◌∷◌, ◌++◌, length, take, drop, nat_lt, refl, sym, ◌∙◌, ap, subst, append_assoc, append-nil, length-append, arith}
+use Rattle.std.proofs.Common.{◌≡◌, ℕ, ◌+◌, ◌<◌, ◌≤◌, Bool, true, false, inl, inr, Option, Some, None, Result, Ok, Err, List, [], ◌∷◌, ◌++◌, length, take, refl, sym, ◌∙◌, ap, subst, append_assoc, length-append, arith}
 use Rattle.std.proofs.lemmas.Bool.{ltb-false}
 use Rattle.fl_model.specs.Record.{Config}
 use Rattle.fl_words.specs.Command.{Command}
@@ -8,8 +8,8 @@ use Rattle.fl_words.specs.Grammar.{command_of}
 use Rattle.fl_machine.specs.Machine.{Machine}
 use Rattle.fl_machine.specs.Script.{Ran, runs, runs_read, accepted, first_refused}
 use Rattle.fl_session.specs.Texts.{whole_lines, lines_within}
-use Rattle.fl_session.specs.Execute.{Executes, IsReady, Around, RanAll, RanPart}
-use Rattle.fl_session.specs.Stream.{LinesState, Advances, Gives, GivesWhole, GivesLast, GivesLong, TakesPart}
+use Rattle.fl_session.specs.Execute.{Executes, Around, RanAll}
+use Rattle.fl_session.specs.Stream.{LinesState, Gives, TakesPart}
 use Rattle.fl_script.specs.declared.command.Command as code
 use Rattle.fl_script.specs.CommandView.{command_view}
 use Rattle.fl_session.specs.Next.{IsUnbuilt, EndsThere, NextRun}
@@ -17,7 +17,7 @@ use Rattle.fl_session.specs.Loop.{Tail, lines_in, EndsAll, EndsBad, EndsUnbuilt,
 use Rattle.fl_session.specs.declared.lines.LinesFault.{LinesFault}
 use Rattle.fl_session.specs.declared.lines.LinesFault.TheVariants.{Failed, Long}
 use Rattle.fl_session.specs.declared.status.Status.{Status}
-use Rattle.fl_session.specs.declared.status.Status.TheVariants.{Done, Usage, Line, ScriptRead, OutWrite, MediaMake, Config as BadConfiguration, OtherConfig, ScriptLong, NoMemory, NotYet}
+use Rattle.fl_session.specs.declared.status.Status.TheVariants.{Line, ScriptRead, ScriptLong, NotYet}
 use Rattle.fl_session.specs.Given.{Given}
 use Rattle.fl_session.proofs.Reading.{given-none, given-line, given-last, given-all, given-taken, given-most, given-too_long, IsTooLong}
 use Rattle.fl_session.proofs.Accepting.{AllRun, all_run-none, all_run-more, all_run-all, all_run-refused, accepted-more, too_long-command}

@@ -1,5 +1,5 @@
 -- The next line behind a configuration.
-use Rattle.std.proofs.Common.{◌≡◌, ℕ, Bool, true, false, Option, Some, None, Result, Ok, Err, List, refl, ap, ◌∙◌}
+use Rattle.std.proofs.Common.{◌≡◌, ℕ, Bool, true, false, Some, None, Result, Ok, Err, List, refl, ap, ◌∙◌}
 use Rattle.fl_words.specs.Command as words
 use Rattle.fl_words.specs.Grammar as grammar
 use Rattle.fl_words.specs.Grammar.{command_of}
@@ -7,8 +7,7 @@ use Rattle.fl_machine.specs.Script.{runs, runs_read, runs_command}
 use Rattle.fl_session.specs.declared.lines.LinesFault.{LinesFault}
 use Rattle.fl_session.specs.declared.lines.LinesFault.TheVariants.{Failed, Long}
 use Rattle.fl_session.specs.declared.status.Status.{Status}
-use Rattle.fl_session.specs.declared.status.Status.TheVariants.{Done, Usage, Line, ScriptRead, OutWrite, MediaMake, Config, OtherConfig, ScriptLong, NoMemory, NotYet}
-use Rattle.fl_session.specs.Built.{is_built, IsRunnable}
+use Rattle.fl_session.specs.declared.status.Status.TheVariants.{Line, NotYet}
 use Rattle.fl_session.specs.Next.{EndsThere, IsRefused, IsBuilt, IsToRun, is_config_line}
 
 pub ends-there : (given : Result Bool LinesFault) (line : List ℕ) (number : ℕ) (P Q : Type 0) (status : Status) → (P → Q) → EndsThere given line number P status → EndsThere given line number Q status

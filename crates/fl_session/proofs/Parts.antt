@@ -1,7 +1,7 @@
 -- The lines of a text of which the first line is known.
-use Rattle.std.proofs.Common.{◌≡◌, ℕ, ◌+◌, ◌-◌, ◌<◌, ◌≤◌, Bool, true, false, cond, nat_lt, nat_eq, ◌==◌, Option, Some, None, List, [], ◌∷◌, ◌++◌, length, take, suc, inl, inr, refl, sym, ◌∙◌, ap, subst, arith, append_assoc, append-nil, length-append}
+use Rattle.std.proofs.Common.{◌≡◌, ℕ, ◌+◌, ◌-◌, ◌<◌, Bool, true, false, nat_lt, ◌==◌, None, List, [], ◌∷◌, ◌++◌, length, take, suc, inl, inr, refl, sym, ◌∙◌, ap, arith, length-append}
 use Rattle.std.specs.Prelude.{All, unwrap_or, if◌then◌else◌}
-use Rattle.std.specs.List.{slice_split, last_or, onto_first}
+use Rattle.std.specs.List.{last_or}
 use Rattle.std.proofs.lemmas.List.Splits.{slice_split_at, slice_split_none, length-slice_split}
 use Rattle.std.proofs.lemmas.Bool.{cases_lt, lt-ltb, le-ltb, ne_eqb}
 use Rattle.std.proofs.Math.Seq.{take-append-add}

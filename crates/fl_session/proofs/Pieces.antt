@@ -1,5 +1,5 @@
 -- The room of a stream of lines.
-use Rattle.std.proofs.Common.{◌≡◌, ℕ, zero, suc, true, false, inl, inr, add-one, ◌+◌, ◌-◌, ◌<◌, ◌≤◌, Bool, Option, Some, None, Result, Ok, Err, List, [], ◌∷◌, ◌++◌, length, take, drop, min, refl, sym, ◌∙◌, ap, subst, append_assoc, append-nil, length-append, arith}
+use Rattle.std.proofs.Common.{◌≡◌, ℕ, suc, true, false, inl, add-one, ◌+◌, ◌-◌, ◌<◌, ◌≤◌, Bool, Option, Some, None, Ok, List, ◌∷◌, ◌++◌, length, take, drop, refl, sym, ◌∙◌, ap, subst, append_assoc, append-nil, arith}
 use Rattle.std.specs.List.{slice_range, copy_within}
 use Rattle.std.proofs.lemmas.List.{take-append-drop, take-append-le, take-take, length-take, length-take-le, length-drop}
 use Rattle.std.proofs.Math.Seq.{take-append-add, take-length}

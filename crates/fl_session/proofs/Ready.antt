@@ -1,5 +1,5 @@
 -- The states for which a medium stands are states between two runs.
-use Rattle.std.proofs.Common.{◌≡◌, ℕ, ◌+◌, ◌-◌, ◌≤◌, inl, inr, Option, Some, None, List, [], ◌∷◌, ◌++◌, map, length, refl, sym, ◌∙◌, ap, subst, arith}
+use Rattle.std.proofs.Common.{◌≡◌, ℕ, ◌+◌, inl, inr, Option, List, [], ◌∷◌, map, refl, sym, ap, subst, arith}
 use Rattle.std.specs.List.{AllByRecursion}
 use Rattle.std.specs.Prelude.{IfSome}
 use Rattle.fl_model.specs.Record.{Plan, Config}
@@ -9,9 +9,9 @@ use Rattle.fl_model.specs.Image.{AreTableImages}
 use Rattle.fl_words.specs.Medium.{IsImage}
 use Rattle.fl_machine.specs.Machine.{Machine, begins, fresh_tables}
 use Rattle.fl_machine.specs.Found.{HasRoom, IsAtRest}
-use Rattle.fl_machine.specs.Script.{Start, Ready, start_of, ended, StandsFor, StandsAfter}
-use Rattle.fl_machine.proofs.Accepted.{StartHasRoom, accepted-room, accepted-room-ended}
-use Rattle.fl_session.specs.Execute.{IsReady, IsAlike, StandsAlike}
+use Rattle.fl_machine.specs.Script.{Start, Ready, StandsFor, StandsAfter}
+use Rattle.fl_machine.proofs.Accepted.{StartHasRoom}
+use Rattle.fl_session.specs.Execute.{IsReady, StandsAlike}
 
 fresh-rest : (plans : List Plan) → AllByRecursion IsAtRest (map fresh_table plans)
 fresh-rest [] = tt

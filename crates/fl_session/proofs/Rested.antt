@@ -1,5 +1,5 @@
 -- A session that isn't mounted, and the medium on which it stands.
-use Rattle.std.proofs.Common.{◌≡◌, ℕ, zero, suc, ◌+◌, ◌-◌, ◌*◌, ◌<◌, ◌≤◌, Bool, true, false, cond, ◌&&◌, nat_lt, nat_le, nat_eq, ◌==◌, inl, inr, IsTrue, Option, Some, None, List, [], ◌∷◌, ◌++◌, map, length, take, drop, sum_by, slice_range, refl, sym, ◌∙◌, ap, subst, length-append, arith}
+use Rattle.std.proofs.Common.{◌≡◌, ℕ, zero, suc, ◌+◌, ◌-◌, ◌*◌, ◌≤◌, Bool, true, false, ◌&&◌, nat_lt, nat_le, ◌==◌, inl, inr, IsTrue, Some, None, List, [], ◌∷◌, ◌++◌, map, length, take, drop, slice_range, refl, sym, ◌∙◌, ap, subst, length-append, arith}
 use Rattle.std.specs.Prelude.{MatchBool, replicate}
 use Rattle.std.specs.List.{AllByRecursion, list_all}
 use Rattle.std.proofs.lemmas.List.{drop-replicate, length-replicate}
@@ -8,21 +8,21 @@ use Rattle.std.proofs.lemmas.Bool.{leb-true, le-ltb, eqb-true}
 use Rattle.fl_flash.specs.Flash.{FlashState, page_at}
 use Rattle.fl_flash.specs.Media.{MediaState}
 use Rattle.fl_ring.specs.Device.{SameDevice, ArmsAs}
-use Rattle.fl_model.specs.Record.{Plan, Config, has_index, has_var, blocks_of}
+use Rattle.fl_model.specs.Record.{Plan, Config}
 use Rattle.fl_model.specs.Ring.{IsShape}
 use Rattle.fl_model.specs.Table.{Table, DataRing, shape_of, fresh_table, lose}
 use Rattle.fl_model.specs.Layout.{is_blank}
 use Rattle.fl_model.specs.Image.{medium_len, IsTableImage, AreTableImages}
 use Rattle.fl_model.proofs.Plain.{IsPlain}
 use Rattle.fl_words.specs.Medium.{header, IsImage}
-use Rattle.fl_machine.specs.Machine.{Machine, begins, fresh_tables, no_cursors}
+use Rattle.fl_machine.specs.Machine.{Machine, fresh_tables}
 use Rattle.fl_machine.specs.Found.{HasRoom}
 use Rattle.fl_machine.specs.Script.{StandsFor, StandsAfter}
 use Rattle.fl_session.specs.Built.{are_built, is_built_plan}
-use Rattle.fl_session.specs.Ends.{IsOwn, new_content}
+use Rattle.fl_session.specs.Ends.{new_content}
 use Rattle.fl_session.specs.Opening.{Opened}
 use Rattle.fl_session.specs.Pages.{Rests, place_in}
-use Rattle.fl_session.specs.Standing.{SessionStands, IsOnMedium, RestsOn}
+use Rattle.fl_session.specs.Standing.{SessionStands, RestsOn}
 use Rattle.fl_session.proofs.Images.{image-rests, rests-image, blank-rests}
 
 and-left : (a b : Bool) → (a && b) ≡ true → a ≡ true

@@ -1,7 +1,6 @@
 -- The commands of a session, each by its step.
-use Rattle.std.proofs.Common.{◌≡◌, ℕ, Bool, true, false, IsTrue, Option, Some, None, Result, Ok, Err, List, [], ◌∷◌, ◌++◌, map, refl, sym, ◌∙◌, ap, subst}
+use Rattle.std.proofs.Common.{◌≡◌, ℕ, Bool, true, false, Option, Some, None, Result, Ok, List, [], ◌∷◌, map, refl, sym, ap, subst}
 use Rattle.std.specs.Prelude.{MatchBool}
-use Rattle.fl_base.specs.Causes.{Rose}
 use Rattle.fl_flash.specs.Flash.{FlashState}
 use Rattle.fl_model.specs.Record.{Config, Plan}
 use Rattle.fl_model.specs.Table.{Table, lose}
@@ -9,16 +8,15 @@ use Rattle.fl_words.specs.Command as command
 use Rattle.fl_words.specs.Command.{Command}
 use Rattle.fl_words.specs.Reply as reply
 use Rattle.fl_words.specs.Reply.{Reply, text, texts}
-use Rattle.fl_machine.specs.Machine.{Machine, stopped, no_cursors}
-use Rattle.fl_machine.specs.Step.{Moment, Step}
-use Rattle.fl_machine.specs.Script.{runs_command}
+use Rattle.fl_machine.specs.Machine.{Machine, stopped}
+use Rattle.fl_machine.specs.Step.{Moment}
 use Rattle.fl_script.specs.Written.{Written}
 use Rattle.fl_script.specs.declared.command.Command as code
 use Rattle.fl_script.specs.CommandView.{command_view}
-use Rattle.fl_session.specs.Built.{is_built, IsRunnable}
+use Rattle.fl_session.specs.Built.{IsRunnable}
 use Rattle.fl_session.specs.Execute.{Executes}
 use Rattle.fl_session.specs.Pages.{Rests}
-use Rattle.fl_session.specs.Standing.{SessionStands, IsOnMedium}
+use Rattle.fl_session.specs.Standing.{SessionStands}
 use Rattle.fl_session.proofs.Executing.{executes-by, one-text}
 use Rattle.fl_session.proofs.Running.{nothing-added}
 

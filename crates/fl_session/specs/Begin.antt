@@ -3,18 +3,18 @@ use Rattle.std.specs.Prelude.{◌≡◌, ℕ, ◌+◌, ◌<◌, ◌≤◌, ◌^�
 use Rattle.fl_model.specs.Record.{Config}
 use Rattle.fl_words.specs.Command.{Command}
 use Rattle.fl_words.specs.Config.{Lines, whole}
-use Rattle.fl_machine.specs.Script.{Start, Ready, Unended, BadLine, BadConfig, start_with, start_line, start_from, start_of}
+use Rattle.fl_machine.specs.Script.{Start, Ready, Unended, BadLine, BadConfig, start_with, start_line, start_of}
 use Rattle.fl_session.specs.Built.{IsRunnable, is_built, is_built_config}
-use Rattle.fl_session.specs.Texts.{most_bytes, whole_lines, lines_read, lines_within}
+use Rattle.fl_session.specs.Texts.{most_bytes, whole_lines, lines_read}
 use Rattle.fl_session.specs.Ends.{start_in, IsUnbuiltConfig}
-use Rattle.fl_session.specs.Next.{IsUnbuilt, IsToRun}
+use Rattle.fl_session.specs.Next.{IsToRun}
 use Rattle.fl_words.specs.Grammar.{command_of}
 use Rattle.fl_script.specs.declared.command.Command as code
 use Rattle.fl_script.specs.CommandView.{command_view}
 use Rattle.fl_session.specs.Given.{Given}
 use Rattle.fl_session.specs.Stream.{LinesState}
 use Rattle.fl_session.specs.declared.status.Status.{Status}
-use Rattle.fl_session.specs.declared.status.Status.TheVariants.{Done, Usage, Line, ScriptRead, OutWrite, MediaMake, Config as BadConfiguration, OtherConfig, ScriptLong, NoMemory, NotYet}
+use Rattle.fl_session.specs.declared.status.Status.TheVariants.{Line, ScriptRead, Config as BadConfiguration, ScriptLong, NotYet}
 
 -- a stream of which nothing was read
 pub record IsFresh (state : LinesState) : Type 0 where

@@ -1,10 +1,8 @@
 -- How the commands of a script are run one after another, from a first one on that was read.
-use Rattle.std.specs.Prelude.{◌≡◌, ℕ, ◌+◌, ◌<◌, ◌≤◌, Bool, false, Option, Some, None, Ok, List, [], ◌∷◌, ◌++◌, length, take, drop}
+use Rattle.std.specs.Prelude.{◌≡◌, ℕ, ◌+◌, ◌<◌, ◌≤◌, Bool, false, Option, Some, None, List, ◌∷◌, ◌++◌, length, take, drop}
 use Rattle.fl_words.specs.Command.{Command}
-use Rattle.fl_words.specs.Grammar.{command_of}
 use Rattle.fl_machine.specs.Machine.{Machine}
 use Rattle.fl_machine.specs.Script.{accepted, first_refused}
-use Rattle.fl_session.specs.Built.{is_built}
 use Rattle.fl_session.specs.Texts.{whole_lines, lines_within}
 use Rattle.fl_session.specs.Execute.{Around, RanAll, RanPart}
 use Rattle.fl_session.specs.Next.{IsUnbuilt}

@@ -9,7 +9,7 @@ use Rattle.fl_script.specs.CommandView.{command_view}
 use Rattle.fl_session.specs.declared.lines.LinesFault.{LinesFault}
 use Rattle.fl_session.specs.declared.lines.LinesFault.TheVariants.{Failed, Long}
 use Rattle.fl_session.specs.declared.status.Status.{Status}
-use Rattle.fl_session.specs.declared.status.Status.TheVariants.{Done, Usage, Line, ScriptRead, OutWrite, MediaMake, Config, OtherConfig, ScriptLong, NoMemory, NotYet}
+use Rattle.fl_session.specs.declared.status.Status.TheVariants.{Line, ScriptRead, ScriptLong, NotYet}
 use Rattle.fl_session.specs.Stream.{LinesState, Advances}
 use Rattle.fl_session.specs.Built.{is_built, IsRunnable}
 

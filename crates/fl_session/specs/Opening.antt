@@ -1,5 +1,5 @@
 -- What the opening of an image does to its medium.
-use Rattle.std.specs.Prelude.{◌≡◌, ℕ, ◌≤◌, IsTrue, Result, Ok, Err, List, [], length}
+use Rattle.std.specs.Prelude.{◌≡◌, ℕ, ◌≤◌, IsTrue, Result, Ok, Err, [], length}
 use Rattle.fl_config.specs.declared.image.ImageRefusal.{ImageRefusal}
 use Rattle.fl_config.specs.declared.image.ImageRefusal.TheVariants.{Media, Other}
 use Rattle.fl_base.specs.Causes.{Rose}

@@ -1,12 +1,10 @@
 -- What a session over an opened image does.
-use Rattle.std.specs.Prelude.{◌≡◌, ℕ, ◌+◌, ◌*◌, ◌≤◌, IsTrue, true, Option, Some, None, List, [], length, ◌++◌, sum_by}
+use Rattle.std.specs.Prelude.{◌≡◌, ℕ, ◌*◌, ◌≤◌, true, Option, Some, None, List, [], ◌++◌}
 use Rattle.fl_base.specs.declared.types.Geometry.{Geometry}
 use Rattle.fl_flash.specs.Media.{MediaState}
 use Rattle.fl_flash.specs.Room.{RoomSizes}
 use Rattle.fl_model.specs.Record.{Config}
-use Rattle.fl_model.specs.Image.{medium_len}
 use Rattle.fl_machine.specs.Machine.{Machine}
-use Rattle.fl_machine.specs.Script.{StandsAfter}
 use Rattle.fl_script.specs.declared.command.Command as code
 use Rattle.fl_session.specs.declared.status.Status.{Status}
 use Rattle.fl_session.specs.declared.status.Status.TheVariants.{Done, Line, ScriptRead, OutWrite, MediaMake, OtherConfig, ScriptLong, NotYet}
@@ -15,7 +13,6 @@ use Rattle.fl_config.specs.declared.image.ImageRefusal.TheVariants.{Media, Other
 use Rattle.fl_session.specs.Stream.{LinesState}
 use Rattle.fl_session.specs.Execute.{Around}
 use Rattle.fl_session.specs.Loop.{Tail, EndsCommands}
-use Rattle.fl_session.specs.Standing.{RestsOn}
 
 -- the lines from the command on that ended the configuration
 abbrev pub tail_of : ℕ → LinesState → List ℕ → Tail

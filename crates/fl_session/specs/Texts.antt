@@ -1,5 +1,5 @@
 -- The lines that are read of a script, however long it is.
-use Rattle.std.specs.Prelude.{ℕ, ◌-◌, ◌^◌, Bool, nat_lt, ◌==◌, unwrap_or, None, List, [], ◌∷◌, ◌++◌, length, take, if◌then◌else◌}
+use Rattle.std.specs.Prelude.{ℕ, ◌^◌, Bool, nat_lt, ◌==◌, unwrap_or, None, List, [], ◌∷◌, ◌++◌, length, take, if◌then◌else◌}
 use Rattle.std.specs.List.{slice_split, last_or}
 use Rattle.fl_words.specs.Grammar.{lines_of}
 

@@ -7,11 +7,13 @@ mod commands;
 mod executor;
 mod lines;
 mod next;
-mod run;
 mod session;
 mod status;
 mod stored;
+mod unmounted;
+mod whole_run;
 mod words;
 
 pub use status::Status;
+pub use whole_run::{KNOTS, run};
 pub use words::image_of;

@@ -1,4 +1,4 @@
-use Rattle.std.proofs.Common.{refl, sym, ◌∙◌}
+use Rattle.std.proofs.Common.{refl}
 use Rattle.fl_script.specs.CommandView.{command_view}
 use Rattle.fl_session.proofs.Configuring.{configured-unmakes, takes-ok}
 use Rattle.fl_session.proofs.begin.configure.Goals as goal

@@ -1,4 +1,4 @@
-use Rattle.std.proofs.Common.{◌≡◌, ℕ, ◌+◌, ◌<◌, ◌≤◌, List, Some, None, refl, sym, ◌∙◌, ap, subst, arith, le_trans}
+use Rattle.std.proofs.Common.{ap, arith, le_trans}
 use Rattle.fl_words.specs.Config.{Lines}
 use Rattle.fl_session.specs.Built.{are_built}
 use Rattle.fl_session.proofs.Beginning.{configured-first, configured-more, at-command, at-end, ends-begin, ends-incomplete, ends-empty, configure-ends, finish-begins, finish-ends}

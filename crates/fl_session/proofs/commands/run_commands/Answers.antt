@@ -1,4 +1,4 @@
-use Rattle.std.proofs.Common.{◌≡◌, ℕ, ◌+◌, ◌++◌, ◌<◌, ◌≤◌, List, Some, Ok, Err, refl, sym, ◌∙◌, ap, subst, arith, le_trans}
+use Rattle.std.proofs.Common.{refl, arith, le_trans}
 use Rattle.fl_session.proofs.Nexts.{runs-runnable}
 use Rattle.fl_session.proofs.Going.{goes-same, goes-on}
 use Rattle.fl_session.proofs.Loops.{in_hand-first, all_done-next, ends-in_reply, step-result, then-in_hand, then-done, then-ends}

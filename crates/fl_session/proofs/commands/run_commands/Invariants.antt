@@ -3,7 +3,6 @@ use Rattle.fl_model.specs.Record.{Config}
 use Rattle.fl_flash.specs.Flash.{Goes}
 use Rattle.fl_script.specs.CommandView.{command_view}
 use Rattle.fl_session.specs.Next.{IsToRun}
-use Rattle.fl_session.specs.Loop.{Tail}
 use Rattle.fl_session.proofs.Loops.{InHand}
 use Rattle.fl_session.proofs.commands.run_commands.Given as goal
 

@@ -1,4 +1,4 @@
-use Rattle.std.proofs.Common.{◌≡◌, ℕ, ◌≤◌, List, length, sym, ◌∙◌, ap, subst, Some, take}
+use Rattle.std.proofs.Common.{◌≡◌, ◌≤◌, length, subst, Some, take}
 use Rattle.std.specs.Prelude.{slice_get}
 use Rattle.fl_session.specs.Stream.{IsOneLine}
 use Rattle.fl_session.proofs.Pieces.{advances-line}

@@ -1,9 +1,8 @@
-use Rattle.std.proofs.Common.{◌≡◌, ℕ, ◌+◌, ◌-◌, ◌≤◌, ◌<◌, List, ◌++◌, length, take, drop, refl, sym, ◌∙◌, ap, subst, arith, vec_len}
-use Rattle.std.specs.List.{slice_range}
+use Rattle.std.proofs.Common.{◌≡◌, ◌-◌, ◌≤◌, ◌<◌, ◌++◌, length, take, drop, refl, sym, ◌∙◌, ap, arith}
 use Rattle.std.proofs.lemmas.List.{length-take-le, length-drop}
 use Rattle.fl_base.specs.declared.stream.SourceFailed.{SourceFailed}
 use Rattle.fl_session.specs.Stream.{LinesState}
-use Rattle.fl_session.proofs.Pieces.{front-read, slice-short, fills, copied}
+use Rattle.fl_session.proofs.Pieces.{front-read, fills, copied}
 use Rattle.fl_session.proofs.lines.Lines.fill.Goals as goal
 
 pub returns-clause-taken : goal.returns-clause-taken

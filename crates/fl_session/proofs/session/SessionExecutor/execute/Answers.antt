@@ -1,4 +1,4 @@
-use Rattle.std.proofs.Common.{◌≡◌, sym, subst, arith}
+use Rattle.std.proofs.Common.{arith}
 use Rattle.fl_base.specs.declared.stream.SinkFailed.{SinkFailed}
 use Rattle.fl_session.proofs.Going.{goes-same}
 use Rattle.fl_session.proofs.StepsOf.{default-view, executes-nothing}

@@ -22,6 +22,7 @@ use crate::executor::Executor;
 use crate::lines::Lines;
 use crate::session::Session;
 use crate::stored::Stored;
+use crate::unmounted::Unmounted;
 use crate::{Status, image_of};
 use fl_base::{NoMemory, Sink, Source};
 use fl_config::{Config, ImageRefusal};
@@ -171,7 +172,39 @@ fn run_script<T: Stored, M: Media, S: Source, K: Sink>(
 
 /// Runs a script over an image: reads the words and the configuration, opens the image, and executes line after line.
 /// Each reply is written before the next line is read.
-pub fn run_over<T: Stored, M: Media, S: Source, K: Sink>(
+pub fn run<M: Media, S: Source, K: Sink>(
+    alloc: Global,
+    words: &[String],
+    media: &mut M,
+    script: &mut S,
+    out: &mut K,
+) -> Status
+    // What is written is a run of the machine, and the medium stands for the state after it.
+    ensures run { (text : List ℕ) → IsTrue (M.state media.old).tells → S.left script.old ≡ Some text →
+        Ends KNOTS text (told_of (M.state media.old) (M.state media.new) (S.left script.new) (K.written out.old) (K.written out.new)) result }
+
+    // Each status has its cause.
+    ensures usage { (result ≡ Status.Usage) ↔ (image_named (map (λ word. string_bytes word) words.now) ≡ None) }
+    ensures read { result ≡ Status.ScriptRead → Rose (S.faults script.old) (S.faults script.new) }
+    ensures write { result ≡ Status.OutWrite → Rose (K.faults out.old) (K.faults out.new) }
+    ensures make { result ≡ Status.MediaMake → Rose (M.state media.old).faults (M.state media.new).faults }
+
+    // An early status leaves medium and sink as they were, whoever tells the script.
+    ensures early { IsEarlyBy (M.state media.old) (M.state media.new) (K.written out.old) (K.written out.new) result }
+    ensures goes { MediaGoes (M.state media.old) (M.state media.new) }
+    ensures later { (S.faults script.old ≤ S.faults script.new) × (K.faults out.old ≤ K.faults out.new) }
+
+    // Where no cause holds and no count rises, the script is run to its end, or memory is wanted, or a line isn't built.
+    ensures complete { (text : List ℕ) → IsTrue (M.state media.old).tells → S.left script.old ≡ Some text → length text ≤ 2 ^ 24 →
+        (image_named (map (λ word. string_bytes word) words.now) ≡ None → ⊥) → IsWhole (start_in KNOTS text) (M.state media.old).content →
+        (Rose (S.faults script.old) (S.faults script.new) → ⊥) → (Rose (K.faults out.old) (K.faults out.new) → ⊥) → (Rose (M.state media.old).faults (M.state media.new).faults → ⊥) →
+        RunsToEnd result }
+{
+    run_over::<Unmounted, M, S, K>(alloc, words, media, script, out)
+}
+
+// The same, over any form of a table.
+pub(crate) fn run_over<T: Stored, M: Media, S: Source, K: Sink>(
     alloc: Global,
     words: &[String],
     media: &mut M,

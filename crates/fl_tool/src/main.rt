@@ -1,0 +1,47 @@
+//! `flashts run IMAGE`: runs the script on standard input over the image, and writes its replies on standard output.
+#![tactic(auto)]
+
+mod told;
+
+use fl_edge::{FileMedia, StandardInput, StandardOutput};
+use fl_session::{Status, image_of, run};
+use std::alloc::Global;
+use std::env::Env;
+use std::io;
+use std::os::unix::fs::FileExt;
+use std::process::ExitCode;
+use std::rt::Files;
+
+fn main(rt: HostRuntime) -> ExitCode {
+    let status = match words_of(&rt) {
+        Some(words) => run_words(&rt, &words),
+        None => Status::NoMemory,
+    };
+    told::tell(&rt, status);
+    ExitCode::from(status.number())
+}
+
+/// The words behind the program's name; none where the system can't hand them out.
+fn words_of<R: Env + Alloc<A = Global>>(rt: &R) -> Option<Vec<String>> {
+    let mut args = std::env::args(rt).ok()?;
+    let _program = args.next();
+    let mut words = Vec::new(rt.alloc());
+    for word in args {
+        words.push(word).ok()?;
+    }
+    Some(words)
+}
+
+/// Runs the script over the image that the words name. Other words leave every file alone.
+fn run_words<R: Alloc<A = Global> + Files + Input + Print>(rt: &R, words: &[String]) -> Status
+where
+    R::File: FileExt,
+{
+    let Some(image) = image_of(words) else {
+        return Status::Usage;
+    };
+    let mut media = FileMedia::open(rt, image);
+    let mut script = StandardInput::new(rt.reader());
+    let mut replies = StandardOutput::new(io::writer(rt));
+    run(rt.alloc(), words, &mut media, &mut script, &mut replies)
+}
