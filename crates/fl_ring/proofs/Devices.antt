@@ -29,19 +29,19 @@ pub cut_or_not : (armed : Option Armed) (cut : Option (ℕ × CutKind)) → Arms
 cut_or_not None cut is = inl (rw is (record { torn = refl; now = refl; later = refl }))
 cut_or_not (Some a) cut is = elim (cases_Bool (nat_le a.left 1)) [
   | inl last ↦ inr (rw is.1 (record {
-      tear = a.tear;
-      kind = is.0;
-      torn = ap (λ (b : Bool). if b then Some a.tear else None) last;
-      now = ap (λ (b : Bool). if b then Some is.0 else None) (eq-eqb a.left 1 (omega (arith, leb-true a.left 1 last, is.2)));
-      same = is.3;
-      gone = ap (λ (b : Bool). if b then None else Some (record a { left = a.left - 1 })) last;
-    }))
+    tear = a.tear;
+    kind = is.0;
+    torn = ap (λ (b : Bool). if b then Some a.tear else None) last;
+    now = ap (λ (b : Bool). if b then Some is.0 else None) (eq-eqb a.left 1 (omega (arith, leb-true a.left 1 last, is.2)));
+    same = is.3;
+    gone = ap (λ (b : Bool). if b then None else Some (record a { left = a.left - 1 })) last;
+  }))
   | inr later ↦ inl (rw is.1 (record {
-      torn = ap (λ (b : Bool). if b then Some a.tear else None) later;
-      now = ap (λ (b : Bool). if b then Some is.0 else None) (ne_eqb a.left 1 (λ e. absurd (omega (arith, leb-false a.left 1 later))));
-      later = subst (λ (o : Option Armed). ArmsAs (Some (a.left - 1, is.0)) o) (sym (ap (λ (b : Bool). if b then None else Some (record a { left = a.left - 1 })) later))
-          (is.0, refl, omega (arith, leb-false a.left 1 later), is.3);
-    }))
+    torn = ap (λ (b : Bool). if b then Some a.tear else None) later;
+    now = ap (λ (b : Bool). if b then Some is.0 else None) (ne_eqb a.left 1 (λ e. absurd (omega (arith, leb-false a.left 1 later))));
+    later = subst (λ (o : Option Armed). ArmsAs (Some (a.left - 1, is.0)) o) (sym (ap (λ (b : Bool). if b then None else Some (record a { left = a.left - 1 })) later))
+        (is.0, refl, omega (arith, leb-false a.left 1 later), is.3);
+  }))
 ]
 
 -- an operation is counted

@@ -56,11 +56,11 @@ module _ (r : Shape) (kind : work.Kind) (before after : RingState) (rose : Bool)
   step_ends (Ok u) cuts cause ok any exact = elim (cut_or_not old.armed device.armed watched.counts.armed) [
     | inr c ↦ absurd (let lost = (torn_op (Ok u) cuts c).lost in cc)
     | inl c ↦ record {
-        uncut = c.now;
-        counts = device_counted kind old new device watched.counts counts (subst (λ (o : Option Armed). ArmsAs (work.counted kind device).armed o) (sym cuts.armed) c.later);
-        on = ok;
-        power = cause.on;
-      }
+      uncut = c.now;
+      counts = device_counted kind old new device watched.counts counts (subst (λ (o : Option Armed). ArmsAs (work.counted kind device).armed o) (sym cuts.armed) c.later);
+      on = ok;
+      power = cause.on;
+    }
   ]
   step_ends (Err PowerLost) cuts cause ok any exact = elim (cut_or_not old.armed device.armed watched.counts.armed) [
     | inl c ↦ absurd (subst (λ (o : Option Tear). IfNone o (IsErrOf {T = Unit {0}} (Err PowerLost) PowerLost → ⊥)) c.torn cuts.whole_op refl)
