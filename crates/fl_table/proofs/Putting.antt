@@ -133,6 +133,12 @@ module _ (t : code.Table) (f : FlashState) (first : ℕ) (plan : Plan) (table : 
         | inr more ↦ omega (arith, more, facts.few_pending)
       ]
 
+  -- some rows fill it
+  pub some-full : length t.writer.body < t.writer.end + layout_len (layout_of t.schema) → table.pending ≡ 0 → ⊥
+  some-full lt e =
+      let none : table.pending * layout_len (layout_of t.schema) ≡ 0 * layout_len (layout_of t.schema) = ap (λ n. n * layout_len (layout_of t.schema)) e in
+      absurd (omega (arith, none, end, lt, t.page, t.room_for_row))
+
 append-nil : {X : Type 0} (xs : List X) → xs ++ [] ≡ xs
 append-nil [] = refl
 append-nil (x ∷ xs) = ap (λ ys. x ∷ ys) (append-nil xs)
