@@ -12,3 +12,4 @@ pub mod Writers
 pub mod SealAnswers
 pub mod Refusals
 pub mod Putting
+pub mod PutAnswers
