@@ -1,12 +1,11 @@
 -- A table without an index and without variable data, and its pages.
-use Rattle.std.proofs.Common.{◌≡◌, ℕ, ◌+◌, ◌-◌, ◌*◌, ◌%◌, ◌<◌, ◌≤◌, Some, None, IfSome, List, length, take, refl, sym, ◌∙◌, ap, subst, arith, IsTrue}
+use Rattle.std.proofs.Common.{◌≡◌, ℕ, ◌+◌, ◌-◌, ◌*◌, ◌%◌, ◌<◌, ◌≤◌, List, length, sym, ◌∙◌, ap, arith}
 use Rattle.std.proofs.lemmas.List.{take_all}
 use Rattle.std.proofs.Math.Nat.{mod-lt, mul-le-mul_right, add-mul}
 use Rattle.fl_flash.specs.Flash.{FlashState, pages, page_at}
 use Rattle.fl_flash.specs.Places.{extent}
 use Rattle.fl_model.specs.Record.{Plan}
-use Rattle.fl_model.specs.Ring as model
-use Rattle.fl_model.specs.Table.{Table, DataRing, shape_of, lose}
+use Rattle.fl_model.specs.Table.{Table, lose}
 use Rattle.fl_model.proofs.Plain.{IsPlain, IsPlainTable, plain-lose, facts-plain}
 use Rattle.fl_ring.specs.Ring.{OnRing, place}
 use Rattle.fl_ring.proofs.Lengths.{page_length}

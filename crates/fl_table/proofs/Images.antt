@@ -1,17 +1,16 @@
 -- A table at rest on a flash, and its image on the flash's medium.
-use Rattle.std.proofs.Common.{◌≡◌, ℕ, zero, suc, ◌+◌, ◌-◌, ◌*◌, ◌%◌, ◌<◌, ◌≤◌, Bool, true, false, cond, Option, Some, None, IfSome, List, [], ◌∷◌, length, take, drop, refl, sym, ◌∙◌, ap, subst, arith, sum_by, slice_range, IsTrue}
+use Rattle.std.proofs.Common.{◌≡◌, ℕ, ◌+◌, ◌-◌, ◌*◌, ◌<◌, true, false, Some, None, IfSome, List, length, take, drop, refl, sym, ◌∙◌, ap, subst, arith, sum_by}
 use Rattle.std.proofs.Math.Path.{fun_ext}
 use Rattle.std.proofs.lemmas.Nat.Gcd.{dvd-zero}
 use Rattle.std.specs.List.{slice_get}
 use Rattle.fl_flash.specs.Flash.{FlashState, page_at}
-use Rattle.fl_model.specs.Record.{Plan, Config, has_index, has_var, blocks_of, content_per_page}
-use Rattle.fl_model.specs.Ring.{IsShape, IsRing, fresh}
+use Rattle.fl_model.specs.Record.{Plan, Config, blocks_of}
+use Rattle.fl_model.specs.Ring.{IsShape}
 use Rattle.fl_model.specs.Table.{Table, Entry, RingName, DataRing, IndexRing, VarRing, shape_of, fresh_table}
 use Rattle.fl_model.specs.Layout.{is_blank}
 use Rattle.fl_model.specs.Query.{page_stands}
-use Rattle.fl_model.specs.Facts.{IsTable, IsSettled}
 use Rattle.fl_model.specs.Image.{IsTableImage, IsRingImage, HoldsRows, HoldsBitmaps, HoldsContent, HoldsBlob, page_bytes}
-use Rattle.fl_model.proofs.Plain.{IsPlain, IsPlainTable, facts-plain}
+use Rattle.fl_model.proofs.Plain.{IsPlain, facts-plain}
 use Rattle.fl_table.specs.Pages.{HoldsTable, Rests, bytes_in, place_in}
 
 -- the pages of a medium whose flash begins behind its header

@@ -1,23 +1,20 @@
 -- The operations of a seal of the data ring are those of its table.
-use Rattle.std.proofs.Common.{◌≡◌, ℕ, ◌+◌, ◌<◌, ◌≤◌, Bool, true, false, cond, Option, Some, None, Result, Ok, Err, List, [], ◌∷◌, ◌++◌, map, length, refl, sym, ◌∙◌, ap, subst, arith, ◌⊎◌, inl, inr, IsOk, IsErrOf, OnOk}
-use Rattle.std.specs.List.{sum}
+use Rattle.std.proofs.Common.{◌≡◌, ℕ, ◌<◌, Bool, true, false, cond, Result, List, [], ◌∷◌, map, refl, sym, ◌∙◌, ap, subst, arith, IsOk, IsErrOf}
 use Rattle.fl_flash.specs.Flash.{FlashState, page_at}
 use Rattle.fl_flash.specs.declared.flash.FlashFault.{FlashFault}
 use Rattle.fl_flash.specs.declared.flash.FlashFault.TheVariants.{PowerLost, Media}
 use Rattle.fl_model.specs.Record.{Plan}
 use Rattle.fl_model.specs.Ring as model
-use Rattle.fl_model.specs.Table.{Table, Entry, RingName, DataRing, shape_of, with_ring, seal_buffer, seal_page, pending_entries, lose, after_seal, is_dirty}
+use Rattle.fl_model.specs.Table.{Table, RingName, DataRing, shape_of, with_ring, seal_buffer, pending_entries, lose, after_seal, is_dirty}
 use Rattle.fl_model.specs.Layout.{data_body}
-use Rattle.fl_model.specs.Work.{Kind, Body, Mark, VoidMark, Erase, effect, Device, PartEnd, Whole, CutIn, FailedIn, PartProgress, PartPerforms}
-use Rattle.fl_model.specs.Within.{seal_within, effect_within, TablePerforms, all_done}
-use Rattle.fl_model.proofs.Performs.{performs-along, performs-map, performs-whole, GoesAlong, EndsAlong, Somewhere}
+use Rattle.fl_model.specs.Work.{Kind, Body, Mark, VoidMark, Erase, effect, Device, PartEnd, Whole, CutIn, FailedIn, PartProgress}
+use Rattle.fl_model.specs.Within.{seal_within, effect_within, TablePerforms}
+use Rattle.fl_model.proofs.Performs.{performs-along, performs-map, performs-whole, EndsAlong}
 use Rattle.fl_model.proofs.Among.{seal-all_done}
 use Rattle.fl_model.proofs.Plain.{IsPlain, IsPlainTable, plain-body, plain-mark, plain-erase}
-use Rattle.fl_ring.specs.declared.ring.Ring.{Ring}
 use Rattle.fl_ring.specs.Device.{SameDevice}
 use Rattle.fl_ring.specs.Operations.{change, seal_kinds}
-use Rattle.fl_ring.specs.Place.{StandsFor}
-use Rattle.fl_ring.specs.Ring.{Shape, RingState, OnRing, sealed, begun, erased}
+use Rattle.fl_ring.specs.Ring.{RingState, OnRing, sealed, begun, erased}
 use Rattle.fl_ring.specs.Sealing.{Performed, AnswersEnd}
 use Rattle.fl_table.proofs.States.{shape_in, state_of}
 use Rattle.fl_table.proofs.Sealed.{state-sealed, state-begun, state-erased}

@@ -1,5 +1,5 @@
 -- The first value that doesn't fit, from a place on.
-use Rattle.std.proofs.Common.{◌≡◌, ℕ, zero, suc, ◌+◌, ◌<◌, ◌≤◌, Bool, true, false, cond, Option, Some, None, List, [], ◌∷◌, length, drop, get_or, map, refl, sym, ◌∙◌, ap, arith}
+use Rattle.std.proofs.Common.{◌≡◌, ℕ, zero, suc, ◌+◌, ◌<◌, ◌≤◌, cond, Some, None, List, [], ◌∷◌, length, drop, get_or, map, refl, ◌∙◌, ap, arith}
 use Rattle.std.proofs.Math.IntN.{ℤ}
 use Rattle.std.specs.List.{slice_get}
 use Rattle.fl_model.specs.Record.{Column, fits, first_misfit}

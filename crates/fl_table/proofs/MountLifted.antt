@@ -1,27 +1,24 @@
 -- The mount of the data ring is the mount of its table.
-use Rattle.std.proofs.Common.{◌≡◌, ℕ, ◌+◌, ◌≤◌, ◌<◌, ◌^◌, Bool, true, false, cond, Option, Some, None, Result, Ok, Err, List, [], ◌∷◌, ◌++◌, map, length, refl, sym, ◌∙◌, ap, subst, arith, ◌⊎◌, inl, inr, IsTrue, IsOk, IsErrOf}
-use Rattle.std.specs.Option.{option_map, unwrap_or}
+use Rattle.std.proofs.Common.{◌≡◌, ℕ, ◌≤◌, Bool, true, false, cond, Result, Ok, Err, List, [], ◌∷◌, ◌++◌, map, length, refl, sym, ◌∙◌, ap, subst, ◌⊎◌, inl, inr, IsOk}
 use Rattle.fl_flash.specs.Flash.{FlashState, page_at}
 use Rattle.fl_flash.specs.declared.flash.FlashFault.{FlashFault}
 use Rattle.fl_flash.specs.declared.flash.FlashFault.TheVariants.{PowerLost, Media}
-use Rattle.fl_model.specs.Record.{Plan, has_index, has_var}
+use Rattle.fl_model.specs.Record.{Plan}
 use Rattle.fl_model.specs.Ring as model
-use Rattle.fl_model.specs.Table.{Table, RingName, DataRing, IndexRing, VarRing, shape_of, lose, seal_page, is_torn, is_dirty, with_ring}
-use Rattle.fl_model.specs.Work.{Kind, VoidMark, Erase, effect, Device, PartEnd, Whole, CutIn, FailedIn, PartProgress}
-use Rattle.fl_model.specs.Within.{repair_within, effect_within, TablePerforms, TableUnreads, TableGoesOn, TableMounts, TableMountEnd, TableMounted, TableStopped, TableUnread, all_done}
+use Rattle.fl_model.specs.Table.{Table, RingName, DataRing, shape_of, lose, seal_page, is_dirty}
+use Rattle.fl_model.specs.Work.{Kind, VoidMark, Erase, Device, PartEnd, Whole, CutIn, FailedIn, PartProgress}
+use Rattle.fl_model.specs.Within.{repair_within, effect_within, TablePerforms, TableUnreads, TableGoesOn, TableMounts, TableMounted, TableStopped, TableUnread, all_done}
 use Rattle.fl_model.specs.Mount.{renumber, rings_of}
 use Rattle.fl_model.proofs.Performs.{performs-whole}
 use Rattle.fl_model.proofs.Plain.{IsPlain, IsPlainTable, sealed-torn}
 use Rattle.fl_ring.specs.declared.ring.Ring.{Ring}
-use Rattle.fl_ring.specs.declared.fault.RingFault.{RingFault}
-use Rattle.fl_ring.specs.declared.fault.RingFault.TheVariants.{Flash, BadHead, BadGap, BadPage, NoNumber}
 use Rattle.fl_ring.specs.Device.{SameDevice}
-use Rattle.fl_ring.specs.Mounting.{Mounted, RepairEnds, Unread}
-use Rattle.fl_ring.specs.Operations.{change, repair_kinds}
+use Rattle.fl_ring.specs.Mounting.{Mounted, RepairEnds}
+use Rattle.fl_ring.specs.Operations.{repair_kinds}
 use Rattle.fl_ring.specs.Place.{StandsFor}
-use Rattle.fl_ring.specs.Ring.{Shape, RingState, OnRing}
+use Rattle.fl_ring.specs.Ring.{RingState, OnRing}
 use Rattle.fl_table.proofs.States.{shape_in, state_of}
-use Rattle.fl_table.proofs.Lifted.{of_rows, TablePerformed, TableAnswers}
+use Rattle.fl_table.proofs.Lifted.{of_rows, TableAnswers}
 use Rattle.fl_table.proofs.Repaired.{IsIdle, repair-lifts, repair-kinds}
 
 ok_not_err : (u : Unit {0}) (fault : FlashFault) → ◌≡◌ {A = Result (Unit {0}) FlashFault} (Ok u) (Err fault) → ⊥

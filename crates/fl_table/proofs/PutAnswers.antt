@@ -1,16 +1,16 @@
 -- How a put ends, by what it refused and what it put.
-use Rattle.std.proofs.Common.{◌≡◌, ℕ, ◌+◌, ◌-◌, ◌*◌, ◌/◌, ◌<◌, ◌≤◌, Bool, Option, Some, None, is_some, option_map, Result, Ok, Err, List, length, refl, sym, ◌∙◌, ap, subst, arith}
+use Rattle.std.proofs.Common.{◌≡◌, ℕ, ◌+◌, ◌-◌, ◌/◌, ◌≤◌, Bool, Option, Some, None, is_some, option_map, Ok, Err, List, length, refl, sym, ◌∙◌, ap, subst, arith}
 use Rattle.std.proofs.Math.IntN.{ℤ}
 use Rattle.std.proofs.Math.Nat.{le-div_iff_mul-le}
 use Rattle.fl_flash.specs.Flash.{FlashState}
 use Rattle.fl_flash.specs.declared.flash.FlashFault.{FlashFault}
-use Rattle.fl_model.specs.Record.{Record, Plan, RowLayout, layout_len, row_len, row_layout, rows_per_page}
+use Rattle.fl_model.specs.Record.{Plan, RowLayout, layout_len, row_len, rows_per_page}
 use Rattle.fl_model.specs.Table as model
 use Rattle.fl_model.specs.Table.{Table, Refusal, BadKey, BadColumns, BadValue, BadBlob, refusal_of, make_room_seals, after_seals, put_seals, put_record, with_record, spent_from}
 use Rattle.fl_model.specs.Within.{seals_within}
 use Rattle.fl_model.specs.Work.{Device}
 use Rattle.fl_model.proofs.Plain.{plain-facts}
-use Rattle.fl_model.proofs.Puts.{IsAccepted, accepted}
+use Rattle.fl_model.proofs.Puts.{accepted}
 use Rattle.fl_schema.specs.Schema.{layout_of}
 use Rattle.fl_table.specs.Accepting.{IsAcceptedBy}
 use Rattle.fl_table.specs.Outcomes.{Finishes, Breaks, PutEnds}
@@ -72,6 +72,8 @@ put-ends t f first plan table key values blob rose device s e room after new h l
     let ok = accepted plan table (record { key = key; values = values; blob = blob }) plain none in
     let before = after_seals plan (make_room_seals plan table) table in
     let less = has-room room new first plan before h.stands left in
-    let by = room-accepts plan table (record { key = key; values = values; blob = blob }) plain (planned-shape t first plan s.planned) (plain-facts plan table plain s.facts) s.memory.no_fill (some-rows t f first plan table s) ok.0 ok.1 less in
-    (none, put-finishes first plan (record { key = key; values = values; blob = blob }) table rose device room after new ok.0.no_blob h
-    (subst (λ (b : Option (List ℕ)). Stands after new first plan (with_record plan (record { key = key; values = values; blob = b }) before before)) (sym ok.0.no_blob) (adds before h.stands by)))
+    let by = room-accepts plan table (record { key = key; values = values; blob = blob }) plain (planned-shape t first plan s.planned) (plain-facts plan table plain s.facts) s.memory.no_fill (some-rows t f first plan table s) ok.0 ok.1 less in (
+      none,
+      put-finishes first plan (record { key = key; values = values; blob = blob }) table rose device room after new ok.0.no_blob h
+          (subst (λ (b : Option (List ℕ)). Stands after new first plan (with_record plan (record { key = key; values = values; blob = b }) before before)) (sym ok.0.no_blob) (adds before h.stands by)),
+    )

@@ -1,20 +1,19 @@
 -- A record joins the pending ones, and pages that are full.
-use Rattle.std.proofs.Common.{◌≡◌, ℕ, zero, suc, ◌+◌, ◌-◌, ◌*◌, ◌/◌, ◌%◌, ◌^◌, ◌<◌, ◌≤◌, Bool, true, false, cond, ◌==◌, ◌||◌, nat_lt, Option, Some, None, Result, Ok, Err, eq-eqb, option_map, unwrap_or, List, [], ◌∷◌, ◌++◌, map, length, take, drop, get_or, fold, refl, sym, ◌∙◌, ap, subst, arith, inl, inr, length-append, pos, bit_or}
+use Rattle.std.proofs.Common.{◌≡◌, ℕ, ◌+◌, ◌-◌, ◌*◌, ◌/◌, ◌^◌, ◌<◌, ◌≤◌, Bool, true, false, cond, ◌==◌, Option, Some, None, Result, Ok, Err, eq-eqb, unwrap_or, List, [], ◌∷◌, ◌++◌, length, take, drop, get_or, fold, refl, sym, ◌∙◌, ap, subst, arith, inl, inr, length-append, pos, bit_or}
 use Rattle.std.proofs.Math.IntN.{ℤ}
-use Rattle.std.proofs.Math.Nat.{le-div_iff_mul-le, add-mul, mul_comm, mul-le-mul_right}
-use Rattle.std.proofs.lemmas.Bool.{eqb-true, ltb-true, ltb-false, cases_lt}
+use Rattle.std.proofs.Math.Nat.{le-div_iff_mul-le, add-mul}
+use Rattle.std.proofs.lemmas.Bool.{eqb-true, cases_lt}
 use Rattle.std.proofs.lemmas.List.{take-append-le, drop-append-le}
 use Rattle.std.proofs.lemmas.List.Sums.{fold_push}
 use Rattle.std.proofs.lemmas.Option.{unwrap_or-slice_get}
-use Rattle.std.specs.List.{slice_get, last_or, sum}
-use Rattle.fl_bitmap.specs.Bucket.{AreBucketsOf, bucket_in, with_value}
+use Rattle.std.specs.List.{slice_get}
+use Rattle.fl_bitmap.specs.Bucket.{bucket_in}
 use Rattle.fl_bitmap.specs.Widths.{is_bits}
 use Rattle.fl_bitmap.specs.declared.buckets.Buckets.{Buckets}
 use Rattle.fl_flash.specs.Flash.{FlashState, page_at}
 use Rattle.fl_model.specs.Facts.{IsTable}
 use Rattle.fl_model.specs.Layout.{bitmap_of, bucket_of}
-use Rattle.fl_model.specs.Record.{Record, Plan, RowLayout, layout_len, row_len, row_layout, rows_per_page}
-use Rattle.fl_model.specs.Row.{Row, stored_row}
+use Rattle.fl_model.specs.Record.{Record, Plan, RowLayout, layout_len, row_len, rows_per_page}
 use Rattle.fl_model.specs.Table.{Table, Entry, DataRing, RingName, shape_of, pending_entries, last_entry, with_record, lose, after_seal, after_seals, make_room_seals, table_seals, flushed, put_seals, put_record, spent_from}
 use Rattle.fl_model.specs.Within.{seal_within, seals_within}
 use Rattle.fl_model.specs.Ring.{IsShape}
@@ -232,7 +231,7 @@ room-accepts plan table item plain shape facts empty some ok left room =
           left = omega (arith, next, left);
         })
     by_full false e room =
-        let less : table.pending < rows_per_page plan = elim (cases_lt table.pending (rows_per_page plan)) [ | inl lt ↦ lt | inr more ↦ absurd (no (sym e ∙ eq-eqb table.pending (rows_per_page plan) (omega (arith, more, facts.few_pending)))) ] in
+        let less : table.pending < rows_per_page plan = elim (cases_lt table.pending (rows_per_page plan)) [ inl lt ↦ lt | inr more ↦ absurd (no (sym e ∙ eq-eqb table.pending (rows_per_page plan) (omega (arith, more, facts.few_pending)))) ] in
         same (record { above = ok.above; fits = ok.key; as_many = ok.as_many; values_fit = ok.values; room = less; left = omega (arith, left) })
         (room-room_seals plan table (λ is. absurd (omega (arith, is, less))))
       where

@@ -1,23 +1,22 @@
 -- The mount of the data ring, in the words of its table.
-use Rattle.std.proofs.Common.{◌≡◌, ℕ, zero, suc, ◌+◌, ◌-◌, ◌*◌, ◌%◌, ◌<◌, ◌≤◌, ◌^◌, Bool, true, false, cond, ◌||◌, ◌&&◌, ◌==◌, nat_lt, Option, Some, None, is_some, IfSome, Result, Ok, Err, List, [], ◌∷◌, ◌++◌, map, length, take, drop, get_or, refl, sym, ◌∙◌, ap, subst, arith, ◌⊎◌, inl, inr, IsTrue}
-use Rattle.std.proofs.lemmas.Bool.{cases_lt, cases_Bool, ltb-true, ltb-false, eqb-true as is_same}
+use Rattle.std.proofs.Common.{◌≡◌, ℕ, ◌+◌, ◌-◌, ◌*◌, ◌≤◌, Bool, true, false, cond, ◌||◌, ◌&&◌, nat_lt, Option, None, is_some, Result, List, [], ◌∷◌, ◌++◌, map, length, take, drop, refl, sym, ◌∙◌, ap, subst, arith, IsTrue}
+use Rattle.std.proofs.lemmas.Bool.{ltb-true, ltb-false}
 use Rattle.std.proofs.lemmas.List.{take_all}
-use Rattle.std.specs.List.{list_any, sum, slice_get}
-use Rattle.fl_flash.specs.Flash.{FlashState, page_at}
+use Rattle.std.specs.List.{list_any}
+use Rattle.fl_flash.specs.Flash.{FlashState}
 use Rattle.fl_flash.specs.declared.flash.FlashFault.{FlashFault}
-use Rattle.fl_flash.specs.declared.flash.FlashFault.TheVariants.{PowerLost, Media}
 use Rattle.fl_model.specs.Record.{Plan}
 use Rattle.fl_model.specs.Ring as model
-use Rattle.fl_model.specs.Table.{Table, Entry, RingName, DataRing, shape_of, with_ring, seal_buffer, seal_page, lose, is_dirty, is_torn}
-use Rattle.fl_model.specs.Work.{Kind, Body, Mark, VoidMark, Erase, effect, Device, PartEnd, Whole, CutIn, FailedIn, PartProgress}
-use Rattle.fl_model.specs.Within.{repair_within, TablePerforms}
+use Rattle.fl_model.specs.Table.{Table, Entry, DataRing, shape_of, with_ring, seal_page, lose, is_dirty}
+use Rattle.fl_model.specs.Work.{Kind, Body, Mark, VoidMark, Erase, effect, Device}
+use Rattle.fl_model.specs.Within.{repair_within}
 use Rattle.fl_model.specs.Mount.{renumber, at_least_of}
 use Rattle.fl_model.specs.Mount as numbering
-use Rattle.fl_model.proofs.Pages.{page_with, pages_from, pages-length}
-use Rattle.fl_model.proofs.Plain.{IsPlain, IsPlainTable, plain-void, plain-erase}
+use Rattle.fl_model.proofs.Pages.{page_with, pages_from}
+use Rattle.fl_model.proofs.Plain.{IsPlainTable, plain-void, plain-erase}
 use Rattle.fl_ring.specs.Operations.{change, repair_kinds}
 use Rattle.fl_ring.specs.Numbers.{renumbered}
-use Rattle.fl_ring.specs.Ring.{Shape, RingState, OnRing, voided, unerased, erased}
+use Rattle.fl_ring.specs.Ring.{RingState, voided, unerased, erased}
 use Rattle.fl_ring.specs.Sealing.{Performed}
 use Rattle.fl_table.proofs.States.{shape_in, state_of, state-count, page-some}
 use Rattle.fl_table.proofs.Sealed.{state-voided, state-erased}

@@ -1,15 +1,15 @@
 -- What a table that is sealed tells of its ring.
-use Rattle.std.proofs.Common.{◌≡◌, ℕ, ◌+◌, ◌-◌, ◌*◌, ◌%◌, ◌<◌, ◌≤◌, Bool, true, false, Option, Some, None, List, [], ◌∷◌, ◌++◌, map, length, take, drop, set, refl, sym, ◌∙◌, ap, subst, arith, length-drop}
+use Rattle.std.proofs.Common.{◌≡◌, ℕ, ◌+◌, ◌-◌, ◌*◌, ◌%◌, ◌≤◌, Some, List, ◌++◌, map, length, take, drop, set, refl, sym, ◌∙◌, ap, subst, arith, length-drop}
 use Rattle.std.proofs.lemmas.List.{length-map, take-append-le, take_all}
-use Rattle.std.specs.List.{slice_get, sum}
+use Rattle.std.specs.List.{sum}
 use Rattle.fl_flash.specs.Flash.{FlashState, page_at}
 use Rattle.fl_flash.specs.Places.{extent}
-use Rattle.fl_model.specs.Record.{Plan, RowLayout, row_layout, has_index, has_var}
+use Rattle.fl_model.specs.Record.{Plan, RowLayout, row_layout}
 use Rattle.fl_model.specs.Ring as model
 use Rattle.fl_model.specs.Row.{Row, stored_row}
 use Rattle.fl_model.specs.Layout.{data_body, rows_body, bitmap_of}
-use Rattle.fl_model.specs.Table.{Table, Entry, DataRing, shape_of, pending_entries, lose}
-use Rattle.fl_model.proofs.Plain.{IsPlain, IsPlainTable, plain-facts, plain-lose}
+use Rattle.fl_model.specs.Table.{Table, DataRing, shape_of, pending_entries, lose}
+use Rattle.fl_model.proofs.Plain.{IsPlain, plain-facts, plain-lose}
 use Rattle.fl_page.specs.Writer.{Gathers}
 use Rattle.fl_page.specs.WriterState.{WriterState}
 use Rattle.fl_ring.specs.Mounting.{shape_at}
@@ -19,11 +19,10 @@ use Rattle.fl_ring.specs.Ring.{Shape, OnRing}
 use Rattle.fl_ring.specs.Sealing.{IsReady}
 use Rattle.fl_ring.specs.declared.ring.Ring.{Ring}
 use Rattle.fl_schema.specs.Schema.{layout_of}
-use Rattle.fl_table.specs.Memory.{InMemory, IsPlanned, IsSamePlan, HasBuckets, LiesOn}
+use Rattle.fl_table.specs.Memory.{IsPlanned, IsSamePlan, HasBuckets}
 use Rattle.fl_table.specs.Standing.{Stands}
 use Rattle.fl_table.specs.declared.table.Table as code
 use Rattle.fl_table.proofs.Holding.{plain-on, have-size}
-use Rattle.fl_table.proofs.Lifted.{MakesBody}
 use Rattle.fl_table.proofs.Sealings.{IsSealing}
 use Rattle.fl_table.proofs.States.{shape_in, state_of, state-oldest, HaveSize}
 

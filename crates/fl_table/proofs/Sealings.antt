@@ -1,14 +1,13 @@
 -- How a seal of the pending rows ends, by what it did to the ring.
-use Rattle.std.proofs.Common.{◌≡◌, ℕ, ◌+◌, ◌-◌, ◌*◌, ◌%◌, ◌<◌, ◌≤◌, Bool, true, false, cond, ◌==◌, Option, Some, None, option_map, Result, Ok, Err, List, [], ◌∷◌, map, length, get_or, set, refl, sym, ◌∙◌, ap, subst, arith, IsOk}
+use Rattle.std.proofs.Common.{◌≡◌, ℕ, ◌+◌, ◌*◌, ◌%◌, ◌<◌, ◌≤◌, Bool, true, false, cond, ◌==◌, Some, Result, Ok, Err, List, [], length, get_or, set, refl, sym, ◌∙◌, ap, subst, arith, IsOk}
 use Rattle.std.specs.List.{slice_get}
 use Rattle.fl_flash.specs.Flash.{FlashState, page_at}
 use Rattle.fl_flash.specs.declared.flash.FlashFault.{FlashFault}
 use Rattle.fl_flash.specs.declared.flash.FlashFault.TheVariants.{PowerLost, Media}
-use Rattle.fl_model.specs.Record.{Plan, row_layout}
+use Rattle.fl_model.specs.Record.{Plan}
 use Rattle.fl_model.specs.Ring as model
-use Rattle.fl_model.specs.Row.{stored_row}
-use Rattle.fl_model.specs.Layout.{data_body, rows_body, bitmap_of}
-use Rattle.fl_model.specs.Table.{Table, Entry, DataRing, shape_of, seal_buffer, pending_entries, last_entry, after_seal, lose}
+use Rattle.fl_model.specs.Layout.{bitmap_of}
+use Rattle.fl_model.specs.Table.{Table, DataRing, shape_of, pending_entries, last_entry, after_seal, lose}
 use Rattle.fl_model.specs.Work.{Device, PartEnd, Whole, CutIn, FailedIn, PartProgress}
 use Rattle.fl_model.specs.Facts.{IsTable}
 use Rattle.fl_model.specs.Within.{seal_within, TablePerforms}
@@ -21,8 +20,8 @@ use Rattle.fl_ring.specs.Sealing.{Performed}
 use Rattle.fl_ring.specs.declared.ring.Ring.{Ring}
 use Rattle.fl_table.specs.Outcomes.{Breaks, FaultEnds}
 use Rattle.fl_table.specs.Pages.{HoldsTable}
-use Rattle.fl_table.proofs.Holding.{plain-holds, plain-rests}
-use Rattle.fl_table.proofs.Lifted.{MakesBody, TableAnswers, TablePerformed, seal-lifts, seal-whole}
+use Rattle.fl_table.proofs.Holding.{plain-rests}
+use Rattle.fl_table.proofs.Lifted.{MakesBody, TableAnswers, seal-lifts, seal-whole}
 use Rattle.fl_table.proofs.Memories.{none-pending, last-sealed, counts-sealed}
 use Rattle.fl_table.proofs.States.{shape_in, state_of, state-oldest, HaveSize}
 

@@ -1,23 +1,21 @@
 -- The data ring of a table as a list of bodies, and the same pages in the words of the model's image.
-use Rattle.std.proofs.Common.{◌≡◌, ◌↔◌, ℕ, zero, suc, ◌+◌, ◌-◌, ◌*◌, ◌/◌, ◌%◌, ◌<◌, ◌≤◌, Bool, true, false, cond, ◌&&◌, ◌==◌, nat_lt, Option, Some, None, List, [], ◌∷◌, ◌++◌, length, take, drop, replicate, get_or, refl, sym, ◌∙◌, ap, subst, arith, ◌⊎◌, inl, inr, length-append, append_assoc, IsTrue, MatchBool, if◌then◌else◌, eqb-true, eq-eqb}
+use Rattle.std.proofs.Common.{◌≡◌, ℕ, zero, suc, ◌+◌, ◌-◌, ◌*◌, ◌%◌, ◌<◌, ◌≤◌, Bool, true, false, cond, ◌&&◌, ◌==◌, Option, Some, None, List, [], ◌∷◌, ◌++◌, length, take, drop, replicate, get_or, refl, sym, ◌∙◌, ap, subst, arith, ◌⊎◌, inl, inr, length-append, append_assoc, MatchBool}
 use Rattle.std.proofs.lemmas.Bool.{cases_lt, cases_Bool, eqb-true as is_same}
-use Rattle.std.proofs.lemmas.List.{length-replicate}
 use Rattle.std.proofs.lemmas.Nat.Gcd.{mod-eq-zero_of_dvd, dvd_of_mod-eq-zero}
 use Rattle.std.specs.List.{slice_get, list_all, sum}
-use Rattle.std.specs.Int.{◌∣◌}
 use Rattle.fl_flash.specs.Flash.{blank}
 use Rattle.fl_mark.specs.Mark.{state_of_page}
 use Rattle.fl_mark.specs.InModel.{IsModelState}
-use Rattle.fl_mark.specs.declared.page_state.PageState.TheVariants.{Torn, Void}
+use Rattle.fl_mark.specs.declared.page_state.PageState.TheVariants.{Torn}
 use Rattle.fl_mark.proofs.InModel.{model_state}
 use Rattle.fl_model.specs.Record.{Plan}
 use Rattle.fl_model.specs.Ring as model
 use Rattle.fl_model.specs.Table.{Table, Entry, DataRing, shape_of}
-use Rattle.fl_model.specs.Layout.{data_body, committed, is_blank, is_void, IsTornPage}
+use Rattle.fl_model.specs.Layout.{data_body, committed, is_blank}
 use Rattle.fl_model.specs.Image.{IsRingImage, HoldsRows, rows_at}
 use Rattle.fl_model.proofs.Lists.{slice_get-some, slice_get-short}
 use Rattle.fl_model.proofs.Pages.{page_with, pages_from, pages-length, pages-at}
-use Rattle.fl_ring.specs.Ring.{Shape, RingState, IsShape, IsRing, OnRing, HoldsKept, place, room, count, oldest, committed_end}
+use Rattle.fl_ring.specs.Ring.{Shape, RingState, IsRing, OnRing, HoldsKept, place, count, oldest, committed_end}
 use Rattle.fl_table.specs.Pages.{bytes_in}
 
 -- where the data ring of a table stands whose blocks begin at `first`

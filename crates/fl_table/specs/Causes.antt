@@ -1,5 +1,5 @@
 -- Why the calls of a table fail, over any bytes.
-use Rattle.std.specs.Prelude.{◌≡◌, Bool, true, false, Result, Ok, Err}
+use Rattle.std.specs.Prelude.{◌≡◌, Bool, true, false, Result, Err}
 use Rattle.fl_flash.specs.Flash.{FlashState}
 use Rattle.fl_ring.specs.Causes.{CausedBy}
 use Rattle.fl_table.specs.declared.table.Table.{Table}

@@ -1,5 +1,5 @@
 -- How the calls of a table end, over a flash that stands for a table of the model.
-use Rattle.std.specs.Prelude.{◌≡◌, ℕ, Bool, true, false, ◌⊎◌, Option, Some, None, Result, Ok, Err, List}
+use Rattle.std.specs.Prelude.{◌≡◌, ℕ, Bool, true, false, ◌⊎◌, Some, None, Result, Ok, Err, List}
 use Rattle.fl_flash.specs.Flash.{FlashState}
 use Rattle.fl_flash.specs.declared.flash.FlashFault.{FlashFault}
 use Rattle.fl_flash.specs.declared.flash.FlashFault.TheVariants.{PowerLost, Media}
@@ -8,7 +8,7 @@ use Rattle.fl_model.specs.Record.{Record, Plan}
 use Rattle.fl_model.specs.Table as model
 use Rattle.fl_model.specs.Table.{RingName, DataRing, after_seal, after_seals, make_room_seals, refusal_of, put_seals, put_record, table_seals, flushed, lose}
 use Rattle.fl_model.specs.Work.{Kind, Device, PartEnd, Whole, CutIn, FailedIn, PartProgress}
-use Rattle.fl_model.specs.Within.{TablePerforms, seal_within, seals_within, TableMountEnd, TableMounted, TableStopped, TableUnread, TableMounts}
+use Rattle.fl_model.specs.Within.{TablePerforms, seal_within, seals_within, TableMounted, TableStopped, TableUnread, TableMounts}
 use Rattle.fl_model.specs.Mount.{rings_of, ready}
 use Rattle.fl_table.specs.declared.table.Table.{Table}
 use Rattle.fl_table.specs.declared.faults.PutRefusal.{PutRefusal}

@@ -1,5 +1,5 @@
 -- A mounted table, and the state of the model for which it stands with its flash.
-use Rattle.std.specs.Prelude.{◌≡◌, ℕ, false, Some, length, option_map}
+use Rattle.std.specs.Prelude.{◌≡◌, ℕ, false}
 use Rattle.fl_flash.specs.Flash.{FlashState, page_at}
 use Rattle.fl_model.specs.Record.{Plan}
 use Rattle.fl_model.specs.Table as model

@@ -47,12 +47,7 @@ impl Table {
     }
 
     /// The first refusal of a record that applies, if one does.
-    pub(crate) fn refusal(
-        &self,
-        key: u64,
-        values: &[i64],
-        has_blob: bool,
-    ) -> Option<PutRefusal>
+    pub(crate) fn refusal(&self, key: u64, values: &[i64], has_blob: bool) -> Option<PutRefusal>
         ensures { result ≡ put_refusal self.now key values.now has_blob }
     {
         if !self.is_running() {

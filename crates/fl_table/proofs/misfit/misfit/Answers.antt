@@ -1,9 +1,9 @@
-use Rattle.std.proofs.Common.{rules, ◌≡◌, length, ℕ, ◌+◌, ◌<◌, ◌≤◌, Bool, true, false, cond, arith, get_or, drop, Some, None, map, ap, sym, ◌∙◌, refl, pos}
-use Rattle.std.proofs.lemmas.Int.{ints, to_z-of_z}
+use Rattle.std.proofs.Common.{rules, ◌≡◌, ◌+◌, Bool, cond, get_or, drop, Some, map, ap, sym, ◌∙◌, pos}
+use Rattle.std.proofs.lemmas.Int.{to_z-of_z}
 use Rattle.fl_model.specs.Record.{first_misfit, fits}
 use Rattle.fl_schema.specs.Types.{column_of}
-use Rattle.fl_schema.specs.Schema.{layout_of, types_of}
-use Rattle.fl_table.proofs.Misfits.{misfit-at, misfit-end, map-get}
+use Rattle.fl_schema.specs.Schema.{types_of}
+use Rattle.fl_table.proofs.Misfits.{misfit-at, map-get}
 use Rattle.fl_table.proofs.misfit.misfit.Goals as goal
 
 pub returns-then-not-is_fit : goal.returns-then-not-is_fit

@@ -1,4 +1,4 @@
-use Rattle.std.proofs.Common.{◌≡◌, ◌+◌, ◌≤◌, length, drop}
+use Rattle.std.proofs.Common.{◌≡◌, ◌+◌, drop}
 use Rattle.fl_model.specs.Record.{first_misfit}
 use Rattle.fl_schema.specs.Schema.{layout_of}
 use Rattle.fl_table.proofs.misfit.misfit.Given as goal

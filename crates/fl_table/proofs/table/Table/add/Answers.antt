@@ -1,8 +1,7 @@
-use Rattle.std.proofs.Common.{rules, ◌≡◌, ◌+◌, ◌≤◌, ◌++◌, [], ◌∷◌, ℕ, List, Some, None, length, map, option_map, get_or, arith, sym, ◌∙◌, ap, subst, refl, pos}
+use Rattle.std.proofs.Common.{rules, ◌≡◌, List, None, map, option_map, get_or, sym, ◌∙◌, ap, subst, pos}
 use Rattle.std.proofs.lemmas.Int.{to_z-of_z}
 use Rattle.std.proofs.lemmas.List.{map-append}
-use Rattle.fl_flash.specs.Flash.{FlashState}
-use Rattle.fl_model.specs.Record.{Plan, layout_len}
+use Rattle.fl_model.specs.Record.{layout_len}
 use Rattle.fl_model.specs.Row.{Row, bytes_of_row, stored_row}
 use Rattle.fl_model.specs.Table as model
 use Rattle.fl_page.specs.Writer.{Gathers}

@@ -1,11 +1,7 @@
-use Rattle.std.proofs.Common.{◌≡◌, ◌≤◌, ◌+◌, ◌∷◌, [], ℕ, Some, Ok, Err, arith, sym, ◌∙◌, ap, subst, refl}
+use Rattle.std.proofs.Common.{◌≡◌, ◌∷◌, [], arith}
 use Rattle.std.proofs.lemmas.Result.{err_from_is_err_and}
-use Rattle.fl_model.specs.Record.{Plan}
-use Rattle.fl_model.specs.Table as model
 use Rattle.fl_model.specs.Table.{DataRing, table_seals}
-use Rattle.fl_model.specs.Work.{Device}
 use Rattle.fl_model.proofs.Puts.{plain-table_seals}
-use Rattle.fl_table.specs.Outcomes.{FlushEnds}
 use Rattle.fl_table.proofs.SealAnswers.{planned-plain, writer-count}
 use Rattle.fl_table.proofs.Putting.{flush-finishes, flush-breaks, flush-idle}
 use Rattle.fl_table.proofs.table.Table.flush.Goals as goal

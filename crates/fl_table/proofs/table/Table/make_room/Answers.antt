@@ -1,14 +1,12 @@
-use Rattle.std.proofs.Common.{rules, ◌≡◌, ◌+◌, ◌<◌, ◌≤◌, ℕ, Bool, List, [], ◌∷◌, Some, Ok, Err, length, arith, sym, ◌∙◌, ap, subst, refl}
+use Rattle.std.proofs.Common.{rules, ◌≡◌, ◌+◌, ◌<◌, ◌≤◌, [], ◌∷◌, length, arith, sym, ◌∙◌, refl}
 use Rattle.std.proofs.lemmas.Bool.{ltb-true, ltb-false}
-use Rattle.fl_model.specs.Record.{Plan, layout_len}
-use Rattle.fl_model.specs.Table as model
-use Rattle.fl_model.specs.Table.{DataRing, RingName, make_room_seals, after_seals}
-use Rattle.fl_model.specs.Work.{Device, Whole}
+use Rattle.fl_model.specs.Record.{layout_len}
+use Rattle.fl_model.specs.Table.{DataRing, make_room_seals}
+use Rattle.fl_model.specs.Work.{Whole}
 use Rattle.fl_model.proofs.Puts.{plain-table_seals, full-room_seals, room-room_seals}
-use Rattle.fl_model.proofs.Plain.{plain-facts}
 use Rattle.fl_schema.specs.Schema.{layout_of}
 use Rattle.fl_table.proofs.SealAnswers.{planned-plain}
-use Rattle.fl_table.proofs.Putting.{has-room, is-full, some-full, no-seal, one-seal, room-ends}
+use Rattle.fl_table.proofs.Putting.{has-room, is-full, some-full, room-ends}
 use Rattle.fl_table.proofs.table.Table.make_room.Goals as goal
 
 pub returns-then-not-is_full-clause-ends : goal.returns-then-not-is_full-clause-ends

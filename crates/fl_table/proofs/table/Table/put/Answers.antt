@@ -1,4 +1,4 @@
-use Rattle.std.proofs.Common.{◌≡◌, ◌≤◌, ◌+◌, ℕ, Bool, Bor, List, Some, None, Ok, Err, is_some, option_map, arith, sym, ◌∙◌, ap, subst, refl}
+use Rattle.std.proofs.Common.{◌≡◌, ℕ, Bor, List, is_some, option_map, sym, ◌∙◌, ap}
 use Rattle.std.proofs.lemmas.Result.{err_from_is_err_and}
 use Rattle.fl_table.specs.Refusal.{put_refusal}
 use Rattle.fl_table.proofs.PutAnswers.{refused-ends, broken-ends, put-ends, is_some-map}

@@ -1,15 +1,13 @@
-use Rattle.std.proofs.Common.{rules, ◌≡◌, ◌≤◌, ◌+◌, ◌<◌, ◌*◌, ◌-◌, ◌%◌, length, ℕ, Bool, List, Some, Ok, Err, arith, sym, ◌∙◌, ap, subst, refl, set, get_or, map, option_map, length-set, vec_len}
+use Rattle.std.proofs.Common.{◌≡◌, ◌+◌, ◌*◌, ◌%◌, length, ℕ, List, Some, Ok, Err, arith, sym, ◌∙◌, ap, subst, refl, set, get_or, map, option_map, length-set}
 use Rattle.fl_flash.specs.Flash.{page_at}
 use Rattle.fl_model.specs.Layout.{rows_body}
-use Rattle.fl_model.specs.Record.{Plan, RowLayout}
 use Rattle.fl_model.specs.Ring as rings
-use Rattle.fl_model.specs.Row.{Row, stored_row}
+use Rattle.fl_model.specs.Row.{stored_row}
 use Rattle.fl_model.specs.Table as model
 use Rattle.fl_model.specs.Table.{DataRing, after_seal, lose}
-use Rattle.fl_model.specs.Work.{Device}
 use Rattle.fl_page.specs.Writer.{Gathers}
 use Rattle.fl_ring.specs.Operations.{change, seal_kinds}
-use Rattle.fl_ring.specs.Place.{next_of, shape_of, StandsFor}
+use Rattle.fl_ring.specs.Place.{shape_of, StandsFor}
 use Rattle.fl_ring.specs.Ring.{Shape, OutsideStands}
 use Rattle.fl_ring.specs.Sealing.{Performed, Seals}
 use Rattle.fl_schema.specs.Schema.{layout_of}
