@@ -3,7 +3,8 @@ use Rattle.std.proofs.Common.{◌≡◌, ℕ, ◌+◌, ◌-◌, ◌*◌, ◌<◌
 use Rattle.std.proofs.lemmas.List.{drop_at, drop-drop, drop-replicate, length-replicate, replicate-append-replicate, length-take-le}
 use Rattle.std.proofs.Math.Nat.{mul-le-mul_left, mul-le-mul_right}
 use Rattle.fl_base.specs.Bytes.{splice}
-use Rattle.fl_model.specs.Record.{RowLayout}
+use Rattle.fl_model.specs.Record.{RowLayout, layout_len}
+use Rattle.fl_model.specs.Row.{Row}
 use Rattle.fl_page.specs.Header.{header_bytes}
 use Rattle.fl_page.specs.Writer.{Gathers}
 use Rattle.fl_page.specs.WriterState.{WriterState}
@@ -82,3 +83,11 @@ rest-push w v row len is row_len room size rest =
     let behind : tail ≡ drop len (drop w.end w.body) = ap (λ n. drop n w.body) (let e : w.end + length row ≡ w.end + len = omega (arith, row_len) in e) ∙ sym (drop-drop len w.end w.body) in
     let blank : tail ≡ replicate (length w.body - w.end - len) 255 = behind ∙ (ap (drop len) rest ∙ drop-replicate len (length w.body - w.end) 255) in
     ap (λ n. drop n v.body) end ∙ (ap (drop (w.end + len)) body ∙ (sym (drop-drop len w.end (splice w.body w.end row)) ∙ (ap (drop len) first ∙ (second ∙ (blank ∙ ap (λ n. replicate n 255) (omega (arith, size, end)))))))
+
+-- where the rows end
+pub gathers-end : (layout : RowLayout) (rows : List Row) (w : WriterState) → Gathers layout rows w → w.end ≡ 16 + w.count * layout_len layout
+gathers-end layout rows w h = h.end ∙ ap (λ n. 16 + n * layout_len layout) (sym h.count)
+
+-- a writer that has none is blank behind them
+pub gathers-blank : (layout : RowLayout) (w : WriterState) → Gathers layout [] w → IsBlankRest w
+gathers-blank layout w h = let none : 0 * layout_len layout ≡ 0 = omega arith in let e : w.end ≡ 16 = omega (arith, h.end, none) in ap (λ n. drop n w.body) e ∙ h.bytes

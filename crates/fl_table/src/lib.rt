@@ -4,6 +4,7 @@
 mod counts;
 mod faults;
 mod misfit;
+mod plan;
 mod put;
 mod refusal;
 mod seal;
