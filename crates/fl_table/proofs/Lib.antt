@@ -13,3 +13,5 @@ pub mod SealAnswers
 pub mod Refusals
 pub mod Putting
 pub mod PutAnswers
+pub mod KeyRows
+pub mod Refused

@@ -1,6 +1,7 @@
 -- Why the calls of a table fail, over any bytes.
 use Rattle.std.specs.Prelude.{◌≡◌, Bool, true, false, Result, Err}
 use Rattle.fl_flash.specs.Flash.{FlashState}
+use Rattle.fl_flash.specs.declared.flash.FlashFault.{FlashFault}
 use Rattle.fl_ring.specs.Causes.{CausedBy}
 use Rattle.fl_table.specs.declared.table.Table.{Table}
 use Rattle.fl_table.specs.declared.faults.PutRefusal.{PutRefusal}
@@ -21,6 +22,23 @@ FlushCausedBy old flush.Stopped new = new ≡ old
 abbrev pub MountCausedBy : FlashState → MountFault → FlashState → Type 0
 MountCausedBy old (mount.Flash fault) new = CausedBy old fault new
 MountCausedBy old _ new = Unit {0}
+
+-- a fault of the flash has this cause, and any other that is about the kept pages
+abbrev pub IfFlash : (FlashFault → Type 0) → MountFault → Type 0
+IfFlash P (mount.Flash fault) = P fault
+IfFlash P _ = Unit {0}
+
+abbrev pub IfPage : (MountFault → Type 0) → MountFault → Type 0
+IfPage P (mount.BadPage bad) = P (mount.BadPage bad)
+IfPage P (mount.BadKeys page last first) = P (mount.BadKeys page last first)
+IfPage P _ = Unit {0}
+
+-- the flash failed, or a page is refused
+abbrev pub is_of_pages : MountFault → Bool
+is_of_pages (mount.Flash fault) = true
+is_of_pages (mount.BadPage bad) = true
+is_of_pages (mount.BadKeys page last first) = true
+is_of_pages _ = false
 
 -- a refusal that isn't a fault of the flash leaves the table and the flash as they are
 abbrev pub RefusedSame : Table → FlashState → PutRefusal → Table → FlashState → Type 0

@@ -5,3 +5,4 @@ pub mod Standing
 pub mod Accepting
 pub mod Outcomes
 pub mod Causes
+pub mod Reading

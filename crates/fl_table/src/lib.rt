@@ -5,6 +5,7 @@ mod counts;
 mod faults;
 mod misfit;
 mod plan;
+mod reading;
 mod put;
 mod refusal;
 mod seal;
