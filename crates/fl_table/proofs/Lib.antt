@@ -15,3 +15,4 @@ pub mod Putting
 pub mod PutAnswers
 pub mod KeyRows
 pub mod Refused
+pub mod PagesRead

@@ -19,14 +19,14 @@ of_keys number last [] fault e = absurd (none e)
   where
     none : None ≡ Some fault → ⊥
     none e = cc
-of_keys number last (row ∷ rows) fault e = by_test (rises last row.key) e
+of_keys number last (row ∷ rows) fault e = by_test (of_keys number (Some row.key) rows fault) (rises last row.key) e
   where
     same : Some (BadKeys number (unwrap_or last 0) row.key) ≡ Some fault → BadKeys number (unwrap_or last 0) row.key ≡ fault
     same e = cc
 
-    by_test : (b : Bool) → cond b (keys_fault number (Some row.key) rows) (Some (BadKeys number (unwrap_or last 0) row.key)) ≡ Some fault → IsPageFault fault
-    by_test true e = of_keys number (Some row.key) rows fault e
-    by_test false e = subst IsPageFault (same e) (record { of_pages = refl; no_flash = λ P. tt })
+    by_test : (keys_fault number (Some row.key) rows ≡ Some fault → IsPageFault fault) → (b : Bool) → cond b (keys_fault number (Some row.key) rows) (Some (BadKeys number (unwrap_or last 0) row.key)) ≡ Some fault → IsPageFault fault
+    by_test more true e = more e
+    by_test more false e = subst IsPageFault (same e) (record { of_pages = refl; no_flash = λ P. tt })
 
 of_page : (layout : RowLayout) (number : ℕ) (page : List ℕ) (last : Option ℕ) (fault : MountFault) → IsRefused layout number page last fault → IsPageFault fault
 of_page layout number page last fault h = elim h.why [

@@ -1,12 +1,15 @@
 -- What a mount reads in the kept pages, over any bytes.
 use Rattle.std.specs.Prelude.{◌≡◌, ◌⊎◌, ℕ, zero, suc, ◌+◌, ◌%◌, ◌<◌, Bool, true, nat_lt, ◌==◌, Option, Some, None, unwrap_or, List, [], ◌∷◌, length, slice_index, if◌then◌else◌}
-use Rattle.fl_flash.specs.Flash.{FlashState}
+use Rattle.fl_flash.specs.Flash.{FlashState, page_at}
 use Rattle.fl_mark.specs.Mark.{state_of_page}
 use Rattle.fl_mark.specs.declared.page_state.PageState.{PageState}
 use Rattle.fl_mark.specs.declared.page_state.PageState.TheVariants.{Blank, Torn, Committed, Void}
 use Rattle.fl_model.specs.Record.{RowLayout}
 use Rattle.fl_model.specs.Row.{Row}
 use Rattle.fl_page.specs.Page.{IsGoodPage, bad_page, rows_in}
+use Rattle.fl_ring.specs.Place.{shape_of}
+use Rattle.fl_ring.specs.Ring.{place}
+use Rattle.fl_ring.specs.declared.ring.Ring.{Ring}
 use Rattle.fl_table.specs.declared.faults.MountFault.{MountFault}
 use Rattle.fl_table.specs.declared.faults.MountFault.TheVariants.{BadPage, BadKeys}
 use Rattle.fl_table.specs.declared.counts.Mounted.{Mounted}
@@ -47,6 +50,10 @@ pub record IsRefused (layout : RowLayout) (number : ℕ) (page : List ℕ) (last
   pub committed : state_of_page page ≡ Committed
   pub why : ((IsGoodPage layout number page → ⊥) × (fault ≡ BadPage (bad_page number page)))
       ⊎ (IsGoodPage layout number page × (keys_fault number last (rows_in layout page) ≡ Some fault))
+
+-- the bytes of a page of a ring, by its number
+abbrev pub pages_of : Ring → FlashState → ℕ → List ℕ
+pages_of ring f number = page_at f (place (shape_of ring) number)
 
 -- the last key of so many pages
 abbrev pub last_after : RowLayout → (ℕ → List ℕ) → ℕ → ℕ → Option ℕ

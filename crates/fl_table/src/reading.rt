@@ -8,7 +8,7 @@ ghost use Rattle.fl_ring.specs.Ring.{place, room};
 ghost use Rattle.fl_page.specs.View.{page_of, layout_of_page, count_of, rows_of};
 ghost use Rattle.fl_schema.specs.Schema.{layout_of};
 ghost use Rattle.fl_table.specs.Causes.{IfFlash, IfPage, is_of_pages};
-ghost use Rattle.fl_table.specs.Reading.{page_rows, last_in, keys_fault, IsRead, IsRefused, AreRead, AreRefused, last_after, rows_after, voids_after, AreNoted};
+ghost use Rattle.fl_table.specs.Reading.{page_rows, last_in, keys_fault, IsRead, IsRefused, AreRead, AreRefused, last_after, rows_after, voids_after, AreNoted, pages_of};
 
 use crate::seal::note;
 use crate::{MountFault, Mounted};
@@ -19,6 +19,7 @@ use fl_ring::Ring;
 use fl_schema::Schema;
 
 /// How many rows a page has, and the last key up to them.
+#[derive(Clone, Copy)]
 pub(crate) struct PageRows {
     rows: u32,
     last: Option<u64>,
@@ -103,4 +104,56 @@ fn read_page<F: Flash>(
 {
     flash.read(at, buf)?;
     rows_in(schema, buf.bytes(), number, last)
+}
+
+/// Reads the kept pages of a ring, from the oldest on, and notes how many rows each has.
+pub(crate) fn read_pages<F: Flash>(
+    schema: &Schema<8>,
+    ring: &Ring,
+    counts: &mut [u16],
+    flash: &mut F,
+    buf: &mut PageBuf,
+) -> Result<(Mounted, Option<u64>), MountFault>
+    requires row { 1 ≤ layout_len (layout_of schema.now) }
+    requires lies { LiesOn ring.now (F.state flash.old) }
+    requires room { length buf.old.bytes ≡ (F.state flash.old).geometry.page }
+    requires counts { length counts.old ≡ room (shape_of ring.now) }
+    ensures reads { OnlyReads (F.state flash.old) (next_of ring.now - oldest_of ring.now) (F.state flash.new) }
+    ensures room { length buf.new.bytes ≡ length buf.old.bytes }
+    ensures counts { length counts.new ≡ length counts.old }
+    ensures read { OnOk result (IsTrue (F.state flash.old).media.tells →
+        AreRead (layout_of schema.now) (pages_of ring.now (F.state flash.old)) (oldest_of ring.now) (next_of ring.now - oldest_of ring.now)) }
+    ensures noted { OnOk result (next_of ring.now - oldest_of ring.now ≤ length counts.old → IsTrue (F.state flash.old).media.tells →
+        AreNoted (layout_of schema.now) (pages_of ring.now (F.state flash.old)) (oldest_of ring.now) (next_of ring.now - oldest_of ring.now) counts.new) }
+    ensures mounted { IfOk result (λ found. IsTrue (F.state flash.old).media.tells → found.0 ≡ record {
+        rows = rows_after (layout_of schema.now) (pages_of ring.now (F.state flash.old)) (oldest_of ring.now) (next_of ring.now - oldest_of ring.now);
+        pages = next_of ring.now - oldest_of ring.now;
+        voids = voids_after (layout_of schema.now) (pages_of ring.now (F.state flash.old)) (oldest_of ring.now) (next_of ring.now - oldest_of ring.now);
+    }) }
+    ensures last { IfOk result (λ found. IsTrue (F.state flash.old).media.tells →
+        found.1 ≡ last_after (layout_of schema.now) (pages_of ring.now (F.state flash.old)) (oldest_of ring.now) (next_of ring.now - oldest_of ring.now)) }
+    ensures fault { IfErr result (IfPage (λ e. IsTrue (F.state flash.old).media.tells →
+        AreRefused (layout_of schema.now) (pages_of ring.now (F.state flash.old)) (oldest_of ring.now) (next_of ring.now - oldest_of ring.now) e)) }
+    ensures fails { IfErr result (IfFlash (λ e. ReadFails (F.state flash.old) e (F.state flash.new))) }
+    ensures only { IfErr result (λ e. is_of_pages e ≡ true) }
+    ensures power { OnOk result ((F.state flash.old).is_on ≡ true → (F.state flash.new).is_on ≡ true) }
+{
+    let oldest = ring.oldest();
+    let next = ring.next_number();
+    let mut mounted = Mounted {
+        rows: 0,
+        pages: next - oldest,
+        voids: 0,
+    };
+    let mut last = None;
+    for number in oldest..next {
+        let page = read_page(schema, flash, ring.place_of(number), number, last, buf)?;
+        note(counts, number, page.rows);
+        last = page.last;
+        mounted.rows += u64::from(page.rows);
+        if page.rows == 0 {
+            mounted.voids += 1;
+        }
+    }
+    Ok((mounted, last))
 }
