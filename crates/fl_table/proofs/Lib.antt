@@ -16,3 +16,5 @@ pub mod PutAnswers
 pub mod KeyRows
 pub mod Refused
 pub mod PagesRead
+pub mod KeyOrder
+pub mod KeptPages

@@ -3,6 +3,8 @@ use Rattle.std.specs.Prelude.{◌≡◌, Bool, true, false, Result, Err}
 use Rattle.fl_flash.specs.Flash.{FlashState}
 use Rattle.fl_flash.specs.declared.flash.FlashFault.{FlashFault}
 use Rattle.fl_ring.specs.Causes.{CausedBy}
+use Rattle.fl_ring.specs.declared.fault.RingFault.{RingFault}
+use Rattle.fl_ring.specs.declared.fault.RingFault.TheVariants as ring
 use Rattle.fl_table.specs.declared.table.Table.{Table}
 use Rattle.fl_table.specs.declared.faults.PutRefusal.{PutRefusal}
 use Rattle.fl_table.specs.declared.faults.PutRefusal.TheVariants as put
@@ -22,6 +24,11 @@ FlushCausedBy old flush.Stopped new = new ≡ old
 abbrev pub MountCausedBy : FlashState → MountFault → FlashState → Type 0
 MountCausedBy old (mount.Flash fault) new = CausedBy old fault new
 MountCausedBy old _ new = Unit {0}
+
+-- the fault of a ring
+abbrev pub of_ring : RingFault → MountFault
+of_ring (ring.Flash fault) = mount.Flash fault
+of_ring fault = mount.Ring fault
 
 -- a fault of the flash has this cause, and any other that is about the kept pages
 abbrev pub IfFlash : (FlashFault → Type 0) → MountFault → Type 0

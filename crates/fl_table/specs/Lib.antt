@@ -6,3 +6,4 @@ pub mod Accepting
 pub mod Outcomes
 pub mod Causes
 pub mod Reading
+pub mod Mounting

@@ -78,3 +78,18 @@ impl From<FlashFault> for MountFault {
         MountFault::Flash(fault)
     }
 }
+
+impl From<RingFault> for MountFault {
+    ghost use Rattle.std.specs.Prelude.{◌≡◌};
+    ghost use Rattle.fl_table.specs.Causes.{of_ring};
+
+    ghost from_gives = { λ fault refusal. refusal ≡ of_ring fault };
+
+    /// A fault of the flash is one here too.
+    fn from(fault: RingFault) -> MountFault {
+        match fault {
+            RingFault::Flash(fault) => MountFault::Flash(fault),
+            fault => MountFault::Ring(fault),
+        }
+    }
+}

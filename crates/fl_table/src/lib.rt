@@ -4,6 +4,7 @@
 mod counts;
 mod faults;
 mod misfit;
+mod mount;
 mod plan;
 mod reading;
 mod put;
