@@ -1,0 +1,190 @@
+-- What the kept pages of a table read as.
+use Rattle.std.proofs.Common.{◌≡◌, ℕ, zero, suc, ◌+◌, ◌-◌, ◌*◌, ◌/◌, ◌%◌, ◌^◌, ◌<◌, ◌≤◌, ◌⊎◌, Bool, true, false, cond, ◌==◌, Option, Some, None, IfSome, option_map, List, [], ◌∷◌, length, map, take, drop, refl, sym, ◌∙◌, ap, subst, arith, inl, inr, IsTrue}
+use Rattle.std.proofs.Math.Nat.{le-div_iff_mul-le, mul-le-mul_left}
+use Rattle.std.proofs.lemmas.Bool.{cases_lt}
+use Rattle.std.proofs.lemmas.List.{length-map, length-take-le, length-drop}
+use Rattle.std.proofs.lemmas.List.Sums.{sum_by-cons, sum_by-take-le}
+use Rattle.std.specs.List.{slice_get, sum, sum_by, count_by, last_or, AllByRecursion}
+use Rattle.fl_mark.specs.Mark.{state_of_page}
+use Rattle.fl_mark.specs.declared.page_state.PageState.{PageState}
+use Rattle.fl_mark.specs.declared.page_state.PageState.TheVariants.{Committed, Void}
+use Rattle.fl_mark.proofs.InModel.{model_state}
+use Rattle.fl_model.specs.Record.{Plan, RowLayout, row_layout, row_len, layout_len, rows_per_page, has_var}
+use Rattle.fl_model.specs.Ring as model
+use Rattle.fl_model.specs.Row.{Row, IsStorable, FitsReference, FitsBytes, stored_row}
+use Rattle.fl_model.specs.Table.{Table, Entry, DataRing, shape_of}
+use Rattle.fl_model.specs.Facts.{FitsPlan, BlobFits}
+use Rattle.fl_model.specs.Layout.{data_body, committed}
+use Rattle.fl_model.specs.Image.{IsRingImage, HoldsRows, rows_at}
+use Rattle.fl_model.proofs.Lists.{slice_get-some, slice_get-short, each-drop, each-take}
+use Rattle.fl_model.proofs.Plain.{IsPlain, IsPlainTable}
+use Rattle.fl_page.specs.Page.{IsGoodPage, rows_in}
+use Rattle.fl_page.proofs.DataPages.{IsDataPage, data_page}
+use Rattle.fl_ring.specs.Ring.{OnRing, place}
+use Rattle.fl_ring.proofs.Found.{committed_state}
+use Rattle.fl_schema.specs.Form.{layout_with}
+use Rattle.fl_schema.specs.declared.column.ColumnType.{ColumnType}
+use Rattle.fl_schema.specs.declared.schema.KeyWidth.{KeyWidth}
+use Rattle.fl_table.specs.Pages.{bytes_in}
+use Rattle.fl_table.specs.Reading.{page_rows, rows_where, keys_fault, last_in, IsRead, AreRead, last_after, rows_after, voids_after}
+use Rattle.fl_table.proofs.KeyOrder.{key_before, rising}
+use Rattle.fl_table.proofs.States.{shape_in, state_of, HaveSize, to-image, committed-end}
+
+-- a row of a table without variable data tells its bytes
+pub stored-entry : (plan : Plan) (entry : Entry) → IsPlain plan → FitsPlan plan entry → IsStorable (row_layout plan) (stored_row entry)
+stored-entry plan entry plain h = by_blob entry.kept.blob refl h.blob
+  where
+    no : true ≡ false → ⊥
+    no e = cc
+
+    is_true : (b : Bool) → IsTrue b → b ≡ true
+    is_true true t = refl
+
+    row_of_blob : (o : Option (List ℕ)) → Row
+    row_of_blob o = record { key = entry.kept.key; values = entry.kept.values; blob = option_map (λ bytes. record { page = entry.page; offset = entry.offset; length = length bytes }) o }
+
+    by_blob : (o : Option (List ℕ)) → entry.kept.blob ≡ o → BlobFits plan entry o → IsStorable (row_layout plan) (stored_row entry)
+    by_blob None e b = subst (λ (o : Option (List ℕ)). IsStorable (row_layout plan) (row_of_blob o)) (sym e)
+        (record { fits = record { key = h.key; as_many = h.as_many; values = h.values; blob = tt }; bytes = tt })
+    by_blob (Some bytes) e b = absurd (no (sym (is_true (has_var plan) b.0) ∙ plain.no_var))
+
+pub all-stored : (plan : Plan) (entries : List Entry) → IsPlain plan → AllByRecursion (FitsPlan plan) entries → AllByRecursion (IsStorable (row_layout plan)) (map stored_row entries)
+all-stored plan [] plain h = tt
+all-stored plan (entry ∷ entries) plain h = (stored-entry plan entry plain h.0, all-stored plan entries plain h.1)
+
+each-at : {X : Type 0} (P : X → Type 0) (xs : List X) (i : ℕ) (x : X) → AllByRecursion P xs → slice_get xs i ≡ Some x → P x
+each-at {X} P [] i x h e = absurd (none e)
+  where
+    none : ◌≡◌ {A = Option X} None (Some x) → ⊥
+    none e = cc
+each-at P (y ∷ ys) zero x h e = let same : y ≡ x = cc in subst P same h.0
+each-at P (y ∷ ys) (suc i) x h e = each-at P ys i x h.1 e
+
+-- a sum over one more
+sum-next : {X : Type 0} (f : X → ℕ) (xs : List X) (i : ℕ) (x : X) → slice_get xs i ≡ Some x → sum_by f (take (suc i) xs) ≡ sum_by f (take i xs) + f x
+sum-next {X} f [] i x e = absurd (none e)
+  where
+    none : ◌≡◌ {A = Option X} None (Some x) → ⊥
+    none e = cc
+sum-next {X} f (y ∷ ys) zero x e = let same : y ≡ x = cc in sum_by-cons f y (take 0 ys) ∙ (ap (λ (zs : List X). f y + sum_by f zs) (take_none ys) ∙ omega (arith, ap f same))
+  where
+    take_none : (zs : List X) → take 0 zs ≡ []
+    take_none [] = refl
+    take_none (z ∷ zs) = refl
+sum-next f (y ∷ ys) (suc i) x e =
+    let h = sum-next f ys i x e in
+    let a = sum_by-cons f y (take (suc i) ys) in
+    let b = sum_by-cons f y (take i ys) in omega (arith, h, a, b)
+
+module _ (page : ℕ → List ℕ) (first : ℕ) (plan : Plan) (table : Table) (key : KeyWidth) (types : List ColumnType) (blobs : Bool) (same : layout_with key types blobs ≡ row_layout plan)
+    (plain : IsPlain plan) (facts : IsPlainTable plan table) (none : table.pending ≡ 0) (large : 64 ≤ plan.geometry.page) (room : row_len plan + 24 ≤ plan.geometry.page) (some_row : 1 ≤ row_len plan)
+    (short : plan.geometry.page ≤ 4096) (sizes : HaveSize first plan page) (on : OnRing (shape_in first plan) page (state_of plan table)) where
+  image : IsRingImage (shape_of plan DataRing) table.rows (bytes_in page first plan DataRing) (HoldsRows plan table)
+  image = to-image page first plan table sizes large facts.rows on
+
+  -- the first entries of the pages before
+  before : ℕ → ℕ
+  before i = sum (take i table.rows.counts)
+
+  within : (i c : ℕ) → slice_get table.rows.counts i ≡ Some c → sum (take i table.rows.counts) + c ≤ length table.entries
+  within i c e =
+      let next : sum (take (suc i) table.rows.counts) ≡ sum (take i table.rows.counts) + c = sum-next (λ (n : ℕ). n) table.rows.counts i c e in
+      omega (arith, next, sum_by-take-le (λ (n : ℕ). n) table.rows.counts (suc i), facts.kept.counted, none)
+
+  as_many : (i c : ℕ) → slice_get table.rows.counts i ≡ Some c → length (rows_at table i c) ≡ c
+  as_many i c e = length-take-le c (drop (sum (take i table.rows.counts)) table.entries) (omega (arith, length-drop (sum (take i table.rows.counts)) table.entries, within i c e))
+
+  few : (i c : ℕ) → slice_get table.rows.counts i ≡ Some c → 16 + c * row_len plan ≤ plan.geometry.page - 8
+  few i c e =
+      let le = each-at (λ count. count ≤ rows_per_page plan) table.rows.counts i c facts.kept.few_rows e in
+      let fits : c * row_len plan ≤ plan.geometry.page - 24 = (le-div_iff_mul-le {x = c} {y = plan.geometry.page - 24} some_row).0 le in
+      omega (arith, fits, room)
+
+  at : ℕ → List ℕ
+  at i = page (place (shape_in first plan) (model.oldest table.rows + i))
+
+  -- a kept page, by its count
+  record IsKept (i c : ℕ) : Type 0 where
+    good : state_of_page (page (place (shape_in first plan) (model.oldest table.rows + i))) ≡ Committed →
+        IsGoodPage (row_layout plan) (model.oldest table.rows + i) (page (place (shape_in first plan) (model.oldest table.rows + i)))
+    rows : page_rows (row_layout plan) (page (place (shape_in first plan) (model.oldest table.rows + i))) ≡ map stored_row (rows_at table i c)
+
+  kept : (i c : ℕ) → slice_get table.rows.counts i ≡ Some c → IsKept i c
+  kept i c e = by_count (cases_lt 0 c)
+    where
+      by_count : (0 < c) ⊎ (c ≤ 0) → IsKept i c
+      by_count (inl some) =
+          let is : page (place (shape_in first plan) (model.oldest table.rows + i)) ≡ committed (data_body plan (model.oldest table.rows + i) (rows_at table i c)) = image.kept i c e some in
+          let many : length (map stored_row (rows_at table i c)) ≡ c = length-map (rows_at table i c) stored_row ∙ as_many i c e in
+          let lt = slice_get-short table.rows.counts i c e in
+          let sized = few i c e in
+          let d = data_page key types blobs plan (model.oldest table.rows + i) (rows_at table i c) same
+          (all-stored plan (rows_at table i c) plain (each-take (FitsPlan plan) c (drop (sum (take i table.rows.counts)) table.entries) (each-drop (FitsPlan plan) (sum (take i table.rows.counts)) table.entries facts.kept.fit)))
+          (omega (arith, lt, facts.rows.not_negative, facts.number)) (omega (arith, many, some)) (omega (arith, many, small c sized)) (omega (arith, ap (λ n. n * row_len plan) many, sized)) in
+          let state : state_of_page (page (place (shape_in first plan) (model.oldest table.rows + i))) ≡ Committed =
+          ap state_of_page (is ∙ committed-end (data_body plan (model.oldest table.rows + i) (rows_at table i c))) ∙ committed_state (data_body plan (model.oldest table.rows + i) (rows_at table i c)) in
+          record {
+            good = λ s. subst (λ (p : List ℕ). IsGoodPage (row_layout plan) (model.oldest table.rows + i) p) (sym is) d.good;
+            rows = ap (λ s. rows_where s (row_layout plan) (page (place (shape_in first plan) (model.oldest table.rows + i)))) state ∙ (ap (rows_in (row_layout plan)) is ∙ d.rows);
+          }
+        where
+          small : (n : ℕ) → 16 + n * row_len plan ≤ plan.geometry.page - 8 → n < 65536
+          small n h = let k : n * 1 ≤ n * row_len plan = mul-le-mul_left n some_row in omega (arith, h, k, short)
+      by_count (inr zero_or) =
+          let zero_is : c ≡ 0 = omega (arith, zero_or) in
+          let state : state_of_page (page (place (shape_in first plan) (model.oldest table.rows + i))) ≡ Void =
+          (model_state (page (place (shape_in first plan) (model.oldest table.rows + i))) (omega (arith, sizes (model.oldest table.rows + i), large))).void.1 (image.void i (e ∙ ap (λ (n : ℕ). Some n) zero_is)) in
+          record {
+            good = λ s. absurd (no (sym state ∙ s));
+            rows = ap (λ s. rows_where s (row_layout plan) (page (place (shape_in first plan) (model.oldest table.rows + i)))) state
+                ∙ (ap (map stored_row) (sym (take_none (drop (sum (take i table.rows.counts)) table.entries))) ∙ ap (λ n. map stored_row (take n (drop (sum (take i table.rows.counts)) table.entries))) (sym zero_is));
+          }
+        where
+          no : Void ≡ Committed → ⊥
+          no e = cc
+
+          take_none : (zs : List Entry) → take 0 zs ≡ []
+          take_none [] = refl
+          take_none (z ∷ zs) = refl
+
+  -- the first n of them
+  pub record AreKeptRead (n : ℕ) : Type 0 where
+    pub read : AreRead (row_layout plan) (λ number. page (place (shape_in first plan) number)) (model.oldest table.rows) n
+    pub last : last_after (row_layout plan) (λ number. page (place (shape_in first plan) number)) (model.oldest table.rows) n ≡ key_before table.entries (sum (take n table.rows.counts))
+    pub rows : rows_after (row_layout plan) (λ number. page (place (shape_in first plan) number)) (model.oldest table.rows) n ≡ sum (take n table.rows.counts)
+    pub voids : voids_after (row_layout plan) (λ number. page (place (shape_in first plan) number)) (model.oldest table.rows) n ≡ count_by (λ count. count == 0) (take n table.rows.counts)
+
+  pub length-kept : (i c : ℕ) → slice_get table.rows.counts i ≡ Some c → length (page_rows (row_layout plan) (page (place (shape_in first plan) (model.oldest table.rows + i)))) ≡ c
+  length-kept i c e = ap length (kept i c e).rows ∙ (length-map (rows_at table i c) stored_row ∙ as_many i c e)
+
+  pub kept-read : (n : ℕ) → n ≤ length table.rows.counts → AreKeptRead n
+  kept-read zero le = record {
+    read = tt;
+    last = ap (key_before table.entries) (sym (ap sum (take_none table.rows.counts)));
+    rows = sym (ap sum (take_none table.rows.counts));
+    voids = sym (ap (count_by (λ count. count == 0)) (take_none table.rows.counts));
+  }
+    where
+      take_none : (zs : List ℕ) → take 0 zs ≡ []
+      take_none [] = refl
+      take_none (z ∷ zs) = refl
+  kept-read (suc n) le =
+      let h = kept-read n (omega (arith, le)) in
+      let at_n = slice_get-some table.rows.counts n (omega (arith, le)) in
+      let c = at_n.0 in
+      let k = kept n at_n.0 at_n.1 in
+      let up = rising table.entries facts.kept.ascending (model.oldest table.rows + n) (sum (take n table.rows.counts)) (drop (sum (take n table.rows.counts)) table.entries) refl at_n.0 in
+      let more : sum (take (suc n) table.rows.counts) ≡ sum (take n table.rows.counts) + at_n.0 = sum-next (λ (m : ℕ). m) table.rows.counts n at_n.0 at_n.1 in
+      let many = length-kept n at_n.0 at_n.1 in
+      record {
+        read = (h.read, record {
+          good = k.good;
+          keys = ap (λ (l : Option ℕ). keys_fault (model.oldest table.rows + n) l (page_rows (row_layout plan) (page (place (shape_in first plan) (model.oldest table.rows + n))))) h.last
+              ∙ (ap (keys_fault (model.oldest table.rows + n) (key_before table.entries (sum (take n table.rows.counts)))) k.rows ∙ up.0);
+        });
+        last = ap (λ (l : Option ℕ). last_in l (page_rows (row_layout plan) (page (place (shape_in first plan) (model.oldest table.rows + n))))) h.last
+            ∙ (ap (last_in (key_before table.entries (sum (take n table.rows.counts)))) k.rows ∙ (up.1 ∙ ap (key_before table.entries) (omega (arith, as_many n at_n.0 at_n.1, more))));
+        rows = omega (arith, h.rows, many, more);
+        voids = ap (λ m. m + cond (length (page_rows (row_layout plan) (page (place (shape_in first plan) (model.oldest table.rows + n)))) == 0) 1 0) h.voids
+            ∙ (ap (λ m. count_by (λ count. count == 0) (take n table.rows.counts) + cond (m == 0) 1 0) many ∙ sym (sum-next (λ (m : ℕ). cond (m == 0) 1 0) table.rows.counts n at_n.0 at_n.1));
+      }

@@ -1,0 +1,41 @@
+-- What a refused page answers.
+use Rattle.std.proofs.Common.{◌≡◌, ℕ, Bool, true, false, cond, Option, Some, None, unwrap_or, List, [], ◌∷◌, refl, sym, ◌∙◌, ap, subst, inl, inr}
+use Rattle.fl_flash.specs.declared.flash.FlashFault.{FlashFault}
+use Rattle.fl_model.specs.Record.{RowLayout}
+use Rattle.fl_model.specs.Row.{Row}
+use Rattle.fl_page.specs.Page.{rows_in, bad_page}
+use Rattle.fl_table.specs.Causes.{IfFlash, is_of_pages}
+use Rattle.fl_table.specs.Reading.{rises, keys_fault, IsRefused}
+use Rattle.fl_table.specs.declared.faults.MountFault.{MountFault}
+use Rattle.fl_table.specs.declared.faults.MountFault.TheVariants.{Flash, BadPage, BadKeys}
+
+-- it is a fault of a page alone
+record IsPageFault (fault : MountFault) : Type 1 where
+  of_pages : is_of_pages fault ≡ true
+  no_flash : (P : FlashFault → Type 0) → IfFlash P fault
+
+of_keys : (number : ℕ) (last : Option ℕ) (rows : List Row) (fault : MountFault) → keys_fault number last rows ≡ Some fault → IsPageFault fault
+of_keys number last [] fault e = absurd (none e)
+  where
+    none : None ≡ Some fault → ⊥
+    none e = cc
+of_keys number last (row ∷ rows) fault e = by_test (of_keys number (Some row.key) rows fault) (rises last row.key) e
+  where
+    same : Some (BadKeys number (unwrap_or last 0) row.key) ≡ Some fault → BadKeys number (unwrap_or last 0) row.key ≡ fault
+    same e = cc
+
+    by_test : (keys_fault number (Some row.key) rows ≡ Some fault → IsPageFault fault) → (b : Bool) → cond b (keys_fault number (Some row.key) rows) (Some (BadKeys number (unwrap_or last 0) row.key)) ≡ Some fault → IsPageFault fault
+    by_test more true e = more e
+    by_test more false e = subst IsPageFault (same e) (record { of_pages = refl; no_flash = λ P. tt })
+
+of_page : (layout : RowLayout) (number : ℕ) (page : List ℕ) (last : Option ℕ) (fault : MountFault) → IsRefused layout number page last fault → IsPageFault fault
+of_page layout number page last fault h = elim h.why [
+  | inl bad ↦ subst IsPageFault (sym bad.1) (record { of_pages = refl; no_flash = λ P. tt })
+  | inr keys ↦ of_keys number last (rows_in layout page) fault keys.1
+]
+
+pub refused-of_pages : (layout : RowLayout) (number : ℕ) (page : List ℕ) (last : Option ℕ) (fault : MountFault) → IsRefused layout number page last fault → is_of_pages fault ≡ true
+refused-of_pages layout number page last fault h = (of_page layout number page last fault h).of_pages
+
+pub refused-no_flash : (layout : RowLayout) (number : ℕ) (page : List ℕ) (last : Option ℕ) (fault : MountFault) (P : FlashFault → Type 0) → IsRefused layout number page last fault → IfFlash P fault
+refused-no_flash layout number page last fault P h = (of_page layout number page last fault h).no_flash P

@@ -1,0 +1,83 @@
+use Rattle.std.proofs.Common.{rules, ◌≡◌, ◌%◌, ◌==◌, cond, length, length-set, ◌<◌, ◌≤◌, ◌+◌, ◌-◌, suc, IsTrue, IfErr, arith, sym, ◌∙◌, ap, subst, refl}
+use Rattle.std.proofs.lemmas.Result.{err_from_is_err_and}
+use Rattle.fl_flash.specs.Flash.{page_at}
+use Rattle.fl_ring.specs.Looking.{OnlyReads}
+use Rattle.fl_ring.specs.Place.{next_of, oldest_of, shape_of}
+use Rattle.fl_ring.specs.Ring.{place}
+use Rattle.fl_schema.specs.Schema.{layout_of}
+use Rattle.fl_table.specs.Reading.{pages_of, IsRefused, AreRefused, AreNoted}
+use Rattle.fl_ring.proofs.Exists.{page_exists}
+use Rattle.fl_ring.proofs.Readings.{more_reads, told_still, same_page}
+use Rattle.fl_table.proofs.PagesRead.{if-page, read-more, last-more, rows-more, voids-more, noted-more, refused-at, is-void, not-void, voids_few}
+use Rattle.fl_table.specs.declared.counts.Mounted.{Mounted}
+use Rattle.fl_table.proofs.reading.read_pages.Goals as goal
+use Rattle.fl_table.proofs.reading.read_pages.Goals.{then-page-eq0, else-page-eq0}
+
+pub read_page-requires-clause-exists : goal.read_page-requires-clause-exists
+read_page-requires-clause-exists g c =
+    page_exists c.args.ring.now (g.F.Flash.state c.args.flash.now) (g.F.Flash.state c.loop-number.flash) _ c.place_of.result c.requires.lies c.loop-number.invariant.reads c.place_of.ensures.within
+
+pub returns-in_err-page-clause-fault : goal.returns-in_err-page-clause-fault
+returns-in_err-page-clause-fault g c =
+    let p = err_from_is_err_and c.from_residual.result c.from_residual.ensures.1 in
+    let old = g.F.Flash.state c.args.flash.now in
+    let flash = g.F.Flash.state c.loop-number.flash in
+    let ring = c.args.ring.now in
+    let layout = layout_of c.args.schema.now in
+    let number = c.loop-number.number in
+    let n = number - oldest_of ring in
+    let inv = c.loop-number.invariant in
+    rw (p.1, p.2) (if-page (λ e. IsTrue flash.media.tells → IsRefused layout number (page_at flash c.place_of.result) c.loop-number.last e)
+    (λ e. IsTrue old.media.tells → AreRefused layout (pages_of ring old) (oldest_of ring) (next_of ring - oldest_of ring) e) c.in_err-page.field-0.0
+    (λ e h told. refused-at layout (pages_of ring old) (oldest_of ring) n number (suc n) (omega (arith, inv.from)) refl (page_at flash c.place_of.result)
+    (same_page old flash n c.place_of.result inv.reads ∙ ap (page_at old) c.place_of.ensures.place)
+    c.loop-number.last (next_of ring - oldest_of ring) e (omega (arith, inv.from, c.loop-number-test.true)) (inv.last told) (inv.read told) (h (told_still old flash n inv.reads told))) c.in_err-page.ensures.fault)
+
+pub loop-number-preserved : goal.loop-number-preserved
+loop-number-preserved g c =
+    let old = g.F.Flash.state c.args.flash.now in
+    let flash = g.F.Flash.state c.loop-number.flash in
+    let new = g.F.Flash.state c.read_page.new.flash in
+    let ring = c.args.ring.now in
+    let layout = layout_of c.args.schema.now in
+    let number = c.loop-number.number in
+    let first = oldest_of ring in
+    let n = number - oldest_of ring in
+    let m = number + 1 - oldest_of ring in
+    let pages = pages_of ring old in
+    let inv = c.loop-number.invariant in
+    let page = c.in_ok-page.page in
+    let bytes = page_at flash c.place_of.result in
+    let more : m ≡ suc n = omega (arith, inv.from) in
+    let here : number ≡ first + n = omega (arith, inv.from) in
+    let same : bytes ≡ pages number = same_page old flash n c.place_of.result inv.reads ∙ ap (page_at old) c.place_of.ensures.place in
+    let pages_is : c.if-page-eq0.mounted.pages ≡ c.loop-number.mounted.pages = elim c.if-page-eq0.branch [
+      | then-page-eq0 w ↦ ap (λ (x : Mounted). x.pages) w.mounted-is
+      | else-page-eq0 w ↦ ap (λ (x : Mounted). x.pages) w.mounted-is
+    ] in
+    let rows_is : c.if-page-eq0.mounted.rows ≡ c.loop-number.mounted.rows + page.rows = elim c.if-page-eq0.branch [
+      | then-page-eq0 w ↦ omega (arith, ap (λ (x : Mounted). x.rows) w.mounted-is, c.from.ensures)
+      | else-page-eq0 w ↦ omega (arith, ap (λ (x : Mounted). x.rows) w.mounted-is, c.from.ensures)
+    ] in
+    let voids_is : c.if-page-eq0.mounted.voids ≡ c.loop-number.mounted.voids + cond (page.rows == 0) 1 0 = elim c.if-page-eq0.branch [
+      | then-page-eq0 w ↦ is-void page.rows c.loop-number.mounted.voids c.if-page-eq0.mounted.voids w.if-page-eq0.true (ap (λ (x : Mounted). x.voids) w.mounted-is)
+      | else-page-eq0 w ↦ not-void page.rows c.loop-number.mounted.voids c.if-page-eq0.mounted.voids w.if-page-eq0.false (ap (λ (x : Mounted). x.voids) w.mounted-is)
+    ] in
+    let counts_len : length c.note.new.counts ≡ length c.args.counts.now =
+    ap length c.note.ensures ∙ (length-set c.loop-number.counts (number % length c.loop-number.counts) page.rows ∙ inv.counts) in
+    record {
+      from = omega (arith, inv.from);
+      reads = subst (λ k. OnlyReads old k new) (let e : n + 1 ≡ m = omega (arith, inv.from) in e) (more_reads old flash new n 1 inv.reads c.in_ok-page.ensures.reads);
+      room = c.in_ok-page.ensures.room ∙ inv.room;
+      counts = counts_len;
+      read = λ told. read-more layout pages first n number m here more bytes same c.loop-number.last (inv.last told) (inv.read told) (c.in_ok-page.ensures.read (told_still old flash n inv.reads told));
+      noted = λ fits told. subst (AreNoted layout pages first m) (sym c.note.ensures)
+          (noted-more layout pages first n number m here more bytes same c.loop-number.counts page.rows (omega (arith, fits, inv.counts))
+          (c.in_ok-page.ensures.rows (told_still old flash n inv.reads told)) (inv.noted (omega (arith, fits)) told));
+      last = λ told. last-more layout pages first n number m here more bytes same c.loop-number.last page.last (inv.last told) (c.in_ok-page.ensures.last (told_still old flash n inv.reads told));
+      pages = pages_is ∙ inv.pages;
+      rows = λ told. rows_is ∙ rows-more layout pages first n number m here more bytes same page.rows c.loop-number.mounted.rows (inv.rows told) (c.in_ok-page.ensures.rows (told_still old flash n inv.reads told));
+      voids = λ told. voids_is ∙ voids-more layout pages first n number m here more bytes same page.rows c.loop-number.mounted.voids (inv.voids told) (c.in_ok-page.ensures.rows (told_still old flash n inv.reads told));
+      rows_few = omega (arith, rows_is, inv.rows_few, c.in_ok-page.ensures.few, more);
+      voids_few = omega (arith, voids_few page.rows c.loop-number.mounted.voids c.if-page-eq0.mounted.voids voids_is, inv.voids_few, more);
+    }

@@ -1,0 +1,22 @@
+use Rattle.std.proofs.Common.{◌≡◌, ◌≤◌, ◌-◌, ◌+◌, ◌*◌, length, IsTrue, true}
+use Rattle.fl_ring.specs.Looking.{OnlyReads}
+use Rattle.fl_ring.specs.Place.{oldest_of, next_of}
+use Rattle.fl_schema.specs.Schema.{layout_of}
+use Rattle.fl_table.specs.Reading.{AreRead, AreNoted, last_after, rows_after, voids_after, pages_of}
+use Rattle.fl_table.proofs.reading.read_pages.Given as goal
+
+abbrev pub invariant-loop-number : goal.invariant-loop-number
+invariant-loop-number g l = record {
+  from : oldest_of l.ring ≤ l.number;
+  reads : OnlyReads (g.F.Flash.state l.initial.flash) (l.number - oldest_of l.ring) (g.F.Flash.state l.flash);
+  room : length l.buf.bytes ≡ length l.initial.buf.bytes;
+  counts : length l.counts ≡ length l.initial.counts;
+  read : IsTrue (g.F.Flash.state l.initial.flash).media.tells → AreRead (layout_of l.schema) (pages_of l.ring (g.F.Flash.state l.initial.flash)) (oldest_of l.ring) (l.number - oldest_of l.ring);
+  noted : l.number - oldest_of l.ring ≤ length l.initial.counts → IsTrue (g.F.Flash.state l.initial.flash).media.tells → AreNoted (layout_of l.schema) (pages_of l.ring (g.F.Flash.state l.initial.flash)) (oldest_of l.ring) (l.number - oldest_of l.ring) l.counts;
+  last : IsTrue (g.F.Flash.state l.initial.flash).media.tells → l.last ≡ last_after (layout_of l.schema) (pages_of l.ring (g.F.Flash.state l.initial.flash)) (oldest_of l.ring) (l.number - oldest_of l.ring);
+  pages : l.mounted.pages ≡ next_of l.ring - oldest_of l.ring;
+  rows : IsTrue (g.F.Flash.state l.initial.flash).media.tells → l.mounted.rows ≡ rows_after (layout_of l.schema) (pages_of l.ring (g.F.Flash.state l.initial.flash)) (oldest_of l.ring) (l.number - oldest_of l.ring);
+  voids : IsTrue (g.F.Flash.state l.initial.flash).media.tells → l.mounted.voids ≡ voids_after (layout_of l.schema) (pages_of l.ring (g.F.Flash.state l.initial.flash)) (oldest_of l.ring) (l.number - oldest_of l.ring);
+  rows_few : l.mounted.rows ≤ (l.number - oldest_of l.ring) * 65536;
+  voids_few : l.mounted.voids ≤ l.number - oldest_of l.ring;
+}

@@ -1,0 +1,9 @@
+pub mod Pages
+pub mod Memory
+pub mod Refusal
+pub mod Standing
+pub mod Accepting
+pub mod Outcomes
+pub mod Causes
+pub mod Reading
+pub mod Mounting

@@ -1,0 +1,89 @@
+-- What a mount reads in the kept pages, over any bytes.
+use Rattle.std.specs.Prelude.{◌≡◌, ◌⊎◌, ℕ, zero, suc, ◌+◌, ◌%◌, ◌<◌, Bool, true, nat_lt, ◌==◌, Option, Some, None, unwrap_or, List, [], ◌∷◌, length, slice_index, if◌then◌else◌}
+use Rattle.fl_flash.specs.Flash.{FlashState, page_at}
+use Rattle.fl_mark.specs.Mark.{state_of_page}
+use Rattle.fl_mark.specs.declared.page_state.PageState.{PageState}
+use Rattle.fl_mark.specs.declared.page_state.PageState.TheVariants.{Blank, Torn, Committed, Void}
+use Rattle.fl_model.specs.Record.{RowLayout}
+use Rattle.fl_model.specs.Row.{Row}
+use Rattle.fl_page.specs.Page.{IsGoodPage, bad_page, rows_in}
+use Rattle.fl_ring.specs.Place.{shape_of}
+use Rattle.fl_ring.specs.Ring.{place}
+use Rattle.fl_ring.specs.declared.ring.Ring.{Ring}
+use Rattle.fl_table.specs.declared.faults.MountFault.{MountFault}
+use Rattle.fl_table.specs.declared.faults.MountFault.TheVariants.{BadPage, BadKeys}
+use Rattle.fl_table.specs.declared.counts.Mounted.{Mounted}
+
+-- the rows of a page in this state; a page that isn't committed has none
+abbrev pub rows_where : PageState → RowLayout → List ℕ → List Row
+rows_where Committed layout page = rows_in layout page
+rows_where Blank layout page = []
+rows_where Torn layout page = []
+rows_where Void layout page = []
+
+abbrev pub page_rows : RowLayout → List ℕ → List Row
+page_rows layout page = rows_where (state_of_page page) layout page
+
+-- a key that may follow the last one
+abbrev pub rises : Option ℕ → ℕ → Bool
+rises None key = true
+rises (Some last) key = nat_lt last key
+
+-- the last key after these rows
+abbrev pub last_in : Option ℕ → List Row → Option ℕ
+last_in last [] = last
+last_in last (row ∷ rows) = last_in (Some row.key) rows
+
+-- the first key of these rows that isn't above the one before it
+abbrev pub keys_fault : ℕ → Option ℕ → List Row → Option MountFault
+keys_fault number last [] = None
+keys_fault number last (row ∷ rows) =
+    if rises last row.key then keys_fault number (Some row.key) rows else Some (BadKeys number (unwrap_or last 0) row.key)
+
+-- a page that may stand at this number, after this last key
+pub record IsRead (layout : RowLayout) (number : ℕ) (page : List ℕ) (last : Option ℕ) : Type 0 where
+  pub good : state_of_page page ≡ Committed → IsGoodPage layout number page
+  pub keys : keys_fault number last (page_rows layout page) ≡ None
+
+-- why another may not: it is committed, and has another number, no count that a page has, or keys that don't rise
+pub record IsRefused (layout : RowLayout) (number : ℕ) (page : List ℕ) (last : Option ℕ) (fault : MountFault) : Type 0 where
+  pub committed : state_of_page page ≡ Committed
+  pub why : ((IsGoodPage layout number page → ⊥) × (fault ≡ BadPage (bad_page number page)))
+      ⊎ (IsGoodPage layout number page × (keys_fault number last (rows_in layout page) ≡ Some fault))
+
+-- the bytes of a page of a ring, by its number
+abbrev pub pages_of : Ring → FlashState → ℕ → List ℕ
+pages_of ring f number = page_at f (place (shape_of ring) number)
+
+-- the last key of so many pages
+abbrev pub last_after : RowLayout → (ℕ → List ℕ) → ℕ → ℕ → Option ℕ
+last_after layout page number zero = None
+last_after layout page number (suc n) = last_in (last_after layout page number n) (page_rows layout (page (number + n)))
+
+-- so many pages from this number on may stand there
+abbrev pub AreRead : RowLayout → (ℕ → List ℕ) → ℕ → ℕ → Type 0
+AreRead layout page number zero = Unit {0}
+AreRead layout page number (suc n) =
+    AreRead layout page number n × IsRead layout (number + n) (page (number + n)) (last_after layout page number n)
+
+-- the first of them that may not, and why
+pub record AreRefused (layout : RowLayout) (page : ℕ → List ℕ) (number n : ℕ) (fault : MountFault) : Type 0 where
+  pub before : ℕ
+  pub within : before < n
+  pub read : AreRead layout page number before
+  pub refused : IsRefused layout (number + before) (page (number + before)) (last_after layout page number before) fault
+
+-- the rows in all, and the pages without rows
+abbrev pub rows_after : RowLayout → (ℕ → List ℕ) → ℕ → ℕ → ℕ
+rows_after layout page number zero = 0
+rows_after layout page number (suc n) = rows_after layout page number n + length (page_rows layout (page (number + n)))
+
+abbrev pub voids_after : RowLayout → (ℕ → List ℕ) → ℕ → ℕ → ℕ
+voids_after layout page number zero = 0
+voids_after layout page number (suc n) =
+    voids_after layout page number n + (if length (page_rows layout (page (number + n))) == 0 then 1 else 0)
+
+-- how many rows each page has is noted at its place
+abbrev pub AreNoted : RowLayout → (ℕ → List ℕ) → ℕ → ℕ → List ℕ → Type 0
+AreNoted layout page number n counts =
+    (i : ℕ) → i < n → slice_index counts ((number + i) % length counts) ≡ length (page_rows layout (page (number + i)))

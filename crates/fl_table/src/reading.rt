@@ -1,0 +1,159 @@
+// What a mount reads: the kept pages, each once.
+ghost use Rattle.std.specs.Prelude.{◌≡◌, ◌+◌, ◌-◌, ◌*◌, ◌<◌, ◌≤◌, ◌≢◌, ℕ, true, false, Some, None, List, length, IsTrue, IfOk, IfErr, OnOk};
+ghost use Rattle.fl_flash.specs.Flash.{pages, page_at};
+ghost use Rattle.fl_model.specs.Record.{layout_len};
+ghost use Rattle.fl_ring.specs.Looking.{OnlyReads, ReadFails};
+ghost use Rattle.fl_ring.specs.Place.{shape_of, next_of, oldest_of, LiesOn};
+ghost use Rattle.fl_ring.specs.Ring.{place, room};
+ghost use Rattle.fl_page.specs.View.{page_of, layout_of_page, count_of, rows_of};
+ghost use Rattle.fl_schema.specs.Schema.{layout_of};
+ghost use Rattle.fl_table.specs.Causes.{IfFlash, IfPage, is_of_pages};
+ghost use Rattle.fl_table.specs.Reading.{page_rows, last_in, keys_fault, IsRead, IsRefused, AreRead, AreRefused, last_after, rows_after, voids_after, AreNoted, pages_of};
+
+use crate::seal::note;
+use crate::{MountFault, Mounted};
+use fl_flash::{Flash, PageBuf};
+use fl_mark::{PageState, state_of};
+use fl_page::PageView;
+use fl_ring::Ring;
+use fl_schema::Schema;
+
+/// How many rows a page has, and the last key up to them.
+#[derive(Clone, Copy)]
+pub(crate) struct PageRows {
+    rows: u32,
+    last: Option<u64>,
+}
+
+/// The rows of a page, whose keys rise from the last one on.
+fn rows_of_view(
+    view: PageView<'_, 8>,
+    number: u32,
+    last: Option<u64>,
+) -> Result<PageRows, MountFault>
+    requires { count_of view < 65536 }
+    ensures rows { IfOk result (λ page. (keys_fault number last (rows_of view.entry) ≡ None) × (page.rows ≡ count_of view.entry) × (page.last ≡ last_in last (rows_of view.entry))) }
+    ensures fault { IfErr result (λ e. keys_fault number last (rows_of view.entry) ≡ Some e) }
+{
+    let mut so_far = last;
+    for i in 0..view.rows() {
+        let key = view.row(i).key();
+        if let Some(before) = so_far {
+            if key <= before {
+                return Err(MountFault::BadKeys {
+                    page: number,
+                    last: before,
+                    first: key,
+                });
+            }
+        }
+        so_far = Some(key);
+    }
+    Ok(PageRows {
+        rows: view.rows() as u32,
+        last: so_far,
+    })
+}
+
+/// The rows of the page with this number, by its bytes.
+fn rows_in(
+    schema: &Schema<8>,
+    bytes: &[u8],
+    number: u32,
+    last: Option<u64>,
+) -> Result<PageRows, MountFault>
+    requires least { 24 ≤ length bytes.now }
+    requires most { length bytes.now ≤ 4096 }
+    requires row { 1 ≤ layout_len (layout_of schema.now) }
+    ensures read { IfOk result (λ page. IsRead (layout_of schema.now) number bytes.now last) }
+    ensures rows { IfOk result (λ page. (page.rows ≡ length (page_rows (layout_of schema.now) bytes.now)) × (page.rows < 65536)) }
+    ensures last { IfOk result (λ page. page.last ≡ last_in last (page_rows (layout_of schema.now) bytes.now)) }
+    ensures fault { IfErr result (λ e. IsRefused (layout_of schema.now) number bytes.now last e) }
+{
+    let PageState::Committed = state_of(bytes) else {
+        return Ok(PageRows { rows: 0, last });
+    };
+    match PageView::of(bytes, number, schema) {
+        Ok(view) => rows_of_view(view, number, last),
+        Err(bad) => Err(MountFault::BadPage(bad)),
+    }
+}
+
+/// Reads the page with this number.
+fn read_page<F: Flash>(
+    schema: &Schema<8>,
+    flash: &mut F,
+    at: u32,
+    number: u32,
+    last: Option<u64>,
+    buf: &mut PageBuf,
+) -> Result<PageRows, MountFault>
+    requires row { 1 ≤ layout_len (layout_of schema.now) }
+    requires exists { at < pages (F.state flash.old) }
+    requires room { length buf.old.bytes ≡ (F.state flash.old).geometry.page }
+    ensures reads { OnlyReads (F.state flash.old) 1 (F.state flash.new) }
+    ensures room { length buf.new.bytes ≡ length buf.old.bytes }
+    ensures read { IfOk result (λ page. IsTrue (F.state flash.old).media.tells → IsRead (layout_of schema.now) number (page_at (F.state flash.old) at) last) }
+    ensures rows { IfOk result (λ page. IsTrue (F.state flash.old).media.tells → page.rows ≡ length (page_rows (layout_of schema.now) (page_at (F.state flash.old) at))) }
+    ensures last { IfOk result (λ page. IsTrue (F.state flash.old).media.tells → page.last ≡ last_in last (page_rows (layout_of schema.now) (page_at (F.state flash.old) at))) }
+    ensures few { IfOk result (λ page. page.rows < 65536) }
+    ensures fault { IfErr result (IfPage (λ e. IsTrue (F.state flash.old).media.tells → IsRefused (layout_of schema.now) number (page_at (F.state flash.old) at) last e)) }
+    ensures fails { IfErr result (IfFlash (λ e. ReadFails (F.state flash.old) e (F.state flash.new))) }
+    ensures only { IfErr result (λ e. is_of_pages e ≡ true) }
+    ensures power { OnOk result ((F.state flash.new).is_on ≡ true) }
+{
+    flash.read(at, buf)?;
+    rows_in(schema, buf.bytes(), number, last)
+}
+
+/// Reads the kept pages of a ring, from the oldest on, and notes how many rows each has.
+pub(crate) fn read_pages<F: Flash>(
+    schema: &Schema<8>,
+    ring: &Ring,
+    counts: &mut [u16],
+    flash: &mut F,
+    buf: &mut PageBuf,
+) -> Result<(Mounted, Option<u64>), MountFault>
+    requires row { 1 ≤ layout_len (layout_of schema.now) }
+    requires lies { LiesOn ring.now (F.state flash.old) }
+    requires room { length buf.old.bytes ≡ (F.state flash.old).geometry.page }
+    requires counts { length counts.old ≡ room (shape_of ring.now) }
+    ensures reads { OnlyReads (F.state flash.old) (next_of ring.now - oldest_of ring.now) (F.state flash.new) }
+    ensures room { length buf.new.bytes ≡ length buf.old.bytes }
+    ensures counts { length counts.new ≡ length counts.old }
+    ensures read { OnOk result (IsTrue (F.state flash.old).media.tells →
+        AreRead (layout_of schema.now) (pages_of ring.now (F.state flash.old)) (oldest_of ring.now) (next_of ring.now - oldest_of ring.now)) }
+    ensures noted { OnOk result (next_of ring.now - oldest_of ring.now ≤ length counts.old → IsTrue (F.state flash.old).media.tells →
+        AreNoted (layout_of schema.now) (pages_of ring.now (F.state flash.old)) (oldest_of ring.now) (next_of ring.now - oldest_of ring.now) counts.new) }
+    ensures mounted { IfOk result (λ found. IsTrue (F.state flash.old).media.tells → found.0 ≡ record {
+        rows = rows_after (layout_of schema.now) (pages_of ring.now (F.state flash.old)) (oldest_of ring.now) (next_of ring.now - oldest_of ring.now);
+        pages = next_of ring.now - oldest_of ring.now;
+        voids = voids_after (layout_of schema.now) (pages_of ring.now (F.state flash.old)) (oldest_of ring.now) (next_of ring.now - oldest_of ring.now);
+    }) }
+    ensures last { IfOk result (λ found. IsTrue (F.state flash.old).media.tells →
+        found.1 ≡ last_after (layout_of schema.now) (pages_of ring.now (F.state flash.old)) (oldest_of ring.now) (next_of ring.now - oldest_of ring.now)) }
+    ensures fault { IfErr result (IfPage (λ e. IsTrue (F.state flash.old).media.tells →
+        AreRefused (layout_of schema.now) (pages_of ring.now (F.state flash.old)) (oldest_of ring.now) (next_of ring.now - oldest_of ring.now) e)) }
+    ensures fails { IfErr result (IfFlash (λ e. ReadFails (F.state flash.old) e (F.state flash.new))) }
+    ensures only { IfErr result (λ e. is_of_pages e ≡ true) }
+    ensures power { OnOk result ((F.state flash.old).is_on ≡ true → (F.state flash.new).is_on ≡ true) }
+{
+    let oldest = ring.oldest();
+    let next = ring.next_number();
+    let mut mounted = Mounted {
+        rows: 0,
+        pages: next - oldest,
+        voids: 0,
+    };
+    let mut last = None;
+    for number in oldest..next {
+        let page = read_page(schema, flash, ring.place_of(number), number, last, buf)?;
+        note(counts, number, page.rows);
+        last = page.last;
+        mounted.rows += u64::from(page.rows);
+        if page.rows == 0 {
+            mounted.voids += 1;
+        }
+    }
+    Ok((mounted, last))
+}
