@@ -1,8 +1,8 @@
 -- The numbers of a ring after one page more.
-use Rattle.std.proofs.Common.{◌≡◌, ℕ, ◌+◌, ◌-◌, ◌≤◌, true, false, List, [], ◌∷◌, ◌++◌, length, drop, Option, refl, sym, ◌∙◌, ap, arith, length-append, length-drop}
+use Rattle.std.proofs.Common.{◌≡◌, ℕ, ◌+◌, ◌-◌, ◌≤◌, true, List, [], ◌∷◌, ◌++◌, length, Option, ◌∙◌, ap, arith, length-append}
 use Rattle.fl_ring.specs.declared.ring.Ring.{Ring}
 use Rattle.fl_ring.specs.Place.{shape_of, StandsFor}
-use Rattle.fl_ring.specs.Ring.{Shape, RingState, count, oldest, IsShape, IsRing, is_due_at, appended, trimmed, erased}
+use Rattle.fl_ring.specs.Ring.{Shape, RingState, count, IsShape, is_due_at, erased}
 use Rattle.fl_ring.proofs.Facts.{due_true, two_blocks}
 
 -- the oldest number stays below the next

@@ -1,5 +1,5 @@
 -- What an operation makes of the armed cut and of the counts.
-use Rattle.std.proofs.Common.{◌≡◌, ◌⊎◌, ℕ, ◌-◌, ◌≤◌, Bool, true, false, ◌==◌, if◌then◌else◌, Option, Some, None, option_map, unwrap_or, nat_le, inl, inr, refl, sym, ◌∙◌, ap, subst, arith}
+use Rattle.std.proofs.Common.{◌≡◌, ◌⊎◌, ℕ, ◌-◌, Bool, ◌==◌, if◌then◌else◌, Option, Some, None, option_map, unwrap_or, nat_le, inl, inr, refl, sym, ◌∙◌, ap, subst, arith}
 use Rattle.std.proofs.lemmas.Bool.{cases_Bool, leb-true, leb-false, eq-eqb, ne_eqb}
 use Rattle.fl_base.specs.declared.types.CutKind.{CutKind}
 use Rattle.fl_flash.specs.Flash.{FlashState}
@@ -7,7 +7,7 @@ use Rattle.fl_flash.specs.Media.{next_count}
 use Rattle.fl_flash.specs.Tear.{torn_now, armed_after}
 use Rattle.fl_flash.specs.declared.armed.Armed.{Armed}
 use Rattle.fl_flash.specs.declared.tear.Tear.{Tear}
-use Rattle.fl_model.specs.Work.{Kind, Device, is_erase, cut_now, counted, fired}
+use Rattle.fl_model.specs.Work.{Kind, Device, is_erase, counted, fired}
 use Rattle.fl_ring.specs.Device.{TearsAs, ArmsAs, SameDevice}
 
 -- the cut isn't of this operation, on the flash and in the model
@@ -29,19 +29,19 @@ pub cut_or_not : (armed : Option Armed) (cut : Option (ℕ × CutKind)) → Arms
 cut_or_not None cut is = inl (rw is (record { torn = refl; now = refl; later = refl }))
 cut_or_not (Some a) cut is = elim (cases_Bool (nat_le a.left 1)) [
   | inl last ↦ inr (rw is.1 (record {
-      tear = a.tear;
-      kind = is.0;
-      torn = ap (λ (b : Bool). if b then Some a.tear else None) last;
-      now = ap (λ (b : Bool). if b then Some is.0 else None) (eq-eqb a.left 1 (omega (arith, leb-true a.left 1 last, is.2)));
-      same = is.3;
-      gone = ap (λ (b : Bool). if b then None else Some (record a { left = a.left - 1 })) last;
-    }))
+    tear = a.tear;
+    kind = is.0;
+    torn = ap (λ (b : Bool). if b then Some a.tear else None) last;
+    now = ap (λ (b : Bool). if b then Some is.0 else None) (eq-eqb a.left 1 (omega (arith, leb-true a.left 1 last, is.2)));
+    same = is.3;
+    gone = ap (λ (b : Bool). if b then None else Some (record a { left = a.left - 1 })) last;
+  }))
   | inr later ↦ inl (rw is.1 (record {
-      torn = ap (λ (b : Bool). if b then Some a.tear else None) later;
-      now = ap (λ (b : Bool). if b then Some is.0 else None) (ne_eqb a.left 1 (λ e. absurd (omega (arith, leb-false a.left 1 later))));
-      later = subst (λ (o : Option Armed). ArmsAs (Some (a.left - 1, is.0)) o) (sym (ap (λ (b : Bool). if b then None else Some (record a { left = a.left - 1 })) later))
-          (is.0, refl, omega (arith, leb-false a.left 1 later), is.3);
-    }))
+    torn = ap (λ (b : Bool). if b then Some a.tear else None) later;
+    now = ap (λ (b : Bool). if b then Some is.0 else None) (ne_eqb a.left 1 (λ e. absurd (omega (arith, leb-false a.left 1 later))));
+    later = subst (λ (o : Option Armed). ArmsAs (Some (a.left - 1, is.0)) o) (sym (ap (λ (b : Bool). if b then None else Some (record a { left = a.left - 1 })) later))
+        (is.0, refl, omega (arith, leb-false a.left 1 later), is.3);
+  }))
 ]
 
 -- an operation is counted

@@ -23,4 +23,3 @@ pub record SameDevice (f : FlashState) (device : Device) : Type 0 where
   pub armed : ArmsAs device.armed f.armed
   pub programs : device.programs ≡ f.work.programs
   pub erases : device.erases ≡ f.work.erases
-

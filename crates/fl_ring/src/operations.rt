@@ -15,11 +15,7 @@ use fl_mark::{commit_at, mark, void_at};
 
 impl Ring {
     /// Programs the body of the next page, which is blank.
-    pub(crate) fn begin_page<F: Flash>(
-        &self,
-        flash: &mut F,
-        body: &[u8],
-    ) -> Result<(), FlashFault>
+    pub(crate) fn begin_page<F: Flash>(&self, flash: &mut F, body: &[u8]) -> Result<(), FlashFault>
         requires lies { LiesOn self.now (F.state flash.old) }
         requires body { length body.now + 8 ≡ self.now.size }
         requires numbered { number_of body.now + 1 < 2 ^ 32 }
@@ -43,11 +39,7 @@ impl Ring {
             → IsWatched (F.state flash.old) (F.state flash.new) rose device
             → StepEnds (shape_of self.now) Mark s (sealed (shape_of self.now) s body) rose device result (F.state flash.new) }
     {
-        flash.program(
-            self.place_of(self.next),
-            commit_at(self.size),
-            &mark(),
-        )
+        flash.program(self.place_of(self.next), commit_at(self.size), &mark())
     }
 
     /// Programs the void mark of the next page, which is torn.
@@ -59,11 +51,7 @@ impl Ring {
             → IsWatched (F.state flash.old) (F.state flash.new) rose device
             → StepEnds (shape_of self.now) VoidMark s (voided (shape_of self.now) s) rose device result (F.state flash.new) }
     {
-        flash.program(
-            self.place_of(self.next),
-            void_at(self.size),
-            &mark(),
-        )
+        flash.program(self.place_of(self.next), void_at(self.size), &mark())
     }
 
     /// Erases the block ahead.

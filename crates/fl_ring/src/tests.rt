@@ -70,21 +70,97 @@ fn mount_image(alloc: Global, pages: [Page; 6], at_least: u32) -> Result<Mounted
 fn images_made_by_hand(rt: HostRuntime) -> Result<(), Fail> {
     let rows = [
         ([Blank; 6], 0, (Ok((0, 0)), 0, 0)),
-        ([Sealed(0), Sealed(1), Sealed(2), Blank, Blank, Blank], 0, (Ok((0, 3)), 0, 0)),
+        (
+            [Sealed(0), Sealed(1), Sealed(2), Blank, Blank, Blank],
+            0,
+            (Ok((0, 3)), 0, 0),
+        ),
         // A torn page is given up, and the numbers go on after it.
-        ([Sealed(0), Sealed(1), Torn, Blank, Blank, Blank], 0, (Ok((0, 3)), 1, 0)),
+        (
+            [Sealed(0), Sealed(1), Torn, Blank, Blank, Blank],
+            0,
+            (Ok((0, 3)), 1, 0),
+        ),
         // The oldest block goes before it is written again, whatever it holds.
-        ([Sealed(0), Sealed(1), Sealed(2), Sealed(3), Sealed(4), Blank], 0, (Ok((2, 5)), 0, 1)),
-        ([Sealed(600), Sealed(601), Sealed(2), Sealed(3), Sealed(4), Blank], 0, (Ok((2, 5)), 0, 1)),
-        ([Torn, Void, Sealed(2), Sealed(3), Sealed(4), Blank], 0, (Ok((2, 5)), 0, 1)),
-        ([Sealed(0), Sealed(1), Sealed(2), Sealed(3), Torn, Blank], 0, (Ok((2, 5)), 1, 1)),
-        ([Sealed(6), Blank, Sealed(2), Sealed(3), Sealed(4), Sealed(5)], 0, (Ok((4, 7)), 0, 1)),
+        (
+            [Sealed(0), Sealed(1), Sealed(2), Sealed(3), Sealed(4), Blank],
+            0,
+            (Ok((2, 5)), 0, 1),
+        ),
+        (
+            [
+                Sealed(600),
+                Sealed(601),
+                Sealed(2),
+                Sealed(3),
+                Sealed(4),
+                Blank,
+            ],
+            0,
+            (Ok((2, 5)), 0, 1),
+        ),
+        (
+            [Torn, Void, Sealed(2), Sealed(3), Sealed(4), Blank],
+            0,
+            (Ok((2, 5)), 0, 1),
+        ),
+        (
+            [Sealed(0), Sealed(1), Sealed(2), Sealed(3), Torn, Blank],
+            0,
+            (Ok((2, 5)), 1, 1),
+        ),
+        (
+            [Sealed(6), Blank, Sealed(2), Sealed(3), Sealed(4), Sealed(5)],
+            0,
+            (Ok((4, 7)), 0, 1),
+        ),
         // Where no page is committed, the numbers begin at the number given.
-        ([Void, Blank, Blank, Blank, Blank, Blank], 10, (Ok((12, 13)), 0, 0)),
-        ([Void, Blank, Blank, Blank, Blank, Blank], 4294967295, (Err(RingFault::NoNumber { at_least: 4294967295 }), 0, 0)),
-        ([Sealed(0), Sealed(1), Sealed(2), Sealed(3), Sealed(4), Sealed(5)], 0, (Err(RingFault::BadHead { heads: 0 }), 0, 0)),
-        ([Blank, Torn, Blank, Blank, Blank, Blank], 0, (Err(RingFault::BadGap { page: 3 }), 0, 0)),
-        ([Sealed(7), Blank, Blank, Blank, Blank, Blank], 0, (Err(RingFault::BadPage { page: 2, wanted: 0, found: 7 }), 0, 0)),
+        (
+            [Void, Blank, Blank, Blank, Blank, Blank],
+            10,
+            (Ok((12, 13)), 0, 0),
+        ),
+        (
+            [Void, Blank, Blank, Blank, Blank, Blank],
+            4294967295,
+            (
+                Err(RingFault::NoNumber {
+                    at_least: 4294967295,
+                }),
+                0,
+                0,
+            ),
+        ),
+        (
+            [
+                Sealed(0),
+                Sealed(1),
+                Sealed(2),
+                Sealed(3),
+                Sealed(4),
+                Sealed(5),
+            ],
+            0,
+            (Err(RingFault::BadHead { heads: 0 }), 0, 0),
+        ),
+        (
+            [Blank, Torn, Blank, Blank, Blank, Blank],
+            0,
+            (Err(RingFault::BadGap { page: 3 }), 0, 0),
+        ),
+        (
+            [Sealed(7), Blank, Blank, Blank, Blank, Blank],
+            0,
+            (
+                Err(RingFault::BadPage {
+                    page: 2,
+                    wanted: 0,
+                    found: 7,
+                }),
+                0,
+                0,
+            ),
+        ),
     ];
     for (pages, at_least, want) in rows {
         assert_eq!(rt; mount_image(rt.alloc(), pages, at_least)?, want);

@@ -1,11 +1,10 @@
-use Rattle.std.proofs.Common.{◌≡◌, ◌+◌, ◌-◌, ◌*◌, ◌&&◌, if◌then◌else◌, Bool, Ok, Err, inl, inr, refl, sym, ◌∙◌, ap, subst, arith}
+use Rattle.std.proofs.Common.{◌≡◌, ◌+◌, ◌-◌, ◌*◌, ◌&&◌, if◌then◌else◌, Ok, Err, inr, sym, ap, subst, arith}
 use Rattle.std.proofs.lemmas.Result.{err_from_is_err_and}
 use Rattle.fl_base.specs.declared.types.Geometry.{Geometry}
 use Rattle.fl_flash.specs.Flash.{page_at}
-use Rattle.fl_ring.specs.declared.fault.RingFault.TheVariants.{Flash}
 use Rattle.fl_ring.specs.Finding.{IsFound, FoundFault}
 use Rattle.fl_ring.specs.Looking.{OnlyReads}
-use Rattle.fl_ring.specs.Mounting.{shape_at, search_reads, RepairEnds, MountEnds}
+use Rattle.fl_ring.specs.Mounting.{shape_at, search_reads, RepairEnds}
 use Rattle.fl_ring.specs.Numbers.{renumbered}
 use Rattle.fl_ring.specs.Operations.{repair_kinds}
 use Rattle.fl_ring.specs.Place.{StandsFor}
@@ -133,8 +132,8 @@ returns-in_err-numbers-clause-fails g c =
     let mid = g.F.Flash.state c.find_numbers.new.flash in
     let e = c.in_err-numbers.field-0.0 in
     rw (p.1, p.2)
-        (refused_by e f mid (shape_at place f.geometry) c.args.at_least (subst (λ (y : Geometry). OnlyReads f (search_reads (shape_at place y)) mid) c.geometry-geometry.ensures c.find_numbers.ensures.reads)
-        c.in_err-numbers.ensures.fails)
+    (refused_by e f mid (shape_at place f.geometry) c.args.at_least (subst (λ (y : Geometry). OnlyReads f (search_reads (shape_at place y)) mid) c.geometry-geometry.ensures c.find_numbers.ensures.reads)
+    c.in_err-numbers.ensures.fails)
 
 pub returns-in_err-repair-clause-fails : goal.returns-in_err-repair-clause-fails
 returns-in_err-repair-clause-fails g c =
