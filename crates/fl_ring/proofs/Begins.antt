@@ -1,19 +1,17 @@
 -- How the program of a body ends for the ring.
-use Rattle.std.proofs.Common.{◌≡◌, ◌⊎◌, ℕ, ◌+◌, ◌-◌, ◌/◌, ◌^◌, ◌≤◌, ◌<◌, true, false, List, [], ◌∷◌, ◌++◌, length, take, drop, replicate, get_or, slice_range, inl, inr, refl, sym, ◌∙◌, ap, subst, arith}
+use Rattle.std.proofs.Common.{◌≡◌, ℕ, ◌+◌, ◌/◌, ◌^◌, ◌≤◌, ◌<◌, false, List, [], ◌∷◌, ◌++◌, length, take, drop, replicate, get_or, slice_range, inl, inr, refl, sym, ◌∙◌, ap, subst, arith}
 use Rattle.std.proofs.lemmas.Bool.{MatchBool-at_false}
 use Rattle.std.proofs.lemmas.List.{take-take, take-append-le, take_all, take-replicate, length-take-le}
 use Rattle.fl_base.specs.Bytes.{splice}
 use Rattle.fl_base.specs.declared.types.CutKind.TheVariants.{Before, After, Half, Noise}
 use Rattle.fl_flash.specs.Flash.{FlashState, Goes, begin_of, page_at, pages, and_bytes, programmed, blank, OthersStand, Programmed, TornProgram, TornPage}
-use Rattle.fl_flash.specs.Tear.{torn_front}
-use Rattle.fl_flash.specs.declared.tear.Tear.TheVariants.{Kind}
 use Rattle.fl_mark.specs.Mark.{all_are, state_of_page}
 use Rattle.fl_mark.specs.declared.page_state.PageState.TheVariants.{Torn}
 use Rattle.fl_model.specs.Work.{Body}
 use Rattle.fl_ring.specs.declared.ring.Ring.{Ring}
 use Rattle.fl_ring.specs.Newest.{number_of}
 use Rattle.fl_ring.specs.Place.{shape_of}
-use Rattle.fl_ring.specs.Ring.{Shape, RingState, place, OnRing, blank_end, begun}
+use Rattle.fl_ring.specs.Ring.{RingState, place, OnRing, blank_end, begun}
 use Rattle.fl_ring.proofs.CutPages.{Reaches, nothing_written, same_content, written_page, programs_there}
 use Rattle.fl_ring.proofs.Numbered.{numbered_begun}
 use Rattle.fl_ring.proofs.PageBytes.{and_same, body_programmed, is_torn, torn_body}

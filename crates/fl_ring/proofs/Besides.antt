@@ -1,14 +1,14 @@
 -- What calls do beside a ring's pages, one after another.
-use Rattle.std.proofs.Common.{◌≡◌, ℕ, ◌+◌, ◌≤◌, true, false, List, IsTrue, Result, inl, inr, refl, sym, ◌∙◌, ap, subst, arith}
+use Rattle.std.proofs.Common.{ℕ, ◌+◌, ◌≤◌, Result, inl, inr, ap, arith}
 use Rattle.std.proofs.lemmas.Bool.{cases_Bool}
-use Rattle.fl_flash.specs.Flash.{FlashState, page_at}
+use Rattle.fl_flash.specs.Flash.{FlashState}
 use Rattle.fl_flash.specs.declared.flash.FlashFault.{FlashFault}
 use Rattle.fl_model.specs.Work.{VoidMark, Erase}
 use Rattle.fl_ring.specs.Looking.{OnlyReads}
 use Rattle.fl_ring.specs.Repairing.{Beside}
 use Rattle.fl_ring.specs.Ring.{Shape}
 use Rattle.fl_ring.specs.Step.{Operates}
-use Rattle.fl_ring.proofs.Readings.{goes_same, goes_more, same_page}
+use Rattle.fl_ring.proofs.Readings.{goes_more, same_page}
 use Rattle.fl_ring.proofs.Sums.{outside_more}
 
 pub beside_reads : (r : Shape) (n : ℕ) (a b : FlashState) → OnlyReads a n b → Beside r n 0 0 a b

@@ -1,17 +1,16 @@
 -- How the program of a commit mark ends for the ring.
-use Rattle.std.proofs.Common.{◌≡◌, ◌⊎◌, ℕ, ◌+◌, ◌-◌, ◌/◌, ◌≤◌, ◌<◌, Bool, true, false, List, [], ◌∷◌, ◌++◌, length, take, drop, slice_range, Some, inl, inr, refl, sym, ◌∙◌, ap, subst, arith, length-append}
+use Rattle.std.proofs.Common.{◌≡◌, ℕ, ◌+◌, ◌/◌, ◌≤◌, ◌<◌, true, false, List, [], ◌∷◌, ◌++◌, length, take, drop, slice_range, Some, inl, inr, refl, sym, ◌∙◌, ap, subst, arith}
 use Rattle.std.proofs.lemmas.Bool.{cases_Bool}
 use Rattle.std.proofs.lemmas.List.{take_at, drop_at, drop-drop}
 use Rattle.fl_base.specs.Bytes.{splice}
 use Rattle.fl_base.specs.declared.types.CutKind.TheVariants.{Before, After, Half, Noise}
 use Rattle.fl_flash.specs.Flash.{FlashState, Goes, begin_of, page_at, pages, and_bytes, programmed, OthersStand, Programmed, TornProgram, TornPage}
-use Rattle.fl_flash.specs.declared.tear.Tear.TheVariants.{Kind}
 use Rattle.fl_mark.specs.Mark.{all_are, state_of_page}
 use Rattle.fl_mark.specs.declared.page_state.PageState.TheVariants.{Torn}
 use Rattle.fl_model.specs.Work.{Mark}
 use Rattle.fl_ring.specs.declared.ring.Ring.{Ring}
 use Rattle.fl_ring.specs.Place.{shape_of}
-use Rattle.fl_ring.specs.Ring.{Shape, RingState, place, OnRing, blank_end, committed_end, sealed}
+use Rattle.fl_ring.specs.Ring.{RingState, place, OnRing, blank_end, committed_end, sealed}
 use Rattle.fl_ring.proofs.Added.{kept_on}
 use Rattle.fl_ring.proofs.CutPages.{Reaches, nothing_written, same_content, written_page, programs_there}
 use Rattle.fl_ring.proofs.PageBytes.{is_torn, mark_on_body, torn_mark}

@@ -1,5 +1,5 @@
 -- The steps of a ring are those of the model.
-use Rattle.std.proofs.Common.{◌≡◌, ℕ, zero, suc, ◌+◌, ◌-◌, ◌*◌, ◌%◌, ◌<◌, ◌≤◌, Bool, true, false, ◌&&◌, ◌||◌, ◌==◌, nat_lt, if◌then◌else◌, IsTrue, List, [], ◌∷◌, ◌++◌, map, length, drop, get_or, is_some, Option, Some, None, IfSome, inl, inr, refl, sym, ◌∙◌, ap, subst, arith}
+use Rattle.std.proofs.Common.{◌≡◌, ℕ, suc, ◌+◌, ◌-◌, ◌*◌, ◌%◌, ◌<◌, Bool, true, false, ◌||◌, nat_lt, if◌then◌else◌, List, [], ◌∷◌, map, length, drop, get_or, is_some, Option, Some, None, IfSome, refl, sym, ◌∙◌, ap, arith}
 use Rattle.std.specs.List.{list_any, drop-map}
 use Rattle.std.proofs.lemmas.Bool.{and_parts, lt-ltb}
 use Rattle.std.proofs.lemmas.List.{length-map, map_push}
@@ -8,7 +8,7 @@ use Rattle.fl_model.specs.Ring as model
 use Rattle.fl_model.specs.Mount as mount
 use Rattle.fl_ring.specs.Counts.{page_count, ring_counts, model_shape, HoldsSome}
 use Rattle.fl_ring.specs.Numbers.{least_alike, renumbered}
-use Rattle.fl_ring.specs.Ring.{Shape, RingState, count, oldest, room, IsRing, is_due, is_due_at, begun, appended, trimmed, sealed, voided, erased}
+use Rattle.fl_ring.specs.Ring.{Shape, RingState, count, room, IsRing, is_due, is_due_at, begun, appended, trimmed, sealed, voided, erased}
 
 module _ (count_of : List ℕ → ℕ) where
   pub counts_begun : (s : RingState) → ring_counts count_of (begun s) ≡ model.begun (ring_counts count_of s)

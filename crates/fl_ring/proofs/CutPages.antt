@@ -1,17 +1,13 @@
 -- What operations that are cut leave of the pages.
-use Rattle.std.proofs.Common.{◌≡◌, ℕ, ◌+◌, ◌-◌, ◌*◌, ◌/◌, ◌≤◌, ◌<◌, List, [], ◌∷◌, ◌++◌, length, take, drop, replicate, slice_range, refl, sym, ◌∙◌, ap, subst, arith, take-append-drop}
+use Rattle.std.proofs.Common.{◌≡◌, ℕ, ◌+◌, ◌*◌, ◌≤◌, ◌<◌, List, [], ◌++◌, length, take, drop, replicate, slice_range, sym, ◌∙◌, ap, subst, arith, take-append-drop}
 use Rattle.std.proofs.Math.Nat.{mul_assoc}
 use Rattle.std.proofs.lemmas.List.{length-take-le, length-replicate, length-drop}
 use Rattle.fl_base.specs.Bytes.{splice}
 use Rattle.fl_base.specs.declared.types.Geometry.{Geometry}
-use Rattle.fl_base.specs.declared.types.CutKind.TheVariants.{After}
 use Rattle.fl_base.proofs.Ranges.{length-splice, take-splice, drop-splice, slice-splice_inside}
 use Rattle.fl_flash.specs.Flash.{FlashState, Goes, begin_of, page_at, pages, and_bytes, programmed, Erased}
 use Rattle.fl_flash.specs.Media.{Torn}
 use Rattle.fl_flash.specs.Places.{page_of, extent}
-use Rattle.fl_flash.specs.Tear.{torn_front}
-use Rattle.fl_flash.specs.declared.tear.Tear.{Tear}
-use Rattle.fl_flash.specs.declared.tear.Tear.TheVariants.{Kind}
 use Rattle.fl_flash.proofs.Pages.{rows_below, page_within, part_of_page, length-and_bytes, whole_erase}
 
 abbrev pub Reaches : FlashState → Type 0

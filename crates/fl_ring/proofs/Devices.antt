@@ -1,5 +1,5 @@
 -- What an operation makes of the armed cut and of the counts.
-use Rattle.std.proofs.Common.{◌≡◌, ◌⊎◌, ℕ, ◌-◌, ◌≤◌, Bool, true, false, ◌==◌, if◌then◌else◌, Option, Some, None, option_map, unwrap_or, nat_le, inl, inr, refl, sym, ◌∙◌, ap, subst, arith}
+use Rattle.std.proofs.Common.{◌≡◌, ◌⊎◌, ℕ, ◌-◌, Bool, ◌==◌, if◌then◌else◌, Option, Some, None, option_map, unwrap_or, nat_le, inl, inr, refl, sym, ◌∙◌, ap, subst, arith}
 use Rattle.std.proofs.lemmas.Bool.{cases_Bool, leb-true, leb-false, eq-eqb, ne_eqb}
 use Rattle.fl_base.specs.declared.types.CutKind.{CutKind}
 use Rattle.fl_flash.specs.Flash.{FlashState}
@@ -7,7 +7,7 @@ use Rattle.fl_flash.specs.Media.{next_count}
 use Rattle.fl_flash.specs.Tear.{torn_now, armed_after}
 use Rattle.fl_flash.specs.declared.armed.Armed.{Armed}
 use Rattle.fl_flash.specs.declared.tear.Tear.{Tear}
-use Rattle.fl_model.specs.Work.{Kind, Device, is_erase, cut_now, counted, fired}
+use Rattle.fl_model.specs.Work.{Kind, Device, is_erase, counted, fired}
 use Rattle.fl_ring.specs.Device.{TearsAs, ArmsAs, SameDevice}
 
 -- the cut isn't of this operation, on the flash and in the model

@@ -1,6 +1,5 @@
 -- How the erase of the block ahead ends for the ring.
-use Rattle.std.proofs.Common.{◌≡◌, ◌⊎◌, ℕ, ◌+◌, ◌*◌, ◌/◌, ◌%◌, ◌<◌, true, false, List, [], replicate, refl, sym, ◌∙◌, ap, subst}
-use Rattle.fl_base.specs.Bytes.{splice}
+use Rattle.std.proofs.Common.{◌≡◌, ℕ, ◌+◌, ◌*◌, ◌/◌, ◌%◌, ◌<◌, true, false, List, replicate, refl, sym, ◌∙◌, ap, subst}
 use Rattle.fl_base.specs.declared.types.CutKind.TheVariants.{Before, After, Half, Noise}
 use Rattle.fl_flash.specs.Flash.{FlashState, Goes, page_at, Erased, TornErase}
 use Rattle.fl_model.specs.Work.{Erase}

@@ -1,11 +1,11 @@
 -- A flash that stands for a ring, and the image of a ring in the model.
-use Rattle.std.proofs.Common.{◌≡◌, ◌⊎◌, ℕ, zero, suc, ◌+◌, ◌-◌, ◌*◌, ◌<◌, ◌≤◌, Bool, true, false, IsTrue, List, ◌++◌, length, replicate, get_or, slice_get, Option, Some, None, option_map, IfSome, MatchBool, inl, inr, refl, sym, ◌∙◌, ap, subst, arith, append_assoc, length-append}
+use Rattle.std.proofs.Common.{◌≡◌, ◌⊎◌, ℕ, zero, suc, ◌+◌, ◌-◌, ◌<◌, ◌≤◌, Bool, true, false, IsTrue, List, ◌++◌, length, replicate, get_or, slice_get, Option, Some, None, option_map, IfSome, MatchBool, inl, inr, refl, sym, ◌∙◌, ap, subst, arith, append_assoc, length-append}
 use Rattle.std.proofs.lemmas.Bool.{cases_Bool, cases_lt, MatchBool-at_true, MatchBool-at_false, true≢false}
 use Rattle.std.proofs.lemmas.Option.{slice_get_within, slice_get-map, slice_get-get_or}
 use Rattle.fl_flash.specs.Flash.{blank}
 use Rattle.fl_mark.specs.InModel.{IsModelState}
 use Rattle.fl_mark.specs.Mark.{state_of_page}
-use Rattle.fl_mark.specs.declared.page_state.PageState.TheVariants.{Torn, Void}
+use Rattle.fl_mark.specs.declared.page_state.PageState.TheVariants.{Torn}
 use Rattle.fl_mark.proofs.InModel.{model_state}
 use Rattle.fl_model.specs.Image.{IsRingImage}
 use Rattle.fl_model.specs.Layout.{committed, is_blank, is_void}

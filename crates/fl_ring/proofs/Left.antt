@@ -1,5 +1,5 @@
 -- What operations leave of a ring, however they end.
-use Rattle.std.proofs.Common.{◌≡◌, ◌⊎◌, ℕ, ◌+◌, ◌-◌, ◌≤◌, ◌<◌, Bool, true, false, if◌then◌else◌, List, [], ◌∷◌, ◌++◌, Option, Some, None, inl, inr, refl, sym, ◌∙◌, ap, subst, arith}
+use Rattle.std.proofs.Common.{◌≡◌, Bool, if◌then◌else◌, List, [], ◌∷◌, ◌++◌, Option, Some, None, inl, inr, refl, ap}
 use Rattle.fl_base.specs.declared.types.CutKind.{CutKind}
 use Rattle.fl_model.specs.Work.{Kind, Device, Ending, AsBefore, AsAfter, Either, Leaves, ending_of, cut_now, counted, PartProgress, PartFirst, PartPerforms}
 use Rattle.fl_ring.specs.Ring.{RingState}

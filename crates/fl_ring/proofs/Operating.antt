@@ -1,5 +1,5 @@
 -- What an operation of the flash does beside the ring's pages.
-use Rattle.std.proofs.Common.{◌≡◌, ◌⊎◌, ℕ, ◌+◌, ◌*◌, ◌/◌, ◌%◌, ◌≤◌, ◌<◌, Bool, true, false, if◌then◌else◌, List, length, replicate, slice_range, IsTrue, Result, Ok, Err, OnOk, OnErr, inl, inr, refl, sym, ◌∙◌, ap, subst, arith}
+use Rattle.std.proofs.Common.{◌≡◌, ℕ, ◌+◌, ◌*◌, ◌/◌, ◌%◌, ◌≤◌, ◌<◌, Bool, true, false, if◌then◌else◌, List, length, replicate, slice_range, IsTrue, Result, Ok, Err, OnOk, OnErr, inl, inr, sym, ◌∙◌, ap, arith}
 use Rattle.std.proofs.Math.Nat.{mod-lt, mul-le-mul_right}
 use Rattle.std.proofs.lemmas.Bool.{cases_Bool}
 use Rattle.fl_flash.specs.Flash.{FlashState, begin_of, page_at, and_bytes, OthersStand, Programmed, TornProgram, Erased, TornErase, ProgramsPage, ErasesBlock}
@@ -10,7 +10,7 @@ use Rattle.fl_model.specs.Work.{Kind, Device, is_erase}
 use Rattle.fl_ring.specs.declared.ring.Ring.{Ring}
 use Rattle.fl_ring.specs.Place.{shape_of}
 use Rattle.fl_ring.specs.Repairing.{ahead_first}
-use Rattle.fl_ring.specs.Ring.{Shape, RingState, room, place, OnRing, OutsideStands}
+use Rattle.fl_ring.specs.Ring.{RingState, room, place, OnRing, OutsideStands}
 use Rattle.fl_ring.specs.Step.{IsWatched, media_reads_of, Operates, StepEnds}
 use Rattle.fl_ring.proofs.Cleaning.{ahead_is}
 use Rattle.fl_ring.proofs.Devices.{Counts}

@@ -1,10 +1,10 @@
 -- Operations one after another.
-use Rattle.std.proofs.Common.{◌≡◌, ℕ, ◌≤◌, Bool, true, false, if◌then◌else◌, List, [], ◌∷◌, Option, Some, None, Result, Ok, Err, inl, inr, refl, sym, ◌∙◌, ap, subst, arith, IsTrue}
+use Rattle.std.proofs.Common.{◌≡◌, Bool, true, List, [], ◌∷◌, Option, Result, Ok, Err, inl, inr, refl, sym, subst, arith, IsTrue}
 use Rattle.fl_base.specs.declared.types.CutKind.{CutKind}
 use Rattle.fl_flash.specs.Flash.{FlashState, Goes, page_at}
 use Rattle.fl_flash.specs.declared.flash.FlashFault.{FlashFault}
 use Rattle.fl_flash.specs.declared.flash.FlashFault.TheVariants.{PowerLost, Media}
-use Rattle.fl_model.specs.Work.{Kind, Device, cut_now, counted, fired, Whole, CutIn, FailedIn, PartProgress, PartFirst, PartPerforms}
+use Rattle.fl_model.specs.Work.{Kind, Device, counted, fired, Whole, CutIn, FailedIn, PartProgress, PartFirst, PartPerforms}
 use Rattle.fl_ring.specs.Device.{SameDevice}
 use Rattle.fl_ring.specs.Ring.{Shape, RingState, OnRing}
 use Rattle.fl_ring.specs.Sealing.{Performed}

@@ -1,17 +1,16 @@
 -- How the repairs of a mount end for a ring that the flash stands for.
-use Rattle.std.proofs.Common.{◌≡◌, ◌⊎◌, ℕ, ◌+◌, ◌-◌, ◌%◌, ◌≤◌, Bool, true, false, if◌then◌else◌, List, [], ◌∷◌, ◌++◌, IsTrue, Option, Result, Ok, Err, inl, inr, refl, sym, ◌∙◌, ap, subst, arith}
-use Rattle.std.proofs.lemmas.Bool.{cases_Bool, true≢false}
-use Rattle.fl_flash.specs.Flash.{FlashState, Goes, page_at}
+use Rattle.std.proofs.Common.{◌≡◌, ℕ, Bool, true, false, if◌then◌else◌, List, [], ◌∷◌, ◌++◌, IsTrue, Option, Result, Ok, Err, inl, inr, refl, sym, ◌∙◌, ap, subst, arith}
+use Rattle.std.proofs.lemmas.Bool.{true≢false}
+use Rattle.fl_flash.specs.Flash.{FlashState, page_at}
 use Rattle.fl_flash.specs.declared.armed.Armed.{Armed}
 use Rattle.fl_flash.specs.declared.flash.FlashFault.{FlashFault}
 use Rattle.fl_flash.specs.declared.flash.FlashFault.TheVariants.{PowerLost, Media}
 use Rattle.fl_model.specs.Work.{Kind, VoidMark, Erase, Device, counted}
 use Rattle.fl_ring.specs.Device.{ArmsAs, SameDevice}
 use Rattle.fl_ring.specs.Looking.{OnlyReads, ReadFails}
-use Rattle.fl_ring.specs.Mounting.{Unread, RepairEnds}
+use Rattle.fl_ring.specs.Mounting.{RepairEnds}
 use Rattle.fl_ring.specs.Operations.{change, repair_kinds}
-use Rattle.fl_ring.specs.Ring.{Shape, RingState, OnRing, voided, unerased, erased}
-use Rattle.fl_ring.specs.Sealing.{Performed}
+use Rattle.fl_ring.specs.Ring.{Shape, RingState, OnRing, voided, erased}
 use Rattle.fl_ring.specs.Step.{IsWatched, StepDone, StepEnds}
 use Rattle.fl_ring.proofs.Founds.{same_pages}
 use Rattle.fl_ring.proofs.Performing.{performed_err, performed_more, performed_none, performed_last}

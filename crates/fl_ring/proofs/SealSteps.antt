@@ -1,16 +1,15 @@
 -- How the operations of a seal make the whole.
-use Rattle.std.proofs.Common.{◌≡◌, ℕ, ◌+◌, ◌-◌, ◌*◌, ◌^◌, ◌≤◌, ◌<◌, Bool, true, false, if◌then◌else◌, List, [], ◌∷◌, ◌++◌, length, replicate, Some, Result, Ok, Err, OnOk, inl, inr, refl, sym, ◌∙◌, ap, subst, arith}
-use Rattle.fl_flash.specs.Flash.{FlashState, Goes, page_at, ProgramsPage, ErasesBlock}
+use Rattle.std.proofs.Common.{◌≡◌, ℕ, ◌+◌, ◌-◌, ◌*◌, Bool, true, false, if◌then◌else◌, List, [], ◌∷◌, replicate, Some, Result, Ok, Err, OnOk, inl, refl, sym, ◌∙◌, subst}
+use Rattle.fl_flash.specs.Flash.{FlashState, ProgramsPage, ErasesBlock}
 use Rattle.fl_flash.specs.declared.flash.FlashFault.{FlashFault}
-use Rattle.fl_mark.specs.Mark.{all_are}
 use Rattle.fl_model.specs.Work.{Device, Body, Mark, Erase, counted, PartEnd, Whole, CutIn, FailedIn}
 use Rattle.fl_ring.specs.declared.ring.Ring.{Ring}
 use Rattle.fl_ring.specs.Operations.{change, seal_kinds}
 use Rattle.fl_ring.specs.Place.{shape_of, StandsFor}
-use Rattle.fl_ring.specs.Ring.{Shape, RingState, OnRing, place, count, is_due_at, begun, appended, trimmed, sealed, erased}
+use Rattle.fl_ring.specs.Ring.{Shape, RingState, place, is_due_at, begun, appended, sealed, erased}
 use Rattle.fl_ring.specs.Repairing.{ahead_first}
 use Rattle.fl_ring.specs.Sealing.{IsReady, AnswersEnd, Performed, Seals, ErasesWhere, SealCalls}
-use Rattle.fl_ring.specs.Step.{IsWatched, StepDone, StepEnds}
+use Rattle.fl_ring.specs.Step.{StepDone, StepEnds}
 use Rattle.fl_ring.proofs.Advancing.{due_as}
 use Rattle.fl_ring.proofs.Performing.{performed_err, performed_more, performed_none, performed_last}
 use Rattle.fl_ring.proofs.Whole.{dirty_due, whole_seal}

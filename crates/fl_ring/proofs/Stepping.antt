@@ -1,12 +1,11 @@
 -- How an operation of a flash ends for the ring on it.
-use Rattle.std.proofs.Common.{◌≡◌, ◌⊎◌, ℕ, Bool, true, false, if◌then◌else◌, List, Option, Some, None, IfSome, IfNone, Result, Ok, Err, OnOk, OnErr, IsErrOf, inl, inr, refl, sym, ◌∙◌, ap, subst}
+use Rattle.std.proofs.Common.{◌≡◌, ◌⊎◌, ℕ, Bool, if◌then◌else◌, List, Option, IfSome, IfNone, Result, Ok, Err, OnOk, OnErr, IsErrOf, inl, inr, refl, sym, ◌∙◌, subst}
 use Rattle.std.proofs.lemmas.Bool.{cases_Bool}
 use Rattle.fl_base.specs.Bytes.{splice}
 use Rattle.fl_base.specs.Causes.{Rose}
 use Rattle.fl_base.specs.declared.types.CutKind.{CutKind}
-use Rattle.fl_base.specs.declared.types.CutKind.TheVariants.{Noise}
 use Rattle.fl_flash.specs.Flash.{FlashState, page_at, Tears, KeepsPower, Cuts, HasFlashCause}
-use Rattle.fl_flash.specs.Tear.{torn_front, torn_now}
+use Rattle.fl_flash.specs.Tear.{torn_front}
 use Rattle.fl_flash.specs.declared.armed.Armed.{Armed}
 use Rattle.fl_flash.specs.declared.flash.FlashFault.{FlashFault}
 use Rattle.fl_flash.specs.declared.flash.FlashFault.TheVariants.{PowerLost, Media}
@@ -16,8 +15,8 @@ use Rattle.fl_model.specs.Work as work
 use Rattle.fl_model.specs.Work.{Device, Ending, Either, Leaves, ending_of}
 use Rattle.fl_ring.specs.Device.{TearsAs, ArmsAs}
 use Rattle.fl_ring.specs.Ring.{Shape, RingState, OnRing}
-use Rattle.fl_ring.specs.Step.{IsWatched, StepDone, StepCut, StepFailed, StepEnds}
-use Rattle.fl_ring.proofs.Devices.{Counts, Uncut, Cut, cut_or_not, device_counted, device_fired}
+use Rattle.fl_ring.specs.Step.{IsWatched, StepEnds}
+use Rattle.fl_ring.proofs.Devices.{Counts, Cut, cut_or_not, device_counted, device_fired}
 
 -- a state that this ending may leave, and that the pages stand for
 abbrev pub LeftBy : Shape → RingState → RingState → FlashState → Ending → Type 0

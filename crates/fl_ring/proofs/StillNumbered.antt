@@ -1,11 +1,11 @@
 -- Committed pages begin with their numbers after a seal or repairs, however these ended.
-use Rattle.std.proofs.Common.{◌≡◌, ◌⊎◌, ℕ, ◌+◌, ◌-◌, ◌≤◌, Bool, true, false, if◌then◌else◌, List, [], ◌∷◌, ◌++◌, length, drop, Option, None, refl, sym, ◌∙◌, ap, subst, arith, length-append, length-drop}
+use Rattle.std.proofs.Common.{◌≡◌, ℕ, ◌+◌, ◌≤◌, Bool, true, false, if◌then◌else◌, List, [], ◌∷◌, ◌++◌, length, drop, None, sym, subst, arith, length-append, length-drop}
 use Rattle.fl_model.specs.Work.{Kind, Body, Mark, VoidMark, Erase, Device, PartProgress, PartPerforms}
 use Rattle.fl_ring.specs.Newest.{number_of}
 use Rattle.fl_ring.specs.Numbers.{IsNumbered}
 use Rattle.fl_ring.specs.Operations.{change, seal_kinds, repair_kinds}
-use Rattle.fl_ring.specs.Ring.{Shape, RingState, count, is_due, begun, appended, trimmed, sealed, voided, unerased, erased}
-use Rattle.fl_ring.proofs.Left.{FrontDone, front_done}
+use Rattle.fl_ring.specs.Ring.{Shape, RingState, count, is_due, appended, sealed, voided, unerased, erased}
+use Rattle.fl_ring.proofs.Left.{front_done}
 use Rattle.fl_ring.proofs.Numbered.{numbered_sealed, numbered_voided}
 use Rattle.fl_ring.proofs.Whole.{all_done}
 

@@ -1,10 +1,9 @@
 -- What several operations do beside the ring's pages.
-use Rattle.std.proofs.Common.{◌≡◌, ◌⊎◌, ℕ, Bool, true, false, if◌then◌else◌, List, IsTrue, Result, Ok, Err, OnOk, refl, sym, ◌∙◌, ap, subst}
+use Rattle.std.proofs.Common.{◌≡◌, Bool, true, false, if◌then◌else◌, IsTrue, Result, Ok, Err, OnOk, refl, sym, ◌∙◌, ap, subst}
 use Rattle.fl_flash.specs.Flash.{FlashState, Goes, page_at}
 use Rattle.fl_flash.specs.Media.{next_count}
 use Rattle.fl_flash.specs.declared.flash.FlashFault.{FlashFault}
-use Rattle.fl_flash.specs.declared.flash.Work.{Work}
-use Rattle.fl_model.specs.Work.{Kind, Body, Mark, Erase}
+use Rattle.fl_model.specs.Work.{Body, Mark, Erase}
 use Rattle.fl_ring.specs.Ring.{Shape, OutsideStands}
 use Rattle.fl_ring.specs.Sealing.{SealWork}
 use Rattle.fl_ring.specs.Step.{Operates}

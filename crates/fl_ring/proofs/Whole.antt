@@ -1,10 +1,9 @@
 -- The state that operations leave where all of them are done.
-use Rattle.std.proofs.Common.{◌≡◌, ℕ, Bool, true, false, if◌then◌else◌, List, [], ◌∷◌, ◌++◌, length, drop, Option, Some, None, inl, inr, refl, sym, ◌∙◌, ap, subst}
-use Rattle.std.proofs.lemmas.Bool.{cases_Bool}
+use Rattle.std.proofs.Common.{◌≡◌, ℕ, Bool, true, false, if◌then◌else◌, List, [], ◌∷◌, ◌++◌, drop, Option, Some, None, inl, inr, refl, sym, ◌∙◌, ap}
 use Rattle.fl_base.specs.declared.types.CutKind.{CutKind}
-use Rattle.fl_model.specs.Work.{Kind, Body, Mark, VoidMark, Erase, Device, cut_now, counted, Whole, CutIn, FailedIn, PartProgress, PartFirst, PartPerforms}
+use Rattle.fl_model.specs.Work.{Kind, VoidMark, Erase, Device, cut_now, counted, Whole, PartProgress, PartFirst, PartPerforms}
 use Rattle.fl_ring.specs.Operations.{change, seal_kinds, repair_kinds}
-use Rattle.fl_ring.specs.Ring.{Shape, RingState, is_due, is_due_at, appended, trimmed, sealed, voided, unerased, repaired, erased}
+use Rattle.fl_ring.specs.Ring.{Shape, RingState, is_due, trimmed, sealed, voided, repaired, erased}
 
 -- the operations in order
 abbrev pub all_done : (Kind → RingState → RingState) → List Kind → RingState → RingState

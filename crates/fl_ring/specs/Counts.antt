@@ -1,5 +1,5 @@
 -- A ring's state as the model has it: how many records each kept page holds.
-use Rattle.std.specs.Prelude.{◌≡◌, ℕ, ◌+◌, ◌<◌, List, map, get_or, Option, Some, None, IfSome}
+use Rattle.std.specs.Prelude.{ℕ, ◌<◌, List, map, get_or, Option, Some, None, IfSome}
 use Rattle.fl_model.specs.Ring as model
 use Rattle.fl_ring.specs.Ring.{Shape, RingState, count}
 

@@ -5,7 +5,7 @@ use Rattle.fl_model.specs.Ring as model
 use Rattle.fl_model.specs.Mount as mount
 use Rattle.fl_ring.specs.Counts.{ring_counts, model_shape, HoldsSome}
 use Rattle.fl_ring.specs.Numbers.{renumbered, IsNumbered}
-use Rattle.fl_ring.specs.Ring.{Shape, RingState, IsShape, IsRing, OnRing, place, fresh, begun, sealed, voided, erased}
+use Rattle.fl_ring.specs.Ring.{Shape, RingState, IsRing, OnRing, place, fresh, begun, sealed, voided, erased}
 
 -- what a ring's steps make of its counts is what the model's steps do
 pub record StepsAreTheModels (r : Shape) (count_of : List ℕ → ℕ) (s : RingState) : Type 0 where

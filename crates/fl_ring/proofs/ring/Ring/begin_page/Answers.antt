@@ -1,4 +1,4 @@
-use Rattle.std.proofs.Common.{◌+◌, ◌^◌, ◌<◌, get_or, ℕ, ◌∙◌, ap, sym, subst, refl, arith}
+use Rattle.std.proofs.Common.{◌^◌, ◌<◌, get_or, ℕ, ◌∙◌, ap, sym, subst, refl, arith}
 use Rattle.fl_ring.specs.Place.{shape_of}
 use Rattle.fl_ring.specs.Ring.{place, begun}
 use Rattle.fl_flash.specs.Flash.{page_at, ProgramsPage}

@@ -1,4 +1,4 @@
-use Rattle.std.proofs.Common.{◌≡◌, ◌+◌, ◌-◌, ℕ, [], ◌∷◌, List, length, replicate, ◌∙◌, ap, sym, subst, refl, arith}
+use Rattle.std.proofs.Common.{◌≡◌, ◌-◌, ℕ, [], ◌∷◌, List, length, replicate, ◌∙◌, ap, subst, refl, arith}
 use Rattle.fl_flash.specs.Flash.{page_at, all_zero, ProgramsPage}
 use Rattle.fl_model.specs.Work.{Mark}
 use Rattle.fl_ring.specs.Place.{shape_of}

@@ -1,4 +1,4 @@
-use Rattle.std.proofs.Common.{refl, arith}
+use Rattle.std.proofs.Common.{refl}
 use Rattle.fl_model.specs.Work.{Erase}
 use Rattle.fl_ring.specs.Ring.{erased}
 use Rattle.fl_ring.proofs.Erasing.{erase_ok, erase_any, erase_exact}

@@ -1,18 +1,17 @@
-use Rattle.std.proofs.Common.{◌≡◌, ◌+◌, ◌-◌, ◌*◌, ◌&&◌, if◌then◌else◌, Bool, Ok, Err, inl, inr, refl, sym, ◌∙◌, ap, subst, arith}
+use Rattle.std.proofs.Common.{◌≡◌, ◌+◌, ◌-◌, ◌*◌, ◌&&◌, if◌then◌else◌, Ok, Err, inr, sym, ap, subst, arith}
 use Rattle.std.proofs.lemmas.Result.{err_from_is_err_and}
 use Rattle.fl_base.specs.declared.types.Geometry.{Geometry}
 use Rattle.fl_flash.specs.Flash.{page_at}
-use Rattle.fl_ring.specs.declared.fault.RingFault.TheVariants.{Flash}
 use Rattle.fl_ring.specs.Finding.{IsFound, FoundFault}
 use Rattle.fl_ring.specs.Looking.{OnlyReads}
-use Rattle.fl_ring.specs.Mounting.{shape_at, search_reads, RepairEnds, MountEnds}
+use Rattle.fl_ring.specs.Mounting.{shape_at, search_reads, RepairEnds}
 use Rattle.fl_ring.specs.Numbers.{renumbered}
 use Rattle.fl_ring.specs.Operations.{repair_kinds}
 use Rattle.fl_ring.specs.Place.{StandsFor}
 use Rattle.fl_ring.specs.Repairing.{Beside, RepairCalls}
 use Rattle.fl_ring.specs.Ring.{OnRing, repaired, is_due_at}
 use Rattle.fl_ring.proofs.Besides.{beside_reads, beside_more}
-use Rattle.fl_ring.proofs.Mounts.{shape_served, still_on, found_numbers, search_failed, mount_done}
+use Rattle.fl_ring.proofs.Mounts.{shape_served, still_on, found_numbers, search_failed, mount_done, refused_by}
 use Rattle.fl_ring.proofs.RepairSteps.{watched_still}
 use Rattle.fl_ring.proofs.ring.Ring.find.Goals as goal
 
@@ -72,7 +71,7 @@ returns-clause-ends g c = λ s rose device good watched.
     mount_done r rose device t c.repair.new.self new u stands ends
 
 pub returns-clause-found : goal.returns-clause-found
-returns-clause-found g c = λ told.
+returns-clause-found g c =
     let place = c.args.place in
     let f = g.F.Flash.state c.args.flash.now in
     let mid = g.F.Flash.state c.find_numbers.new.flash in
@@ -80,7 +79,7 @@ returns-clause-found g c = λ told.
     let numbers = c.in_ok-numbers.numbers in
     record {
       numbers = numbers;
-      is_found = subst (λ (y : Geometry). IsFound f (shape_at place y) c.args.at_least numbers) c.geometry-geometry.ensures (c.in_ok-numbers.ensures.found told);
+      is_found = λ told. subst (λ (y : Geometry). IsFound f (shape_at place y) c.args.at_least numbers) c.geometry-geometry.ensures (c.in_ok-numbers.ensures.found told);
       found = mid;
       looks = subst (λ (y : Geometry). OnlyReads f (search_reads (shape_at place y)) mid) c.geometry-geometry.ensures c.find_numbers.ensures.reads;
       next = c.in_ok-repair.ensures.next;
@@ -124,3 +123,30 @@ returns-clause-beside g c =
     let r = shape_at place geo in
     subst (λ (y : Geometry). Beside (shape_at place y) (search_reads (shape_at place y) + y.block) 1 1 f new) c.geometry-geometry.ensures
     (beside_more r (search_reads r) 0 0 geo.block 1 1 f mid new (beside_reads r (search_reads r) f mid c.find_numbers.ensures.reads) c.repair.ensures.beside)
+
+pub returns-in_err-numbers-clause-fails : goal.returns-in_err-numbers-clause-fails
+returns-in_err-numbers-clause-fails g c =
+    let p = err_from_is_err_and c.from_residual.result c.from_residual.ensures.1 in
+    let place = c.args.place in
+    let f = g.F.Flash.state c.args.flash.now in
+    let mid = g.F.Flash.state c.find_numbers.new.flash in
+    let e = c.in_err-numbers.field-0.0 in
+    rw (p.1, p.2)
+    (refused_by e f mid (shape_at place f.geometry) c.args.at_least (subst (λ (y : Geometry). OnlyReads f (search_reads (shape_at place y)) mid) c.geometry-geometry.ensures c.find_numbers.ensures.reads)
+    c.in_err-numbers.ensures.fails)
+
+pub returns-in_err-repair-clause-fails : goal.returns-in_err-repair-clause-fails
+returns-in_err-repair-clause-fails g c =
+    let p = err_from_is_err_and c.from_residual-in_err-repair.result c.from_residual-in_err-repair.ensures.1 in
+    let place = c.args.place in
+    let f = g.F.Flash.state c.args.flash.now in
+    let mid = g.F.Flash.state c.find_numbers.new.flash in
+    let new = g.F.Flash.state c.repair.new.flash in
+    let numbers = c.in_ok-numbers.numbers in
+    rw (p.1, p.2) (inr (record {
+      numbers = numbers;
+      is_found = λ told. subst (λ (y : Geometry). IsFound f (shape_at place y) c.args.at_least numbers) c.geometry-geometry.ensures (c.in_ok-numbers.ensures.found told);
+      found = mid;
+      looks = subst (λ (y : Geometry). OnlyReads f (search_reads (shape_at place y)) mid) c.geometry-geometry.ensures c.find_numbers.ensures.reads;
+      repairs = subst (λ (y : Geometry). RepairCalls (shape_at place y) numbers.next numbers.torn mid (Err c.in_err-repair.field-0.0) new) c.geometry-geometry.ensures c.in_err-repair.ensures.calls;
+    }))

@@ -1,4 +1,4 @@
-use Rattle.std.proofs.Common.{◌≡◌, ◌+◌, ◌-◌, ℕ, [], ◌∷◌, List, ◌∙◌, ap, subst, refl, arith}
+use Rattle.std.proofs.Common.{◌≡◌, ◌-◌, ℕ, [], ◌∷◌, List, ◌∙◌, ap, subst, refl, arith}
 use Rattle.fl_flash.specs.Flash.{all_zero, ProgramsPage}
 use Rattle.fl_model.specs.Work.{VoidMark}
 use Rattle.fl_ring.specs.Place.{shape_of}
