@@ -1,7 +1,8 @@
 -- A page writer, step by step.
-use Rattle.std.proofs.Common.{◌≡◌, ℕ, ◌+◌, ◌-◌, ◌*◌, ◌<◌, ◌≤◌, Bool, Some, slice_get, slice_range, List, [], ◌∷◌, ◌++◌, length, take, drop, replicate, refl, sym, ap, ◌∙◌, arith, append_assoc, length-append, length-drop}
+use Rattle.std.proofs.Common.{◌≡◌, ℕ, ◌+◌, ◌-◌, ◌*◌, ◌/◌, ◌<◌, ◌≤◌, Bool, Some, slice_get, slice_range, List, [], ◌∷◌, ◌++◌, length, take, drop, replicate, refl, sym, ap, ◌∙◌, arith, append_assoc, length-append, length-drop}
 use Rattle.std.proofs.lemmas.List.{take_at, drop_at, drop-drop, drop-take, drop-replicate, length-replicate, length-take-le, replicate-append-replicate, append-nil, drop-append-le}
-use Rattle.std.proofs.Math.Nat.{lt_of_mul-lt-mul_right}
+use Rattle.std.proofs.Math.Nat.{lt_of_mul-lt-mul_right, div-mul-le_self, mul-le-mul_right}
+use Rattle.std.proofs.lemmas.Nat.{le-div}
 use Rattle.std.specs.List.{flat_map, AllByRecursion}
 use Rattle.fl_base.specs.Bytes.{splice}
 use Rattle.fl_base.proofs.Ranges.{length-splice, drop-splice, take_slice, drop_slice}
@@ -155,3 +156,18 @@ cleared body fill end least within is =
     ap (λ (l : List ℕ). take 16 body ++ (l ++ drop (end - 16) (drop 16 body))) (is ∙ ap (λ (k : ℕ). replicate k 255) part)
     ∙ ap (λ (l : List ℕ). take 16 body ++ (replicate (end - 16) 255 ++ l))
     (drop-drop (end - 16) 16 body ∙ ap (λ (k : ℕ). drop (16 + k) body) (sym (length-replicate (end - 16) 255)))
+
+-- a row more has room exactly where fewer rows are gathered than a page of this size holds
+pub room_for_row : (layout : RowLayout) (rows : List Row) (w : WriterState) (size : ℕ) → 0 < layout_len layout → length w.body + 8 ≡ size → Gathers layout rows w
+    → length rows < (size - 24) / layout_len layout → w.end + layout_len layout ≤ length w.body
+room_for_row layout rows w size some whole is few =
+    let n = layout_len layout in
+    let all = div-mul-le_self (size - 24) (layout_len layout) in
+    let most : (length rows + 1) * layout_len layout ≤ (size - 24) / layout_len layout * layout_len layout = mul-le-mul_right (layout_len layout) (omega arith) in
+    omega (arith, is.end, all, most)
+
+pub few_rows : (layout : RowLayout) (rows : List Row) (w : WriterState) (size : ℕ) → 0 < layout_len layout → length w.body + 8 ≡ size → Gathers layout rows w
+    → w.end + layout_len layout ≤ length w.body → length rows < (size - 24) / layout_len layout
+few_rows layout rows w size some whole is room =
+    let more : length rows + 1 ≤ (size - 24) / layout_len layout = le-div (length rows + 1) (size - 24) (layout_len layout) some (omega (arith, is.end)) in
+    omega arith

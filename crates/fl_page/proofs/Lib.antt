@@ -1,3 +1,4 @@
 pub mod RowBytes
 pub mod Gathering
 pub mod DataPages
+pub mod Reading

@@ -1,9 +1,9 @@
 -- What a flash holds, and calls that only read it.
-use Rattle.std.specs.Prelude.{◌≡◌, ◌⊎◌, ℕ, zero, suc, Bool, false, List}
+use Rattle.std.specs.Prelude.{◌≡◌, ◌⊎◌, ℕ, zero, suc, ◌≤◌, Bool, true, false, List}
 use Rattle.fl_base.specs.Causes.{Rose}
 use Rattle.fl_base.specs.declared.types.Geometry.{Geometry}
 use Rattle.fl_flash.specs.Media.{next_count}
-use Rattle.fl_flash.specs.Flash.{FlashState, Goes}
+use Rattle.fl_flash.specs.Flash.{FlashState}
 use Rattle.fl_flash.specs.declared.flash.FlashFault.TheVariants.{PowerLost, Media}
 use Rattle.fl_page.specs.declared.fault.ReadFault.{ReadFault}
 use Rattle.fl_page.specs.declared.fault.ReadFault.TheVariants.{Flash, BadPage}
@@ -32,12 +32,18 @@ counted (suc n) before = next_count (counted n before)
 
 -- nothing is programmed and nothing erased; flash and medium count the same reads
 pub record OnlyReads (old new : FlashState) : Type 0 where
-  pub goes : Goes old new
   pub contents : contents_of new ≡ contents_of old
+  pub origin : new.origin ≡ old.origin
   pub armed : new.armed ≡ old.armed
+  pub cuts : old.cuts ≤ new.cuts
+  pub faults : old.media.faults ≤ new.media.faults
   pub reads : ℕ
   pub work : new.work ≡ record old.work { reads = counted reads old.work.reads }
   pub media : new.media.reads ≡ counted reads old.media.reads
+
+-- the power is on, or it is as it was
+abbrev pub StaysOn : FlashState → FlashState → Type 0
+StaysOn old new = (new.is_on ≡ true) ⊎ (new.is_on ≡ old.is_on)
 
 -- a fault of the flash has its cause in the call
 abbrev pub IsCaused : FlashState → ReadFault → FlashState → Type 0

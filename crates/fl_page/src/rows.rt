@@ -7,7 +7,7 @@ ghost use Rattle.fl_model.specs.Row.{Row};
 ghost use Rattle.fl_model.specs.Query.{is_above};
 ghost use Rattle.fl_flash.specs.Flash.{FlashState};
 ghost use Rattle.fl_schema.specs.Schema.{layout_of_row, row_of};
-ghost use Rattle.fl_page.specs.Contents.{Contents, contents_of, OnlyReads, IsCaused};
+ghost use Rattle.fl_page.specs.Contents.{Contents, contents_of, OnlyReads, StaysOn, IsCaused};
 ghost use Rattle.fl_page.specs.Steps.{Steps, Ascends};
 ghost use Rattle.fl_page.specs.declared.fault.BadPage.{BadPage};
 
@@ -65,6 +65,7 @@ pub trait Rows<F: Flash>: RowHere {
     fn step(&mut self, flash: &mut F) -> Result<bool, ReadFault>
         requires { ready self.old (contents_of (F.state flash.old)) }
         ensures reads_only { OnlyReads (F.state flash.old) (F.state flash.new) }
+        ensures power { OnOk result (StaysOn (F.state flash.old) (F.state flash.new)) }
         ensures cause { IfErr result (λ fault. IsCaused (F.state flash.old) fault (F.state flash.new)) }
         ensures names { names self.new ≡ names self.old }
         ensures schema { Self.schema self.new ≡ Self.schema self.old }
