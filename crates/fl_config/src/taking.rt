@@ -1,7 +1,7 @@
 // Whether a line is taken, by the lines before it.
 ghost use Rattle.std.specs.Prelude.{◌≡◌, ◌+◌, ◌≤◌, ◌<◌, ◌++◌, ◌∷◌, [], false, map, length, IfOk};
 ghost use Rattle.std.specs.List.{list_any};
-ghost use Rattle.fl_model.specs.Record.{bytes_equal, blocks_of};
+ghost use Rattle.fl_model.specs.Record.{bytes_equal};
 ghost use Rattle.fl_words.specs.Config.{first_fault, device_faults, table_faults, plan_of, too_large};
 ghost use Rattle.fl_plan.specs.Plan.{Label, plan_of_table};
 ghost use Rattle.fl_plan.specs.Refusal.{Tells};

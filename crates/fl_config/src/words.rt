@@ -37,7 +37,7 @@ fn is_ring(blocks: u64) -> bool
     blocks == 0 || are_blocks(blocks)
 }
 
-/// The place of a ring of so many blocks, if there is one, and the block behind it.
+/// The place of a ring of so many blocks from a block on; none where it has no blocks.
 fn ring_at(first_block: u32, blocks: u64) -> Option<RingPlace>
     requires { blocks ≤ 16384 }
     ensures { IsRingAt result first_block blocks }

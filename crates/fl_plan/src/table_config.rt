@@ -129,7 +129,7 @@ impl TableConfig {
     }
 
     /// The refusal of the greatest length of a blob or of the length of a row.
-    pub fn check_room(&self) -> Result<(), ConfigRefusal>
+    fn check_room(&self) -> Result<(), ConfigRefusal>
         requires within { IsWithin self.now.geometry }
         requires few { blocks_in self.now.var ≤ 16384 }
         ensures { (label : Label) → Tells result (first_fault (room_faults (plan_of_table label self.now))) }
