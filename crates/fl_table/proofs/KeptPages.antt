@@ -38,7 +38,7 @@ stored-entry plan entry plain h = by_blob entry.kept.blob refl h.blob
     no e = cc
 
     is_true : (b : Bool) → IsTrue b → b ≡ true
-    is_true true t = refl
+    is_true b t = t
 
     row_of_blob : (o : Option (List ℕ)) → Row
     row_of_blob o = record { key = entry.kept.key; values = entry.kept.values; blob = option_map (λ bytes. record { page = entry.page; offset = entry.offset; length = length bytes }) o }

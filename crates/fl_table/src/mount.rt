@@ -1,5 +1,5 @@
 // The mount of a table: its ring is mounted, and its pages are read.
-ghost use Rattle.std.specs.Prelude.{◌≡◌, ◌+◌, ◌-◌, false, true, is_ok, length, IsTrue, IfOk, IfErr, OnOk, OnErr};
+ghost use Rattle.std.specs.Prelude.{◌≡◌, ◌+◌, ◌-◌, false, true, is_ok, length, [], IsTrue, IfOk, IfErr, OnOk, OnErr};
 ghost use Rattle.fl_flash.specs.Flash.{Goes, page_at};
 ghost use Rattle.fl_table.specs.Causes.{MountCausedBy};
 
@@ -11,9 +11,10 @@ use fl_ring::Ring;
 
 impl Table {
     ghost use Rattle.std.specs.Prelude.{ℕ, Bool};
-    ghost use Rattle.fl_model.specs.Record.{Plan};
+    ghost use Rattle.fl_model.specs.Record.{Plan, RowLayout};
     ghost use Rattle.fl_model.specs.Table as model;
     ghost use Rattle.fl_model.specs.Work.{Device};
+    ghost use Rattle.fl_page.specs.Writer.{Gathers};
     ghost use Rattle.fl_ring.specs.Mounting.{shape_at};
     ghost use Rattle.fl_ring.specs.Ring.{OutsideStands};
     ghost use Rattle.fl_ring.specs.Step.{IsWatched};
@@ -26,6 +27,9 @@ impl Table {
     fn forget(&mut self)
         ensures same { IsSamePlan self.old self.new }
         ensures down { (is_running self.new ≡ false) × (is_stopped self.new ≡ false) }
+        ensures none { self.new.writer.count ≡ 0 }
+        ensures empty { (layout : RowLayout) → Gathers layout [] self.new.writer }
+        ensures bits { self.new.bitmap ≡ 0 }
     {
         self.ring = None;
         self.stopped = false;
