@@ -22,3 +22,4 @@ pub mod MountGood
 pub mod MountRead
 pub mod MountEnded
 pub mod MountCalls
+pub mod MountReads

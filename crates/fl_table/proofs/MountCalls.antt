@@ -1,21 +1,24 @@
 -- What the calls of a mount say of its table.
-use Rattle.std.proofs.Common.{◌≡◌, ℕ, ◌+◌, ◌-◌, ◌≤◌, Bool, true, List, Some, sym, ◌∙◌, ap, subst, arith, IsTrue}
+use Rattle.std.proofs.Common.{◌≡◌, ℕ, ◌-◌, Bool, true, List, Some, sym, ◌∙◌, ap, subst, arith, IsTrue}
 use Rattle.fl_base.specs.Causes.{Rose}
 use Rattle.fl_base.specs.declared.types.Geometry.{Geometry}
 use Rattle.fl_base.specs.declared.types.RingPlace.{RingPlace}
 use Rattle.fl_flash.specs.Flash.{FlashState, Goes, page_at}
-use Rattle.fl_model.specs.Record.{Plan, RowLayout}
+use Rattle.fl_model.specs.Record.{RowLayout}
 use Rattle.fl_model.specs.Work.{Device}
+use Rattle.fl_ring.specs.Finding.{FoundFault}
 use Rattle.fl_ring.specs.Looking.{OnlyReads}
-use Rattle.fl_ring.specs.Mounting.{shape_at, HasNumbers}
+use Rattle.fl_ring.specs.Mounting.{shape_at, HasNumbers, FailsAs}
 use Rattle.fl_ring.specs.Place.{next_of, oldest_of, shape_of}
 use Rattle.fl_ring.specs.Ring.{Shape, OutsideStands, place}
 use Rattle.fl_ring.specs.Step.{IsWatched}
+use Rattle.fl_ring.specs.declared.fault.RingFault.{RingFault}
+use Rattle.fl_ring.specs.declared.fault.RingFault.TheVariants as ring
 use Rattle.fl_ring.specs.declared.ring.Ring.{Ring}
 use Rattle.fl_ring.proofs.Founds.{same_pages}
 use Rattle.fl_ring.proofs.Readings.{same_page}
 use Rattle.fl_schema.specs.Schema.{layout_of}
-use Rattle.fl_table.specs.Causes.{IfPage, is_of_pages}
+use Rattle.fl_table.specs.Causes.{IfPage, is_of_pages, of_ring}
 use Rattle.fl_table.specs.Memory.{IsSamePlan}
 use Rattle.fl_table.specs.Mounting.{ReadsRing, FindsPages, HasBadPage, RefusesPages}
 use Rattle.fl_table.specs.Reading.{AreRead, AreRefused, last_after, rows_after, voids_after, pages_of}
@@ -90,3 +93,16 @@ module _ (old new : Table) (f mid g : FlashState) (n : ℕ) (same : IsSamePlan o
           last = subst (λ (l : RowLayout). now.last_key ≡ last_after l (pages_of ring g) (oldest_of ring) (next_of ring - oldest_of ring)) same.layout
               (now_read (λ page. now.last_key ≡ last_after (layout_of new.schema) page (oldest_of ring) (next_of ring - oldest_of ring)) last);
         }
+
+-- the ring was refused
+pub refuses-ring : (old new : Table) (f g : FlashState) (e : RingFault) → IsSamePlan old new → f.geometry ≡ old.geometry → FoundFault f (shape_at new.place f.geometry) 0 e → FailsAs f (shape_at new.place f.geometry) 0 e g →
+    RefusesPages old f (of_ring e) g
+refuses-ring old new f g e same geometry found fails =
+    by_fault e (subst (λ (r : Shape). FoundFault f r 0 e) (same-shape old new f same geometry) found) (subst (λ (r : Shape). FailsAs f r 0 e g) (same-shape old new f same geometry) fails)
+  where
+    by_fault : (e : RingFault) → FoundFault f (shape_at old.place old.geometry) 0 e → FailsAs f (shape_at old.place old.geometry) 0 e g → RefusesPages old f (of_ring e) g
+    by_fault (ring.Flash fault) found fails = tt
+    by_fault (ring.BadHead heads) found fails = record { found = found; reads = fails }
+    by_fault (ring.BadGap page) found fails = record { found = found; reads = fails }
+    by_fault (ring.BadPage page wanted there) found fails = record { found = found; reads = fails }
+    by_fault (ring.NoNumber least) found fails = record { found = found; reads = fails }

@@ -1,6 +1,5 @@
 -- How the mount of a table ends, by the mount of its ring and the read of the kept pages.
-use Rattle.std.proofs.Common.{◌≡◌, ℕ, ◌+◌, ◌-◌, ◌*◌, ◌%◌, ◌<◌, ◌≤◌, Bool, true, false, cond, ◌==◌, Option, Some, option_map, Result, Ok, Err, List, [], ◌∷◌, map, length, drop, get_or, refl, sym, ◌∙◌, ap, subst, ◌⊎◌, inl, inr, arith, IsTrue}
-use Rattle.std.specs.List.{slice_get}
+use Rattle.std.proofs.Common.{◌≡◌, ℕ, ◌+◌, ◌-◌, ◌*◌, ◌%◌, ◌≤◌, Bool, true, false, cond, ◌==◌, Option, Some, Result, Ok, Err, List, [], ◌∷◌, map, length, drop, get_or, refl, sym, ◌∙◌, ap, subst, ◌⊎◌, inl, inr, arith, IsTrue}
 use Rattle.fl_base.specs.Causes.{Rose}
 use Rattle.fl_flash.specs.Flash.{FlashState, page_at}
 use Rattle.fl_flash.specs.Places.{extent}
@@ -258,10 +257,10 @@ module _ (first : ℕ) (plan : Plan) (table : Table) (rose : Bool) (device : Dev
 
     -- what it answers
     pub mount-answer : (t : code.Table) (mounted : Mounted) → IsPlanned t first plan → place.shape_of ring ≡ shape_in first plan → mounted ≡ record {
-          rows = rows_after (layout_of t.schema) (pages_of ring mid) (oldest_of ring) (next_of ring - oldest_of ring);
-          pages = next_of ring - oldest_of ring;
-          voids = voids_after (layout_of t.schema) (pages_of ring mid) (oldest_of ring) (next_of ring - oldest_of ring);
-        } → mounted ≡ mounted_of (ready plan l.now.state)
+      rows = rows_after (layout_of t.schema) (pages_of ring mid) (oldest_of ring) (next_of ring - oldest_of ring);
+      pages = next_of ring - oldest_of ring;
+      voids = voids_after (layout_of t.schema) (pages_of ring mid) (oldest_of ring) (next_of ring - oldest_of ring);
+    } → mounted ≡ mounted_of (ready plan l.now.state)
     mount-answer t mounted planned is e =
         let st = l.now.state in
         let h = reads-hold t planned is in

@@ -1,5 +1,5 @@
 -- A table at rest is good for the mount of its ring.
-use Rattle.std.proofs.Common.{◌≡◌, ℕ, ◌+◌, ◌-◌, ◌*◌, ◌^◌, ◌<◌, ◌≤◌, Bool, true, false, cond, nat_lt, ◌==◌, Option, Some, None, IfSome, List, length, take, drop, refl, sym, ◌∙◌, ap, subst, arith, IsTrue}
+use Rattle.std.proofs.Common.{◌≡◌, ℕ, ◌+◌, ◌*◌, ◌^◌, ◌<◌, Bool, true, false, cond, nat_lt, ◌==◌, Option, Some, None, IfSome, List, length, take, drop, refl, sym, ◌∙◌, ap, subst, arith, IsTrue}
 use Rattle.std.specs.List.{list_any, sum}
 use Rattle.fl_flash.specs.Flash.{FlashState, page_at}
 use Rattle.fl_model.specs.Record.{Plan}
@@ -10,8 +10,8 @@ use Rattle.fl_model.specs.Layout.{data_body}
 use Rattle.fl_model.specs.Mount.{renumber, at_least_of}
 use Rattle.fl_model.specs.Mount as numbering
 use Rattle.fl_model.proofs.Lists.{slice_get-some}
-use Rattle.fl_model.proofs.Pages.{page_with, pages-at}
-use Rattle.fl_model.proofs.Plain.{IsPlain, IsPlainTable}
+use Rattle.fl_model.proofs.Pages.{pages-at}
+use Rattle.fl_model.proofs.Plain.{IsPlainTable}
 use Rattle.fl_model.proofs.Renumber.{plain-renumber}
 use Rattle.fl_ring.specs.Head.{one}
 use Rattle.fl_ring.specs.Mounting.{IsGood}

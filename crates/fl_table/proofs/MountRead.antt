@@ -1,16 +1,13 @@
 -- The kept pages of a table that was mounted, as its ring reads them.
-use Rattle.std.proofs.Common.{◌≡◌, ℕ, zero, suc, ◌+◌, ◌-◌, ◌<◌, ◌≤◌, ◌⊎◌, Bool, ◌==◌, Option, Some, None, option_map, List, length, refl, sym, ◌∙◌, ap, subst, arith, inl, inr, take}
+use Rattle.std.proofs.Common.{◌≡◌, ℕ, zero, suc, ◌+◌, ◌<◌, ◌≤◌, Bool, ◌==◌, Option, Some, None, option_map, List, length, sym, ◌∙◌, ap, subst, arith, inl, inr, take}
 use Rattle.std.proofs.lemmas.Bool.{cases_lt}
 use Rattle.std.proofs.lemmas.List.{take_all}
 use Rattle.std.specs.List.{slice_get, sum, count_by}
-use Rattle.fl_mark.specs.Mark.{state_of_page}
-use Rattle.fl_mark.specs.declared.page_state.PageState.TheVariants.{Committed}
 use Rattle.fl_model.specs.Record.{Plan, RowLayout, row_layout, row_len}
 use Rattle.fl_model.specs.Ring as model
 use Rattle.fl_model.specs.Table.{Table, Entry, last_entry}
 use Rattle.fl_model.specs.Spline.{voids_of}
 use Rattle.fl_model.proofs.Plain.{IsPlain, IsPlainTable}
-use Rattle.fl_page.specs.Page.{rows_in}
 use Rattle.fl_ring.specs.Ring.{OnRing, place}
 use Rattle.fl_schema.specs.Form.{layout_with}
 use Rattle.fl_schema.specs.declared.column.ColumnType.{ColumnType}

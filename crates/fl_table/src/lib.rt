@@ -6,9 +6,10 @@ mod faults;
 mod misfit;
 mod mount;
 mod plan;
-mod reading;
 mod put;
+mod reading;
 mod refusal;
+mod running;
 mod seal;
 mod table;
 

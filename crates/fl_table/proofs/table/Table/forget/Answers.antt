@@ -1,4 +1,4 @@
-use Rattle.std.proofs.Common.{◌≡◌, ◌≤◌, arith, ap}
+use Rattle.std.proofs.Common.{arith, ap}
 use Rattle.fl_table.proofs.Writers.{rest-clear, gathers-none}
 use Rattle.fl_table.proofs.table.Table.forget.Goals as goal
 

@@ -1,12 +1,12 @@
-use Rattle.std.proofs.Common.{◌≡◌, ◌+◌, ◌-◌, ◌≤◌, ℕ, List, Some, Ok, Err, length, arith, refl, sym, ◌∙◌, ap, subst, IsTrue}
+use Rattle.std.proofs.Common.{◌-◌, ◌≤◌, ℕ, List, Ok, Err, length, arith, refl, sym, ◌∙◌, ap, subst, IsTrue}
 use Rattle.std.proofs.lemmas.Result.{err_from_is_err_and}
-use Rattle.fl_flash.specs.Flash.{page_at}
 use Rattle.fl_ring.specs.Mounting.{shape_at}
 use Rattle.fl_ring.specs.Place.{next_of, oldest_of}
 use Rattle.fl_schema.specs.Schema.{layout_of}
 use Rattle.fl_table.specs.Reading.{AreNoted, pages_of}
-use Rattle.fl_table.proofs.MountCalls.{same-shape, watched-front, risen-later, outside-stands, refuses-page, finds-pages}
+use Rattle.fl_table.proofs.MountCalls.{same-shape, watched-front, risen-later, outside-stands, refuses-ring, refuses-page, finds-pages}
 use Rattle.fl_table.proofs.MountEnded.{mounting-of, ring-fails, ring-ends, ring-mounts, reads-end, same_device, started-stands, mount-answer}
+use Rattle.fl_table.proofs.MountReads.{few-first, few-all}
 use Rattle.fl_table.proofs.SealAnswers.{planned-same, planned-ring, lies-size, written-back}
 use Rattle.fl_table.proofs.table.Table.mount.Goals as goal
 
@@ -125,3 +125,23 @@ returns-clause-ends g c = λ first plan table rose device watched planned rests.
           (ensures.noted (subst (λ k. next_of ring - oldest_of ring ≤ k) (ap length back ∙ ensures.counts) fits) still));
       answer = mount-answer first plan table rose device old is ring mid new n l reads sizes t1 c.in_ok-mounted.mounted planned1 here (ensures.mounted still);
     }
+
+pub returns-in_err-ring-clause-refused : goal.returns-in_err-ring-clause-refused
+returns-in_err-ring-clause-refused g c =
+    let p = err_from_is_err_and c.from_residual.result c.from_residual.ensures.1 in
+    rw (p.1, p.2) (λ told. refuses-ring c.args.self.now c.forget.new.self (g.F.Flash.state c.args.flash.now) (g.F.Flash.state c.mount.new.flash) c.in_err-ring.field-0.0 c.forget.ensures.same c.requires.lies.geometry
+    c.in_err-ring.ensures.fault c.in_err-ring.ensures.fails)
+
+pub returns-in_err-ring-clause-reads : goal.returns-in_err-ring-clause-reads
+returns-in_err-ring-clause-reads g c = λ told.
+    few-first c.args.self.now c.forget.new.self (g.F.Flash.state c.args.flash.now) (g.F.Flash.state c.mount.new.flash) c.forget.ensures.same c.requires.lies.geometry c.in_err-ring.ensures.beside
+
+pub returns-in_err-mounted-clause-reads : goal.returns-in_err-mounted-clause-reads
+returns-in_err-mounted-clause-reads g c = λ told.
+    few-all c.args.self.now c.forget.new.self (g.F.Flash.state c.args.flash.now) (g.F.Flash.state c.mount.new.flash) c.forget.ensures.same c.requires.lies.geometry c.in_ok-ring.ensures.beside
+    c.in_ok-ring.ring (next_of c.in_ok-ring.ring - oldest_of c.in_ok-ring.ring) (g.F.Flash.state c.read_pages.new.flash) refl c.in_ok-ring.ensures.found c.in_err-mounted.ensures.reads told
+
+pub returns-clause-reads : goal.returns-clause-reads
+returns-clause-reads g c = λ told.
+    few-all c.args.self.now c.forget.new.self (g.F.Flash.state c.args.flash.now) (g.F.Flash.state c.mount.new.flash) c.forget.ensures.same c.requires.lies.geometry c.in_ok-ring.ensures.beside
+    c.in_ok-ring.ring (next_of c.in_ok-ring.ring - oldest_of c.in_ok-ring.ring) (g.F.Flash.state c.read_pages.new.flash) refl c.in_ok-ring.ensures.found c.in_ok-mounted.ensures.reads told
