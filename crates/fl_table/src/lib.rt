@@ -12,6 +12,8 @@ mod refusal;
 mod running;
 mod seal;
 mod table;
+#[cfg(test)]
+mod tests;
 
 pub use counts::{Mounted, TableCounts};
 pub use faults::{FlushFault, MountFault, PutRefusal};
