@@ -356,7 +356,11 @@ fn images_made_by_hand(rt: HostRuntime) -> Result<(), Fail> {
     ];
     for (first, second, mounted) in images {
         let bytes = image(rt.alloc(), first, second)?;
-        assert_eq!(rt; run(rt.alloc(), bytes, &[(Mount, mounted)])?, 1, "{mounted:?}");
+        assert_eq!(rt;
+            run(rt.alloc(), bytes, &[(Mount, mounted)])?,
+            1,
+            "{mounted:?}"
+        );
     }
     Ok(())
 }
