@@ -6,11 +6,14 @@ mod faults;
 mod misfit;
 mod mount;
 mod plan;
-mod reading;
 mod put;
+mod reading;
 mod refusal;
+mod running;
 mod seal;
 mod table;
+#[cfg(test)]
+mod tests;
 
 pub use counts::{Mounted, TableCounts};
 pub use faults::{FlushFault, MountFault, PutRefusal};
