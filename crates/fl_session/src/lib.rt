@@ -7,11 +7,13 @@ mod commands;
 mod executor;
 mod lines;
 mod next;
-mod run;
+mod whole_run;
 mod session;
 mod status;
 mod stored;
 mod words;
 
+pub use whole_run::{KNOTS, run};
+pub use session::Session;
 pub use status::Status;
 pub use words::image_of;

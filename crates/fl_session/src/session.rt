@@ -1,5 +1,5 @@
 // A session over a flash.
-ghost use Rattle.std.specs.Prelude.{◌≡◌, ℕ, false};
+ghost use Rattle.std.specs.Prelude.{◌≡◌, ◌≤◌, ℕ, false};
 ghost use Rattle.fl_base.specs.Causes.{HasCause};
 ghost use Rattle.fl_flash.specs.Flash.{Goes};
 ghost use Rattle.fl_model.specs.Record.{Config};
@@ -12,7 +12,7 @@ ghost use Rattle.fl_session.specs.Standing.{SessionStands, IsSound};
 
 use crate::executor::Executor;
 use crate::stored::Stored;
-use fl_base::{Name, Sink, SinkFailed};
+use fl_base::{CutKind, Name, Sink, SinkFailed};
 use fl_flash::{Flash, Media, PageBuf, SimFlash};
 use fl_script::{Command, LineRoom, Reply, write_reply};
 
@@ -75,6 +75,23 @@ impl<'m, M: Media, T: Stored> Session<'m, M, T> {
     }
 }
 
+impl<'m, M: Media, T: Stored> Session<'m, M, T> {
+    /// The n-th program or erase from now on is torn.
+    fn cut<K: Sink>(&mut self, n: u64, kind: CutKind, out: &mut K) -> Result<(), SinkFailed>
+        requires sound { IsSound (T.lies self.old.table) (⟦<SimFlash<'m, M> as Flash>⟧.state self.old.flash) self.old.buf }
+        requires counted { 1 ≤ n }
+        ensures sound { IsSound (T.lies self.new.table) (⟦<SimFlash<'m, M> as Flash>⟧.state self.new.flash) self.new.buf }
+        ensures goes { Goes (⟦<SimFlash<'m, M> as Flash>⟧.state self.old.flash) (⟦<SimFlash<'m, M> as Flash>⟧.state self.new.flash) }
+        ensures sink { HasCause (K.faults out.old) (K.faults out.new) result }
+        ensures step { (config : Config) (old : Machine) → SessionStands config (T.stands self.old.table) (⟦<SimFlash<'m, M> as Flash>⟧.state self.old.flash) self.old.mounted old →
+            Executes config old (words.Cut n kind) (SessionStands config (T.stands self.new.table) (⟦<SimFlash<'m, M> as Flash>⟧.state self.new.flash) self.new.mounted)
+            (⟦<SimFlash<'m, M> as Flash>⟧.state self.old.flash).media.faults (⟦<SimFlash<'m, M> as Flash>⟧.state self.new.flash).media.faults (K.written out.old) (K.written out.new) result }
+    {
+        self.flash.arm(n, kind);
+        write_reply(&Reply::Done, out)
+    }
+}
+
 impl<'m, M: Media, T: Stored> Executor for Session<'m, M, T> {
     ghost use Rattle.fl_session.specs.Standing.{SessionStands, IsSound};
 
@@ -92,6 +109,7 @@ impl<'m, M: Media, T: Stored> Executor for Session<'m, M, T> {
     ) -> Result<(), SinkFailed> {
         match command {
             Command::Off => self.off(out),
+            Command::Cut { n, kind } => self.cut(*n, *kind, out),
             _ => Ok(()),
         }
     }

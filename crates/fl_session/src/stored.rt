@@ -34,3 +34,27 @@ pub trait Stored: Drop {
 
     ghost steady_lies: { (t : Self) (f g : FlashState) → lies t f → IsSamePages f g → lies t g };
 }
+
+/// A table that isn't there: nothing is mounted.
+#[derive(Drop)]
+pub struct NoTable;
+
+impl Stored for NoTable {
+    ghost use Rattle.std.specs.Prelude.{IsTrue};
+
+    ghost stands = { λ t f plan table. ⊥ };
+
+    ghost planned = { λ t plan. Unit {0} };
+
+    ghost lies = { λ t f. Unit {0} };
+
+    ghost settles = { λ t f plan table h. absurd h };
+
+    ghost steady = { λ t f g plan table h k. h };
+
+    ghost steady_lies = { λ t f g h k. h };
+
+    fn plan(_alloc: Global, _config: &Config) -> Result<Self, NoMemory> {
+        Ok(NoTable)
+    }
+}

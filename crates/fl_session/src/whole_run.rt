@@ -21,7 +21,7 @@ use crate::commands::run_commands;
 use crate::executor::Executor;
 use crate::lines::Lines;
 use crate::session::Session;
-use crate::stored::Stored;
+use crate::stored::{NoTable, Stored};
 use crate::{Status, image_of};
 use fl_base::{NoMemory, Sink, Source};
 use fl_config::{Config, ImageRefusal};
@@ -171,7 +171,7 @@ fn run_script<T: Stored, M: Media, S: Source, K: Sink>(
 
 /// Runs a script over an image: reads the words and the configuration, opens the image, and executes line after line.
 /// Each reply is written before the next line is read.
-pub fn run_over<T: Stored, M: Media, S: Source, K: Sink>(
+pub fn run<M: Media, S: Source, K: Sink>(
     alloc: Global,
     words: &[String],
     media: &mut M,
@@ -202,5 +202,5 @@ pub fn run_over<T: Stored, M: Media, S: Source, K: Sink>(
     if image_of(words).is_none() {
         return Status::Usage;
     }
-    run_script::<T, M, S, K>(alloc, media, script, out)
+    run_script::<NoTable, M, S, K>(alloc, media, script, out)
 }

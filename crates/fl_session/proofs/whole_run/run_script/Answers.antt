@@ -5,7 +5,7 @@ use Rattle.fl_model.specs.Image.{medium_len}
 use Rattle.fl_session.proofs.Running.{nothing-added}
 use Rattle.fl_session.proofs.Ending.{ends-in_begin, commands-early}
 use Rattle.fl_session.proofs.Over.{whole-parts, reach-of, ends-opened, whole-of, makes-of, opens-as, opens-goes, media-goes_on, ends-refused, early-refused, make-refused, commands-words}
-use Rattle.fl_session.proofs.run.run_script.Goals as goal
+use Rattle.fl_session.proofs.whole_run.run_script.Goals as goal
 
 pub returns-in-Err-clause-ends : goal.returns-in-Err-clause-ends
 returns-in-Err-clause-ends g c = λ text told l.
