@@ -31,23 +31,21 @@ pub record IsAccepted (plan : Plan) (table : Table) (item : Record) : Type 0 whe
   pub as_many : length item.values ≡ length plan.columns
   pub values : first_misfit 1 plan.columns item.values ≡ None
   pub no_blob : item.blob ≡ None
-  pub left : table.rows.next < spent_from
 
-pub accepted : (plan : Plan) (table : Table) (item : Record) → IsPlain plan → refusal_of plan table item ≡ None → IsAccepted plan table item
+pub accepted : (plan : Plan) (table : Table) (item : Record) → IsPlain plan → refusal_of plan table item ≡ None → IsAccepted plan table item × (table.rows.next < spent_from)
 accepted plan table item plain h =
     let a = neither (key_refusal table item.key) _ h in
     let b = neither (refuse_if (not (length item.values == length plan.columns)) (BadColumns (length plan.columns))) _ a.1 in
     let c = neither (value_refusal plan item) _ b.1 in
     let d = neither (blob_refusal plan item) _ c.1 in
     let v = by_limit (nat_lt (key_limit plan) item.key) refl c.0 in
-    record {
+    (record {
       above = above (last_entry table) a.0;
       key = omega (arith, ltb-false (key_limit plan) item.key v.0);
       as_many = eqb-true (length item.values) (length plan.columns) (not_not (length item.values == length plan.columns) (not_refused (not (length item.values == length plan.columns)) (BadColumns (length plan.columns)) b.0));
       values = v.1;
       no_blob = no_blob item.blob (has_var plan) plain.no_var (not_refused (is_some item.blob && (not (has_var plan) || nat_lt (cond (has_var plan) plan.blob_limit 0) (blob_len item))) (BadBlob (cond (has_var plan) plan.blob_limit 0)) d.0);
-      left = let n = or_left (nat_le spent_from table.rows.next) (unwrap_or (option_map (λ ring. nat_le spent_from ring.next) table.index) false) (or_left (nat_le spent_from table.rows.next || unwrap_or (option_map (λ ring. nat_le spent_from ring.next) table.index) false) (unwrap_or (option_map (λ ring. nat_le spent_from ring.next) table.var) false) (not_refused (is_spent table) Spent d.1)) in omega (arith, leb-false spent_from table.rows.next n);
-    }
+    }, let n = or_left (nat_le spent_from table.rows.next) (unwrap_or (option_map (λ ring. nat_le spent_from ring.next) table.index) false) (or_left (nat_le spent_from table.rows.next || unwrap_or (option_map (λ ring. nat_le spent_from ring.next) table.index) false) (unwrap_or (option_map (λ ring. nat_le spent_from ring.next) table.var) false) (not_refused (is_spent table) Spent d.1)) in omega (arith, leb-false spent_from table.rows.next n))
   where
     or_left : (a b : Bool) → (a || b) ≡ false → a ≡ false
     or_left true b e = cc
@@ -85,8 +83,8 @@ plain-put_entry plan item before table e =
     let len : blob_len item ≡ 0 = rw e refl in
     rw (ap (λ n. start_page plan n before) len, ap (λ n. start_offset plan n before) len, ap (λ n. end_fill plan n before) len) refl
 
-pub plain-record : (plan : Plan) (table : Table) (item : Record) → IsPlain plan → IsPlainTable plan table → table.pending < rows_per_page plan → IsAccepted plan table item → IsPlainTable plan (with_record plan item table table)
-plain-record plan table item plain h room ok =
+pub plain-record : (plan : Plan) (table : Table) (item : Record) → IsPlain plan → IsPlainTable plan table → table.pending < rows_per_page plan → IsAccepted plan table item → table.rows.next ≤ spent_from → IsPlainTable plan (with_record plan item table table)
+plain-record plan table item plain h room ok left =
     rw (plain-put_entry plan item table table ok.no_blob) (record {
       rows = h.rows;
       kept = kept-record plan table.entries table.rows.counts table.pending (plain_entry item) h.kept
@@ -98,7 +96,7 @@ plain-record plan table item plain h room ok =
       fill = h.fill;
       waiting = h.waiting;
       number = h.number;
-      number_pending = λ some. omega (arith, ok.left);
+      number_pending = λ some. left;
     })
 
 -- the seals of such a table

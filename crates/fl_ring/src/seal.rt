@@ -22,6 +22,7 @@ impl Ring {
         requires left { next_of self.old + 1 < 2 ^ 32 }
         ensures goes { Goes (F.state flash.old) (F.state flash.new) }
         ensures same { shape_of self.new ≡ shape_of self.old }
+        ensures next { OnOk result (next_of self.new ≡ next_of self.old + 1) }
         ensures lies { OnOk result (LiesOn self.new (F.state flash.new)) }
         ensures seals { (s : RingState) → (rose : Bool) → (device : Device) → IsReady self.old (F.state flash.old) s → IsWatched (F.state flash.old) (F.state flash.new) rose device
             → Seals s body.now rose device self.old result self.new (F.state flash.new) }

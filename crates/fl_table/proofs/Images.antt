@@ -1,0 +1,104 @@
+-- A table at rest on a flash, and its image on the flash's medium.
+use Rattle.std.proofs.Common.{◌≡◌, ℕ, ◌+◌, ◌-◌, ◌*◌, ◌<◌, true, false, Some, None, IfSome, List, length, take, drop, refl, sym, ◌∙◌, ap, subst, arith, sum_by}
+use Rattle.std.proofs.Math.Path.{fun_ext}
+use Rattle.std.proofs.lemmas.Nat.Gcd.{dvd-zero}
+use Rattle.std.specs.List.{slice_get}
+use Rattle.fl_flash.specs.Flash.{FlashState, page_at}
+use Rattle.fl_model.specs.Record.{Plan, Config, blocks_of}
+use Rattle.fl_model.specs.Ring.{IsShape}
+use Rattle.fl_model.specs.Table.{Table, Entry, RingName, DataRing, IndexRing, VarRing, shape_of, fresh_table}
+use Rattle.fl_model.specs.Layout.{is_blank}
+use Rattle.fl_model.specs.Query.{page_stands}
+use Rattle.fl_model.specs.Image.{IsTableImage, IsRingImage, HoldsRows, HoldsBitmaps, HoldsContent, HoldsBlob, page_bytes}
+use Rattle.fl_model.proofs.Plain.{IsPlain, facts-plain}
+use Rattle.fl_table.specs.Pages.{HoldsTable, Rests, bytes_in, place_in}
+
+-- the pages of a medium whose flash begins behind its header
+pub pages-medium : (config : Config) (f : FlashState) → f.start ≡ 1024 → f.geometry ≡ config.geometry → page_bytes config f.media.content ≡ page_at f
+pages-medium config f start geometry = fun_ext (λ p. one p)
+  where
+    one : (p : ℕ) → page_bytes config f.media.content p ≡ page_at f p
+    one p =
+        let size : f.geometry.page ≡ config.geometry.page = ap (λ g. g.page) geometry in
+        let at : 1024 + p * config.geometry.page ≡ f.start + p * f.geometry.page = rw (size, start) refl in
+        let len : config.geometry.page ≡ f.start + p * f.geometry.page + f.geometry.page - (f.start + p * f.geometry.page) = omega (arith, size) in
+        ap (λ n. take n (drop (1024 + p * config.geometry.page) f.media.content)) len
+        ∙ ap (λ n. take (f.start + p * f.geometry.page + f.geometry.page - (f.start + p * f.geometry.page)) (drop n f.media.content)) at
+
+pub image-rests : (config : Config) (place : ℕ) (plan : Plan) (table : Table) (f : FlashState) → f.start ≡ 1024 → f.geometry ≡ config.geometry →
+    IsTableImage config f.media.content place plan table → Rests f (sum_by blocks_of (take place config.plans)) plan table
+image-rests config place plan table f start geometry h = record {
+  settled = h.settled;
+  pages = subst (λ (page : ℕ → List ℕ). HoldsTable page (sum_by blocks_of (take place config.plans)) plan table) (pages-medium config f start geometry)
+      (record { rows = h.rows; index = h.index; var = h.var; blobs = h.blobs });
+}
+
+pub rests-image : (config : Config) (place : ℕ) (plan : Plan) (table : Table) (f : FlashState) → f.start ≡ 1024 → f.geometry ≡ config.geometry →
+    Rests f (sum_by blocks_of (take place config.plans)) plan table → IsTableImage config f.media.content place plan table
+rests-image config place plan table f start geometry h =
+    let k = subst (λ (page : ℕ → List ℕ). HoldsTable page (sum_by blocks_of (take place config.plans)) plan table) (sym (pages-medium config f start geometry)) h.pages in
+    record { settled = h.settled; rows = k.rows; index = k.index; var = k.var; blobs = k.blobs }
+
+-- a table whose pages stand goes on to rest, whatever becomes of other pages
+pub holds-same : (old new : ℕ → List ℕ) (first : ℕ) (plan : Plan) (table : Table) → ((ring : RingName) (n : ℕ) → new (place_in first plan ring n) ≡ old (place_in first plan ring n)) →
+    HoldsTable old first plan table → HoldsTable new first plan table
+holds-same old new first plan table same h = record {
+  rows = subst (λ (at : ℕ → List ℕ). IsRingImage (shape_of plan DataRing) table.rows at (HoldsRows plan table)) (sym (equal DataRing)) h.rows;
+  index = subst (λ (at : ℕ → List ℕ). IfSome table.index (λ ring. IsRingImage (shape_of plan IndexRing) ring at (HoldsBitmaps plan table ring))) (sym (equal IndexRing)) h.index;
+  var = subst (λ (at : ℕ → List ℕ). IfSome table.var (λ ring. IsRingImage (shape_of plan VarRing) ring at (HoldsContent plan ring))) (sym (equal VarRing)) h.var;
+  blobs = subst (λ (at : ℕ → List ℕ). IfSome table.var (λ ring. (i : ℕ) (entry : Entry) (blob : List ℕ) → slice_get table.entries i ≡ Some entry → entry.kept.blob ≡ Some blob → 0 < length blob →
+      page_stands ring entry.page ≡ true → HoldsBlob plan ring at entry blob)) (sym (equal VarRing)) h.blobs;
+}
+  where
+    equal : (ring : RingName) → bytes_in new first plan ring ≡ bytes_in old first plan ring
+    equal ring = fun_ext (λ n. same ring n)
+
+-- an empty table rests on blank pages
+pub blank-rests : (f : FlashState) (first : ℕ) (plan : Plan) → IsPlain plan → IsShape (shape_of plan DataRing) → ((n : ℕ) → is_blank (page_at f (place_in first plan DataRing n)) ≡ true) → Rests f first plan (fresh_table plan)
+blank-rests f first plan plain shape blank = record {
+  settled = record {
+    facts = facts-plain plan (fresh_table plan) plain (record {
+      rows = record {
+        not_negative = omega arith;
+        whole_blocks = dvd-zero plan.geometry.block;
+        whole_rounds = λ few. dvd-zero (plan.data_blocks * plan.geometry.block);
+        kept = omega arith;
+        kept_at_end = λ e. omega arith;
+        dirty_at_end = λ d. absurd (no d);
+        not_both = λ b. no b;
+      };
+      kept = record { fit = tt; counted = refl; few_rows = tt; ascending = λ i j a b lt e k. absurd (none a e) };
+      few_pending = omega arith;
+      index = rw plain.no_index refl;
+      var = rw plain.no_var refl;
+      firsts = refl;
+      fill = omega arith;
+      waiting = omega arith;
+      number = omega arith;
+      number_pending = λ some. absurd (some refl);
+    });
+    lost = refl;
+  };
+  pages = record {
+    rows = record {
+      void = λ i e. absurd (nothing e);
+      kept = λ i count e some. absurd (nothing e);
+      blank_next = λ e. blank 0;
+      torn_next = λ e. absurd (no e);
+      dirty = λ e. absurd (no e);
+      others = λ k some few clear. blank (0 + k);
+    };
+    index = rw plain.no_index tt;
+    var = rw plain.no_var tt;
+    blobs = rw plain.no_var tt;
+  };
+}
+  where
+    no : false ≡ true → ⊥
+    no e = cc
+
+    none : (a : Entry) → None ≡ Some a → ⊥
+    none a e = cc
+
+    nothing : {n : ℕ} → None ≡ Some n → ⊥
+    nothing e = cc

@@ -1,0 +1,15 @@
+pub mod States
+pub mod Sealed
+pub mod Lifted
+pub mod Repaired
+pub mod MountLifted
+pub mod Images
+pub mod Misfits
+pub mod Memories
+pub mod Holding
+pub mod Sealings
+pub mod Writers
+pub mod SealAnswers
+pub mod Refusals
+pub mod Putting
+pub mod PutAnswers

@@ -1,0 +1,239 @@
+-- A record joins the pending ones, and pages that are full.
+use Rattle.std.proofs.Common.{◌≡◌, ℕ, ◌+◌, ◌-◌, ◌*◌, ◌/◌, ◌^◌, ◌<◌, ◌≤◌, Bool, true, false, cond, ◌==◌, Option, Some, None, Result, Ok, Err, eq-eqb, unwrap_or, List, [], ◌∷◌, ◌++◌, length, take, drop, get_or, fold, refl, sym, ◌∙◌, ap, subst, arith, inl, inr, length-append, pos, bit_or}
+use Rattle.std.proofs.Math.IntN.{ℤ}
+use Rattle.std.proofs.Math.Nat.{le-div_iff_mul-le, add-mul}
+use Rattle.std.proofs.lemmas.Bool.{eqb-true, cases_lt}
+use Rattle.std.proofs.lemmas.List.{take-append-le, drop-append-le}
+use Rattle.std.proofs.lemmas.List.Sums.{fold_push}
+use Rattle.std.proofs.lemmas.Option.{unwrap_or-slice_get}
+use Rattle.std.specs.List.{slice_get}
+use Rattle.fl_bitmap.specs.Bucket.{bucket_in}
+use Rattle.fl_bitmap.specs.Widths.{is_bits}
+use Rattle.fl_bitmap.specs.declared.buckets.Buckets.{Buckets}
+use Rattle.fl_flash.specs.Flash.{FlashState, page_at}
+use Rattle.fl_model.specs.Facts.{IsTable}
+use Rattle.fl_model.specs.Layout.{bitmap_of, bucket_of}
+use Rattle.fl_model.specs.Record.{Record, Plan, RowLayout, layout_len, row_len, rows_per_page}
+use Rattle.fl_model.specs.Table.{Table, Entry, DataRing, RingName, shape_of, pending_entries, last_entry, with_record, lose, after_seal, after_seals, make_room_seals, table_seals, flushed, put_seals, put_record, spent_from}
+use Rattle.fl_model.specs.Within.{seal_within, seals_within}
+use Rattle.fl_model.specs.Ring.{IsShape}
+use Rattle.fl_model.specs.Work.{Kind, Device, Whole}
+use Rattle.fl_ring.specs.Device.{SameDevice}
+use Rattle.fl_model.proofs.Lists.{last_or-push}
+use Rattle.fl_model.proofs.Plain.{IsPlain, IsPlainTable, plain-facts, facts-plain, sealed-next}
+use Rattle.fl_model.proofs.Puts.{plain_entry, IsAccepted, plain-record, plain-table_seals, idle-table_seals, plain-put_seals, plain-put_record, full-room_seals, room-room_seals}
+use Rattle.fl_flash.specs.declared.flash.FlashFault.{FlashFault}
+use Rattle.fl_schema.specs.Schema.{layout_of}
+use Rattle.fl_table.specs.Accepting.{IsAcceptedBy}
+use Rattle.fl_table.specs.Memory.{HasBuckets, bitmap_with}
+use Rattle.fl_table.specs.Outcomes.{Finishes, Breaks, SealEnds, MakesRoom}
+use Rattle.fl_table.specs.Pages.{HoldsTable}
+use Rattle.fl_table.specs.Standing.{Stands}
+use Rattle.fl_table.specs.declared.table.Table as code
+use Rattle.fl_table.proofs.Memories.{last-sealed}
+use Rattle.fl_table.proofs.SealAnswers.{planned-plain, writer-count}
+
+-- the bitmap of one more row
+pub bits-more : (plan : Plan) (buckets : Option Buckets) (entries : List Entry) (entry : Entry) → HasBuckets plan buckets →
+    bitmap_with buckets (bitmap_of plan entries) (get_or entry.kept.values 0 (pos 0)) ≡ bitmap_of plan (entries ++ entry ∷ [])
+bits-more plan None entries entry h = rw h refl
+bits-more plan (Some buckets) entries entry h =
+    some (plan.bits == 0) (not_zero buckets.bits buckets.some_bits h.bits)
+  where
+    not_zero : (bits : ℕ) → is_bits bits ≡ true → plan.bits ≡ bits → (plan.bits == 0) ≡ false
+    not_zero bits t e = by_test (plan.bits == 0) refl
+      where
+        three : (n : ℕ) → n ≡ 0 → is_bits n ≡ false
+        three n z = rw z refl
+
+        no : false ≡ true → ⊥
+        no x = cc
+
+        by_test : (b : Bool) → (plan.bits == 0) ≡ b → b ≡ false
+        by_test true k = absurd (no (sym (three bits (sym e ∙ eqb-true plan.bits 0 k)) ∙ t))
+        by_test false k = refl
+
+    value : get_or entry.kept.values 0 (pos 0) ≡ unwrap_or (slice_get entry.kept.values 0) (pos 0)
+    value = sym (unwrap_or-slice_get entry.kept.values 0 (pos 0))
+
+    same : bucket_in buckets (get_or entry.kept.values 0 (pos 0)) ≡ bucket_of plan (unwrap_or (slice_get entry.kept.values 0) (pos 0))
+    same = rw (value, h.bits, h.base, h.width) refl
+
+    step : ℕ → Entry → ℕ
+    step bits e = bit_or bits (2 ^ bucket_of plan (unwrap_or (slice_get e.kept.values 0) (pos 0)))
+
+    some : (b : Bool) → b ≡ false → bit_or (cond b 0 (fold (λ bits e. bit_or bits (2 ^ bucket_of plan (unwrap_or (slice_get e.kept.values 0) (pos 0)))) 0 entries)) (2 ^ bucket_in buckets (get_or entry.kept.values 0 (pos 0)))
+        ≡ cond b 0 (fold (λ bits e. bit_or bits (2 ^ bucket_of plan (unwrap_or (slice_get e.kept.values 0) (pos 0)))) 0 (entries ++ entry ∷ []))
+    some true e = cc
+    some false e =
+        ap (λ n. bit_or (fold (λ bits e. bit_or bits (2 ^ bucket_of plan (unwrap_or (slice_get e.kept.values 0) (pos 0)))) 0 entries) (2 ^ n)) same
+        ∙ sym (fold_push (λ (bits : ℕ) (e : Entry). bit_or bits (2 ^ bucket_of plan (unwrap_or (slice_get e.kept.values 0) (pos 0)))) 0 entries entry)
+
+-- what a table is with one record more
+pub record IsAdded (t : code.Table) (f : FlashState) (first : ℕ) (plan : Plan) (table : Table) (entry : Entry) (after : Table) : Type 0 where
+  pub facts : IsTable plan after
+  pub pages : HoldsTable (page_at f) first plan (lose after)
+  pub pending : pending_entries after ≡ pending_entries table ++ entry ∷ []
+  pub last : last_entry after ≡ Some entry
+  pub bits : bitmap_with t.buckets t.bitmap (get_or entry.kept.values 0 (pos 0)) ≡ bitmap_of plan (pending_entries after)
+
+pub added : (t : code.Table) (f : FlashState) (first : ℕ) (plan : Plan) (table : Table) (key : ℕ) (values : List ℤ) → Stands t f first plan table → IsAcceptedBy plan table key values →
+    let item : Record = record { key = key; values = values; blob = None } in IsAdded t f first plan table (plain_entry item) (with_record plan item table table)
+added t f first plan table key values s ok =
+    let item : Record = record { key = key; values = values; blob = None } in
+    let plain = planned-plain t first plan s.planned in
+    let facts = plain-facts plan table plain s.facts in
+    let few : table.pending ≤ length table.entries = omega (arith, facts.kept.counted) in
+    let len = length-append table.entries (plain_entry item ∷ []) in
+    let cut : length (table.entries ++ plain_entry item ∷ []) - (table.pending + 1) ≡ length table.entries - table.pending = omega (arith, len, few) in
+    let written : take (length (table.entries ++ plain_entry item ∷ []) - (table.pending + 1)) (table.entries ++ plain_entry item ∷ []) ≡ take (length table.entries - table.pending) table.entries =
+    ap (λ n. take n (table.entries ++ plain_entry item ∷ [])) cut ∙ take-append-le (length table.entries - table.pending) table.entries (plain_entry item ∷ []) (omega arith) in
+    let waiting : drop (length (table.entries ++ plain_entry item ∷ []) - (table.pending + 1)) (table.entries ++ plain_entry item ∷ []) ≡ pending_entries table ++ plain_entry item ∷ [] =
+    ap (λ n. drop n (table.entries ++ plain_entry item ∷ [])) cut ∙ drop-append-le (length table.entries - table.pending) table.entries (plain_entry item ∷ []) (omega arith) in
+    record {
+      facts = facts-plain plan (with_record plan item table table) plain
+          (plain-record plan table item plain facts ok.room (record { above = ok.above; key = ok.fits; as_many = ok.as_many; values = ok.values_fit; no_blob = refl }) ok.left);
+      pages = subst (λ (es : List Entry). HoldsTable (page_at f) first plan (record (lose table) { entries = es })) (sym written) s.pages;
+      pending = waiting;
+      last = last_or-push None table.entries (plain_entry item);
+      bits = ap (λ n. bitmap_with t.buckets n (get_or values 0 (pos 0))) s.memory.bitmap
+          ∙ (bits-more plan t.buckets (pending_entries table) (plain_entry item) s.planned.buckets ∙ ap (bitmap_of plan) (sym waiting));
+    }
+
+-- a page has room for one row more just where fewer rows are pending than it holds
+module _ (t : code.Table) (f : FlashState) (first : ℕ) (plan : Plan) (table : Table) (s : Stands t f first plan table) where
+  len : ℕ
+  len = layout_len (layout_of t.schema)
+
+  per_page : rows_per_page plan ≡ (t.geometry.page - 24) / layout_len (layout_of t.schema)
+  per_page = ap (λ g. (g.page - 24) / row_len plan) s.planned.geometry ∙ ap (λ (l : RowLayout). (t.geometry.page - 24) / layout_len l) s.planned.layout
+
+  count : t.writer.count ≡ table.pending
+  count = writer-count t f first plan table s
+
+  one_more : (table.pending + 1) * layout_len (layout_of t.schema) ≡ table.pending * layout_len (layout_of t.schema) + layout_len (layout_of t.schema)
+  one_more = add-mul table.pending 1 (layout_len (layout_of t.schema)) ∙ omega arith
+
+  end : t.writer.end ≡ 16 + table.pending * layout_len (layout_of t.schema)
+  end = t.rows_end ∙ ap (λ n. 16 + n * layout_len (layout_of t.schema)) count
+
+  pub has-room : t.writer.end + layout_len (layout_of t.schema) ≤ length t.writer.body → table.pending < rows_per_page plan
+  has-room le =
+      let fits : table.pending + 1 ≤ (t.geometry.page - 24) / layout_len (layout_of t.schema) = (le-div_iff_mul-le {x = table.pending + 1} {y = t.geometry.page - 24} t.some_row).1 (omega (arith, le, end, one_more, t.page)) in
+      omega (arith, fits, per_page)
+
+  pub is-full : length t.writer.body < t.writer.end + layout_len (layout_of t.schema) → table.pending ≡ rows_per_page plan
+  is-full lt =
+      let facts = plain-facts plan table (planned-plain t first plan s.planned) s.facts in
+      elim (cases_lt table.pending (rows_per_page plan)) [
+        | inl less ↦
+            let fits : (table.pending + 1) * layout_len (layout_of t.schema) ≤ t.geometry.page - 24 = (le-div_iff_mul-le {x = table.pending + 1} {y = t.geometry.page - 24} t.some_row).0 (omega (arith, less, per_page)) in
+            absurd (omega (arith, fits, lt, end, one_more, t.page, t.room_for_row))
+        | inr more ↦ omega (arith, more, facts.few_pending)
+      ]
+
+  -- some rows fill it
+  pub some-full : length t.writer.body < t.writer.end + layout_len (layout_of t.schema) → table.pending ≡ 0 → ⊥
+  some-full lt e =
+      let none : table.pending * layout_len (layout_of t.schema) ≡ 0 * layout_len (layout_of t.schema) = ap (λ n. n * layout_len (layout_of t.schema)) e in
+      absurd (omega (arith, none, end, lt, t.page, t.room_for_row))
+
+append-nil : {X : Type 0} (xs : List X) → xs ++ [] ≡ xs
+append-nil [] = refl
+append-nil (x ∷ xs) = ap (λ ys. x ∷ ys) (append-nil xs)
+
+-- the operations of one seal alone
+pub one-seal : (plan : Plan) (table : Table) (rings : List RingName) → rings ≡ DataRing ∷ [] → seal_within plan DataRing table ≡ seals_within plan rings table
+one-seal plan table rings e = sym (ap (λ (rs : List RingName). seals_within plan rs table) e ∙ append-nil (seal_within plan DataRing table))
+
+pub no-seal : (plan : Plan) (table : Table) (rings : List RingName) → rings ≡ [] → [] ≡ seals_within plan rings table
+no-seal plan table rings e = sym (ap (λ (rs : List RingName). seals_within plan rs table) e)
+
+pub finishes-as : (first : ℕ) (plan : Plan) (operations others : List (RingName × Kind)) (table after else_after : Table) (rose : Bool) (device : Device) (t : code.Table) (new : FlashState) →
+    operations ≡ others → after ≡ else_after → Finishes first plan operations table after rose device t new → Finishes first plan others table else_after rose device t new
+finishes-as first plan operations others table after else_after rose device t new e k h =
+    subst (λ (ops : List (RingName × Kind)). Finishes first plan ops table else_after rose device t new) e (subst (λ (x : Table). Finishes first plan operations table x rose device t new) k h)
+
+pub breaks-as : (first : ℕ) (plan : Plan) (operations others : List (RingName × Kind)) (table : Table) (rose : Bool) (device : Device) (fault : FlashFault) (new : FlashState) →
+    operations ≡ others → Breaks first plan operations table rose device fault new → Breaks first plan others table rose device fault new
+breaks-as first plan operations others table rose device fault new e h = subst (λ (ops : List (RingName × Kind)). Breaks first plan ops table rose device fault new) e h
+
+-- where a page is full
+pub room-ends : (first : ℕ) (plan : Plan) (table : Table) (rose : Bool) (device : Device) (result : Result (Unit {0}) FlashFault) (t : code.Table) (new : FlashState) → make_room_seals plan table ≡ DataRing ∷ [] →
+    SealEnds first plan table rose device result t new → MakesRoom first plan table rose device result t new
+room-ends first plan table rose device (Ok u) t new rings h =
+    finishes-as first plan (seal_within plan DataRing table) (seals_within plan (make_room_seals plan table) table) table (after_seal plan DataRing table) (after_seals plan (make_room_seals plan table) table) rose device t new
+    (one-seal plan table (make_room_seals plan table) rings) (sym (ap (λ (rs : List RingName). after_seals plan rs table) rings)) h
+room-ends first plan table rose device (Err fault) t new rings h =
+    breaks-as first plan (seal_within plan DataRing table) (seals_within plan (make_room_seals plan table) table) table rose device fault new (one-seal plan table (make_room_seals plan table) rings) h
+
+-- a flush of pending rows
+pub flush-finishes : (first : ℕ) (plan : Plan) (table : Table) (rose : Bool) (device : Device) (t : code.Table) (new : FlashState) → table_seals plan table ≡ DataRing ∷ [] →
+    Finishes first plan (seal_within plan DataRing table) table (after_seal plan DataRing table) rose device t new → Finishes first plan (seals_within plan (table_seals plan table) table) table (flushed plan table) rose device t new
+flush-finishes first plan table rose device t new rings h =
+    finishes-as first plan (seal_within plan DataRing table) (seals_within plan (table_seals plan table) table) table (after_seal plan DataRing table) (flushed plan table) rose device t new
+    (one-seal plan table (table_seals plan table) rings) (sym (ap (λ (rs : List RingName). after_seals plan rs table) rings)) h
+
+pub flush-breaks : (first : ℕ) (plan : Plan) (table : Table) (rose : Bool) (device : Device) (fault : FlashFault) (new : FlashState) → table_seals plan table ≡ DataRing ∷ [] →
+    Breaks first plan (seal_within plan DataRing table) table rose device fault new → Breaks first plan (seals_within plan (table_seals plan table) table) table rose device fault new
+flush-breaks first plan table rose device fault new rings h =
+    breaks-as first plan (seal_within plan DataRing table) (seals_within plan (table_seals plan table) table) table rose device fault new (one-seal plan table (table_seals plan table) rings) h
+
+-- nothing is pending
+pub flush-idle : (f : FlashState) (first : ℕ) (plan : Plan) (table : Table) (rose : Bool) (device : Device) (t : code.Table) → table.pending ≡ 0 → Stands t f first plan table → SameDevice f device → f.is_on ≡ true →
+    Finishes first plan (seals_within plan (table_seals plan table) table) table (flushed plan table) rose device t f
+flush-idle f first plan table rose device t none stands counts power =
+    finishes-as first plan [] (seals_within plan (table_seals plan table) table) table table (flushed plan table) rose device t f
+    (no-seal plan table (table_seals plan table) (idle-table_seals plan table none)) (sym (ap (λ (rs : List RingName). after_seals plan rs table) (idle-table_seals plan table none)))
+    (record { now = record { end = Whole; device = device; state = table }; did = (refl, refl, refl); whole = refl; counts = counts; power = power; stands = stands })
+
+-- a put, whose pages are those of its room
+pub put-breaks : (first : ℕ) (plan : Plan) (item : Record) (table : Table) (rose : Bool) (device : Device) (fault : FlashFault) (new : FlashState) → item.blob ≡ None →
+    Breaks first plan (seals_within plan (make_room_seals plan table) table) table rose device fault new → Breaks first plan (seals_within plan (put_seals plan item table) table) table rose device fault new
+put-breaks first plan item table rose device fault new e h =
+    breaks-as first plan (seals_within plan (make_room_seals plan table) table) (seals_within plan (put_seals plan item table) table) table rose device fault new
+    (ap (λ (rs : List RingName). seals_within plan rs table) (sym (plain-put_seals plan table item e))) h
+
+pub put-finishes : (first : ℕ) (plan : Plan) (item : Record) (table : Table) (rose : Bool) (device : Device) (room t : code.Table) (new : FlashState) → item.blob ≡ None →
+    Finishes first plan (seals_within plan (make_room_seals plan table) table) table (after_seals plan (make_room_seals plan table) table) rose device room new →
+    Stands t new first plan (let before = after_seals plan (make_room_seals plan table) table in with_record plan item before before) →
+    Finishes first plan (seals_within plan (put_seals plan item table) table) table (put_record plan item table) rose device t new
+put-finishes first plan item table rose device room t new e h stands =
+    finishes-as first plan (seals_within plan (make_room_seals plan table) table) (seals_within plan (put_seals plan item table) table) table
+    (let before = after_seals plan (make_room_seals plan table) table in with_record plan item before before) (put_record plan item table) rose device t new
+    (ap (λ (rs : List RingName). seals_within plan rs table) (sym (plain-put_seals plan table item e))) (sym (plain-put_record plan table item e))
+    (record { now = h.now; did = h.did; whole = h.whole; counts = h.counts; power = h.power; stands = stands })
+
+-- the last record and the number of a table in which room was made
+pub room-accepts : (plan : Plan) (table : Table) (item : Record) → IsPlain plan → IsShape (shape_of plan DataRing) → IsPlainTable plan table → table.fill ≡ 0 → 1 ≤ rows_per_page plan → IsAccepted plan table item → table.rows.next < spent_from →
+    let before = after_seals plan (make_room_seals plan table) table in (before.pending < rows_per_page plan) → IsAcceptedBy plan before item.key item.values
+room-accepts plan table item plain shape facts empty some ok left room =
+    by_full (table.pending == rows_per_page plan) refl room
+  where
+    full : table.pending ≡ rows_per_page plan → make_room_seals plan table ≡ DataRing ∷ []
+    full e = full-room_seals plan table e ∙ plain-table_seals plan table plain empty (λ none. absurd (omega (arith, none, e, some)))
+
+    same : IsAcceptedBy plan table item.key item.values → make_room_seals plan table ≡ [] → IsAcceptedBy plan (after_seals plan (make_room_seals plan table) table) item.key item.values
+    same h e = subst (λ (rs : List RingName). IsAcceptedBy plan (after_seals plan rs table) item.key item.values) (sym e) h
+
+    by_full : (b : Bool) → (table.pending == rows_per_page plan) ≡ b → (after_seals plan (make_room_seals plan table) table).pending < rows_per_page plan →
+        IsAcceptedBy plan (after_seals plan (make_room_seals plan table) table) item.key item.values
+    by_full true e room =
+        let is : table.pending ≡ rows_per_page plan = eqb-true table.pending (rows_per_page plan) e in
+        let next : (after_seal plan DataRing table).rows.next ≡ table.rows.next + 1 = sealed-next (shape_of plan DataRing) table.pending table.rows in
+        let last = last-sealed plan table shape facts.kept.counted (omega (arith, is, some)) in
+        subst (λ (rs : List RingName). IsAcceptedBy plan (after_seals plan rs table) item.key item.values) (sym (full is)) (record {
+          above = λ e' k. ok.above e' (sym last ∙ k);
+          fits = ok.key;
+          as_many = ok.as_many;
+          values_fit = ok.values;
+          room = omega (arith, some);
+          left = omega (arith, next, left);
+        })
+    by_full false e room =
+        let less : table.pending < rows_per_page plan = elim (cases_lt table.pending (rows_per_page plan)) [ inl lt ↦ lt | inr more ↦ absurd (no (sym e ∙ eq-eqb table.pending (rows_per_page plan) (omega (arith, more, facts.few_pending)))) ] in
+        same (record { above = ok.above; fits = ok.key; as_many = ok.as_many; values_fit = ok.values; room = less; left = omega (arith, left) })
+        (room-room_seals plan table (λ is. absurd (omega (arith, is, less))))
+      where
+        no : false ≡ true → ⊥
+        no x = cc

@@ -1,0 +1,203 @@
+-- The mount of the data ring, in the words of its table.
+use Rattle.std.proofs.Common.{◌≡◌, ℕ, ◌+◌, ◌-◌, ◌*◌, ◌≤◌, Bool, true, false, cond, ◌||◌, ◌&&◌, nat_lt, Option, None, is_some, Result, List, [], ◌∷◌, ◌++◌, map, length, take, drop, refl, sym, ◌∙◌, ap, subst, arith, IsTrue}
+use Rattle.std.proofs.lemmas.Bool.{ltb-true, ltb-false}
+use Rattle.std.proofs.lemmas.List.{take_all}
+use Rattle.std.specs.List.{list_any}
+use Rattle.fl_flash.specs.Flash.{FlashState}
+use Rattle.fl_flash.specs.declared.flash.FlashFault.{FlashFault}
+use Rattle.fl_model.specs.Record.{Plan}
+use Rattle.fl_model.specs.Ring as model
+use Rattle.fl_model.specs.Table.{Table, Entry, DataRing, shape_of, with_ring, seal_page, lose, is_dirty}
+use Rattle.fl_model.specs.Work.{Kind, Body, Mark, VoidMark, Erase, effect, Device}
+use Rattle.fl_model.specs.Within.{repair_within}
+use Rattle.fl_model.specs.Mount.{renumber, at_least_of}
+use Rattle.fl_model.specs.Mount as numbering
+use Rattle.fl_model.proofs.Pages.{page_with, pages_from}
+use Rattle.fl_model.proofs.Plain.{IsPlainTable, plain-void, plain-erase}
+use Rattle.fl_ring.specs.Operations.{change, repair_kinds}
+use Rattle.fl_ring.specs.Numbers.{renumbered}
+use Rattle.fl_ring.specs.Ring.{RingState, voided, unerased, erased}
+use Rattle.fl_ring.specs.Sealing.{Performed}
+use Rattle.fl_table.proofs.States.{shape_in, state_of, state-count, page-some}
+use Rattle.fl_table.proofs.Sealed.{state-voided, state-erased}
+use Rattle.fl_table.proofs.Lifted.{of_rows, TablePerformed, performed-lifts, AreErases}
+
+-- nothing of the table is in memory
+pub record IsIdle (table : Table) : Type 0 where
+  pub pending : table.pending ≡ 0
+  pub fill : table.fill ≡ 0
+  pub waiting : table.waiting ≡ 0
+  pub points : table.points ≡ []
+
+pub idle-lost : (table : Table) → IsIdle table → table ≡ lose table
+idle-lost table h =
+    let all : take (length table.entries - table.pending) table.entries ≡ table.entries = take_all (length table.entries - table.pending) table.entries (omega (arith, h.pending)) in
+    ap (λ (es : List Entry). record table { entries = es }) (sym all)
+    ∙ (ap (λ (n : ℕ). record table { entries = take (length table.entries - table.pending) table.entries; pending = n }) h.pending
+    ∙ (ap (λ (n : ℕ). record table { entries = take (length table.entries - table.pending) table.entries; pending = 0; fill = n }) h.fill
+    ∙ (ap (λ (n : ℕ). record table { entries = take (length table.entries - table.pending) table.entries; pending = 0; fill = 0; waiting = n }) h.waiting
+    ∙ ap (λ (ps : List (ℕ × ℕ)). record table { entries = take (length table.entries - table.pending) table.entries; pending = 0; fill = 0; waiting = 0; points = ps }) h.points)))
+
+pub lost-idle : (table : Table) → table ≡ lose table → IsIdle table
+lost-idle table h = record {
+  pending = ap (λ (t : Table). t.pending) h;
+  fill = ap (λ (t : Table). t.fill) h;
+  waiting = ap (λ (t : Table). t.waiting) h;
+  points = ap (λ (t : Table). t.points) h;
+}
+
+-- the ring is renumbered as its table is
+has_rows : (plan : Plan) (number c : ℕ) (entries : List Entry) → is_some (page_with plan number c entries) ≡ nat_lt 0 c
+has_rows plan number c entries = by_test (nat_lt 0 c) refl
+  where
+    none : c ≡ 0 → page_with plan number c entries ≡ None
+    none e = rw e refl
+
+    by_test : (b : Bool) → nat_lt 0 c ≡ b → is_some (page_with plan number c entries) ≡ b
+    by_test true e = ap is_some (page-some plan number c entries (ltb-true 0 c e))
+    by_test false e = ap is_some (none (let k = ltb-false 0 c e in omega (arith, k)))
+
+some_rows : (plan : Plan) (number : ℕ) (entries : List Entry) (counts : List ℕ) → list_any is_some (pages_from plan number entries counts) ≡ list_any (nat_lt 0) counts
+some_rows plan number entries [] = refl
+some_rows plan number entries (c ∷ counts) =
+    ap (λ b. b || list_any is_some (pages_from plan (number + 1) (drop c entries) counts)) (has_rows plan number c entries)
+    ∙ ap (λ b. nat_lt 0 c || b) (some_rows plan (number + 1) (drop c entries) counts)
+
+or_false : (a b : Bool) → (a || b) ≡ false → (a ≡ false) × (b ≡ false)
+or_false true b h = cc
+or_false false b h = (refl, h)
+
+-- void pages are the same with other numbers
+void_pages : (plan : Plan) (number other : ℕ) (entries : List Entry) (counts : List ℕ) → list_any (nat_lt 0) counts ≡ false → pages_from plan number entries counts ≡ pages_from plan other entries counts
+void_pages plan number other entries [] h = refl
+void_pages plan number other entries (c ∷ counts) h =
+    let parts = or_false (nat_lt 0 c) (list_any (nat_lt 0) counts) h in
+    let none : c ≡ 0 = let k = ltb-false 0 c parts.0 in omega (arith, k) in
+    ap (λ (x : Option (List ℕ)). x ∷ pages_from plan (number + 1) (drop c entries) counts) (void number none ∙ sym (void other none))
+    ∙ ap (λ (xs : List (Option (List ℕ))). page_with plan other c entries ∷ xs) (void_pages plan (number + 1) (other + 1) (drop c entries) counts parts.1)
+  where
+    void : (n : ℕ) → c ≡ 0 → page_with plan n c entries ≡ None
+    void n e = ap (λ (k : ℕ). page_with plan n k entries) e
+
+pub state-renumbered : (first : ℕ) (plan : Plan) (table : Table) → length table.rows.counts ≤ table.rows.next →
+    renumbered (shape_in first plan) (at_least_of plan DataRing table) (state_of plan table) ≡ state_of plan (renumber plan DataRing table)
+state-renumbered first plan table known =
+    ap (λ b. cond b (state_of plan table) (record (state_of plan table) { next = number (length (state_of plan table).kept) })) (some_rows plan (model.oldest table.rows) table.entries table.rows.counts)
+    ∙ by_test (list_any (nat_lt 0) table.rows.counts) refl
+  where
+    number : ℕ → ℕ
+    number len = numbering.least_alike (plan.data_blocks * plan.geometry.block) table.rows.next (at_least_of plan DataRing table + len)
+
+    by_test : (b : Bool) → list_any (nat_lt 0) table.rows.counts ≡ b →
+        cond b (state_of plan table) (record (state_of plan table) { next = number (length (state_of plan table).kept) })
+        ≡ state_of plan (record table { rows = cond b table.rows (record table.rows { next = number (length table.rows.counts) }) })
+    by_test true e = refl
+    by_test false e =
+        ap (λ n. record (state_of plan table) { next = number n }) (state-count plan table)
+        ∙ ap (λ (k : List (Option (List ℕ))). record { kept = k; next = number (length table.rows.counts); torn = table.rows.torn; dirty = table.rows.dirty })
+        (void_pages plan (model.oldest table.rows) (number (length table.rows.counts) - length table.rows.counts) table.entries table.rows.counts e)
+
+-- the repairs that are left
+abbrev pub RepairsCome : List Kind → Table → Type 0
+RepairsCome [] table = Unit {0}
+RepairsCome (VoidMark ∷ kinds) table = (table.rows.torn ≡ true) × AreErases kinds
+RepairsCome (Erase ∷ kinds) table = AreErases kinds
+RepairsCome (Body ∷ kinds) table = ⊥
+RepairsCome (Mark ∷ kinds) table = ⊥
+
+pub record IsRepairOf (plan : Plan) (kinds : List Kind) (s : RingState) (table : Table) : Type 0 where
+  pub state : s ≡ state_of plan (lose table)
+  pub facts : IsPlainTable plan table
+  pub idle : IsIdle table
+  pub come : RepairsCome kinds table
+
+erases_come : (kinds : List Kind) (table : Table) → AreErases kinds → RepairsCome kinds table
+erases_come [] table h = tt
+erases_come (Erase ∷ kinds) table h = h
+erases_come (Body ∷ kinds) table h = absurd h
+erases_come (Mark ∷ kinds) table h = absurd h
+erases_come (VoidMark ∷ kinds) table h = absurd h
+
+not_dirty : (t d : Bool) → t ≡ true → (IsTrue (cond t d false) → ⊥) → d ≡ false
+not_dirty true true e h = absurd (h refl)
+not_dirty true false e h = refl
+not_dirty false d e h = cc
+
+repair-along : (first : ℕ) (plan : Plan) → model.IsShape (shape_of plan DataRing) → (kind : Kind) (kinds : List Kind) (s : RingState) (table : Table) →
+    IsRepairOf plan (kind ∷ kinds) s table → IsRepairOf plan kinds (change (shape_in first plan) [] kind s) (effect plan DataRing kind table)
+repair-along first plan shape Body kinds s table r = absurd r.come
+repair-along first plan shape Mark kinds s table r = absurd r.come
+repair-along first plan shape VoidMark kinds s table r =
+    let after = seal_page plan DataRing 0 table in
+    let idle : IsIdle after = record { pending = r.idle.pending; fill = r.idle.fill; waiting = r.idle.waiting; points = r.idle.points } in
+    record {
+      state = ap (voided (shape_in first plan)) (r.state ∙ ap (state_of plan) (sym (idle-lost table r.idle)))
+          ∙ (state-voided first plan table shape r.facts.rows.not_negative ∙ ap (state_of plan) (idle-lost after idle));
+      facts = plain-void plan table shape r.facts r.idle.pending r.come.0 (not_dirty table.rows.torn table.rows.dirty r.come.0 (λ b. r.facts.rows.not_both (as_and table.rows.torn table.rows.dirty b)));
+      idle = idle;
+      come = erases_come kinds after r.come.1;
+    }
+  where
+    as_and : (t d : Bool) → cond t d false ≡ true → (t && d) ≡ true
+    as_and true d e = e
+    as_and false d e = cc
+repair-along first plan shape Erase kinds s table r = record {
+  state = ap erased r.state ∙ state-erased plan table;
+  facts = plain-erase plan table r.facts;
+  idle = record { pending = r.idle.pending; fill = r.idle.fill; waiting = r.idle.waiting; points = r.idle.points };
+  come = erases_come kinds (with_ring DataRing model.erased table) r.come;
+}
+
+-- what it is of a table's repairs
+erases_front : (front others : List Kind) → AreErases (front ++ others) → AreErases front
+erases_front [] others h = tt
+erases_front (Erase ∷ front) others h = erases_front front others h
+erases_front (Body ∷ front) others h = absurd h
+erases_front (Mark ∷ front) others h = absurd h
+erases_front (VoidMark ∷ front) others h = absurd h
+
+repairs_front : (front others : List Kind) (table : Table) → RepairsCome (front ++ others) table → RepairsCome front table
+repairs_front [] others table h = tt
+repairs_front (VoidMark ∷ front) others table h = (h.0, erases_front front others h.1)
+repairs_front (Erase ∷ front) others table h = erases_front front others h
+repairs_front (Body ∷ front) others table h = absurd h
+repairs_front (Mark ∷ front) others table h = absurd h
+
+repairs_come : (first : ℕ) (plan : Plan) (table : Table) → RepairsCome (repair_kinds (shape_in first plan) (state_of plan table)) table
+repairs_come first plan table = by_torn table.rows.torn refl (unerased (shape_in first plan) (state_of plan table)).dirty
+  where
+    by_torn : (t : Bool) → table.rows.torn ≡ t → (d : Bool) → RepairsCome ((cond t (VoidMark ∷ []) []) ++ (cond d (Erase ∷ []) [])) table
+    by_torn true e true = (e, tt)
+    by_torn true e false = (e, tt)
+    by_torn false e true = tt
+    by_torn false e false = tt
+
+pub repair-kinds : (first : ℕ) (plan : Plan) (table : Table) → model.IsShape (shape_of plan DataRing) → length table.rows.counts ≤ table.rows.next →
+    map of_rows (repair_kinds (shape_in first plan) (state_of plan table)) ≡ repair_within plan DataRing table
+repair-kinds first plan table shape known =
+    by_tests table.rows.torn (unerased (shape_in first plan) (state_of plan table)).dirty
+    ∙ ap (λ (d : Bool). (cond table.rows.torn ((DataRing, VoidMark) ∷ []) []) ++ (cond d ((DataRing, Erase) ∷ []) [])) (dirt table.rows.torn)
+  where
+    by_tests : (t d : Bool) → map of_rows ((cond t (VoidMark ∷ []) []) ++ (cond d (Erase ∷ []) [])) ≡ (cond t ((DataRing, VoidMark) ∷ []) []) ++ (cond d ((DataRing, Erase) ∷ []) [])
+    by_tests true true = refl
+    by_tests true false = refl
+    by_tests false true = refl
+    by_tests false false = refl
+
+    dirt : (t : Bool) → (cond t (voided (shape_in first plan) (state_of plan table)) (state_of plan table)).dirty ≡ is_dirty DataRing (cond t (seal_page plan DataRing 0 table) table)
+    dirt true = ap (λ (s : RingState). s.dirty) (state-voided first plan table shape known)
+    dirt false = refl
+
+-- a front of the repairs
+pub repair-lifts : (first : ℕ) (plan : Plan) (table : Table) (rose : Bool) (front others : List Kind) (device : Device) (result : Result (Unit {0}) FlashFault) (new : FlashState) →
+    model.IsShape (shape_of plan DataRing) → IsPlainTable plan table → IsIdle table → repair_kinds (shape_in first plan) (state_of plan table) ≡ front ++ others →
+    (h : Performed (shape_in first plan) (change (shape_in first plan) []) rose front device (state_of plan table) result new) →
+    TablePerformed IsIdle first plan (map of_rows front) table rose device result new h.now.state
+repair-lifts first plan table rose front others device result new shape facts idle split h =
+    performed-lifts IsIdle first plan [] (IsRepairOf plan) (repair-along first plan shape) (λ kinds s t r. (r.state, r.facts, r.idle)) rose front device (state_of plan table) table result new
+    (record {
+      state = ap (state_of plan) (idle-lost table idle);
+      facts = facts;
+      idle = idle;
+      come = repairs_front front others table (subst (λ (ks : List Kind). RepairsCome ks table) split (repairs_come first plan table));
+    }) h

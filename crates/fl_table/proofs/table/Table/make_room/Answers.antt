@@ -1,0 +1,64 @@
+use Rattle.std.proofs.Common.{rules, ◌≡◌, ◌+◌, ◌<◌, ◌≤◌, [], ◌∷◌, length, arith, sym, ◌∙◌, refl}
+use Rattle.std.proofs.lemmas.Bool.{ltb-true, ltb-false}
+use Rattle.fl_model.specs.Record.{layout_len}
+use Rattle.fl_model.specs.Table.{DataRing, make_room_seals}
+use Rattle.fl_model.specs.Work.{Whole}
+use Rattle.fl_model.proofs.Puts.{plain-table_seals, full-room_seals, room-room_seals}
+use Rattle.fl_schema.specs.Schema.{layout_of}
+use Rattle.fl_table.proofs.SealAnswers.{planned-plain}
+use Rattle.fl_table.proofs.Putting.{has-room, is-full, some-full, room-ends}
+use Rattle.fl_table.proofs.table.Table.make_room.Goals as goal
+
+pub returns-then-not-is_full-clause-ends : goal.returns-then-not-is_full-clause-ends
+returns-then-not-is_full-clause-ends g c = λ first plan table rose device watched stands.
+    let t = c.args.self.now in
+    let f = g.F.Flash.state c.args.flash.now in
+    let room : t.writer.end + layout_len (layout_of t.schema) ≤ length t.writer.body = ltb-false (length t.writer.body) (t.writer.end + layout_len (layout_of t.schema)) (sym c.is_full.ensures.room ∙ c.if-not-is_full.true) in
+    let less = has-room t f first plan table stands room in
+    let none : make_room_seals plan table ≡ [] = room-room_seals plan table (λ e. absurd (omega (arith, e, less))) in
+    let memory = stands.memory in
+    rw none (record {
+      now = record { end = Whole; device = device; state = table };
+      did = (refl, refl, refl);
+      whole = refl;
+      counts = watched.counts;
+      power = watched.on;
+      stands = record {
+        planned = record {
+          geometry = stands.planned.geometry;
+          layout = stands.planned.layout;
+          begins = stands.planned.begins;
+          blocks = stands.planned.blocks;
+          index = stands.planned.index;
+          var = stands.planned.var;
+          buckets = stands.planned.buckets;
+        };
+        facts = stands.facts;
+        whole = stands.whole;
+        clean = stands.clean;
+        pages = stands.pages;
+        memory = record {
+          ring = memory.ring;
+          ring_is = memory.ring_is;
+          next = memory.next;
+          oldest = memory.oldest;
+          gathers = memory.gathers;
+          bitmap = memory.bitmap;
+          last = memory.last;
+          counts = memory.counts;
+          no_fill = memory.no_fill;
+          idle = memory.idle;
+        };
+      };
+    })
+
+pub returns-clause-ends : goal.returns-clause-ends
+returns-clause-ends g c = λ first plan table rose device watched stands.
+    let t = c.args.self.now in
+    let f = g.F.Flash.state c.args.flash.now in
+    let lt : length t.writer.body < t.writer.end + layout_len (layout_of t.schema) = ltb-true (length t.writer.body) (t.writer.end + layout_len (layout_of t.schema)) (sym c.is_full.ensures.room ∙ c.if-not-is_full.false) in
+    let full = is-full t f first plan table stands lt in
+    let some : table.pending ≡ 0 → ⊥ = some-full t f first plan table stands lt in
+    let rings : make_room_seals plan table ≡ DataRing ∷ [] =
+    full-room_seals plan table full ∙ plain-table_seals plan table (planned-plain t first plan stands.planned) stands.memory.no_fill some in
+    room-ends first plan table rose device c.seal.result c.seal.new.self (g.F.Flash.state c.seal.new.flash) rings (c.seal.ensures.ends first plan table rose device watched (search rules))

@@ -1,0 +1,82 @@
+-- What clauses see of a table in memory.
+use Rattle.std.specs.Prelude.{◌≡◌, ℕ, ◌+◌, ◌*◌, ◌%◌, ◌^◌, ◌<◌, ◌≤◌, Bool, ◌||◌, Option, Some, None, ℤ, is_some, option_map, unwrap_or, map, slice_get, slice_index}
+use Rattle.std.specs.Option.{ForSome}
+use Rattle.fl_bitmap.specs.Bucket.{AreBucketsOf, with_value}
+use Rattle.fl_bitmap.specs.declared.buckets.Buckets.{Buckets}
+use Rattle.fl_flash.specs.Flash.{FlashState, pages}
+use Rattle.fl_model.specs.Record.{Plan, row_layout}
+use Rattle.fl_model.specs.Ring as rings
+use Rattle.fl_model.specs.Row.{stored_row}
+use Rattle.fl_model.specs.Layout.{bitmap_of}
+use Rattle.fl_model.specs.Table as model
+use Rattle.fl_model.specs.Table.{pending_entries, last_entry}
+use Rattle.fl_page.specs.Writer.{Gathers}
+use Rattle.fl_ring.specs.declared.ring.Ring.{Ring}
+use Rattle.fl_ring.specs.Place.{next_of, oldest_of}
+use Rattle.fl_ring.specs.Place as place
+use Rattle.fl_schema.specs.Schema.{layout_of}
+use Rattle.fl_table.specs.declared.table.Table.{Table}
+
+-- an operation failed since the last mount
+abbrev pub is_stopped : Table → Bool
+is_stopped t = t.stopped
+
+-- the last mount succeeded, and no operation failed since
+abbrev pub is_running : Table → Bool
+is_running t = is_some t.ring
+
+-- the last mount succeeded
+abbrev pub is_mounted : Table → Bool
+is_mounted t = is_running t || is_stopped t
+
+-- a table may have no buckets
+abbrev pub HasBuckets : Plan → Option Buckets → Type 0
+HasBuckets plan None = plan.bits ≡ 0
+HasBuckets plan (Some buckets) = AreBucketsOf plan buckets
+
+-- the bitmap with one more value
+abbrev pub bitmap_with : Option Buckets → ℕ → ℤ → ℕ
+bitmap_with None bitmap value = bitmap
+bitmap_with (Some buckets) bitmap value = with_value buckets bitmap value
+
+-- the next number of a running table
+abbrev pub next_in : Table → ℕ
+next_in t = unwrap_or (option_map (λ ring. next_of ring) t.ring) 0
+
+-- a table of this plan, whose blocks begin at `first`
+pub record IsPlanned (t : Table) (first : ℕ) (plan : Plan) : Type 0 where
+  pub geometry : plan.geometry ≡ t.geometry
+  pub layout : row_layout plan ≡ layout_of t.schema
+  pub begins : t.place.first_block ≡ first
+  pub blocks : plan.data_blocks ≡ t.place.blocks
+  pub index : plan.index_blocks ≡ 0
+  pub var : plan.var_blocks ≡ 0
+  pub buckets : HasBuckets plan t.buckets
+
+-- what no call changes
+pub record IsSamePlan (old new : Table) : Type 0 where
+  pub geometry : new.geometry ≡ old.geometry
+  pub layout : layout_of new.schema ≡ layout_of old.schema
+  pub place : new.place ≡ old.place
+  pub buckets : new.buckets ≡ old.buckets
+
+-- a flash on which the table lies
+pub record LiesOn (t : Table) (f : FlashState) : Type 0 where
+  pub geometry : f.geometry ≡ t.geometry
+  pub within : t.place.first_block + t.place.blocks ≤ f.blocks
+  pub few : pages f < 2 ^ 32
+  pub ring : ForSome t.ring (λ r. place.LiesOn r f)
+
+-- a running table holds in memory what a table of the model has beside its pages
+pub record InMemory (t : Table) (plan : Plan) (table : model.Table) : Type 0 where
+  pub ring : Ring
+  pub ring_is : t.ring ≡ Some ring
+  pub next : next_of ring ≡ table.rows.next
+  pub oldest : oldest_of ring ≡ rings.oldest table.rows
+  pub gathers : Gathers (layout_of t.schema) (map stored_row (pending_entries table)) t.writer
+  pub bitmap : t.bitmap ≡ bitmap_of plan (pending_entries table)
+  pub last : t.last_key ≡ option_map (λ entry. entry.kept.key) (last_entry table)
+  pub counts : (i count : ℕ) → slice_get table.rows.counts i ≡ Some count →
+      slice_index t.counts.items ((rings.oldest table.rows + i) % (plan.data_blocks * plan.geometry.block)) ≡ count
+  pub no_fill : table.fill ≡ 0
+  pub idle : table.waiting ≡ 0

@@ -1,0 +1,104 @@
+-- How the calls of a table end, over a flash that stands for a table of the model.
+use Rattle.std.specs.Prelude.{◌≡◌, ℕ, Bool, true, false, ◌⊎◌, Some, None, Result, Ok, Err, List}
+use Rattle.fl_flash.specs.Flash.{FlashState}
+use Rattle.fl_flash.specs.declared.flash.FlashFault.{FlashFault}
+use Rattle.fl_flash.specs.declared.flash.FlashFault.TheVariants.{PowerLost, Media}
+use Rattle.fl_ring.specs.Device.{SameDevice}
+use Rattle.fl_model.specs.Record.{Record, Plan}
+use Rattle.fl_model.specs.Table as model
+use Rattle.fl_model.specs.Table.{RingName, DataRing, after_seal, after_seals, make_room_seals, refusal_of, put_seals, put_record, table_seals, flushed, lose}
+use Rattle.fl_model.specs.Work.{Kind, Device, PartEnd, Whole, CutIn, FailedIn, PartProgress}
+use Rattle.fl_model.specs.Within.{TablePerforms, seal_within, seals_within, TableMounted, TableStopped, TableUnread, TableMounts}
+use Rattle.fl_model.specs.Mount.{rings_of, ready}
+use Rattle.fl_table.specs.declared.table.Table.{Table}
+use Rattle.fl_table.specs.declared.faults.PutRefusal.{PutRefusal}
+use Rattle.fl_table.specs.declared.faults.PutRefusal.TheVariants as put
+use Rattle.fl_table.specs.declared.faults.FlushFault.{FlushFault}
+use Rattle.fl_table.specs.declared.faults.FlushFault.TheVariants as flush
+use Rattle.fl_table.specs.declared.faults.MountFault.{MountFault}
+use Rattle.fl_table.specs.declared.faults.MountFault.TheVariants as mount
+use Rattle.fl_table.specs.declared.counts.Mounted.{Mounted}
+use Rattle.fl_table.specs.Pages.{Rests}
+use Rattle.fl_table.specs.Standing.{Stands}
+
+-- The operations of a call were all done, and it left this table.
+pub record Finishes (first : ℕ) (plan : Plan) (operations : List (RingName × Kind)) (table after : model.Table) (rose : Bool) (device : Device) (t : Table) (new : FlashState) : Type 0 where
+  pub now : PartProgress model.Table
+  pub did : TablePerforms plan rose operations device table now
+  pub whole : now.end ≡ Whole
+  pub counts : SameDevice new now.device
+  pub power : new.is_on ≡ true
+  pub stands : Stands t new first plan after
+
+-- the fault that an operation answers where it fails so
+abbrev pub FaultEnds : PartEnd model.Table → FlashFault → FlashState → Type 0
+FaultEnds Whole fault new = ⊥
+FaultEnds (CutIn before) fault new = (fault ≡ PowerLost) × (new.is_on ≡ false)
+FaultEnds (FailedIn before) fault new = (fault ≡ Media) × (new.is_on ≡ true)
+
+-- One of the operations failed. The table is stopped, and the flash stands for what is left without what was in memory.
+pub record Breaks (first : ℕ) (plan : Plan) (operations : List (RingName × Kind)) (table : model.Table) (rose : Bool) (device : Device) (fault : FlashFault) (new : FlashState) : Type 0 where
+  pub now : PartProgress model.Table
+  pub did : TablePerforms plan rose operations device table now
+  pub answer : FaultEnds now.end fault new
+  pub counts : SameDevice new now.device
+  pub rests : Rests new first plan (lose now.state)
+
+-- the seal of the pending rows
+abbrev pub SealEnds : ℕ → Plan → model.Table → Bool → Device → Result (Unit {0}) FlashFault → Table → FlashState → Type 0
+SealEnds first plan table rose device (Ok done) t new =
+    Finishes first plan (seal_within plan DataRing table) table (after_seal plan DataRing table) rose device t new
+SealEnds first plan table rose device (Err fault) t new = Breaks first plan (seal_within plan DataRing table) table rose device fault new
+
+-- the seal of the pending rows where a page is full of them
+abbrev pub MakesRoom : ℕ → Plan → model.Table → Bool → Device → Result (Unit {0}) FlashFault → Table → FlashState → Type 0
+MakesRoom first plan table rose device (Ok done) t new =
+    Finishes first plan (seals_within plan (make_room_seals plan table) table) table (after_seals plan (make_room_seals plan table) table) rose device t new
+MakesRoom first plan table rose device (Err fault) t new = Breaks first plan (seals_within plan (make_room_seals plan table) table) table rose device fault new
+
+-- a put of an accepted record, by the refusal that it answers
+abbrev pub PutEnds : ℕ → Plan → Record → model.Table → Bool → Device → Result (Unit {0}) PutRefusal → Table → FlashState → Type 0
+PutEnds first plan item table rose device (Ok done) t new =
+    (refusal_of plan table item ≡ None)
+    × Finishes first plan (seals_within plan (put_seals plan item table) table) table (put_record plan item table) rose device t new
+PutEnds first plan item table rose device (Err (put.Flash fault)) t new =
+    (refusal_of plan table item ≡ None) × Breaks first plan (seals_within plan (put_seals plan item table) table) table rose device fault new
+PutEnds first plan item table rose device (Err (put.Key last)) t new = refusal_of plan table item ≡ Some (model.BadKey last)
+PutEnds first plan item table rose device (Err (put.Columns wanted)) t new = refusal_of plan table item ≡ Some (model.BadColumns wanted)
+PutEnds first plan item table rose device (Err (put.Value column)) t new = refusal_of plan table item ≡ Some (model.BadValue column)
+PutEnds first plan item table rose device (Err (put.Blob limit)) t new = refusal_of plan table item ≡ Some (model.BadBlob limit)
+PutEnds first plan item table rose device (Err put.Spent) t new = refusal_of plan table item ≡ Some model.Spent
+PutEnds first plan item table rose device (Err put.Stopped) t new = ⊥
+
+-- a flush
+abbrev pub FlushEnds : ℕ → Plan → model.Table → Bool → Device → Result (Unit {0}) FlushFault → Table → FlashState → Type 0
+FlushEnds first plan table rose device (Ok done) t new =
+    Finishes first plan (seals_within plan (table_seals plan table) table) table (flushed plan table) rose device t new
+FlushEnds first plan table rose device (Err (flush.Flash fault)) t new =
+    Breaks first plan (seals_within plan (table_seals plan table) table) table rose device fault new
+FlushEnds first plan table rose device (Err flush.Stopped) t new = ⊥
+
+-- A mount that ended well: the table is ready.
+pub record MountsWell (first : ℕ) (plan : Plan) (table : model.Table) (rose : Bool) (device : Device) (t : Table) (new : FlashState) : Type 0 where
+  pub now : PartProgress model.Table
+  pub did : TableMounts plan rose (rings_of plan) device table (TableMounted now)
+  pub counts : SameDevice new now.device
+  pub power : new.is_on ≡ true
+  pub stands : Stands t new first plan (ready plan now.state)
+
+-- It failed in an operation of a repair, or in a read: what was repaired until then stays.
+pub record MountsBadly (first : ℕ) (plan : Plan) (table : model.Table) (rose : Bool) (device : Device) (fault : FlashFault) (new : FlashState) : Type 0 where
+  pub now : PartProgress model.Table
+  pub did : (TableMounts plan rose (rings_of plan) device table (TableStopped now) × FaultEnds now.end fault new)
+      ⊎ (TableMounts plan rose (rings_of plan) device table (TableUnread now) × (fault ≡ Media))
+  pub counts : SameDevice new now.device
+  pub rests : Rests new first plan now.state
+
+abbrev pub MountEnds : ℕ → Plan → model.Table → Bool → Device → Result Mounted MountFault → Table → FlashState → Type 0
+MountEnds first plan table rose device (Ok mounted) t new = MountsWell first plan table rose device t new
+MountEnds first plan table rose device (Err (mount.Flash fault)) t new = MountsBadly first plan table rose device fault new
+MountEnds first plan table rose device (Err (mount.Ring fault)) t new = ⊥
+MountEnds first plan table rose device (Err (mount.BadPage bad)) t new = ⊥
+MountEnds first plan table rose device (Err (mount.BadKeys page last key)) t new = ⊥
+MountEnds first plan table rose device (Err (mount.BadIndex end next)) t new = ⊥
+MountEnds first plan table rose device (Err (mount.BadBlob page next)) t new = ⊥

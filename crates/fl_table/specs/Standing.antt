@@ -1,0 +1,20 @@
+-- A mounted table, and the state of the model for which it stands with its flash.
+use Rattle.std.specs.Prelude.{◌≡◌, ℕ, false}
+use Rattle.fl_flash.specs.Flash.{FlashState, page_at}
+use Rattle.fl_model.specs.Record.{Plan}
+use Rattle.fl_model.specs.Table as model
+use Rattle.fl_model.specs.Table.{lose, pending_entries, last_entry}
+use Rattle.fl_model.specs.Facts.{IsTable}
+use Rattle.fl_table.specs.declared.table.Table.{Table}
+use Rattle.fl_table.specs.Pages.{HoldsTable}
+use Rattle.fl_table.specs.Memory.{InMemory, IsPlanned}
+
+pub record Stands (t : Table) (f : FlashState) (first : ℕ) (plan : Plan) (table : model.Table) : Type 0 where
+  pub planned : IsPlanned t first plan
+  pub facts : IsTable plan table
+  -- no page is torn and no block waits for its erase
+  pub whole : table.rows.torn ≡ false
+  pub clean : table.rows.dirty ≡ false
+  -- pending rows are in memory alone
+  pub pages : HoldsTable (page_at f) first plan (lose table)
+  pub memory : InMemory t plan table

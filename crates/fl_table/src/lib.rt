@@ -1,0 +1,15 @@
+//! A table: its records in the pages of a ring, and those that wait in memory for their page.
+#![tactic(auto)]
+
+mod counts;
+mod faults;
+mod misfit;
+mod plan;
+mod put;
+mod refusal;
+mod seal;
+mod table;
+
+pub use counts::{Mounted, TableCounts};
+pub use faults::{FlushFault, MountFault, PutRefusal};
+pub use table::Table;

@@ -1,0 +1,64 @@
+// A table of a configuration.
+ghost use Rattle.std.specs.Prelude.{◌≡◌, ◌≤◌, ◌⊎◌, ◌+◌, None, Err, false, length, IfOk, IfErr, OnOk};
+ghost use Rattle.fl_plan.specs.Limits.{IsWithinLimits};
+ghost use Rattle.fl_plan.specs.Plan.{IsConfigOf};
+ghost use Rattle.fl_plan.specs.Refusal.{config_fault, Tells};
+ghost use Rattle.fl_model.specs.Record.{layout_len};
+ghost use Rattle.fl_schema.specs.Form.{layout_with};
+ghost use Rattle.fl_schema.specs.Schema.{layout_of, types_of};
+ghost use Rattle.fl_table.specs.Memory.{is_running, is_stopped, IsPlanned};
+
+use crate::table::Table;
+use fl_page::PageWriter;
+use fl_plan::{ConfigRefusal, TableConfig};
+use fl_schema::Schema;
+use std::alloc::Global;
+
+/// The schema of a configuration that isn't refused.
+fn schema_of(config: &TableConfig) -> Schema<8>
+    requires fits { config_fault config.now ≡ None }
+    requires limits { IsWithinLimits config.now }
+    requires var { config.now.var ≡ None }
+    ensures layout { layout_of result ≡ layout_with config.now.key config.now.columns.items false }
+    ensures types { types_of result ≡ config.now.columns.items }
+    ensures room { layout_len (layout_of result) + 24 ≤ config.now.geometry.page }
+{
+    let room = config.geometry.page - 24;
+    let Ok(schema) = Schema::new(config.key, config.columns.as_slice(), false, room) else {
+        unreachable!()
+    };
+    schema
+}
+
+impl Table {
+    ghost use Rattle.fl_model.specs.Record.{Plan};
+    ghost use Rattle.fl_plan.specs.declared.refusal.ConfigRefusal.TheVariants.{NoMemory};
+
+    /// The table of a configuration, in which there is a data ring alone. It isn't mounted.
+    pub fn plan(alloc: Global, config: &TableConfig) -> Result<Table, ConfigRefusal>
+        requires index { config.now.index ≡ None }
+        requires var { config.now.var ≡ None }
+        ensures fits { OnOk result (config_fault config.now ≡ None) }
+        ensures planned { IfOk result (λ t. (plan : Plan) → IsConfigOf config.now plan → IsPlanned t config.now.rows.first_block plan) }
+        ensures fresh { IfOk result (λ t. (is_running t ≡ false) × (is_stopped t ≡ false)) }
+        ensures refused { IfErr result (λ refusal. (refusal ≡ NoMemory) ⊎ Tells {A = Table} (Err refusal) (config_fault config.now)) }
+    {
+        config.check()?;
+        let pages = config.rows.blocks as usize * config.geometry.block as usize;
+        let Ok(counts) = vec![in alloc; 0; pages] else {
+            return Err(ConfigRefusal::NoMemory);
+        };
+        Ok(Table {
+            schema: schema_of(config),
+            geometry: config.geometry,
+            place: config.rows,
+            buckets: config.buckets,
+            ring: None,
+            stopped: false,
+            writer: PageWriter::new(alloc, config.geometry.page)?,
+            bitmap: 0,
+            last_key: None,
+            counts,
+        })
+    }
+}

@@ -1,0 +1,132 @@
+// Puts and flushes.
+ghost use Rattle.std.specs.Prelude.{◌≡◌, ◌≤◌, ◌+◌, ◌<◌, true, false, length, IsTrue, OnOk, OnErr, IfErr, option_map};
+ghost use Rattle.fl_flash.specs.Flash.{Goes, page_at};
+ghost use Rattle.fl_table.specs.Memory.{bitmap_with};
+
+use crate::table::Table;
+use crate::{FlushFault, PutRefusal};
+use fl_bitmap::Buckets;
+use fl_flash::{Flash, FlashFault};
+
+/// The bitmap with one more value, where the table has buckets.
+fn with_value(buckets: Option<Buckets>, bitmap: u64, value: i64) -> u64
+    ensures { result ≡ bitmap_with buckets bitmap value }
+{
+    match buckets {
+        None => bitmap,
+        Some(buckets) => buckets.add(bitmap, value),
+    }
+}
+
+impl Table {
+    ghost use Rattle.std.specs.Prelude.{ℕ, Bool, None, is_some, ◌||◌, ◌↔◌, Err};
+    ghost use Rattle.fl_model.specs.Record.{Plan, layout_len, rows_per_page};
+    ghost use Rattle.fl_model.specs.Row.{FitsRow};
+    ghost use Rattle.fl_model.specs.Table as model;
+    ghost use Rattle.fl_model.specs.Table.{spent_from, with_record};
+    ghost use Rattle.fl_model.specs.Work.{Device};
+    ghost use Rattle.fl_ring.specs.Causes.{CausedBy};
+    ghost use Rattle.fl_ring.specs.Mounting.{shape_at};
+    ghost use Rattle.fl_ring.specs.Ring.{OutsideStands};
+    ghost use Rattle.fl_ring.specs.Step.{IsWatched};
+    ghost use Rattle.fl_schema.specs.Schema.{layout_of};
+    ghost use Rattle.fl_flash.specs.Flash.{FlashState};
+    ghost use Rattle.fl_table.specs.Causes.{PutCausedBy, FlushCausedBy, RefusedSame, put_breaks, flush_breaks};
+    ghost use Rattle.fl_table.specs.Memory.{is_running, is_stopped, next_in, IsSamePlan, LiesOn};
+    ghost use Rattle.fl_table.specs.Refusal.{put_refusal, RefusesAs};
+    ghost use Rattle.fl_table.specs.Standing.{Stands};
+    ghost use Rattle.fl_table.specs.Outcomes.{MakesRoom, PutEnds, FlushEnds};
+    ghost use Rattle.fl_table.specs.Accepting.{IsAcceptedBy};
+
+    /// Seals the pending rows where a page is full of them.
+    fn make_room<F: Flash>(&mut self, flash: &mut F) -> Result<(), FlashFault>
+        requires running { is_running self.old ≡ true }
+        requires lies { LiesOn self.old (F.state flash.old) }
+        ensures goes { Goes (F.state flash.old) (F.state flash.new) }
+        ensures same { IsSamePlan self.old self.new }
+        ensures lies { LiesOn self.new (F.state flash.new) }
+        ensures ends { (first : ℕ) → (plan : Plan) → (table : model.Table) → (rose : Bool) → (device : Device) → IsWatched (F.state flash.old) (F.state flash.new) rose device
+            → Stands self.old (F.state flash.old) first plan table → MakesRoom first plan table rose device result self.new (F.state flash.new) }
+        ensures room { OnOk result (self.new.writer.end + layout_len (layout_of self.new.schema) ≤ length self.new.writer.body) }
+        ensures running { OnOk result (is_running self.new ≡ true) }
+        ensures next { OnOk result (next_in self.new ≤ next_in self.old + 1) }
+        ensures calm { OnOk result (is_stopped self.new ≡ is_stopped self.old) }
+        ensures stopped { OnErr result ((is_running self.new ≡ false) × (is_stopped self.new ≡ true)) }
+        ensures outside { IsTrue (F.state flash.old).media.tells → OutsideStands (shape_at self.old.place self.old.geometry) (page_at (F.state flash.old)) (page_at (F.state flash.new)) }
+        ensures cause { IfErr result (λ e. CausedBy (F.state flash.old) e (F.state flash.new)) }
+    {
+        if !self.writer.is_full(&self.schema) {
+            return Ok(());
+        }
+        self.seal(flash)
+    }
+
+    /// The record becomes the last one, and its row is pending.
+    fn add(&mut self, key: u64, values: &[i64])
+        requires fits { FitsRow (layout_of self.old.schema) (record { key = key; values = values.now; blob = None }) }
+        requires room { self.old.writer.end + layout_len (layout_of self.old.schema) ≤ length self.old.writer.body }
+        requires left { next_in self.old ≤ spent_from }
+        ensures same { IsSamePlan self.old self.new }
+        ensures ring { self.new.ring ≡ self.old.ring }
+        ensures stopped { is_stopped self.new ≡ is_stopped self.old }
+        ensures stands { (f : FlashState) → (first : ℕ) → (plan : Plan) → (table : model.Table) → Stands self.old f first plan table → IsAcceptedBy plan table key values.now
+            → Stands self.new f first plan (with_record plan (record { key = key; values = values.now; blob = None }) table table) }
+    {
+        self.writer.push_row(&self.schema, key, values, None);
+        self.bitmap = with_value(self.buckets, self.bitmap, values[0]);
+        self.last_key = Some(key);
+    }
+
+    /// Puts a record. Its row is pending then, and is lost with the power until it is flushed or its page is full.
+    /// A refusal but `Flash` leaves all as it was. After `Flash` the table is stopped: it is to be mounted again.
+    pub fn put<F: Flash>(
+        &mut self,
+        flash: &mut F,
+        key: u64,
+        values: &[i64],
+        blob: Option<&[u8]>,
+    ) -> Result<(), PutRefusal>
+        requires lies { LiesOn self.old (F.state flash.old) }
+        ensures goes { Goes (F.state flash.old) (F.state flash.new) }
+        ensures same { IsSamePlan self.old self.new }
+        ensures lies { LiesOn self.new (F.state flash.new) }
+        ensures ends { (first : ℕ) → (plan : Plan) → (table : model.Table) → (rose : Bool) → (device : Device) → IsWatched (F.state flash.old) (F.state flash.new) rose device
+            → Stands self.old (F.state flash.old) first plan table
+            → PutEnds first plan (record { key = key; values = values.now; blob = option_map (λ b. b.now) blob.entry }) table rose device result self.new (F.state flash.new) }
+        ensures exact { RefusesAs (put_refusal self.old key values.now (is_some blob.entry)) result }
+        ensures refused { IfErr result (λ e. RefusedSame self.old (F.state flash.old) e self.new (F.state flash.new)) }
+        ensures stopped { is_stopped self.new ≡ (put_breaks result || is_stopped self.old) }
+        ensures outside { IsTrue (F.state flash.old).media.tells → OutsideStands (shape_at self.old.place self.old.geometry) (page_at (F.state flash.old)) (page_at (F.state flash.new)) }
+        ensures cause { IfErr result (λ e. PutCausedBy (F.state flash.old) e (F.state flash.new)) }
+    {
+        if let Some(refusal) = self.refusal(key, values, blob.is_some()) {
+            return Err(refusal);
+        }
+        self.make_room(flash)?;
+        self.add(key, values);
+        Ok(())
+    }
+
+    /// Flushes: the pending rows become a page. After `Flash` the table is stopped: it is to be mounted again.
+    pub fn flush<F: Flash>(&mut self, flash: &mut F) -> Result<(), FlushFault>
+        requires lies { LiesOn self.old (F.state flash.old) }
+        ensures goes { Goes (F.state flash.old) (F.state flash.new) }
+        ensures same { IsSamePlan self.old self.new }
+        ensures lies { LiesOn self.new (F.state flash.new) }
+        ensures ends { (first : ℕ) → (plan : Plan) → (table : model.Table) → (rose : Bool) → (device : Device) → IsWatched (F.state flash.old) (F.state flash.new) rose device
+            → Stands self.old (F.state flash.old) first plan table → FlushEnds first plan table rose device result self.new (F.state flash.new) }
+        ensures exact { (result ≡ Err FlushFault.Stopped) ↔ (is_running self.old ≡ false) }
+        ensures stopped { is_stopped self.new ≡ (flush_breaks result || is_stopped self.old) }
+        ensures outside { IsTrue (F.state flash.old).media.tells → OutsideStands (shape_at self.old.place self.old.geometry) (page_at (F.state flash.old)) (page_at (F.state flash.new)) }
+        ensures cause { IfErr result (λ e. FlushCausedBy (F.state flash.old) e (F.state flash.new)) }
+    {
+        if !self.is_running() {
+            return Err(FlushFault::Stopped);
+        }
+        if self.writer.count() == 0 {
+            return Ok(());
+        }
+        self.seal(flash)?;
+        Ok(())
+    }
+}

@@ -1,0 +1,75 @@
+// Why a record isn't put.
+ghost use Rattle.std.specs.Prelude.{◌≡◌};
+ghost use Rattle.fl_schema.specs.Schema.{layout_of};
+
+use crate::PutRefusal;
+use crate::misfit::misfit;
+use crate::table::Table;
+
+/// The first page number at which puts are refused: what is above it is left to mounts.
+const SPENT_FROM: u32 = 4_294_901_760;
+
+impl Table {
+    ghost use Rattle.std.specs.Prelude.{not, length, ◌==◌};
+    ghost use Rattle.fl_table.specs.Memory.{is_running};
+    ghost use Rattle.fl_table.specs.Refusal.{key_refused, value_refused, spent_refused, put_refusal};
+
+    /// It is mounted, and no program or erase failed since.
+    pub(crate) fn is_running(&self) -> bool
+        ensures { result ≡ is_running self.now }
+    {
+        self.ring.is_some()
+    }
+
+    fn key_refused(&self, key: u64) -> Option<PutRefusal>
+        ensures { result ≡ key_refused self.now.last_key key }
+    {
+        let last = self.last_key?;
+        (key <= last).then_some(PutRefusal::Key { last })
+    }
+
+    fn value_refused(&self, key: u64, values: &[i64]) -> Option<PutRefusal>
+        requires { length values.now ≡ length (layout_of self.now.schema).columns }
+        ensures { result ≡ value_refused self.now key values.now }
+    {
+        if key > self.schema.key_limit() {
+            return Some(PutRefusal::Value { column: 0 });
+        }
+        let column = misfit(&self.schema, values)?;
+        Some(PutRefusal::Value { column })
+    }
+
+    fn spent_refused(&self) -> Option<PutRefusal>
+        ensures { result ≡ spent_refused self.now }
+    {
+        let ring = self.ring.as_ref()?;
+        (ring.next_number() >= SPENT_FROM).then_some(PutRefusal::Spent)
+    }
+
+    /// The first refusal of a record that applies, if one does.
+    pub(crate) fn refusal(&self, key: u64, values: &[i64], has_blob: bool) -> Option<PutRefusal>
+        ensures { result ≡ put_refusal self.now key values.now has_blob }
+    {
+        if !self.is_running() {
+            return Some(PutRefusal::Stopped);
+        }
+        let refused = self.key_refused(key);
+        if refused.is_some() {
+            return refused;
+        }
+        let wanted = self.schema.columns();
+        if values.len() != wanted {
+            return Some(PutRefusal::Columns {
+                wanted: wanted as u32,
+            });
+        }
+        let refused = self.value_refused(key, values);
+        if refused.is_some() {
+            return refused;
+        }
+        if has_blob {
+            return Some(PutRefusal::Blob { limit: 0 });
+        }
+        self.spent_refused()
+    }
+}

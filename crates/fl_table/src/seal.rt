@@ -1,0 +1,64 @@
+// The seal of the pending rows.
+ghost use Rattle.std.specs.Prelude.{◌≡◌, ◌≤◌, ◌+◌, ◌<◌, ◌%◌, true, false, length, slice_set, IsTrue, OnOk, OnErr, IfErr};
+ghost use Rattle.fl_flash.specs.Flash.{Goes, page_at};
+ghost use Rattle.fl_ring.specs.Causes.{CausedBy};
+
+use crate::table::Table;
+use fl_flash::{Flash, FlashFault};
+
+impl Table {
+    ghost use Rattle.std.specs.Prelude.{ℕ, Bool};
+    ghost use Rattle.fl_model.specs.Record.{Plan};
+    ghost use Rattle.fl_model.specs.Table as model;
+    ghost use Rattle.fl_model.specs.Work.{Device};
+    ghost use Rattle.fl_ring.specs.Mounting.{shape_at};
+    ghost use Rattle.fl_ring.specs.Ring.{OutsideStands};
+    ghost use Rattle.fl_ring.specs.Step.{IsWatched};
+    ghost use Rattle.fl_table.specs.Memory.{is_running, is_stopped, next_in, IsSamePlan, LiesOn};
+    ghost use Rattle.fl_table.specs.Standing.{Stands};
+    ghost use Rattle.fl_table.specs.Outcomes.{SealEnds};
+
+    /// Seals the pending rows as the next page. After an error the table is stopped.
+    pub(crate) fn seal<F: Flash>(&mut self, flash: &mut F) -> Result<(), FlashFault>
+        requires running { is_running self.old ≡ true }
+        requires some { 1 ≤ self.old.writer.count }
+        requires lies { LiesOn self.old (F.state flash.old) }
+        ensures goes { Goes (F.state flash.old) (F.state flash.new) }
+        ensures same { IsSamePlan self.old self.new }
+        ensures lies { LiesOn self.new (F.state flash.new) }
+        ensures ends { (first : ℕ) → (plan : Plan) → (table : model.Table) → (rose : Bool) → (device : Device) → IsWatched (F.state flash.old) (F.state flash.new) rose device
+            → Stands self.old (F.state flash.old) first plan table → SealEnds first plan table rose device result self.new (F.state flash.new) }
+        ensures empty { OnOk result (self.new.writer.count ≡ 0) }
+        ensures running { OnOk result (is_running self.new ≡ true) }
+        ensures next { OnOk result (next_in self.new ≡ next_in self.old + 1) }
+        ensures calm { OnOk result (is_stopped self.new ≡ is_stopped self.old) }
+        ensures stopped { OnErr result ((is_running self.new ≡ false) × (is_stopped self.new ≡ true)) }
+        ensures outside { IsTrue (F.state flash.old).media.tells → OutsideStands (shape_at self.old.place self.old.geometry) (page_at (F.state flash.old)) (page_at (F.state flash.new)) }
+        ensures cause { IfErr result (λ e. CausedBy (F.state flash.old) e (F.state flash.new)) }
+    {
+        let Some(mut ring) = self.ring.take() else {
+            unreachable!()
+        };
+        let number = ring.next_number();
+        self.writer.finish(number, self.bitmap);
+        if let Err(fault) = ring.seal(flash, self.writer.body()) {
+            self.stopped = true;
+            return Err(fault);
+        }
+        note(&mut self.counts, number, self.writer.count());
+        self.writer.clear();
+        self.bitmap = 0;
+        self.ring = Some(ring);
+        Ok(())
+    }
+}
+
+/// The page with this number has so many rows.
+pub(crate) fn note(counts: &mut [u16], number: u32, rows: u32)
+    requires some { 1 ≤ length counts.old }
+    requires few { rows < 65536 }
+    ensures { counts.new ≡ slice_set counts.old (number % length counts.old) rows }
+{
+    let at = number as usize % counts.len();
+    counts[at] = rows as u16;
+}

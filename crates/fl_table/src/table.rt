@@ -1,0 +1,51 @@
+// A table: its records in the pages of a ring, and those that wait in memory for their page.
+ghost use Rattle.std.specs.Prelude.{◌≡◌, ◌+◌, ◌*◌, ◌<◌, ◌≤◌, ◌-◌, false, length, drop, replicate, vec_len};
+ghost use Rattle.std.specs.Option.{ForSome};
+ghost use Rattle.fl_flash.specs.Places.{IsGeometry};
+ghost use Rattle.fl_model.specs.Record.{layout_len};
+ghost use Rattle.fl_model.specs.Table.{spent_from};
+ghost use Rattle.fl_schema.specs.Schema.{layout_of, types_of};
+ghost use Rattle.fl_ring.specs.Mounting.{shape_at};
+ghost use Rattle.fl_ring.specs.Place.{next_of, shape_of};
+
+use fl_base::{Geometry, RingPlace};
+use fl_bitmap::Buckets;
+use fl_page::PageWriter;
+use fl_ring::Ring;
+use fl_schema::Schema;
+
+/// Records in ascending order of their keys. It is mounted before its first use; each call that takes a flash is
+/// given the one on which it was mounted.
+#[derive(Drop)]
+pub struct Table {
+    pub(crate) schema: Schema<8>,
+    pub(crate) geometry: Geometry,
+    /// The blocks of the data ring.
+    pub(crate) place: RingPlace,
+    pub(crate) buckets: Option<Buckets>,
+    /// The data ring, where the table is mounted and no program or erase failed since.
+    pub(crate) ring: Option<Ring>,
+    /// A program or erase failed since the mount.
+    pub(crate) stopped: bool,
+    /// The pending rows, and the bitmap of their values.
+    pub(crate) writer: PageWriter,
+    pub(crate) bitmap: u64,
+    pub(crate) last_key: Option<u64>,
+    /// How many rows each kept page holds, by its place in the ring.
+    pub(crate) counts: Vec<u16>,
+    ghost served: { IsGeometry geometry },
+    ghost some_blocks: { 3 ≤ place.blocks },
+    ghost few_blocks: { place.blocks ≤ 16384 },
+    ghost some_columns: { 1 ≤ length (types_of schema) },
+    ghost few_columns: { length (types_of schema) ≤ 8 },
+    ghost some_row: { 1 ≤ layout_len (layout_of schema) },
+    ghost room_for_row: { layout_len (layout_of schema) + 24 ≤ geometry.page },
+    ghost no_blobs: { (layout_of schema).blobs ≡ false },
+    ghost page: { length writer.body + 8 ≡ geometry.page },
+    ghost rows_end: { writer.end ≡ 16 + writer.count * layout_len (layout_of schema) },
+    ghost rows_room: { writer.end ≤ length writer.body },
+    ghost blank_rest: { drop writer.end writer.body ≡ replicate (length writer.body - writer.end) 255 },
+    ghost counted: { vec_len counts ≡ place.blocks * geometry.block },
+    ghost lies: { ForSome ring (λ r. shape_of r ≡ shape_at place geometry) },
+    ghost left: { ForSome ring (λ r. 1 ≤ writer.count → next_of r ≤ spent_from) },
+}
