@@ -10,7 +10,7 @@ mod next;
 mod whole_run;
 mod session;
 mod status;
-mod stored;
+mod replies;
 mod words;
 
 pub use whole_run::{KNOTS, run};
