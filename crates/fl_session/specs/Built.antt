@@ -10,6 +10,8 @@ use Rattle.fl_words.specs.Command.{Command}
 abbrev pub is_built : Command → Bool
 is_built command.Nothing = true
 is_built command.Off = true
+-- a cut names an operation, counted from 1
+is_built (command.Cut n kind) = nat_le 1 n
 is_built (command.Device page block) = true
 is_built (command.Table line) = true
 is_built c = false
