@@ -17,3 +17,6 @@ pub use session::Session;
 pub use status::Status;
 pub use whole_run::{KNOTS, run};
 pub use words::image_of;
+
+#[cfg(test)]
+mod tests;

@@ -14,9 +14,12 @@ fn is_built(command: &Command) -> bool
 {
     match command {
         Command::Nothing
-        | Command::Off
         | Command::Device { .. }
-        | Command::Table { .. } => true,
+        | Command::Table { .. }
+        | Command::Mount
+        | Command::Off
+        | Command::Put { .. }
+        | Command::Flush { .. } => true,
         Command::Cut { n, .. } => 1 <= *n,
         _ => false,
     }

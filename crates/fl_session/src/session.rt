@@ -15,7 +15,7 @@ ghost use Rattle.fl_session.specs.Execute.{Executes};
 ghost use Rattle.fl_session.specs.Standing.{SessionStands, IsSound};
 
 use crate::executor::Executor;
-use crate::replies::{flush_breaks, flush_reply, put_breaks, put_reply};
+use crate::replies::{flush_breaks, flush_reply, mount_reply, put_breaks, put_reply};
 use fl_base::{CutKind, Name, Sink, SinkFailed};
 use fl_flash::{Flash, Media, PageBuf, SimFlash};
 use fl_script::{Command, LineRoom, Reply, write_reply};
@@ -92,6 +92,24 @@ impl<'m, M: Media> Session<'m, M> {
         Reply::Done
     }
 
+    /// Mounts the table: the power goes on, and what stands on the flash is found and repaired.
+    fn mount(&mut self) -> Reply
+        requires sound { IsSound self.old.table (⟦<SimFlash<'m, M> as Flash>⟧.state self.old.flash) self.old.buf }
+        ensures sound { IsSound self.new.table (⟦<SimFlash<'m, M> as Flash>⟧.state self.new.flash) self.new.buf }
+        ensures goes { Goes (⟦<SimFlash<'m, M> as Flash>⟧.state self.old.flash) (⟦<SimFlash<'m, M> as Flash>⟧.state self.new.flash) }
+        ensures step { (config : Config) (old : Machine) → SessionStands config self.old.table self.old.name (⟦<SimFlash<'m, M> as Flash>⟧.state self.old.flash) self.old.mounted old →
+            Answers config old words.Mount (SessionStands config self.new.table self.new.name (⟦<SimFlash<'m, M> as Flash>⟧.state self.new.flash) self.new.mounted)
+            (⟦<SimFlash<'m, M> as Flash>⟧.state self.old.flash).media.faults (⟦<SimFlash<'m, M> as Flash>⟧.state self.new.flash).media.faults (reply_text result) }
+    {
+        if self.mounted {
+            return Reply::AlreadyMounted;
+        }
+        self.flash.power_on();
+        let outcome = self.table.mount(&mut self.flash, &mut self.buf);
+        self.mounted = outcome.is_ok();
+        mount_reply(self.name, outcome)
+    }
+
     /// Why a command on the table of this name isn't executed, if it isn't.
     fn refusal(&self, name: Name) -> Option<Reply>
         ensures { Refusal self.now.name self.now.mounted name result }
@@ -118,9 +136,7 @@ impl<'m, M: Media> Session<'m, M> {
             return refusal;
         }
         let outcome = self.table.put(&mut self.flash, key, values, blob);
-        if put_breaks(&outcome) {
-            self.mounted = false;
-        }
+        self.mounted = !put_breaks(&outcome);
         put_reply(outcome)
     }
 
@@ -137,9 +153,7 @@ impl<'m, M: Media> Session<'m, M> {
             return refusal;
         }
         let outcome = self.table.flush(&mut self.flash);
-        if flush_breaks(&outcome) {
-            self.mounted = false;
-        }
+        self.mounted = !flush_breaks(&outcome);
         flush_reply(outcome)
     }
 }
@@ -167,6 +181,7 @@ impl<'m, M: Media> Executor for Session<'m, M> {
         out: &mut K,
     ) -> Result<(), SinkFailed> {
         let reply = match command {
+            Command::Mount => self.mount(),
             Command::Off => self.off(),
             Command::Cut { n, kind } => self.cut(*n, *kind),
             Command::Put {
