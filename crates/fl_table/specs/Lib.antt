@@ -7,3 +7,4 @@ pub mod Outcomes
 pub mod Causes
 pub mod Reading
 pub mod Mounting
+pub mod Look
