@@ -19,3 +19,4 @@ pub mod PagesRead
 pub mod KeyOrder
 pub mod KeptPages
 pub mod Looks
+pub mod KeptRead

@@ -8,3 +8,4 @@ pub mod Causes
 pub mod Reading
 pub mod Mounting
 pub mod Look
+pub mod Kept

@@ -3,6 +3,7 @@
 
 mod counts;
 mod faults;
+mod kept;
 mod look;
 mod misfit;
 mod mount;

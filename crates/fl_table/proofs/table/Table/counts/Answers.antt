@@ -1,6 +1,6 @@
-use Rattle.std.proofs.Common.{rules, ◌≡◌, ℕ, ◌+◌, ◌-◌, ◌==◌, cond, map, ap, sym, ◌∙◌, arith}
+use Rattle.std.proofs.Common.{rules, ◌≡◌, ℕ, ◌+◌, ◌-◌, ◌==◌, cond, map, ap, ◌∙◌, arith}
 use Rattle.std.proofs.lemmas.List.FromFn.{sum_by-map-range_with_len_more}
-use Rattle.std.specs.List.{sum, sum_by, count_by, range_with_len}
+use Rattle.std.specs.List.{sum, count_by, range_with_len}
 use Rattle.fl_table.specs.Look.{oldest_in, rows_noted, counts_in}
 use Rattle.fl_table.specs.declared.counts.TableCounts.{TableCounts}
 use Rattle.fl_table.proofs.Looks.{counts-is}
