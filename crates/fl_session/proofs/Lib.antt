@@ -12,8 +12,11 @@ pub mod Ending
 pub mod Pieces
 pub mod Going
 pub mod Executing
+pub mod Answering
+pub mod Refusing
 pub mod StepsOf
-pub mod Images
+pub mod Working
+pub mod MountsOf
 pub mod Rested
 pub mod Over
 pub mod Completing

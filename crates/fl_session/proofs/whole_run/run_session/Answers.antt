@@ -1,5 +1,6 @@
-use Rattle.std.proofs.Common.{◌≡◌, rules, ◌∙◌}
-use Rattle.fl_session.proofs.Over.{whole-parts, one-of, session-runs}
+use Rattle.std.proofs.Common.{◌≡◌, ℕ, Some, rules, refl, sym, ◌∙◌, ap, subst}
+use Rattle.fl_model.specs.Record.{Config}
+use Rattle.fl_session.proofs.Over.{whole-parts, one-of, named-one, session-runs}
 use Rattle.fl_session.proofs.whole_run.run_session.Goals as goal
 
 pub returns-clause-runs : goal.returns-clause-runs
@@ -9,7 +10,7 @@ returns-clause-runs g c = λ configured w told.
     let one = one-of configured.knots lines configured c.requires.built parts in
     let same : c.geometry.result ≡ configured.geometry = cc (c.geometry.ensures.device, parts.device) in
     let e : g.M.Media.state c.media-1.given.0 ≡ g.M.Media.state c.end-media.result.now = search rules in
-    session-runs configured _ _ _ _ _ _ _ _ c.geometry.result c.blocks-2.result _ (c.new-session.ensures.flash ∙ c.with_room-flash.ensures) same (e ∙ c.end-media.ensures.state) told one
-    (λ p t k. g.met.T.Stored.settles c.run_first-status.new.session.table _ p t k) c.new-session.ensures.off
+    session-runs configured _ _ _ _ _ _ _ _ _ _ c.geometry.result c.blocks-2.result _ (c.new-session.ensures.flash ∙ c.with_room-flash.ensures) same (e ∙ c.end-media.ensures.state) told one
+    {} {} c.new-session.ensures.off
     _ _ _ _ _ _ _ _
     (c.run_first-status.ensures.runs configured)

@@ -10,5 +10,5 @@ returns-in_default g c = record {
   goes = goes-same _;
   sink = record { later = omega arith; failed = tt };
   step = λ config old h.
-      executes-nothing SinkFailed config old _ _ _ _ (default-view c.args.command.now c.args._room.now c.requires.runnable c.in_default.not-Off) h;
+      executes-nothing SinkFailed config old _ _ _ _ (default-view c.args.command.now c.args._room.now c.requires.runnable c.in_default.not-Off (λ n kind e. c.in_default.not-Cut n kind e)) h;
 }
