@@ -38,7 +38,7 @@ stored-entry plan entry plain h = by_blob entry.kept.blob refl h.blob
     no e = cc
 
     is_true : (b : Bool) → IsTrue b → b ≡ true
-    is_true true t = refl
+    is_true b t = t
 
     row_of_blob : (o : Option (List ℕ)) → Row
     row_of_blob o = record { key = entry.kept.key; values = entry.kept.values; blob = option_map (λ bytes. record { page = entry.page; offset = entry.offset; length = length bytes }) o }
@@ -61,7 +61,7 @@ each-at P (y ∷ ys) zero x h e = let same : y ≡ x = cc in subst P same h.0
 each-at P (y ∷ ys) (suc i) x h e = each-at P ys i x h.1 e
 
 -- a sum over one more
-sum-next : {X : Type 0} (f : X → ℕ) (xs : List X) (i : ℕ) (x : X) → slice_get xs i ≡ Some x → sum_by f (take (suc i) xs) ≡ sum_by f (take i xs) + f x
+pub sum-next : {X : Type 0} (f : X → ℕ) (xs : List X) (i : ℕ) (x : X) → slice_get xs i ≡ Some x → sum_by f (take (suc i) xs) ≡ sum_by f (take i xs) + f x
 sum-next {X} f [] i x e = absurd (none e)
   where
     none : ◌≡◌ {A = Option X} None (Some x) → ⊥
@@ -104,12 +104,12 @@ module _ (page : ℕ → List ℕ) (first : ℕ) (plan : Plan) (table : Table) (
   at i = page (place (shape_in first plan) (model.oldest table.rows + i))
 
   -- a kept page, by its count
-  record IsKept (i c : ℕ) : Type 0 where
-    good : state_of_page (page (place (shape_in first plan) (model.oldest table.rows + i))) ≡ Committed →
+  pub record IsKept (i c : ℕ) : Type 0 where
+    pub good : state_of_page (page (place (shape_in first plan) (model.oldest table.rows + i))) ≡ Committed →
         IsGoodPage (row_layout plan) (model.oldest table.rows + i) (page (place (shape_in first plan) (model.oldest table.rows + i)))
-    rows : page_rows (row_layout plan) (page (place (shape_in first plan) (model.oldest table.rows + i))) ≡ map stored_row (rows_at table i c)
+    pub rows : page_rows (row_layout plan) (page (place (shape_in first plan) (model.oldest table.rows + i))) ≡ map stored_row (rows_at table i c)
 
-  kept : (i c : ℕ) → slice_get table.rows.counts i ≡ Some c → IsKept i c
+  pub kept : (i c : ℕ) → slice_get table.rows.counts i ≡ Some c → IsKept i c
   kept i c e = by_count (cases_lt 0 c)
     where
       by_count : (0 < c) ⊎ (c ≤ 0) → IsKept i c

@@ -18,3 +18,5 @@ pub mod Refused
 pub mod PagesRead
 pub mod KeyOrder
 pub mod KeptPages
+pub mod Looks
+pub mod KeptRead
