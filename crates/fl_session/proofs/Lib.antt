@@ -16,6 +16,7 @@ pub mod Answering
 pub mod Refusing
 pub mod StepsOf
 pub mod Working
+pub mod Stating
 pub mod MountsOf
 pub mod Rested
 pub mod Over

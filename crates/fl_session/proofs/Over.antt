@@ -73,7 +73,9 @@ or-left false b e = refl
 
 -- a new table lies on a flash of its configuration
 few-pages : (f : FlashState) (plans : List Plan) → f.blocks ≡ sum_by blocks_of plans → too_large f.geometry plans ≡ false → pages f < 2 ^ 32
-few-pages f plans e fits = omega (arith, ltb-false 65536 (sum_by blocks_of plans * f.geometry.block) (or-left (nat_lt 65536 (sum_by blocks_of plans * f.geometry.block)) (nat_lt 67108864 (sum_by blocks_of plans * f.geometry.block * f.geometry.page)) fits), e)
+few-pages f plans e fits =
+    let few = ltb-false 65536 (sum_by blocks_of plans * f.geometry.block) (or-left (nat_lt 65536 (sum_by blocks_of plans * f.geometry.block)) (nat_lt 67108864 (sum_by blocks_of plans * f.geometry.block * f.geometry.page)) fits) in
+    subst (λ blocks. blocks * f.geometry.block < 2 ^ 32) (sym e) (omega (arith, few))
 
 pub new-lies : (t : code_table.Table) (lines : Lines) (f : FlashState) → IsNewTable t lines → (one : IsOne lines.plans) → lines.device ≡ Some f.geometry → f.blocks ≡ sum_by blocks_of lines.plans → too_large f.geometry lines.plans ≡ false → LiesOn t f
 new-lies t lines f new one device blocks fits =

@@ -16,7 +16,7 @@ use Rattle.fl_table.specs.declared.counts.TableCounts.{TableCounts}
 use Rattle.fl_table.specs.declared.table.Table.{Table}
 use Rattle.fl_session.specs.Answer.{Answers, Refusal}
 use Rattle.fl_session.specs.Standing.{SessionStands}
-use Rattle.fl_session.proofs.Answering.{answers-saying, saying, says, table-step, located-own}
+use Rattle.fl_session.proofs.Answering.{answers-saying, saying, says, step-is, table-step, located-own}
 use Rattle.fl_session.proofs.Refusing.{answers-refused}
 
 pub stat-answers : (config : Config) (old : Machine) (t : Table) (name : List ℕ) (f : FlashState) (faults : ℕ) (counts : TableCounts) (programs erases : ℕ) →
@@ -35,4 +35,4 @@ stat-answers config old t name f faults counts programs erases h holds p e =
 pub stat-refused : (config : Config) (old : Machine) (t : Table) (name : List ℕ) (f : FlashState) (mounted : Bool) (asked : List ℕ) (said : code.Reply) (faults : ℕ) →
     SessionStands config t name f mounted old → Refusal name mounted asked (Some said) → Answers config old (command.Stat asked) (SessionStands config t name f mounted) faults faults (reply_text said)
 stat-refused config old t name f mounted asked said faults h r =
-    answers-refused config old t name f mounted (command.Stat asked) asked (λ moment at. Says moment (stat_reply old at.table ∷ []) old) said faults h r (λ moment is w. rw is w)
+    answers-refused config old t name f mounted (command.Stat asked) asked (λ moment at. Says moment (stat_reply old at.table ∷ []) old) said faults h r (λ moment is w. step-is config old moment (command.Stat asked) is w)
