@@ -7,7 +7,7 @@ use Rattle.fl_flash.specs.declared.flash.FlashFault.TheVariants.{PowerLost, Medi
 use Rattle.fl_ring.specs.Device.{SameDevice}
 use Rattle.fl_ring.specs.Step.{IsWatched}
 use Rattle.std.proofs.lemmas.Bool.{le-leb}
-use Rattle.std.specs.Prelude.{◌+◌, ◌-◌, ◌^◌, min, MatchBool}
+use Rattle.std.specs.Prelude.{◌+◌, ◌-◌, ◌^◌, min, MatchBool, is_ok}
 use Rattle.fl_model.specs.Record.{Config, Plan}
 use Rattle.fl_model.specs.Table as model
 use Rattle.fl_model.specs.Table.{lose}
@@ -27,7 +27,7 @@ use Rattle.fl_table.specs.declared.faults.MountFault.TheVariants as mount
 use Rattle.fl_table.specs.Memory.{IsSamePlan}
 use Rattle.fl_table.specs.Outcomes.{FaultEnds, MountsWell, MountsBadly, MountEnds}
 use Rattle.fl_table.specs.Pages.{Rests}
-use Rattle.fl_session.specs.Answer.{Answers, fault_reply, mount_reply, mounts}
+use Rattle.fl_session.specs.Answer.{Answers, fault_reply, mount_reply}
 use Rattle.fl_session.specs.Standing.{SessionStands, IsOnMedium}
 use Rattle.fl_session.proofs.Answering.{answers-saying, saying, says, step-is}
 use Rattle.fl_session.proofs.Executing.{one-text}
@@ -187,7 +187,7 @@ module _ (config : Config) (old : Machine) (name : List ℕ) (t u : Table) (f g 
       by_how (inl x) = answers-stopped b.now fault x.0 x.1 b.counts b.rests
       by_how (inr x) = answers-unread b.now fault x.0 x.1 b.counts b.rests
 
-  pub mount-answers : (result : Result found.Mounted MountFault) (mounted : Bool) → mounted ≡ mounts result → MountEnds 0 h.plan h.table (has_risen f g) old.device result u g →
+  pub mount-answers : (result : Result found.Mounted MountFault) (mounted : Bool) → mounted ≡ is_ok result → MountEnds 0 h.plan h.table (has_risen f g) old.device result u g →
       Answers config old command.Mount (SessionStands config u name g mounted) f.media.faults g.media.faults (text (mount_reply name result))
   mount-answers (Ok done) mounted m ends = rw m (answers-well ends)
   mount-answers (Err (mount.Flash fault)) mounted m ends = rw m (answers-bad fault ends)

@@ -81,7 +81,7 @@ pub new-lies : (t : code_table.Table) (lines : Lines) (f : FlashState) → IsNew
 new-lies t lines f new one device blocks fits =
     let planned = new.planned one.plan one.plans_are in
     let geometry : f.geometry ≡ t.geometry = cc (device, new.device) in
-    let all : sum_by blocks_of lines.plans ≡ blocks_of one.plan + 0 = ap (λ ps. sum_by blocks_of ps) one.plans_are in
+    let all : sum_by blocks_of lines.plans ≡ 0 + blocks_of one.plan = ap (λ ps. sum_by blocks_of ps) one.plans_are in
     record {
       geometry = geometry;
       within = omega (arith, blocks, all, planned.begins, planned.blocks);

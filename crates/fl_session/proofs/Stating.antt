@@ -1,5 +1,5 @@
 -- What a session tells of its table.
-use Rattle.std.proofs.Common.{◌≡◌, ℕ, true, Bool, Some, List, [], ◌∷◌, refl, sym, ap, subst}
+use Rattle.std.proofs.Common.{◌≡◌, ℕ, true, Bool, Some, List, [], ◌∷◌, sym, ◌∙◌, ap, subst}
 use Rattle.fl_flash.specs.Flash.{FlashState}
 use Rattle.fl_model.specs.Record.{Config, Plan}
 use Rattle.fl_model.specs.Table as model
@@ -29,8 +29,15 @@ stat-answers config old t name f faults counts programs erases h holds p e =
     let at : Located = record { place = 0; plan = h.plan; table = h.table } in
     let own = located-own config old h.plan h.table name h.plans h.tables h.named in
     let step = table-step config old moment name (λ at. Says moment (stat_reply old at.table ∷ []) old) at h.is_mounted own (says c (r ∷ []) old) in
-    rw (holds 0 h.plan h.table h.on_flash, p, e, sym h.device.programs, sym h.device.erases)
+    subst (λ x. Answers config old c (SessionStands config t name f true) faults faults (text x))
+    (same-stat (holds 0 h.plan h.table h.on_flash) (h.device.programs ∙ sym p) (h.device.erases ∙ sym e))
     (answers-saying config old c r old (SessionStands config t name f true) faults faults step h)
+  where
+    same-stat : counts ≡ counts_of h.table → old.device.programs ≡ programs → old.device.erases ≡ erases → stat_reply old h.table ≡ reply.Stat counts.rows counts.pending counts.pages counts.voids programs erases
+    same-stat counted p' e' =
+        ap (λ (x : TableCounts). reply.Stat x.rows x.pending x.pages x.voids old.device.programs old.device.erases) (sym counted)
+        ∙ (ap (λ n. reply.Stat counts.rows counts.pending counts.pages counts.voids n old.device.erases) p'
+        ∙ ap (λ n. reply.Stat counts.rows counts.pending counts.pages counts.voids programs n) e')
 
 pub stat-refused : (config : Config) (old : Machine) (t : Table) (name : List ℕ) (f : FlashState) (mounted : Bool) (asked : List ℕ) (said : code.Reply) (faults : ℕ) →
     SessionStands config t name f mounted old → Refusal name mounted asked (Some said) → Answers config old (command.Stat asked) (SessionStands config t name f mounted) faults faults (reply_text said)

@@ -117,7 +117,7 @@ impl<'m, M: Media> Session<'m, M> {
         if !self.mounted {
             return Some(Reply::NotMounted);
         }
-        if name != self.name {
+        if name.bytes() != self.name.bytes() {
             return Some(Reply::NoTable);
         }
         None

@@ -1,6 +1,7 @@
 use Rattle.std.proofs.Common.{◌≡◌, ℕ, Some, rules, refl, sym, ◌∙◌, ap, subst}
 use Rattle.fl_model.specs.Record.{Config}
-use Rattle.fl_session.proofs.Over.{whole-parts, one-of, named-one, session-runs}
+use Rattle.fl_session.proofs.Over.{whole-parts, one-of, session-runs}
+use Rattle.fl_session.proofs.Rooms.{named-one}
 use Rattle.fl_session.proofs.whole_run.run_session.Goals as goal
 
 pub returns-clause-runs : goal.returns-clause-runs
