@@ -15,7 +15,7 @@ use Rattle.fl_session.specs.Standing.{IsNewTable}
 use Rattle.fl_session.proofs.Rested.{IsOne, built-one}
 
 -- a whole configuration has a plan
-some-plan : (device : Option Geometry) (plans : List Plan) → is_whole_of device plans ≡ true → plans ≡ [] → ⊥
+pub some-plan : (device : Option Geometry) (plans : List Plan) → is_whole_of device plans ≡ true → plans ≡ [] → ⊥
 some-plan None plans whole none = absurd (false≢true whole)
 some-plan (Some geometry) [] whole none = absurd (false≢true whole)
 some-plan (Some geometry) (plan ∷ plans) whole none = cc
