@@ -81,8 +81,8 @@ module _ (config : Config) (old : Machine) (name : List ℕ) (t u : Table) (f g 
       step-is config old moment command.Mount is
       (by-mounted config old moment false h.is_mounted (how, subst (λ rose. Mounts config.plans rose (rings_from 0 config.plans) old.device old.tables how) (sym risen) m, e))
 
-  answers-well : MountsWell 0 h.plan h.table (has_risen f g) old.device u g → Answers config old command.Mount (SessionStands config u name g true) f.media.faults g.media.faults (text reply.Done)
-  answers-well w =
+  answers-well : (done : found.Mounted) → MountsWell 0 h.plan h.table (has_risen f g) old.device done u g → Answers config old command.Mount (SessionStands config u name g true) f.media.faults g.media.faults (text reply.Done)
+  answers-well done w =
       let tables = with_table 0 old.tables w.now.state in
       let after : Machine = record old { device = w.now.device; tables = all_ready config.plans tables; mounted = true; cursors = no_cursors } in
       let moment : Moment = record { command = command.Mount; rose = has_risen f g; reads = 0; last = None; replies = reply.Done ∷ []; after = after } in
@@ -189,7 +189,7 @@ module _ (config : Config) (old : Machine) (name : List ℕ) (t u : Table) (f g 
 
   pub mount-answers : (result : Result found.Mounted MountFault) (mounted : Bool) → mounted ≡ is_ok result → MountEnds 0 h.plan h.table (has_risen f g) old.device result u g →
       Answers config old command.Mount (SessionStands config u name g mounted) f.media.faults g.media.faults (text (mount_reply name result))
-  mount-answers (Ok done) mounted m ends = rw m (answers-well ends)
+  mount-answers (Ok done) mounted m ends = rw m (answers-well done ends)
   mount-answers (Err (mount.Flash fault)) mounted m ends = rw m (answers-bad fault ends)
   mount-answers (Err (mount.Ring fault)) mounted m ends = absurd ends
   mount-answers (Err (mount.BadPage bad)) mounted m ends = absurd ends

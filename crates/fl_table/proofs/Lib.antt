@@ -20,3 +20,8 @@ pub mod KeyOrder
 pub mod KeptPages
 pub mod Looks
 pub mod KeptRead
+pub mod MountGood
+pub mod MountRead
+pub mod MountEnded
+pub mod MountCalls
+pub mod MountReads
