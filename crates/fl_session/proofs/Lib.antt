@@ -12,9 +12,15 @@ pub mod Ending
 pub mod Pieces
 pub mod Going
 pub mod Executing
+pub mod Answering
+pub mod Refusing
 pub mod StepsOf
-pub mod Images
+pub mod Working
+pub mod Stating
+pub mod MountsOf
+pub mod Calls
 pub mod Rested
+pub mod Rooms
 pub mod Over
 pub mod Completing
 pub mod BuiltOne

@@ -7,13 +7,15 @@ mod commands;
 mod executor;
 mod lines;
 mod next;
+mod replies;
 mod session;
 mod status;
-mod stored;
-mod unmounted;
 mod whole_run;
 mod words;
 
 pub use status::Status;
 pub use whole_run::{KNOTS, run};
 pub use words::image_of;
+
+#[cfg(test)]
+mod tests;

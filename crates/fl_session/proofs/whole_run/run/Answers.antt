@@ -1,7 +1,7 @@
 use Rattle.std.proofs.Common.{◌≡◌, None, map, string_bytes, rules}
 use Rattle.fl_session.specs.Words.{image_named}
 use Rattle.fl_session.proofs.Completing.{runs-to_end}
-use Rattle.fl_session.proofs.whole_run.run_over.Goals as goal
+use Rattle.fl_session.proofs.whole_run.run.Goals as goal
 
 pub returns-clause-complete : goal.returns-clause-complete
 returns-clause-complete g c = λ text told l short named whole s k m.
