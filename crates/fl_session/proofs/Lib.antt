@@ -21,3 +21,6 @@ pub mod Rested
 pub mod Over
 pub mod Completing
 pub mod BuiltOne
+pub mod RowLines
+pub mod PagesListed
+pub mod Scanned

@@ -20,3 +20,4 @@ pub mod KeyOrder
 pub mod KeptPages
 pub mod Looks
 pub mod KeptRead
+pub mod StillStands
