@@ -7,7 +7,8 @@ use Rattle.fl_words.specs.Command.{Command}
 use Rattle.fl_words.specs.Reply as reply
 use Rattle.fl_words.specs.Reply.{Reply, text, texts}
 use Rattle.fl_machine.specs.Machine.{Machine}
-use Rattle.fl_machine.specs.Step.{Moment, Step, Says, Located, located, located_from, WithTable}
+use Rattle.fl_machine.specs.Step.{Moment, Step, StepOf, Says, Located, located, located_from, WhenMounted, WithTable}
+use Rattle.std.specs.Prelude.{MatchBool, MatchOption}
 use Rattle.fl_script.specs.Written.{Written}
 use Rattle.fl_config.proofs.Names.{bytes_equal-other}
 use Rattle.std.proofs.lemmas.Bool.{eq-eqb}
@@ -33,15 +34,29 @@ pub answers-saying : (config : Config) (old : Machine) (c : Command) (r : Reply)
 answers-saying config old c r after stands faults faults_now step s =
     record { moment = saying c (r ∷ []) after; command_is = refl; step = step; stands_after = s; rose = λ t. cc; said_is = one-text r }
 
+-- a step of a moment whose command is known
+pub step-is : (config : Config) (old : Machine) (moment : Moment) (c : Command) → moment.command ≡ c → StepOf config old moment c → Step config old moment
+step-is config old moment c is step = subst (λ x. StepOf config old moment x) (sym is) step
+
 -- nothing is mounted, or the table is another's
+when-mounted : (old : Machine) (moment : Moment) (P : Type 0) → old.mounted ≡ true → P → WhenMounted old moment P
+when-mounted old moment P e p = subst (λ b. MatchBool b P (Says moment (reply.NotMounted ∷ []) old)) (sym e) p
+
 pub not_mounted-step : (config : Config) (old : Machine) (c : Command) (name : List ℕ) (P : Located → Type 0) → old.mounted ≡ false → WithTable config old (saying c (reply.NotMounted ∷ []) old) name P
-not_mounted-step config old c name P e = rw e (says c (reply.NotMounted ∷ []) old)
+not_mounted-step config old c name P e =
+    let moment = saying c (reply.NotMounted ∷ []) old in
+    subst (λ b. MatchBool b (MatchOption (located config old name) (Says moment (reply.NoTable ∷ []) old) P) (Says moment (reply.NotMounted ∷ []) old)) (sym e) (says c (reply.NotMounted ∷ []) old)
 
 pub no_table-step : (config : Config) (old : Machine) (c : Command) (name : List ℕ) (P : Located → Type 0) → old.mounted ≡ true → located config old name ≡ None → WithTable config old (saying c (reply.NoTable ∷ []) old) name P
-no_table-step config old c name P e k = rw (e, k) (says c (reply.NoTable ∷ []) old)
+no_table-step config old c name P e k =
+    let moment = saying c (reply.NoTable ∷ []) old in
+    when-mounted old moment (MatchOption (located config old name) (Says moment (reply.NoTable ∷ []) old) P) e
+    (subst (λ (at : Option Located). MatchOption at (Says moment (reply.NoTable ∷ []) old) P) (sym k) (says c (reply.NoTable ∷ []) old))
 
 pub table-step : (config : Config) (old : Machine) (moment : Moment) (name : List ℕ) (P : Located → Type 0) (at : Located) → old.mounted ≡ true → located config old name ≡ Some at → P at → WithTable config old moment name P
-table-step config old moment name P at e k p = rw (e, k) p
+table-step config old moment name P at e k p =
+    when-mounted old moment (MatchOption (located config old name) (Says moment (reply.NoTable ∷ []) old) P) e
+    (subst (λ (x : Option Located). MatchOption x (Says moment (reply.NoTable ∷ []) old) P) (sym k) p)
 
 -- the one table, by its name
 bytes_equal-own : (a : List ℕ) → bytes_equal a a ≡ true

@@ -16,8 +16,11 @@ pub mod Answering
 pub mod Refusing
 pub mod StepsOf
 pub mod Working
+pub mod Stating
 pub mod MountsOf
+pub mod Calls
 pub mod Rested
+pub mod Rooms
 pub mod Over
 pub mod Completing
 pub mod BuiltOne

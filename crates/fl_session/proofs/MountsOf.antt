@@ -7,7 +7,7 @@ use Rattle.fl_flash.specs.declared.flash.FlashFault.TheVariants.{PowerLost, Medi
 use Rattle.fl_ring.specs.Device.{SameDevice}
 use Rattle.fl_ring.specs.Step.{IsWatched}
 use Rattle.std.proofs.lemmas.Bool.{le-leb}
-use Rattle.std.specs.Prelude.{◌+◌, ◌-◌, ◌^◌, min}
+use Rattle.std.specs.Prelude.{◌+◌, ◌-◌, ◌^◌, min, MatchBool, is_ok}
 use Rattle.fl_model.specs.Record.{Config, Plan}
 use Rattle.fl_model.specs.Table as model
 use Rattle.fl_model.specs.Table.{lose}
@@ -27,9 +27,9 @@ use Rattle.fl_table.specs.declared.faults.MountFault.TheVariants as mount
 use Rattle.fl_table.specs.Memory.{IsSamePlan}
 use Rattle.fl_table.specs.Outcomes.{FaultEnds, MountsWell, MountsBadly, MountEnds}
 use Rattle.fl_table.specs.Pages.{Rests}
-use Rattle.fl_session.specs.Answer.{Answers, fault_reply, mount_reply, mounts}
+use Rattle.fl_session.specs.Answer.{Answers, fault_reply, mount_reply}
 use Rattle.fl_session.specs.Standing.{SessionStands, IsOnMedium}
-use Rattle.fl_session.proofs.Answering.{answers-saying, saying, says}
+use Rattle.fl_session.proofs.Answering.{answers-saying, saying, says, step-is}
 use Rattle.fl_session.proofs.Executing.{one-text}
 use Rattle.fl_session.proofs.Working.{medium-goes, planned-same, has_risen, risen-rose, last_of}
 
@@ -53,11 +53,18 @@ stands-on config old t name f h = record {
 pub mount-watched : (config : Config) (t : Table) (name : List ℕ) (f g : FlashState) (m : Machine) → SessionStands config t name f false m → f.is_on ≡ true → IsWatched f g (has_risen f g) m.device
 mount-watched config t name f g m h on = record { told = h.medium.told; on = on; risen = λ r. le-leb (min (f.media.faults + 1) (2 ^ 64 - 1)) g.media.faults r; counts = h.device }
 
+-- a mount where a session is mounted, and where none is
+by-mounted : (config : Config) (old : Machine) (moment : Moment) (mounted : Bool) → old.mounted ≡ mounted →
+    MatchBool mounted (Says moment (reply.AlreadyMounted ∷ []) old) ((how : MountEnd) × Mounts config.plans moment.rose (rings_from 0 config.plans) old.device old.tables how × EndsMount config old moment how) → MountStep config old moment
+by-mounted config old moment mounted e step =
+    subst (λ b. MatchBool b (Says moment (reply.AlreadyMounted ∷ []) old) ((how : MountEnd) × Mounts config.plans moment.rose (rings_from 0 config.plans) old.device old.tables how × EndsMount config old moment how)) (sym e) step
+
 -- nothing is done where it is mounted
 pub answers-already : (config : Config) (old : Machine) (t : Table) (name : List ℕ) (f : FlashState) (faults : ℕ) → SessionStands config t name f true old →
     Answers config old command.Mount (SessionStands config t name f true) faults faults (text reply.AlreadyMounted)
 answers-already config old t name f faults h =
-    let step : MountStep config old (saying command.Mount (reply.AlreadyMounted ∷ []) old) = rw h.is_mounted (says command.Mount (reply.AlreadyMounted ∷ []) old) in
+    let moment = saying command.Mount (reply.AlreadyMounted ∷ []) old in
+    let step = by-mounted config old moment true h.is_mounted (says command.Mount (reply.AlreadyMounted ∷ []) old) in
     answers-saying config old command.Mount reply.AlreadyMounted old (SessionStands config t name f true) faults faults step h
 
 -- A session that isn't mounted, before a mount of its table and after it.
@@ -71,11 +78,11 @@ module _ (config : Config) (old : Machine) (name : List ℕ) (t u : Table) (f g 
 
   mount-step : (moment : Moment) → moment.command ≡ command.Mount → moment.rose ≡ has_risen f g → (how : MountEnd) → Mounts config.plans (has_risen f g) (rings_from 0 config.plans) old.device old.tables how → EndsMount config old moment how → Step config old moment
   mount-step moment is risen how m e =
-      let step : MountStep config old moment = rw h.is_mounted (how, subst (λ rose. Mounts config.plans rose (rings_from 0 config.plans) old.device old.tables how) (sym risen) m, e) in
-      rw is step
+      step-is config old moment command.Mount is
+      (by-mounted config old moment false h.is_mounted (how, subst (λ rose. Mounts config.plans rose (rings_from 0 config.plans) old.device old.tables how) (sym risen) m, e))
 
-  answers-well : MountsWell 0 h.plan h.table (has_risen f g) old.device u g → Answers config old command.Mount (SessionStands config u name g true) f.media.faults g.media.faults (text reply.Done)
-  answers-well w =
+  answers-well : (done : found.Mounted) → MountsWell 0 h.plan h.table (has_risen f g) old.device done u g → Answers config old command.Mount (SessionStands config u name g true) f.media.faults g.media.faults (text reply.Done)
+  answers-well done w =
       let tables = with_table 0 old.tables w.now.state in
       let after : Machine = record old { device = w.now.device; tables = all_ready config.plans tables; mounted = true; cursors = no_cursors } in
       let moment : Moment = record { command = command.Mount; rose = has_risen f g; reads = 0; last = None; replies = reply.Done ∷ []; after = after } in
@@ -121,8 +128,8 @@ module _ (config : Config) (old : Machine) (name : List ℕ) (t u : Table) (f g 
   }
 
   -- an operation of a repair failed
-  stopped-so : PartProgress model.Table → FlashFault → Moment
-  stopped-so now fault = record {
+  abbrev stopped_so : PartProgress model.Table → FlashFault → Moment
+  stopped_so now fault = record {
     command = command.Mount;
     rose = has_risen f g;
     reads = 0;
@@ -131,7 +138,7 @@ module _ (config : Config) (old : Machine) (name : List ℕ) (t u : Table) (f g 
     after = stopped (record old { device = now.device; tables = with_table 0 old.tables now.state });
   }
 
-  ends-stopped : (now : PartProgress model.Table) (fault : FlashFault) (e : PartEnd model.Table) → now.end ≡ e → FaultEnds e fault g → EndsAs (outcome_at 0 old.tables e) old (stopped-so now fault) (progress_at 0 old.tables now) [] [] old
+  ends-stopped : (now : PartProgress model.Table) (fault : FlashFault) (e : PartEnd model.Table) → now.end ≡ e → FaultEnds e fault g → EndsAs (outcome_at 0 old.tables e) old (stopped_so now fault) (progress_at 0 old.tables now) [] [] old
   ends-stopped now fault Whole k x = absurd x
   ends-stopped now fault (CutIn before) k x = record { replies_are = ap (λ y. fault_reply y ∷ []) x.0; after_is = refl; last_is = ap (last_of old.tables) k }
   ends-stopped now fault (FailedIn before) k x = record { replies_are = ap (λ y. fault_reply y ∷ []) x.0; after_is = refl; last_is = ap (last_of old.tables) k }
@@ -139,7 +146,7 @@ module _ (config : Config) (old : Machine) (name : List ℕ) (t u : Table) (f g 
   answers-stopped : (now : PartProgress model.Table) (fault : FlashFault) → TableMounts h.plan (has_risen f g) (rings_of h.plan) old.device h.table (TableStopped now) → FaultEnds now.end fault g → SameDevice g now.device → Rests g 0 h.plan now.state →
       Answers config old command.Mount (SessionStands config u name g false) f.media.faults g.media.faults (text (fault_reply fault))
   answers-stopped now fault did answer counts rests =
-      let moment = stopped-so now fault in
+      let moment = stopped_so now fault in
       let how : MountEnd = Stopped (progress_at 0 old.tables now) in
       record {
         moment = moment;
@@ -180,9 +187,9 @@ module _ (config : Config) (old : Machine) (name : List ℕ) (t u : Table) (f g 
       by_how (inl x) = answers-stopped b.now fault x.0 x.1 b.counts b.rests
       by_how (inr x) = answers-unread b.now fault x.0 x.1 b.counts b.rests
 
-  pub mount-answers : (result : Result found.Mounted MountFault) (mounted : Bool) → mounted ≡ mounts result → MountEnds 0 h.plan h.table (has_risen f g) old.device result u g →
+  pub mount-answers : (result : Result found.Mounted MountFault) (mounted : Bool) → mounted ≡ is_ok result → MountEnds 0 h.plan h.table (has_risen f g) old.device result u g →
       Answers config old command.Mount (SessionStands config u name g mounted) f.media.faults g.media.faults (text (mount_reply name result))
-  mount-answers (Ok done) mounted m ends = rw m (answers-well ends)
+  mount-answers (Ok done) mounted m ends = rw m (answers-well done ends)
   mount-answers (Err (mount.Flash fault)) mounted m ends = rw m (answers-bad fault ends)
   mount-answers (Err (mount.Ring fault)) mounted m ends = absurd ends
   mount-answers (Err (mount.BadPage bad)) mounted m ends = absurd ends

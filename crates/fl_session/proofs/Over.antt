@@ -1,10 +1,11 @@
 -- A session that was begun over an opened image, and ended.
 use Rattle.std.proofs.Common.{◌≡◌, ℕ, ◌+◌, Bool, true, false, IsTrue, Option, Some, None, Result, Ok, Err, inl, inr, length, take, List, [], ◌∷◌, ◌++◌, ◌≤◌, sum_by, refl, sym, ◌∙◌, ap, subst, le_trans, arith}
-use Rattle.std.specs.Prelude.{if◌then◌else◌, ◌*◌, ◌^◌, ◌<◌, ◌||◌, nat_lt, is_some}
+use Rattle.std.specs.Prelude.{if◌then◌else◌, ◌*◌, ◌^◌, ◌<◌, ◌||◌, nat_lt, is_some, IfSome}
 use Rattle.std.proofs.lemmas.Bool.{ltb-false}
 use base.Fml.{GName}
 use Rattle.fl_base.specs.declared.types.Geometry.{Geometry}
 use Rattle.fl_flash.specs.Flash.{FlashState, pages}
+use Rattle.fl_flash.specs.Buffer.{BufferState}
 use Rattle.fl_flash.specs.Media.{MediaState}
 use Rattle.fl_flash.specs.Sim.{on_medium}
 use Rattle.fl_flash.specs.Places.{extent}
@@ -20,7 +21,7 @@ use Rattle.fl_session.specs.Built.{are_built}
 use Rattle.fl_session.specs.Stream.{LinesState}
 use Rattle.fl_table.specs.declared.table.Table as code_table
 use Rattle.fl_table.specs.Memory.{IsPlanned, LiesOn, is_running}
-use Rattle.fl_session.specs.Standing.{SessionStands, RestsOn, IsNewTable}
+use Rattle.fl_session.specs.Standing.{SessionStands, IsSound, RestsOn, IsNewTable}
 use Rattle.fl_session.specs.Run.{RunsFrom, around_of, IsOfCommands, refused_status}
 use Rattle.fl_session.specs.declared.status.Status.TheVariants.{Usage, MediaMake, OtherConfig}
 use Rattle.fl_config.specs.declared.image.ImageRefusal.{ImageRefusal}
@@ -37,6 +38,7 @@ use Rattle.fl_config.specs.Whole.{is_whole, is_whole_of, Makes}
 use Rattle.fl_session.proofs.Running.{nothing-added}
 use Rattle.fl_session.proofs.Ready.{ready-room, stands-ready}
 use Rattle.fl_session.proofs.Ending.{runs-seen, ends-of_run, begins-ready}
+use Rattle.fl_session.proofs.Rooms.{some-plan}
 use Rattle.fl_session.proofs.Rested.{IsOne, built-one, session-begins, session-ends, opened-rests}
 
 -- the parts of a whole configuration
@@ -73,13 +75,15 @@ or-left false b e = refl
 
 -- a new table lies on a flash of its configuration
 few-pages : (f : FlashState) (plans : List Plan) → f.blocks ≡ sum_by blocks_of plans → too_large f.geometry plans ≡ false → pages f < 2 ^ 32
-few-pages f plans e fits = omega (arith, ltb-false 65536 (sum_by blocks_of plans * f.geometry.block) (or-left (nat_lt 65536 (sum_by blocks_of plans * f.geometry.block)) (nat_lt 67108864 (sum_by blocks_of plans * f.geometry.block * f.geometry.page)) fits), e)
+few-pages f plans e fits =
+    let few = ltb-false 65536 (sum_by blocks_of plans * f.geometry.block) (or-left (nat_lt 65536 (sum_by blocks_of plans * f.geometry.block)) (nat_lt 67108864 (sum_by blocks_of plans * f.geometry.block * f.geometry.page)) fits) in
+    subst (λ blocks. blocks * f.geometry.block < 2 ^ 32) (sym e) (omega (arith, few))
 
 pub new-lies : (t : code_table.Table) (lines : Lines) (f : FlashState) → IsNewTable t lines → (one : IsOne lines.plans) → lines.device ≡ Some f.geometry → f.blocks ≡ sum_by blocks_of lines.plans → too_large f.geometry lines.plans ≡ false → LiesOn t f
 new-lies t lines f new one device blocks fits =
     let planned = new.planned one.plan one.plans_are in
     let geometry : f.geometry ≡ t.geometry = cc (device, new.device) in
-    let all : sum_by blocks_of lines.plans ≡ blocks_of one.plan + 0 = ap (λ ps. sum_by blocks_of ps) one.plans_are in
+    let all : sum_by blocks_of lines.plans ≡ 0 + blocks_of one.plan = ap (λ ps. sum_by blocks_of ps) one.plans_are in
     record {
       geometry = geometry;
       within = omega (arith, blocks, all, planned.begins, planned.blocks);
@@ -90,6 +94,14 @@ new-lies t lines f new one device blocks fits =
   where
     some : true ≡ false → ⊥
     some e = cc
+
+-- a session that begins over it is sound
+pub new-sound : (t t' : code_table.Table) (lines : Lines) (f f' : FlashState) (buf buf' : BufferState) → t' ≡ t → f' ≡ f → buf' ≡ buf → IsNewTable t lines → IsTrue (is_whole lines) → are_built lines.plans ≡ true → lines.device ≡ Some f.geometry → f.blocks ≡ sum_by blocks_of lines.plans →
+    IfSome lines.device (λ geometry. too_large geometry lines.plans ≡ false) → ((geometry : Geometry) → lines.device ≡ Some geometry → length buf.bytes ≡ geometry.page) → IsSound t' f' buf'
+new-sound t t' lines f f' buf buf' t_is f_is buf_is new whole built device blocks fits page =
+    let one = built-one lines.plans built (some-plan lines.device lines.plans whole) in
+    let small : too_large f.geometry lines.plans ≡ false = subst (λ d. IfSome d (λ geometry. too_large geometry lines.plans ≡ false)) device fits in
+    rw (t_is, f_is, buf_is) (record { lies = new-lies t lines f new one device blocks small; room = page f.geometry device })
 
 -- what was run in the session was run over the medium
 pub session-runs : (config : Config) (t t' : code_table.Table) (name name' : List ℕ) (f f' : FlashState) (old new : MediaState) (mounted mounted' : Bool) (geometry : Geometry) (blocks : ℕ) (origin : GName) →

@@ -14,7 +14,7 @@ use Rattle.fl_script.specs.declared.reply.Reply as code
 use Rattle.fl_table.specs.declared.table.Table.{Table}
 use Rattle.fl_session.specs.Answer.{Answers, Refusal}
 use Rattle.fl_session.specs.Standing.{SessionStands}
-use Rattle.fl_session.proofs.Answering.{answers-saying, saying, not_mounted-step, no_table-step, located-other}
+use Rattle.fl_session.proofs.Answering.{answers-saying, saying, step-is, not_mounted-step, no_table-step, located-other}
 
 pub answers-refused : (config : Config) (old : Machine) (t : Table) (name : List ℕ) (f : FlashState) (mounted : Bool) (c : Command) (asked : List ℕ) (P : Moment → Located → Type 0) (said : code.Reply) (faults : ℕ) →
     SessionStands config t name f mounted old → Refusal name mounted asked (Some said) → ((moment : Moment) → moment.command ≡ c → WithTable config old moment asked (P moment) → Step config old moment) →
@@ -31,9 +31,9 @@ answers-refused config old t name f mounted c asked P said faults h r step = abs
 pub put-refused_so : (config : Config) (old : Machine) (t : Table) (name : List ℕ) (f : FlashState) (mounted : Bool) (asked : List ℕ) (key : ℕ) (values : List ℤ) (blob : Option (List ℕ)) (said : code.Reply) (faults : ℕ) →
     SessionStands config t name f mounted old → Refusal name mounted asked (Some said) → Answers config old (command.Put asked key values blob) (SessionStands config t name f mounted) faults faults (reply_text said)
 put-refused_so config old t name f mounted asked key values blob said faults h r =
-    answers-refused config old t name f mounted (command.Put asked key values blob) asked (λ moment. PutStep config old moment (record { key = key; values = values; blob = blob })) said faults h r (λ moment is w. rw is w)
+    answers-refused config old t name f mounted (command.Put asked key values blob) asked (λ moment. PutStep config old moment (record { key = key; values = values; blob = blob })) said faults h r (λ moment is w. step-is config old moment (command.Put asked key values blob) is w)
 
 pub flush-refused_so : (config : Config) (old : Machine) (t : Table) (name : List ℕ) (f : FlashState) (mounted : Bool) (asked : List ℕ) (said : code.Reply) (faults : ℕ) →
     SessionStands config t name f mounted old → Refusal name mounted asked (Some said) → Answers config old (command.Flush asked) (SessionStands config t name f mounted) faults faults (reply_text said)
 flush-refused_so config old t name f mounted asked said faults h r =
-    answers-refused config old t name f mounted (command.Flush asked) asked (λ moment. FlushStep config old moment) said faults h r (λ moment is w. rw is w)
+    answers-refused config old t name f mounted (command.Flush asked) asked (λ moment. FlushStep config old moment) said faults h r (λ moment is w. step-is config old moment (command.Flush asked) is w)

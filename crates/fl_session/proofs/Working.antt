@@ -32,7 +32,7 @@ use Rattle.fl_table.specs.Pages.{Rests}
 use Rattle.fl_table.specs.Standing.{Stands}
 use Rattle.fl_session.specs.Answer.{Answers, fault_reply, put_reply, flush_reply}
 use Rattle.fl_session.specs.Standing.{SessionStands, IsOnMedium}
-use Rattle.fl_session.proofs.Answering.{answers-saying, saying, says, table-step, located-own}
+use Rattle.fl_session.proofs.Answering.{answers-saying, saying, says, step-is, table-step, located-own}
 use Rattle.fl_session.proofs.Executing.{one-text}
 
 -- what the calls of a table leave as it is
@@ -144,7 +144,7 @@ module _ (config : Config) (old : Machine) (name : List ℕ) (t u : Table) (f g 
     power = λ k. cc;
   }
 
-  at_own : Located
+  abbrev at_own : Located
   at_own = record { place = 0; plan = h.plan; table = h.table }
 
   -- the operations were done, or one failed
@@ -184,7 +184,7 @@ module _ (config : Config) (old : Machine) (name : List ℕ) (t u : Table) (f g 
 
   -- a put
   module _ (key : ℕ) (values : List ℤ) (blob : Option (List ℕ)) where
-    item : Record
+    abbrev pub item : Record
     item = record { key = key; values = values; blob = blob }
 
     put-works : refusal_of h.plan h.table item ≡ None → (moment : Moment) →
@@ -192,7 +192,7 @@ module _ (config : Config) (old : Machine) (name : List ℕ) (t u : Table) (f g 
     put-works none moment w is =
         let own = located-own config old h.plan h.table name h.plans h.tables h.named in
         let step : PutStep config old moment item at_own = rw none w in
-        rw is (table-step config old moment name (PutStep config old moment item) at_own h.is_mounted own step)
+        step-is config old moment (command.Put name key values blob) is (table-step config old moment name (PutStep config old moment item) at_own h.is_mounted own step)
 
     put-refused : (refusal : Refusal) → u ≡ t → g ≡ f → refusal_of h.plan h.table item ≡ Some refusal →
         Answers config old (command.Put name key values blob) (SessionStands config u name g true) f.media.faults g.media.faults (text (refused refusal))
@@ -222,7 +222,7 @@ module _ (config : Config) (old : Machine) (name : List ℕ) (t u : Table) (f g 
   flush-works : (moment : Moment) → Works config old moment h.plan (table_seals h.plan h.table) h.table (record old { tables = changed_at 0 (flushed h.plan) old.tables }) → moment.command ≡ command.Flush name → Step config old moment
   flush-works moment w is =
       let own = located-own config old h.plan h.table name h.plans h.tables h.named in
-      rw is (table-step config old moment name (FlushStep config old moment) at_own h.is_mounted own w)
+      step-is config old moment (command.Flush name) is (table-step config old moment name (FlushStep config old moment) at_own h.is_mounted own w)
 
   pub flush-answers : (result : Result (Unit {0}) FlushFault) (mounted : Bool) → mounted ≡ not (flush_breaks result) → FlushEnds 0 h.plan h.table (has_risen f g) old.device result u g →
       Answers config old (command.Flush name) (SessionStands config u name g mounted) f.media.faults g.media.faults (text (flush_reply result))

@@ -55,11 +55,6 @@ Refusal own mounted name (Some code.TheVariants.NotMounted) = mounted ≡ false
 Refusal own mounted name (Some code.TheVariants.NoTable) = (mounted ≡ true) × (name ≡ own → ⊥)
 Refusal own mounted name (Some _) = ⊥
 
--- whether a mount succeeded
-abbrev pub mounts : Result Mounted MountFault → Bool
-mounts (Ok done) = true
-mounts (Err fault) = false
-
 -- the reply to a mount of the table of this name
 abbrev pub mount_reply : List ℕ → Result Mounted MountFault → Reply
 mount_reply name (Ok done) = reply.Done

@@ -19,7 +19,8 @@ fn is_built(command: &Command) -> bool
         | Command::Mount
         | Command::Off
         | Command::Put { .. }
-        | Command::Flush { .. } => true,
+        | Command::Flush { .. }
+        | Command::Stat { .. } => true,
         Command::Cut { n, .. } => 1 <= *n,
         _ => false,
     }

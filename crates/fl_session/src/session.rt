@@ -117,7 +117,7 @@ impl<'m, M: Media> Session<'m, M> {
         if !self.mounted {
             return Some(Reply::NotMounted);
         }
-        if name != self.name {
+        if name.bytes() != self.name.bytes() {
             return Some(Reply::NoTable);
         }
         None
@@ -156,6 +156,27 @@ impl<'m, M: Media> Session<'m, M> {
         self.mounted = !flush_breaks(&outcome);
         flush_reply(outcome)
     }
+
+    /// How much the table holds, and the programs and erases of the whole run.
+    fn stat(&self, name: Name) -> Reply
+        ensures { (config : Config) (old : Machine) → SessionStands config self.now.table self.now.name (⟦<SimFlash<'m, M> as Flash>⟧.state self.now.flash) self.now.mounted old →
+            Answers config old (words.Stat name) (SessionStands config self.now.table self.now.name (⟦<SimFlash<'m, M> as Flash>⟧.state self.now.flash) self.now.mounted)
+            (⟦<SimFlash<'m, M> as Flash>⟧.state self.now.flash).media.faults (⟦<SimFlash<'m, M> as Flash>⟧.state self.now.flash).media.faults (reply_text result) }
+    {
+        if let Some(refusal) = self.refusal(name) {
+            return refusal;
+        }
+        let counts = self.table.counts();
+        let work = self.flash.work();
+        Reply::Stat {
+            rows: counts.rows,
+            pending: counts.pending,
+            pages: counts.pages,
+            voids: counts.voids,
+            programs: work.programs,
+            erases: work.erases,
+        }
+    }
 }
 
 /// The blob of a put, which stands in the room of its line.
@@ -191,6 +212,7 @@ impl<'m, M: Media> Executor for Session<'m, M> {
                 blob,
             } => self.put(*name, *key, values.as_slice(), blob_in(room, *blob)),
             Command::Flush { name } => self.flush(*name),
+            Command::Stat { name } => self.stat(*name),
             _ => return Ok(()),
         };
         write_reply(&reply, out)

@@ -21,3 +21,8 @@ pub mod KeptPages
 pub mod Looks
 pub mod KeptRead
 pub mod StillStands
+pub mod MountGood
+pub mod MountRead
+pub mod MountEnded
+pub mod MountCalls
+pub mod MountReads

@@ -12,8 +12,10 @@ use Rattle.fl_model.specs.Table as model
 use Rattle.fl_model.specs.Table.{pending_entries, last_entry}
 use Rattle.fl_page.specs.Writer.{Gathers}
 use Rattle.fl_ring.specs.declared.ring.Ring.{Ring}
+use Rattle.fl_ring.specs.Mounting.{shape_at}
 use Rattle.fl_ring.specs.Place.{next_of, oldest_of}
 use Rattle.fl_ring.specs.Place as place
+use Rattle.fl_ring.specs.Ring.{Shape}
 use Rattle.fl_schema.specs.Schema.{layout_of}
 use Rattle.fl_table.specs.declared.table.Table.{Table}
 
@@ -42,6 +44,10 @@ bitmap_with (Some buckets) bitmap value = with_value buckets bitmap value
 -- the next number of a running table
 abbrev pub next_in : Table → ℕ
 next_in t = unwrap_or (option_map (λ ring. next_of ring) t.ring) 0
+
+-- where the data ring of a table stands
+abbrev pub ring_shape : Table → Shape
+ring_shape t = shape_at t.place t.geometry
 
 -- a table of this plan, whose blocks begin at `first`
 pub record IsPlanned (t : Table) (first : ℕ) (plan : Plan) : Type 0 where

@@ -26,13 +26,12 @@ impl Table {
     ghost use Rattle.fl_model.specs.Table.{spent_from, with_record};
     ghost use Rattle.fl_model.specs.Work.{Device};
     ghost use Rattle.fl_ring.specs.Causes.{CausedBy};
-    ghost use Rattle.fl_ring.specs.Mounting.{shape_at};
     ghost use Rattle.fl_ring.specs.Ring.{OutsideStands};
     ghost use Rattle.fl_ring.specs.Step.{IsWatched};
     ghost use Rattle.fl_schema.specs.Schema.{layout_of};
     ghost use Rattle.fl_flash.specs.Flash.{FlashState};
     ghost use Rattle.fl_table.specs.Causes.{PutCausedBy, FlushCausedBy, RefusedSame, put_breaks, flush_breaks};
-    ghost use Rattle.fl_table.specs.Memory.{is_running, is_stopped, next_in, IsSamePlan, LiesOn};
+    ghost use Rattle.fl_table.specs.Memory.{is_running, is_stopped, ring_shape, next_in, IsSamePlan, LiesOn};
     ghost use Rattle.fl_table.specs.Refusal.{put_refusal, RefusesAs};
     ghost use Rattle.fl_table.specs.Standing.{Stands};
     ghost use Rattle.fl_table.specs.Outcomes.{MakesRoom, PutEnds, FlushEnds};
@@ -52,7 +51,7 @@ impl Table {
         ensures next { OnOk result (next_in self.new ≤ next_in self.old + 1) }
         ensures calm { OnOk result (is_stopped self.new ≡ is_stopped self.old) }
         ensures stopped { OnErr result ((is_running self.new ≡ false) × (is_stopped self.new ≡ true)) }
-        ensures outside { IsTrue (F.state flash.old).media.tells → OutsideStands (shape_at self.old.place self.old.geometry) (page_at (F.state flash.old)) (page_at (F.state flash.new)) }
+        ensures outside { IsTrue (F.state flash.old).media.tells → OutsideStands (ring_shape self.old) (page_at (F.state flash.old)) (page_at (F.state flash.new)) }
         ensures cause { IfErr result (λ e. CausedBy (F.state flash.old) e (F.state flash.new)) }
     {
         if !self.writer.is_full(&self.schema) {
@@ -96,7 +95,7 @@ impl Table {
         ensures exact { RefusesAs (put_refusal self.old key values.now (is_some blob.entry)) result }
         ensures refused { IfErr result (λ e. RefusedSame self.old (F.state flash.old) e self.new (F.state flash.new)) }
         ensures stopped { is_stopped self.new ≡ (put_breaks result || is_stopped self.old) }
-        ensures outside { IsTrue (F.state flash.old).media.tells → OutsideStands (shape_at self.old.place self.old.geometry) (page_at (F.state flash.old)) (page_at (F.state flash.new)) }
+        ensures outside { IsTrue (F.state flash.old).media.tells → OutsideStands (ring_shape self.old) (page_at (F.state flash.old)) (page_at (F.state flash.new)) }
         ensures cause { IfErr result (λ e. PutCausedBy (F.state flash.old) e (F.state flash.new)) }
     {
         if let Some(refusal) = self.refusal(key, values, blob.is_some()) {
@@ -117,7 +116,7 @@ impl Table {
             → Stands self.old (F.state flash.old) first plan table → FlushEnds first plan table rose device result self.new (F.state flash.new) }
         ensures exact { (result ≡ Err FlushFault.Stopped) ↔ (is_running self.old ≡ false) }
         ensures stopped { is_stopped self.new ≡ (flush_breaks result || is_stopped self.old) }
-        ensures outside { IsTrue (F.state flash.old).media.tells → OutsideStands (shape_at self.old.place self.old.geometry) (page_at (F.state flash.old)) (page_at (F.state flash.new)) }
+        ensures outside { IsTrue (F.state flash.old).media.tells → OutsideStands (ring_shape self.old) (page_at (F.state flash.old)) (page_at (F.state flash.new)) }
         ensures cause { IfErr result (λ e. FlushCausedBy (F.state flash.old) e (F.state flash.new)) }
     {
         if !self.is_running() {

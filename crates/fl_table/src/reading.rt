@@ -126,9 +126,9 @@ pub(crate) fn read_pages<F: Flash>(
     ensures noted { OnOk result (next_of ring.now - oldest_of ring.now ≤ length counts.old → IsTrue (F.state flash.old).media.tells →
         AreNoted (layout_of schema.now) (pages_of ring.now (F.state flash.old)) (oldest_of ring.now) (next_of ring.now - oldest_of ring.now) counts.new) }
     ensures mounted { IfOk result (λ found. IsTrue (F.state flash.old).media.tells → found.0 ≡ record {
-        rows = rows_after (layout_of schema.now) (pages_of ring.now (F.state flash.old)) (oldest_of ring.now) (next_of ring.now - oldest_of ring.now);
-        pages = next_of ring.now - oldest_of ring.now;
-        voids = voids_after (layout_of schema.now) (pages_of ring.now (F.state flash.old)) (oldest_of ring.now) (next_of ring.now - oldest_of ring.now);
+      rows = rows_after (layout_of schema.now) (pages_of ring.now (F.state flash.old)) (oldest_of ring.now) (next_of ring.now - oldest_of ring.now);
+      pages = next_of ring.now - oldest_of ring.now;
+      voids = voids_after (layout_of schema.now) (pages_of ring.now (F.state flash.old)) (oldest_of ring.now) (next_of ring.now - oldest_of ring.now);
     }) }
     ensures last { IfOk result (λ found. IsTrue (F.state flash.old).media.tells →
         found.1 ≡ last_after (layout_of schema.now) (pages_of ring.now (F.state flash.old)) (oldest_of ring.now) (next_of ring.now - oldest_of ring.now)) }

@@ -1,8 +1,7 @@
 use Rattle.std.proofs.Common.{◌≡◌, true}
 use Rattle.std.proofs.lemmas.Result.{IfErr-weaker}
-use Rattle.fl_ring.specs.Looking.{ReadFails}
 use Rattle.fl_schema.specs.Schema.{layout_of}
-use Rattle.fl_table.specs.Causes.{IfFlash, is_of_pages}
+use Rattle.fl_table.specs.Causes.{is_of_pages}
 use Rattle.fl_table.proofs.Refused.{refused-of_pages, refused-no_flash}
 use Rattle.fl_table.proofs.reading.read_page.Goals as goal
 

@@ -1,9 +1,8 @@
-use Rattle.std.proofs.Common.{rules, ◌≡◌, ◌%◌, ◌==◌, cond, length, length-set, ◌<◌, ◌≤◌, ◌+◌, ◌-◌, suc, IsTrue, IfErr, arith, sym, ◌∙◌, ap, subst, refl}
+use Rattle.std.proofs.Common.{◌≡◌, ◌%◌, ◌==◌, cond, length, length-set, ◌+◌, ◌-◌, suc, IsTrue, arith, sym, ◌∙◌, ap, subst, refl}
 use Rattle.std.proofs.lemmas.Result.{err_from_is_err_and}
 use Rattle.fl_flash.specs.Flash.{page_at}
 use Rattle.fl_ring.specs.Looking.{OnlyReads}
-use Rattle.fl_ring.specs.Place.{next_of, oldest_of, shape_of}
-use Rattle.fl_ring.specs.Ring.{place}
+use Rattle.fl_ring.specs.Place.{next_of, oldest_of}
 use Rattle.fl_schema.specs.Schema.{layout_of}
 use Rattle.fl_table.specs.Reading.{pages_of, IsRefused, AreRefused, AreNoted}
 use Rattle.fl_ring.proofs.Exists.{page_exists}

@@ -1,4 +1,4 @@
-use Rattle.std.proofs.Common.{◌≡◌, ◌≤◌, ◌-◌, ◌+◌, ◌*◌, length, IsTrue, true}
+use Rattle.std.proofs.Common.{◌≡◌, ◌≤◌, ◌-◌, ◌*◌, length, IsTrue}
 use Rattle.fl_ring.specs.Looking.{OnlyReads}
 use Rattle.fl_ring.specs.Place.{oldest_of, next_of}
 use Rattle.fl_schema.specs.Schema.{layout_of}
