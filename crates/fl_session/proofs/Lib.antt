@@ -27,3 +27,4 @@ pub mod BuiltOne
 pub mod RowLines
 pub mod PagesListed
 pub mod Scanned
+pub mod Scanning
