@@ -24,3 +24,7 @@ pub mod Rooms
 pub mod Over
 pub mod Completing
 pub mod BuiltOne
+pub mod RowLines
+pub mod PagesListed
+pub mod Scanned
+pub mod Scanning

@@ -13,3 +13,5 @@ pub mod Opening
 pub mod Answer
 pub mod Standing
 pub mod Run
+pub mod Rows
+pub mod Listed
