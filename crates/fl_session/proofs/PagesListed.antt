@@ -84,9 +84,10 @@ lines-append range span es fs =
 -- lines behind lines
 pub lists-then : (xs ys all : List Reply) (told mid now : Option (List ℕ)) (f g h n m k : ℕ) → xs ++ ys ≡ all → k ≡ n + m →
     ListsAll xs told mid f g (Ok n) → ListsAll ys mid now g h (Ok m) → ListsAll all told now f h (Ok k)
-lists-then xs ys all told mid now f g h n m k is sum_is a b =
-    (subst (λ (l : List Reply). Appends told now (texts l)) is (subst (λ (bytes : List ℕ). Appends told now bytes) (sym (texts-append xs ys)) (appends-append told mid now (texts xs) (texts ys) a.0 b.0)),
-    omega (arith, sum_is, a.1, b.1, length-append xs ys, ap length is))
+lists-then xs ys all told mid now f g h n m k is sum_is a b = (
+  subst (λ (l : List Reply). Appends told now (texts l)) is (subst (λ (bytes : List ℕ). Appends told now bytes) (sym (texts-append xs ys)) (appends-append told mid now (texts xs) (texts ys) a.0 b.0)),
+  omega (arith, sum_is, a.1, b.1, length-append xs ys, ap length is),
+)
 
 take-front : (xs ys zs : List Reply) (n : ℕ) → n ≤ length ys → take (length xs + n) (xs ++ (ys ++ zs)) ≡ xs ++ take n ys
 take-front [] ys zs n h = ap (λ k. take k (ys ++ zs)) (let e : length {A = Reply} [] + n ≡ n = omega arith in e) ∙ take-append-le n ys zs h
