@@ -22,5 +22,6 @@ pub mod Calls
 pub mod Rested
 pub mod Rooms
 pub mod Over
+pub mod Fresh
 pub mod Completing
 pub mod BuiltOne
