@@ -28,3 +28,4 @@ pub mod RowLines
 pub mod PagesListed
 pub mod Scanned
 pub mod Scanning
+pub mod RangeEnds
