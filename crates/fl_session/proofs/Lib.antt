@@ -22,6 +22,7 @@ pub mod Calls
 pub mod Rested
 pub mod Rooms
 pub mod Over
+pub mod Fresh
 pub mod Completing
 pub mod BuiltOne
 pub mod RowLines
