@@ -30,19 +30,26 @@ pub record IsUntouched (told : Told) : Type 0 where
   pub content : told.content_now ≡ told.content
   pub written : Appends told.written told.written_now []
 
--- a medium that is empty, or has the length and the header of the configuration
-abbrev pub IsOwn : Config → List ℕ → Type 0
-IsOwn config content = (content ≡ []) ⊎ ((length content ≡ medium_len config) × (take 1024 content ≡ header config))
+-- a medium has the length and the header of the configuration
+abbrev pub IsFormed : Config → List ℕ → Type 0
+IsFormed config content = (length content ≡ medium_len config) × (take 1024 content ≡ header config)
 
--- from each state for which the medium stands these commands were run, and it stands for the state after them
+-- .. or is empty
+abbrev pub IsOwn : Config → List ℕ → Type 0
+IsOwn config content = (content ≡ []) ⊎ IsFormed config content
+
+-- From each state for which the medium stands these commands were run, and it stands for the state after them. Its length
+-- and its header are those of the configuration, whatever stands behind them.
 pub record RunsAll (config : Config) (commands : List Command) (told : Told) : Type 0 where
   pub own : IsOwn config told.content
+  pub formed : IsFormed config told.content_now
   pub runs : (old : Machine) → StandsFor config told.content old →
       Ran config old commands (StandsAfter config (Some told.content_now)) told.faults told.faults_now told.written told.written_now
 
 -- .. and in the reply of the last of them the sink failed
 pub record RunsInto (config : Config) (commands : List Command) (told : Told) : Type 0 where
   pub own : IsOwn config told.content
+  pub formed : IsFormed config told.content_now
   pub runs : (old : Machine) → StandsFor config told.content old →
       RanInto config old commands (StandsAfter config (Some told.content_now)) told.faults told.faults_now told.written told.written_now
 
