@@ -9,7 +9,7 @@ use Rattle.fl_words.specs.Command.{Command}
 use Rattle.fl_words.specs.Config.{Lines, whole}
 use Rattle.fl_machine.specs.Machine.{Machine}
 use Rattle.fl_machine.specs.Script.{Start, Ready, Unended, BadLine, BadConfig, start_with, start_of, ended, StandsFor, StandsAfter, Ran, RanInto, RoseBy}
-use Rattle.fl_session.specs.Texts.{most_bytes, whole_lines, lines_read, lines_within, is_long}
+use Rattle.fl_session.specs.Texts.{most_bytes, whole_lines, rest_of, lines_read, lines_within, is_long}
 use Rattle.fl_session.specs.Stream.{LinesState}
 use Rattle.fl_session.specs.Execute.{Around, IsReady, StandsAlike, RanAll, RanPart}
 use Rattle.fl_session.specs.Loop.{Tail, EndsCommands}
@@ -36,6 +36,7 @@ ends-in_begin knots text left told ScriptRead h e u = record {
   taken = h.taken;
   within = h.within;
   most = h.few;
+  short = h.short;
   left = e ∙ h.left;
   ends = unended-untouched (start_of knots (whole_lines (take h.taken text))) told h.unended u;
 }
@@ -185,6 +186,7 @@ ends-of_commands knots text now number state left_now config told around stands 
       taken = length a.given.front + h.taken;
       within = omega (arith, h.within);
       most = omega (arith, a.given.bytes h.is_open, h.few);
+      short = omega (arith, h.short, ap length (ap rest_of t.0 ∙ a.given.behind h.is_open (take h.taken (state.ahead ++ a.left))));
       left = h.left ∙ ap Some (sym t.1);
       ends =
           subst (λ s. EndsEarly s told)
@@ -244,7 +246,7 @@ commands-seen : (tail : Tail) (left : Option (List ℕ)) (around : Around) (s s'
 commands-seen tail left around s s' r r' Done f g h = (h.0, record { accepts = h.1.accepts; runs = all-seen around s s' r r' _ f g h.1.runs })
 commands-seen tail left around s s' r r' (Line n) f g h = record { refuses = h.refuses; runs = all-seen around s s' r r' _ f g h.runs }
 commands-seen tail left around s s' r r' ScriptRead f g h =
-    record { is_open = h.is_open; taken = h.taken; within = h.within; few = h.few; left = h.left; accepts = h.accepts; runs = all-seen around s s' r r' _ f g h.runs }
+    record { is_open = h.is_open; taken = h.taken; within = h.within; few = h.few; short = h.short; left = h.left; accepts = h.accepts; runs = all-seen around s s' r r' _ f g h.runs }
 commands-seen tail left around s s' r r' OutWrite f g h = record {
   commands = h.commands;
   others = h.others;

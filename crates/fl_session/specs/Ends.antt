@@ -10,7 +10,7 @@ use Rattle.fl_words.specs.Medium.{header}
 use Rattle.fl_machine.specs.Machine.{Machine}
 use Rattle.fl_machine.specs.Script.{Start, Ready, Unended, BadLine, BadConfig, start_of, ended, accepted, first_refused, StandsFor, StandsAfter, Ran, RanInto}
 use Rattle.fl_session.specs.Built.{is_built, is_built_config}
-use Rattle.fl_session.specs.Texts.{most_bytes, whole_lines, is_long, lines_read}
+use Rattle.fl_session.specs.Texts.{most_bytes, whole_lines, rest_of, is_long, lines_read}
 use Rattle.fl_session.specs.declared.status.Status.{Status}
 use Rattle.fl_session.specs.declared.status.Status.TheVariants.{Done, Usage, Line, ScriptRead, OutWrite, MediaMake, Config as BadConfiguration, OtherConfig, ScriptLong, NoMemory, NotYet}
 
@@ -150,11 +150,12 @@ pub record EndsAt (knots : ℕ) (lines : List (List ℕ)) (told : Told) (number 
   pub unbuilt : (is_built command ≡ false) ⊎ IsUnbuiltConfig (start_of knots (before ++ line ∷ []))
   pub ends : EndsEarly (start_of knots before) told
 
--- a source that was read up to so many bytes: the whole lines of these were run
+-- a source that was read up to so many bytes: the whole lines of these were run, and no line behind them is too long yet
 pub record EndsRead (knots : ℕ) (text : List ℕ) (told : Told) : Type 0 where
   pub taken : ℕ
   pub within : taken ≤ length text
   pub most : taken ≤ most_bytes
+  pub short : length (rest_of (take taken text)) ≤ 4096
   pub left : told.left_now ≡ Some (drop taken text)
   pub ends : EndsEarly (start_of knots (whole_lines (take taken text))) told
 
