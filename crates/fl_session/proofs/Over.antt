@@ -1,5 +1,5 @@
 -- A session that was begun over an opened image, and ended.
-use Rattle.std.proofs.Common.{◌≡◌, ℕ, ◌+◌, Bool, true, false, IsTrue, Option, Some, None, Result, Ok, Err, inl, inr, length, take, List, [], ◌∷◌, ◌++◌, ◌≤◌, sum_by, refl, sym, ◌∙◌, ap, subst, le_trans, arith}
+use Rattle.std.proofs.Common.{◌≡◌, ℕ, ◌+◌, Bool, true, false, IsTrue, Option, Some, None, Result, Ok, Err, inl, inr, length, take, List, [], ◌∷◌, ◌≤◌, sum_by, refl, sym, ◌∙◌, ap, subst, le_trans, arith}
 use Rattle.std.specs.Prelude.{if◌then◌else◌, ◌*◌, ◌^◌, ◌<◌, ◌||◌, nat_lt, is_some, IfSome}
 use Rattle.std.proofs.lemmas.Bool.{ltb-false}
 use base.Fml.{GName}
@@ -20,7 +20,7 @@ use Rattle.fl_session.specs.declared.status.Status.{Status}
 use Rattle.fl_session.specs.Built.{are_built}
 use Rattle.fl_session.specs.Stream.{LinesState}
 use Rattle.fl_table.specs.declared.table.Table as code_table
-use Rattle.fl_table.specs.Memory.{IsPlanned, LiesOn, is_running}
+use Rattle.fl_table.specs.Memory.{IsPlanned, LiesOn}
 use Rattle.fl_session.specs.Standing.{SessionStands, IsSound, RestsOn, IsNewTable}
 use Rattle.fl_session.specs.Run.{RunsFrom, around_of, IsOfCommands, refused_status}
 use Rattle.fl_session.specs.declared.status.Status.TheVariants.{Usage, MediaMake, OtherConfig}

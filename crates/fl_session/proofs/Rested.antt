@@ -1,6 +1,6 @@
 -- A session that isn't mounted, and the medium on which it stands.
 use Rattle.std.proofs.Common.{◌≡◌, ℕ, zero, suc, ◌+◌, ◌-◌, ◌*◌, ◌≤◌, Bool, true, false, ◌&&◌, nat_lt, nat_le, ◌==◌, inl, inr, IsTrue, Some, None, List, [], ◌∷◌, ◌++◌, map, length, take, drop, slice_range, refl, sym, ◌∙◌, ap, subst, length-append, arith}
-use Rattle.std.specs.Prelude.{MatchBool, replicate}
+use Rattle.std.specs.Prelude.{replicate}
 use Rattle.std.specs.List.{AllByRecursion, list_all}
 use Rattle.std.proofs.lemmas.List.{drop-replicate, length-replicate}
 use Rattle.std.proofs.Math.Seq.{drop-append-add, take-append_seam}
@@ -25,7 +25,7 @@ use Rattle.fl_table.specs.declared.table.Table as code
 use Rattle.fl_table.specs.Memory.{IsPlanned}
 use Rattle.fl_table.specs.Pages.{Rests, place_in}
 use Rattle.fl_session.proofs.StepsOf.{off-rests}
-use Rattle.fl_session.specs.Standing.{SessionStands, IsOnMedium, RestsOn}
+use Rattle.fl_session.specs.Standing.{SessionStands, RestsOn}
 use Rattle.fl_table.proofs.Images.{image-rests, rests-image, blank-rests}
 
 and-left : (a b : Bool) → (a && b) ≡ true → a ≡ true

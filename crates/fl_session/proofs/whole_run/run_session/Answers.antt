@@ -1,6 +1,6 @@
-use Rattle.std.proofs.Common.{◌≡◌, ℕ, Some, rules, refl, sym, ◌∙◌, ap, subst}
+use Rattle.std.proofs.Common.{◌≡◌, rules, ◌∙◌, subst}
 use Rattle.std.specs.Prelude.{IfSome, slice_get}
-use Rattle.fl_model.specs.Record.{Config, Plan}
+use Rattle.fl_model.specs.Record.{Plan}
 use Rattle.fl_session.proofs.Over.{whole-parts, one-of, session-runs, new-sound, session-keeps}
 use Rattle.fl_session.proofs.Rooms.{named-one}
 use Rattle.fl_session.proofs.whole_run.run_session.Goals as goal
