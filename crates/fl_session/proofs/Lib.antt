@@ -29,3 +29,4 @@ pub mod RowLines
 pub mod PagesListed
 pub mod Scanned
 pub mod Scanning
+pub mod RangeEnds

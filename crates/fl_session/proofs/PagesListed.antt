@@ -63,6 +63,13 @@ not-void plan table i count rows page found P is shows e at some =
     one : {a b : ℕ} → Some a ≡ Some b → a ≡ b
     one e = cc
 
+-- the rows of a page that were found
+pub found-rows : (plan : Plan) (table : model.Table) (i count : ℕ) (page : List ℕ) (found : Bool) (rows : List Row) → found ≡ true → ShowsRows plan table i count page (Ok found) →
+    rows ≡ rows_in (row_layout plan) page → rows ≡ map stored_row (rows_at table i count)
+found-rows plan table i count page found rows is shows at =
+    let h = subst (λ (b : Bool). ShowsRows plan table i count page (Ok b)) is shows in
+    at ∙ h.1
+
 -- the lines of a page whose rows were found
 pub found-lines : (plan : Plan) (table : model.Table) (i count : ℕ) (page : List ℕ) (found : Bool) (range : KeyRange) (span : Option Span) (rows : List Row) → found ≡ true → ShowsRows plan table i count page (Ok found) →
     rows ≡ rows_in (row_layout plan) page → lines_of range span (rows_at table i count) ≡ row_replies range span rows

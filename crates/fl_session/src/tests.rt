@@ -1,3 +1,5 @@
+mod scans;
+
 use super::*;
 use fl_base::{MemSink, MemSource};
 use fl_flash::MemMedia;
