@@ -6,14 +6,18 @@ mod built;
 mod commands;
 mod executor;
 mod lines;
+mod listing;
 mod next;
+mod replies;
+mod rows;
 mod session;
 mod status;
-mod stored;
-mod unmounted;
 mod whole_run;
 mod words;
 
 pub use status::Status;
 pub use whole_run::{KNOTS, run};
 pub use words::image_of;
+
+#[cfg(test)]
+mod tests;

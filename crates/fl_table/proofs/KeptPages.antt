@@ -60,7 +60,7 @@ each-at P (y ∷ ys) zero x h e = let same : y ≡ x = cc in subst P same h.0
 each-at P (y ∷ ys) (suc i) x h e = each-at P ys i x h.1 e
 
 -- a sum over one more
-sum-next : {X : Type 0} (f : X → ℕ) (xs : List X) (i : ℕ) (x : X) → slice_get xs i ≡ Some x → sum_by f (take (suc i) xs) ≡ sum_by f (take i xs) + f x
+pub sum-next : {X : Type 0} (f : X → ℕ) (xs : List X) (i : ℕ) (x : X) → slice_get xs i ≡ Some x → sum_by f (take (suc i) xs) ≡ sum_by f (take i xs) + f x
 sum-next {X} f [] i x e = absurd (none e)
   where
     none : ◌≡◌ {A = Option X} None (Some x) → ⊥
@@ -103,12 +103,12 @@ module _ (page : ℕ → List ℕ) (first : ℕ) (plan : Plan) (table : Table) (
   at i = page (place (shape_in first plan) (model.oldest table.rows + i))
 
   -- a kept page, by its count
-  record IsKept (i c : ℕ) : Type 0 where
-    good : state_of_page (page (place (shape_in first plan) (model.oldest table.rows + i))) ≡ Committed →
+  pub record IsKept (i c : ℕ) : Type 0 where
+    pub good : state_of_page (page (place (shape_in first plan) (model.oldest table.rows + i))) ≡ Committed →
         IsGoodPage (row_layout plan) (model.oldest table.rows + i) (page (place (shape_in first plan) (model.oldest table.rows + i)))
-    rows : page_rows (row_layout plan) (page (place (shape_in first plan) (model.oldest table.rows + i))) ≡ map stored_row (rows_at table i c)
+    pub rows : page_rows (row_layout plan) (page (place (shape_in first plan) (model.oldest table.rows + i))) ≡ map stored_row (rows_at table i c)
 
-  kept : (i c : ℕ) → slice_get table.rows.counts i ≡ Some c → IsKept i c
+  pub kept : (i c : ℕ) → slice_get table.rows.counts i ≡ Some c → IsKept i c
   kept i c e = by_count (cases_lt 0 c)
     where
       by_count : (0 < c) ⊎ (c ≤ 0) → IsKept i c

@@ -18,6 +18,9 @@ pub mod Refused
 pub mod PagesRead
 pub mod KeyOrder
 pub mod KeptPages
+pub mod Looks
+pub mod KeptRead
+pub mod StillStands
 pub mod MountGood
 pub mod MountRead
 pub mod MountEnded

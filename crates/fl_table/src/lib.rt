@@ -3,6 +3,8 @@
 
 mod counts;
 mod faults;
+mod kept;
+mod look;
 mod misfit;
 mod mount;
 mod plan;
