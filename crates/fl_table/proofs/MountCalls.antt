@@ -71,6 +71,7 @@ module _ (old new : Table) (f mid g : FlashState) (n : ℕ) (same : IsSamePlan o
     }
 
     pub refuses-page : (e : MountFault) → is_of_pages e ≡ true → IsTrue mid.media.tells → IfFlash (λ fault. ReadFails mid fault g) e → IfPage (λ fault. IsTrue mid.media.tells → AreRefused (layout_of new.schema) (pages_of ring mid) (oldest_of ring) (next_of ring - oldest_of ring) fault) e → RefusesPages old f e g
+    unfolding reads-ring
     refuses-page (Flash fault) only told fails h = inr (record { ring = ring; ring_reads = reads-ring; fails = fails })
     refuses-page (OfRing fault) only told fails h = absurd (cc only)
     refuses-page (BadPage bad) only told fails h = refused-page (BadPage bad) (h told)
