@@ -117,6 +117,7 @@ impl Lines {
         ensures most { self.new.most ≡ self.old.most }
         ensures closed { self.new.closed ≡ self.old.closed }
         ensures longer { IfOk result (λ n. length self.new.ahead ≡ length self.old.ahead + n) }
+        ensures few { length self.new.ahead ≤ 4097 }
         ensures taken { Fills self.old.ahead (S.left script.old) result self.new.ahead (S.left script.new) }
         ensures cause { HasCause (S.faults script.old) (S.faults script.new) result }
     {
@@ -136,6 +137,7 @@ impl Lines {
     fn close(&mut self) -> bool
         ensures some { OnTrue result ((0 < length self.old.ahead) × (self.new ≡ record (after_rest self.old) { closed = true })) }
         ensures none { OnFalse result (self.old.ahead ≡ []) }
+        ensures nothing { self.new.ahead ≡ [] }
     {
         if self.from == self.to {
             return false;
@@ -151,7 +153,8 @@ impl Lines {
         requires one { IsOneLine self.old.ahead }
         requires short { length self.old.ahead ≤ 4096 }
         requires is_open { self.old.closed ≡ false }
-        ensures { Advances self.old (S.left script.old) (S.faults script.old) result self.new (S.left script.new) (S.faults script.new) }
+        ensures few { length self.new.ahead ≤ 4097 }
+        ensures advances { Advances self.old (S.left script.old) (S.faults script.old) result self.new (S.left script.new) (S.faults script.new) }
     {
         let mut byte = [0; 1];
         match script.read(&mut byte) {
@@ -161,9 +164,11 @@ impl Lines {
         }
     }
 
-    /// Goes on to the next line. False says that there is none.
+    /// Goes on to the next line. False says that there is none. At most 4,097 bytes are then taken from the source
+    /// that weren't given.
     pub fn advance<S: Source>(&mut self, script: &mut S) -> Result<bool, LinesFault>
-        ensures { Advances self.old (S.left script.old) (S.faults script.old) result self.new (S.left script.new) (S.faults script.new) }
+        ensures advances { Advances self.old (S.left script.old) (S.faults script.old) result self.new (S.left script.new) (S.faults script.new) }
+        ensures few { length self.new.ahead ≤ 4097 }
     {
         if self.closed {
             return Ok(false);
