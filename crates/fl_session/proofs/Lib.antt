@@ -24,3 +24,5 @@ pub mod Rooms
 pub mod Over
 pub mod Completing
 pub mod BuiltOne
+pub mod Generating
+pub mod Loading

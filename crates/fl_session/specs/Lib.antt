@@ -12,4 +12,5 @@ pub mod Begin
 pub mod Opening
 pub mod Answer
 pub mod Standing
+pub mod Load
 pub mod Run

@@ -1,5 +1,5 @@
 // What a table tells of itself without a read of the flash.
-ghost use Rattle.std.specs.Prelude.{◌≡◌, ◌<◌, ◌≤◌, ◌-◌, Some};
+ghost use Rattle.std.specs.Prelude.{◌≡◌, ◌<◌, ◌≤◌, ◌-◌, length, Some};
 
 use crate::table::Table;
 use fl_schema::{RowRef, Schema};
@@ -23,6 +23,15 @@ impl Table {
         ensures planned { (first : ℕ) → (plan : Plan) → IsPlanned self.now first plan → layout_of result.now ≡ row_layout plan }
     {
         &self.schema
+    }
+
+    /// How many columns its rows have.
+    pub fn columns(&self) -> usize
+        ensures exact { result ≡ length (layout_in self.now).columns }
+        ensures some { 1 ≤ result }
+        ensures few { result ≤ 8 }
+    {
+        self.schema.columns()
     }
 
     /// The key of its last record, where it has one.
