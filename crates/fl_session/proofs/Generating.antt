@@ -52,7 +52,7 @@ values_so_far-all n columns seed i values generator h so_far stands =
     ∙ (so_far.others ∙ (ap (values_from generator.sum 1) stands.signed_are ∙ values-are generator.sum i seed 1 columns stands.sum)))
 
 -- which columns are signed
-take-get : {X : Type 0} (xs : List X) (n : ℕ) (x : X) → slice_get xs n ≡ Some x → take (n + 1) xs ≡ take n xs ++ x ∷ []
+take-get : {X : Type 0} (xs : List X) (n : ℕ) (x : X) → slice_get xs n ≡ Some x → take (suc n) xs ≡ take n xs ++ x ∷ []
 take-get [] n x e = absurd (none e)
   where
     none : None ≡ Some x → ⊥
@@ -66,4 +66,4 @@ signs-more types columns n of signed sign now is here e count so_far k =
     let there : slice_get (map (λ column. column.signed) columns) n ≡ Some sign =
     subst (λ cs. slice_get (map (λ column. column.signed) cs) n ≡ Some sign) is
     (map-get (λ column. column.signed) (map column_of types) n (column_of of) (map-get column_of types n of here) ∙ ap (λ b. Some b) (sym e)) in
-    (ap length k ∙ simp length-append (omega (arith, count)), k ∙ (ap (λ l. l ++ sign ∷ []) so_far ∙ sym (take-get (map (λ column. column.signed) columns) n sign there)))
+    (ap length k ∙ simp length-append (omega (arith, count)), k ∙ (ap (λ l. l ++ sign ∷ []) so_far ∙ (sym (take-get (map (λ column. column.signed) columns) n sign there) ∙ ap (λ k. take k (map (λ column. column.signed) columns)) (sym (add-one n)))))

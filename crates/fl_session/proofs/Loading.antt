@@ -86,8 +86,11 @@ made-is t f plan table step seed i s key values last stands e k v =
     let values_are : values ≡ load_values i seed 1 plan.columns = v ∙ ap (λ l. load_values i seed 1 l.columns) (sym stands.planned.layout) in
     ap (λ n. made n values) key_is ∙ ap (λ vs. made (load_record plan table step seed i s).key vs) values_are
 
+one-plan : (plans : List Plan) (a b : Plan) → plans ≡ a ∷ [] → plans ≡ b ∷ [] → a ≡ b
+one-plan plans a b e k = cc
+
 -- what is watched in one put of a load
-put-watched : (config : Config) (t : Table) (name : List ℕ) (f g : FlashState) (m : Machine) (rose : Bool) → SessionStands config t name f true m → (Rose f.media.faults g.media.faults → IsTrue rose) → IsWatched f g rose m.device
+pub put-watched : (config : Config) (t : Table) (name : List ℕ) (f g : FlashState) (m : Machine) (rose : Bool) → SessionStands config t name f true m → (Rose f.media.faults g.media.faults → IsTrue rose) → IsWatched f g rose m.device
 put-watched config t name f g m rose h risen = record { told = h.medium.told; on = h.power refl; risen = risen; counts = h.device }
 
 -- faults that rose in a part of a load rose in the whole
@@ -96,3 +99,131 @@ rose-front before mid now later r = le_trans r later
 
 pub rose-back : (before mid now : ℕ) → before ≤ mid → Rose mid now → Rose before now
 rose-back before mid now earlier r = omega arith
+
+-- a load that ended so
+ends-load : (config : Config) (name : List ℕ) (old : Machine) (t u : Table) (f g : FlashState) (count step seed : ℕ) (mounted : Bool) (plan : Plan) (moment : Moment) →
+    SessionStands config t name f true old → moment.command ≡ command.Load name count step seed → moment.rose ≡ has_risen f g → config.plans ≡ plan ∷ [] →
+    LoadsFrom config old moment plan 0 step seed count 1 (next_random seed) 0 old.device old.tables → SessionStands config u name g mounted moment.after →
+    Answers config old (command.Load name count step seed) (SessionStands config u name g mounted) f.media.faults g.media.faults (texts moment.replies)
+ends-load config name old t u f g count step seed mounted plan moment h is rose plans loads stands =
+    let at : Located = record { place = 0; plan = h.plan; table = h.table } in
+    let own = located-own config old h.plan h.table name h.plans h.tables h.named in
+    let load : LoadStep config old moment count step seed at = subst (λ p. LoadsFrom config old moment p 0 step seed count 1 (next_random seed) 0 old.device old.tables) (one-plan config.plans plan h.plan plans h.plans) loads in
+    record {
+      moment = moment;
+      command_is = is;
+      step = step-is config old moment (command.Load name count step seed) is (table-step config old moment name (LoadStep config old moment count step seed) at h.is_mounted own load);
+      stands_after = stands;
+      rose = λ e. risen-rose f g (subst IsTrue rose e);
+      said_is = refl;
+    }
+
+-- all records were put
+pub load-finished : (config : Config) (name : List ℕ) (old : Machine) (t u : Table) (f g : FlashState) (count step seed loaded random : ℕ) → SessionStands config t name f true old → loaded ≡ count →
+    LoadedSoFar config name old u g (has_risen f g) count step seed loaded random →
+    Answers config old (command.Load name count step seed) (SessionStands config u name g true) f.media.faults g.media.faults (texts (load_replies count (Ok tt)))
+load-finished config name old t u f g count step seed loaded random h e so_far =
+    let moment : Moment = record { command = command.Load name count step seed; rose = has_risen f g; reads = 0; last = None; replies = reply.Loaded count ∷ []; after = amid old so_far.device so_far.tables } in
+    let ended : LoadsFrom config old moment so_far.stands.plan 0 step seed 0 (loaded + 1) random loaded so_far.device so_far.tables = record { replies_are = ap (λ n. reply.Loaded n ∷ []) (sym e); after_is = refl; last_is = refl } in
+    let loads = so_far.whole moment refl (subst (λ turns. LoadsFrom config old moment so_far.stands.plan 0 step seed turns (loaded + 1) random loaded so_far.device so_far.tables) (let k : 0 ≡ count - loaded = omega arith in k) ended) in
+    ends-load config name old t u f g count step seed true so_far.stands.plan moment h refl refl so_far.stands.plans loads so_far.stands
+
+-- an operation of a put failed
+abbrev stopped_so : Machine → Command → Bool → ℕ → List model.Table → PartProgress model.Table → FlashFault → Moment
+stopped_so old c rose loaded tables now fault = record {
+  command = c;
+  rose = rose;
+  reads = 0;
+  last = last_of tables now.end;
+  replies = reply.Loaded loaded ∷ fault_reply fault ∷ [];
+  after = stopped (amid old now.device (with_table 0 tables now.state));
+}
+
+stops-load : (old : Machine) (c : Command) (rose : Bool) (loaded : ℕ) (tables : List model.Table) (now : PartProgress model.Table) (fault : FlashFault) (g : FlashState) (others : Type 0) (e : PartEnd model.Table) → now.end ≡ e → FaultEnds e fault g →
+    LoadsOn (outcome_at 0 tables e) old (stopped_so old c rose loaded tables now fault) (progress_at 0 tables now) loaded others
+stops-load old c rose loaded tables now fault g others Whole k h = absurd h
+stops-load old c rose loaded tables now fault g others (CutIn before) k h = record { replies_are = ap (λ x. reply.Loaded loaded ∷ fault_reply x ∷ []) h.0; after_is = refl; last_is = ap (last_of tables) k }
+stops-load old c rose loaded tables now fault g others (FailedIn before) k h = record { replies_are = ap (λ x. reply.Loaded loaded ∷ fault_reply x ∷ []) h.0; after_is = refl; last_is = ap (last_of tables) k }
+
+-- One put of a load.
+module _ (config : Config) (name : List ℕ) (old : Machine) (t u : Table) (f g : FlashState) (rose : Bool) (count step seed loaded random : ℕ)
+    (so_far : LoadedSoFar config name old t f rose count step seed loaded random) (left : loaded < count) (goes : Goes f g) (same : IsSamePlan t u) where
+  abbrev item : Record
+  item = load_record so_far.stands.plan so_far.stands.table step seed (loaded + 1) random
+
+  abbrev pub EndsNext : Result (Unit {0}) PutRefusal → Type 0
+  EndsNext result = PutEnds 0 so_far.stands.plan item so_far.stands.table rose so_far.device result u g
+
+  -- it ended as the put of a record
+  pub ends-next : (result : Result (Unit {0}) PutRefusal) (key : ℕ) (values : List ℤ) (last : Option ℕ) → (Rose f.media.faults g.media.faults → IsTrue rose) →
+      ((f : FlashState) (first : ℕ) (plan : Plan) (table : model.Table) → Stands t f first plan table → last ≡ option_map (λ entry. entry.kept.key) (last_entry table)) →
+      key ≡ load_key (unwrap_or last 0) step random → values ≡ load_values (loaded + 1) seed 1 (layout_in t).columns →
+      ((first : ℕ) (plan : Plan) (table : model.Table) (rose : Bool) (device : Device) → IsWatched f g rose device → Stands t f first plan table → PutEnds first plan (made key values) table rose device result u g) →
+      EndsNext result
+  ends-next result key values last risen told k v ends =
+      let h = so_far.stands in
+      subst (λ r. PutEnds 0 h.plan r h.table rose so_far.device result u g)
+      (made-is t f h.plan h.table step seed (loaded + 1) random key values last h.on_flash (told f 0 h.plan h.table h.on_flash) k v)
+      (ends 0 h.plan h.table rose so_far.device (put-watched config t name f g (amid old so_far.device so_far.tables) rose h risen) h.on_flash)
+
+  -- it was done
+  pub loaded-more : EndsNext (Ok tt) → LoadedSoFar config name old u g rose count step seed (loaded + 1) (next_random random)
+  loaded-more ends =
+      let h = so_far.stands in
+      let fin = ends.1 in
+      let after = changed_at 0 (put_record h.plan item) so_far.tables in
+      let stands : SessionStands config u name g true (amid old fin.now.device after) = stands-done config (amid old so_far.device so_far.tables) name t u f g h goes same (put_record h.plan item) fin.now.device fin.counts fin.power fin.stands in
+      record {
+        device = fin.now.device;
+        tables = after;
+        stands = stands;
+        whole = λ moment r l.
+            let rest = subst (λ p. LoadsFrom config old moment p 0 step seed (count - (loaded + 1)) (loaded + 1 + 1) (next_random random) (loaded + 1) fin.now.device after) (one-plan config.plans stands.plan h.plan stands.plans h.plans) l in
+            let end = progress_at 0 so_far.tables fin.now in
+            let others = LoadsFrom config old moment h.plan 0 step seed (count - (loaded + 1)) (loaded + 1 + 1) (next_random random) (loaded + 1) fin.now.device after in
+            let does = performs-all config (amid old so_far.device so_far.tables) h.plan h.table rose (put_seals h.plan item h.table) fin.now h.plans h.tables fin.did in
+            so_far.whole moment r
+            (loads-next config old moment h.plan step seed count loaded random so_far.device so_far.tables h.table None left h.tables ends.0
+            (end,
+            subst (λ b. Performs config.plans b (operations_of h.plan 0 (put_seals h.plan item h.table) h.table) so_far.device so_far.tables end) (sym r) does,
+            subst (λ e. LoadsOn (outcome_at 0 so_far.tables e) old moment end loaded others) (sym fin.whole) rest));
+      }
+
+  -- it was refused, or an operation of it failed
+  pub load-broken : (start : Table) (before : FlashState) (fault : FlashFault) → SessionStands config start name before true old → rose ≡ has_risen before g → EndsNext (Err (put.Flash fault)) →
+      Answers config old (command.Load name count step seed) (SessionStands config u name g false) before.media.faults g.media.faults (texts (load_replies loaded (Err (put.Flash fault))))
+  load-broken start before fault first risen ends =
+      let h = so_far.stands in
+      let b = ends.1 in
+      let moment = stopped_so old (command.Load name count step seed) rose loaded so_far.tables b.now fault in
+      let others = LoadsFrom config old moment h.plan 0 step seed (count - (loaded + 1)) (loaded + 1 + 1) (next_random random) (loaded + 1) b.now.device (changed_at 0 (put_record h.plan item) so_far.tables) in
+      let does = performs-all config (amid old so_far.device so_far.tables) h.plan h.table rose (put_seals h.plan item h.table) b.now h.plans h.tables b.did in
+      let loads = so_far.whole moment refl
+      (loads-next config old moment h.plan step seed count loaded random so_far.device so_far.tables h.table None left h.tables ends.0
+      (progress_at 0 so_far.tables b.now, does, stops-load old (command.Load name count step seed) rose loaded so_far.tables b.now fault g others b.now.end refl b.answer)) in
+      ends-load config name old start u before g count step seed false h.plan moment first refl risen h.plans loads
+      (stands-broken config (amid old so_far.device so_far.tables) name t u f g h goes same b.now.state b.now.device b.counts b.rests)
+
+  load-refused : (start : Table) (before : FlashState) (refusal : Refusal) → SessionStands config start name before true old → rose ≡ has_risen before g → u ≡ t → g ≡ f → refusal_of so_far.stands.plan so_far.stands.table item ≡ Some refusal →
+      Answers config old (command.Load name count step seed) (SessionStands config u name g true) before.media.faults g.media.faults (texts (reply.Loaded loaded ∷ refused refusal ∷ []))
+  load-refused start before refusal first risen e k is =
+      let h = so_far.stands in
+      let moment : Moment = record { command = command.Load name count step seed; rose = rose; reads = 0; last = None; replies = reply.Loaded loaded ∷ refused refusal ∷ []; after = amid old so_far.device so_far.tables } in
+      let loads = so_far.whole moment refl
+      (loads-next config old moment h.plan step seed count loaded random so_far.device so_far.tables h.table (Some refusal) left h.tables is (record { replies_are = refl; after_is = refl; last_is = refl })) in
+      ends-load config name old start u before g count step seed true h.plan moment first refl risen h.plans loads (rw (e, k) h)
+
+  pub load-stopped : (start : Table) (before : FlashState) (result : Result (Unit {0}) PutRefusal) → SessionStands config start name before true old → rose ≡ has_risen before g → is_err result ≡ true → EndsNext result →
+      IfErr result (λ e. RefusedSame t f e u g) →
+      Answers config old (command.Load name count step seed) (SessionStands config u name g (not (put_breaks result))) before.media.faults g.media.faults (texts (load_replies loaded result))
+  load-stopped start before (Ok done) first risen e ends r = absurd (ok e)
+    where
+      ok : false ≡ true → ⊥
+      ok k = cc
+  load-stopped start before (Err (put.Flash fault)) first risen e ends r = load-broken start before fault first risen ends
+  load-stopped start before (Err (put.Key last)) first risen e ends r = load-refused start before (BadKey last) first risen r.0 r.1 ends
+  load-stopped start before (Err (put.Columns wanted)) first risen e ends r = load-refused start before (BadColumns wanted) first risen r.0 r.1 ends
+  load-stopped start before (Err (put.Value column)) first risen e ends r = load-refused start before (BadValue column) first risen r.0 r.1 ends
+  load-stopped start before (Err (put.Blob limit)) first risen e ends r = load-refused start before (BadBlob limit) first risen r.0 r.1 ends
+  load-stopped start before (Err put.Spent) first risen e ends r = load-refused start before Spent first risen r.0 r.1 ends
+  load-stopped start before (Err put.Stopped) first risen e ends r = absurd ends
