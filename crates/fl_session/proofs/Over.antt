@@ -90,7 +90,6 @@ new-lies t lines f new one device blocks fits =
       few = few-pages f lines.plans blocks fits;
       ring = λ r is. absurd (some (ap is_some (sym is) ∙ new.rests));
     }
-
   where
     some : true ≡ false → ⊥
     some e = cc

@@ -158,9 +158,11 @@ module _ (config : Config) (old : Machine) (name : List ℕ) (t u : Table) (f g 
       record {
         moment = moment;
         command_is = refl;
-        step = step moment
-            (progress_at 0 old.tables fin.now, performs-all config old h.plan h.table (has_risen f g) rings fin.now h.plans h.tables fin.did,
-            ends-whole old moment fin.now.end (progress_at 0 old.tables fin.now) after_is fin.whole (record { replies_are = refl; after_is = refl; last_is = refl })) refl;
+        step = step moment (
+          progress_at 0 old.tables fin.now,
+          performs-all config old h.plan h.table (has_risen f g) rings fin.now h.plans h.tables fin.did,
+          ends-whole old moment fin.now.end (progress_at 0 old.tables fin.now) after_is fin.whole (record { replies_are = refl; after_is = refl; last_is = refl }),
+        ) refl;
         stands_after = stands-done after fin.now.device fin.counts fin.power fin.stands;
         rose = risen-rose f g;
         said_is = one-text reply.Done;
@@ -174,9 +176,11 @@ module _ (config : Config) (old : Machine) (name : List ℕ) (t u : Table) (f g 
       record {
         moment = moment;
         command_is = refl;
-        step = step moment
-            (progress_at 0 old.tables b.now, performs-all config old h.plan h.table (has_risen f g) rings b.now h.plans h.tables b.did,
-            ends-broken c (has_risen f g) old b.now fault g b.now.end (record new { device = b.now.device }) refl b.answer) refl;
+        step = step moment (
+          progress_at 0 old.tables b.now,
+          performs-all config old h.plan h.table (has_risen f g) rings b.now h.plans h.tables b.did,
+          ends-broken c (has_risen f g) old b.now fault g b.now.end (record new { device = b.now.device }) refl b.answer,
+        ) refl;
         stands_after = stands-broken b.now.state b.now.device b.counts b.rests;
         rose = risen-rose f g;
         said_is = one-text (fault_reply fault);

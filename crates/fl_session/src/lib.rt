@@ -15,7 +15,6 @@ mod status;
 mod whole_run;
 mod words;
 
-pub use session::Session;
 pub use status::Status;
 pub use whole_run::{KNOTS, run};
 pub use words::image_of;
