@@ -26,3 +26,7 @@ pub mod Completing
 pub mod BuiltOne
 pub mod Generating
 pub mod Loading
+pub mod RowLines
+pub mod PagesListed
+pub mod Scanned
+pub mod Scanning

@@ -14,3 +14,5 @@ pub mod Answer
 pub mod Standing
 pub mod Load
 pub mod Run
+pub mod Rows
+pub mod Listed

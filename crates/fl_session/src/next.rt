@@ -20,6 +20,7 @@ fn is_built(command: &Command) -> bool
         | Command::Off
         | Command::Put { .. }
         | Command::Flush { .. }
+        | Command::Scan { .. }
         | Command::Stat { .. } => true,
         Command::Cut { n, .. } => 1 <= *n,
         _ => false,

@@ -16,6 +16,7 @@ ghost use Rattle.fl_session.specs.Standing.{SessionStands, IsSound};
 
 use crate::executor::Executor;
 use crate::replies::{flush_breaks, flush_reply, mount_reply, put_breaks, put_reply};
+use crate::rows::Wanted;
 use fl_base::{CutKind, Name, Sink, SinkFailed};
 use fl_flash::{Flash, Media, PageBuf, SimFlash};
 use fl_script::{Command, LineRoom, Reply, write_reply};
@@ -177,6 +178,27 @@ impl<'m, M: Media> Session<'m, M> {
             erases: work.erases,
         }
     }
+
+    /// Lists the rows that are asked for, and their number.
+    fn scan<K: Sink>(
+        &mut self,
+        name: Name,
+        wanted: Wanted,
+        out: &mut K,
+    ) -> Result<(), SinkFailed>
+        requires sound { IsSound self.old.table (⟦<SimFlash<'m, M> as Flash>⟧.state self.old.flash) self.old.buf }
+        ensures sound { IsSound self.new.table (⟦<SimFlash<'m, M> as Flash>⟧.state self.new.flash) self.new.buf }
+        ensures goes { Goes (⟦<SimFlash<'m, M> as Flash>⟧.state self.old.flash) (⟦<SimFlash<'m, M> as Flash>⟧.state self.new.flash) }
+        ensures sink { HasCause (K.faults out.old) (K.faults out.new) result }
+        ensures step { (config : Config) (old : Machine) → SessionStands config self.old.table self.old.name (⟦<SimFlash<'m, M> as Flash>⟧.state self.old.flash) self.old.mounted old →
+            Executes config old (words.Scan name wanted.range wanted.span) (SessionStands config self.new.table self.new.name (⟦<SimFlash<'m, M> as Flash>⟧.state self.new.flash) self.new.mounted)
+            (⟦<SimFlash<'m, M> as Flash>⟧.state self.old.flash).media.faults (⟦<SimFlash<'m, M> as Flash>⟧.state self.new.flash).media.faults (K.written out.old) (K.written out.new) result }
+    {
+        if let Some(refusal) = self.refusal(name) {
+            return write_reply(&refusal, out);
+        }
+        wanted.scan(&self.table, &mut self.flash, &mut self.buf, out)
+    }
 }
 
 /// The blob of a put, which stands in the room of its line.
@@ -213,6 +235,13 @@ impl<'m, M: Media> Executor for Session<'m, M> {
             } => self.put(*name, *key, values.as_slice(), blob_in(room, *blob)),
             Command::Flush { name } => self.flush(*name),
             Command::Stat { name } => self.stat(*name),
+            Command::Scan { name, range, span } => {
+                let wanted = Wanted {
+                    range: *range,
+                    span: *span,
+                };
+                return self.scan(*name, wanted, out);
+            }
             _ => return Ok(()),
         };
         write_reply(&reply, out)

@@ -20,6 +20,7 @@ pub mod KeyOrder
 pub mod KeptPages
 pub mod Looks
 pub mod KeptRead
+pub mod StillStands
 pub mod MountGood
 pub mod MountRead
 pub mod MountEnded
