@@ -30,3 +30,4 @@ pub mod RowLines
 pub mod PagesListed
 pub mod Scanned
 pub mod Scanning
+pub mod LoadLines

@@ -97,6 +97,9 @@ put-watched config t name f g m rose h risen = record { told = h.medium.told; on
 pub rose-front : (before mid now : ℕ) → mid ≤ now → Rose before mid → Rose before now
 rose-front before mid now later r = le_trans r later
 
+pub rose-risen : (f g : FlashState) → Rose f.media.faults g.media.faults → IsTrue (has_risen f g)
+rose-risen f g r = le-leb (min (f.media.faults + 1) (2 ^ 64 - 1)) g.media.faults r
+
 pub rose-back : (before mid now : ℕ) → before ≤ mid → Rose mid now → Rose before now
 rose-back before mid now earlier r = omega arith
 
@@ -178,16 +181,25 @@ module _ (config : Config) (name : List ℕ) (old : Machine) (t u : Table) (f g 
         tables = after;
         stands = stands;
         whole = λ moment r l.
-            let rest = subst (λ p. LoadsFrom config old moment p 0 step seed (count - (loaded + 1)) (loaded + 1 + 1) (next_random random) (loaded + 1) fin.now.device after) (one-plan config.plans stands.plan h.plan stands.plans h.plans) l in
+            let plan_is : stands.plan ≡ h.plan = one-plan config.plans stands.plan h.plan stands.plans h.plans in
+            let rest = subst (λ p. LoadsFrom config old moment p 0 step seed (count - (loaded + 1)) (loaded + 1 + 1) (next_random random) (loaded + 1) fin.now.device after) plan_is l in
             let end = progress_at 0 so_far.tables fin.now in
             let others = LoadsFrom config old moment h.plan 0 step seed (count - (loaded + 1)) (loaded + 1 + 1) (next_random random) (loaded + 1) fin.now.device after in
             let does = performs-all config (amid old so_far.device so_far.tables) h.plan h.table rose (put_seals h.plan item h.table) fin.now h.plans h.tables fin.did in
-            so_far.whole moment r
+            subst (λ p. LoadsFrom config old moment p 0 step seed count 1 (next_random seed) 0 old.device old.tables) (sym plan_is)
+            (so_far.whole moment r
             (loads-next config old moment h.plan step seed count loaded random so_far.device so_far.tables h.table None left h.tables ends.0
             (end,
             subst (λ b. Performs config.plans b (operations_of h.plan 0 (put_seals h.plan item h.table) h.table) so_far.device so_far.tables end) (sym r) does,
-            subst (λ e. LoadsOn (outcome_at 0 so_far.tables e) old moment end loaded others) (sym fin.whole) rest));
+            subst (λ e. LoadsOn (outcome_at 0 so_far.tables e) old moment end loaded others) (sym fin.whole) rest)));
       }
+
+  pub ends-done : (result : Result (Unit {0}) PutRefusal) → is_err result ≡ false → EndsNext result → EndsNext (Ok tt)
+  ends-done (Ok done) e ends = ends
+  ends-done (Err refusal) e ends = absurd (ok e)
+    where
+      ok : true ≡ false → ⊥
+      ok k = cc
 
   -- it was refused, or an operation of it failed
   pub load-broken : (start : Table) (before : FlashState) (fault : FlashFault) → SessionStands config start name before true old → rose ≡ has_risen before g → EndsNext (Err (put.Flash fault)) →

@@ -1,25 +1,45 @@
 // The puts of a load.
 ghost use Rattle.std.specs.Prelude.{◌≤◌, ℕ, List, not, true};
+ghost use Rattle.fl_base.specs.Causes.{HasCause};
 ghost use Rattle.fl_flash.specs.Flash.{Goes};
 ghost use Rattle.fl_model.specs.Record.{Config};
 ghost use Rattle.fl_words.specs.Command as words;
 ghost use Rattle.fl_words.specs.Reply.{texts};
 ghost use Rattle.fl_machine.specs.Machine.{Machine};
+ghost use Rattle.fl_script.specs.Written.{Written};
 ghost use Rattle.fl_table.specs.Causes.{put_breaks};
 ghost use Rattle.fl_table.specs.Memory.{LiesOn};
 ghost use Rattle.fl_session.specs.Answer.{Answers, load_replies};
 ghost use Rattle.fl_session.specs.Standing.{SessionStands};
 
 use crate::generator::Generator;
+use crate::replies::put_reply;
+use fl_base::{Sink, SinkFailed};
 use fl_flash::Flash;
+use fl_script::{Reply, write_reply};
 use fl_table::{PutRefusal, Table};
 
 /// How a load ended.
+#[derive(Clone, Copy, Debug)]
 pub(crate) struct Loaded {
     /// How many records were put.
     pub(crate) count: u64,
     /// Whether the next one was refused, and the load stopped there.
     pub(crate) outcome: Result<(), PutRefusal>,
+}
+
+impl Loaded {
+    /// Writes how many records were put, and why the next one wasn't.
+    pub(crate) fn write<K: Sink>(&self, out: &mut K) -> Result<(), SinkFailed>
+        ensures text { Written (K.written out.old) (K.written out.new) result (texts (load_replies self.now.count self.now.outcome)) }
+        ensures cause { HasCause (K.faults out.old) (K.faults out.new) result }
+    {
+        write_reply(&Reply::Loaded { count: self.count }, out)?;
+        if self.outcome.is_err() {
+            write_reply(&put_reply(self.outcome), out)?;
+        }
+        Ok(())
+    }
 }
 
 /// Puts as many generated records, up to the first one that is refused.
