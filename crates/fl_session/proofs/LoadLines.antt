@@ -1,6 +1,6 @@
 -- The lines of a load, which are written one after another.
 use Rattle.std.proofs.Common.{◌≡◌, ℕ, Bool, true, false, Option, Some, None, Result, Ok, Err, List, [], ◌∷◌, ◌++◌, append_assoc, append-nil, sym, ◌∙◌, ap, subst}
-use Rattle.std.specs.Prelude.{is_err}
+use Rattle.std.specs.Prelude.{is_err, not}
 use Rattle.fl_base.specs.Causes.{Appends, AppendsFront}
 use Rattle.fl_flash.specs.Flash.{FlashState}
 use Rattle.fl_model.specs.Record.{Config}
@@ -13,6 +13,7 @@ use Rattle.fl_script.proofs.Sending.{appends-append}
 use Rattle.fl_script.specs.ReplyView.{reply_text}
 use Rattle.fl_script.specs.Written.{Written}
 use Rattle.fl_script.specs.declared.reply.Reply as code
+use Rattle.fl_table.specs.Causes.{put_breaks}
 use Rattle.fl_table.specs.declared.faults.PutRefusal.{PutRefusal}
 use Rattle.fl_table.specs.declared.table.Table.{Table}
 use Rattle.fl_session.specs.Answer.{Answers, Refusal, put_reply, load_replies}
@@ -45,16 +46,18 @@ front-second told mid now count (Err refusal) line e is first h =
     (a ++ h.0, (h.1.0 ++ [], parts), appends-append told mid now a h.0 first h.2)
 
 -- a load that is executed
-pub load-executes : (E : Type 0) (config : Config) (old : Machine) (t u : Table) (name asked : List ℕ) (f g : FlashState) (mounted now : Bool) (count step seed loaded : ℕ) (outcome : Result (Unit {0}) PutRefusal) (told told_now : Option (List ℕ)) (result : Result (Unit {0}) E) →
+pub load-executes : (E : Type 0) (config : Config) (old : Machine) (t u : Table) (name asked : List ℕ) (f g : FlashState) (mounted breaks : Bool) (count step seed loaded : ℕ) (outcome : Result (Unit {0}) PutRefusal) (told told_now : Option (List ℕ)) (result : Result (Unit {0}) E) →
     SessionStands config t name f mounted old → Refusal name mounted asked None →
     ((config : Config) (name : List ℕ) (old : Machine) → SessionStands config t name f true old →
-    Answers config old (command.Load name count step seed) (SessionStands config u name g now) f.media.faults g.media.faults (texts (load_replies loaded outcome))) →
-    Written told told_now result (texts (load_replies loaded outcome)) →
-    Executes config old (command.Load asked count step seed) (SessionStands config u name g now) f.media.faults g.media.faults told told_now result
-load-executes E config old t u name asked f g mounted now count step seed loaded outcome told told_now result h r answers wrote =
+    Answers config old (command.Load name count step seed) (SessionStands config u name g (not (put_breaks outcome))) f.media.faults g.media.faults (texts (load_replies loaded outcome))) →
+    breaks ≡ put_breaks outcome → Written told told_now result (texts (load_replies loaded outcome)) →
+    Executes config old (command.Load asked count step seed) (SessionStands config u name g (not breaks)) f.media.faults g.media.faults told told_now result
+load-executes E config old t u name asked f g mounted breaks count step seed loaded outcome told told_now result h r answers b wrote =
     let h' = subst (λ m. SessionStands config t name f m old) r.0 h in
-    subst (λ asked. Executes config old (command.Load asked count step seed) (SessionStands config u name g now) f.media.faults g.media.faults told told_now result) (sym r.1)
-    (executes-answered E config old (command.Load name count step seed) (SessionStands config u name g now) f.media.faults g.media.faults (texts (load_replies loaded outcome)) told told_now result (answers config name old h') wrote)
+    subst (λ asked. Executes config old (command.Load asked count step seed) (SessionStands config u name g (not breaks)) f.media.faults g.media.faults told told_now result) (sym r.1)
+    (subst (λ broken. Executes config old (command.Load name count step seed) (SessionStands config u name g (not broken)) f.media.faults g.media.faults told told_now result) (sym b)
+    (executes-answered E config old (command.Load name count step seed) (SessionStands config u name g (not (put_breaks outcome))) f.media.faults g.media.faults (texts (load_replies loaded outcome)) told told_now result
+    (answers config name old h') wrote))
 
 -- .. and one that isn't
 pub load-refused : (E : Type 0) (config : Config) (old : Machine) (t : Table) (name : List ℕ) (f : FlashState) (mounted : Bool) (asked : List ℕ) (count step seed : ℕ) (said : code.Reply) (told told_now : Option (List ℕ)) (result : Result (Unit {0}) E) →
