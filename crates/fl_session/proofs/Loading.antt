@@ -188,10 +188,11 @@ module _ (config : Config) (name : List ℕ) (old : Machine) (t u : Table) (f g 
             let does = performs-all config (amid old so_far.device so_far.tables) h.plan h.table rose (put_seals h.plan item h.table) fin.now h.plans h.tables fin.did in
             subst (λ p. LoadsFrom config old moment p 0 step seed count 1 (next_random seed) 0 old.device old.tables) (sym plan_is)
             (so_far.whole moment r
-            (loads-next config old moment h.plan step seed count loaded random so_far.device so_far.tables h.table None left h.tables ends.0
-            (end,
-            subst (λ b. Performs config.plans b (operations_of h.plan 0 (put_seals h.plan item h.table) h.table) so_far.device so_far.tables end) (sym r) does,
-            subst (λ e. LoadsOn (outcome_at 0 so_far.tables e) old moment end loaded others) (sym fin.whole) rest)));
+            (loads-next config old moment h.plan step seed count loaded random so_far.device so_far.tables h.table None left h.tables ends.0 (
+              end,
+              subst (λ b. Performs config.plans b (operations_of h.plan 0 (put_seals h.plan item h.table) h.table) so_far.device so_far.tables end) (sym r) does,
+              subst (λ e. LoadsOn (outcome_at 0 so_far.tables e) old moment end loaded others) (sym fin.whole) rest,
+            )));
       }
 
   pub ends-done : (result : Result (Unit {0}) PutRefusal) → is_err result ≡ false → EndsNext result → EndsNext (Ok tt)

@@ -181,12 +181,7 @@ impl<'m, M: Media> Session<'m, M> {
     }
 
     /// Lists the rows that are asked for, and their number.
-    fn scan<K: Sink>(
-        &mut self,
-        name: Name,
-        wanted: Wanted,
-        out: &mut K,
-    ) -> Result<(), SinkFailed>
+    fn scan<K: Sink>(&mut self, name: Name, wanted: Wanted, out: &mut K) -> Result<(), SinkFailed>
         requires sound { IsSound self.old.table (⟦<SimFlash<'m, M> as Flash>⟧.state self.old.flash) self.old.buf }
         ensures sound { IsSound self.new.table (⟦<SimFlash<'m, M> as Flash>⟧.state self.new.flash) self.new.buf }
         ensures goes { Goes (⟦<SimFlash<'m, M> as Flash>⟧.state self.old.flash) (⟦<SimFlash<'m, M> as Flash>⟧.state self.new.flash) }

@@ -383,3 +383,5 @@ fn long_scripts(rt: HostRuntime) -> Result<(), Fail> {
     assert!(rt; status == Status::ScriptLong);
     Ok(())
 }
+
+mod loads;
