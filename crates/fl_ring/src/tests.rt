@@ -1,6 +1,6 @@
 // Images made by hand, a forged block, and a cut of each kind at each operation.
-ghost use Rattle.std.specs.Prelude.{◌≡◌, ◌≤◌, ◌<◌, ◌+◌, length, vec_len, OnOk, IfOk};
-ghost use Rattle.fl_flash.specs.Flash.{Goes};
+ghost use Rattle.std.specs.Prelude.{◌≡◌, ◌+◌, length, vec_len, OnOk, IfOk};
+ghost use Rattle.fl_flash.specs.Flash.{FlashState, Goes};
 ghost use Rattle.fl_ring.specs.Place.{shape_of, LiesOn};
 
 use crate::{Ring, RingFault};
@@ -49,125 +49,6 @@ fn image(alloc: Global, pages: [Page; 6]) -> Result<Vec<u8>, AllocError>
     Ok(bytes)
 }
 
-// The oldest and the next number that a mount finds, and how many programs and erases it needs.
-type Mounted = (Result<(u32, u32), RingFault>, u64, u64);
-
-fn mount_image(alloc: Global, pages: [Page; 6], at_least: u32) -> Result<Mounted, NoMemory> {
-    let bytes = image(alloc, pages)?;
-    let mut media = MemMedia::new(alloc, bytes, 512)?;
-    let mut buf = PageBuf::new(alloc, 64)?;
-    let mut flash = SimFlash::new(alloc, &mut media, Geometry { page: 64, block: 2 }, 4, 0)?;
-    let found = match Ring::mount(&mut flash, PLACE, at_least, &mut buf) {
-        Ok(ring) => Ok((ring.oldest(), ring.next_number())),
-        Err(fault) => Err(fault),
-    };
-    let work = flash.work();
-    let _media = flash.into_media();
-    Ok((found, work.programs, work.erases))
-}
-
-#[test]
-fn images_made_by_hand(rt: HostRuntime) -> Result<(), Fail> {
-    let rows = [
-        ([Blank; 6], 0, (Ok((0, 0)), 0, 0)),
-        (
-            [Sealed(0), Sealed(1), Sealed(2), Blank, Blank, Blank],
-            0,
-            (Ok((0, 3)), 0, 0),
-        ),
-        // A torn page is given up, and the numbers go on after it.
-        (
-            [Sealed(0), Sealed(1), Torn, Blank, Blank, Blank],
-            0,
-            (Ok((0, 3)), 1, 0),
-        ),
-        // The oldest block goes before it is written again, whatever it holds.
-        (
-            [Sealed(0), Sealed(1), Sealed(2), Sealed(3), Sealed(4), Blank],
-            0,
-            (Ok((2, 5)), 0, 1),
-        ),
-        (
-            [
-                Sealed(600),
-                Sealed(601),
-                Sealed(2),
-                Sealed(3),
-                Sealed(4),
-                Blank,
-            ],
-            0,
-            (Ok((2, 5)), 0, 1),
-        ),
-        (
-            [Torn, Void, Sealed(2), Sealed(3), Sealed(4), Blank],
-            0,
-            (Ok((2, 5)), 0, 1),
-        ),
-        (
-            [Sealed(0), Sealed(1), Sealed(2), Sealed(3), Torn, Blank],
-            0,
-            (Ok((2, 5)), 1, 1),
-        ),
-        (
-            [Sealed(6), Blank, Sealed(2), Sealed(3), Sealed(4), Sealed(5)],
-            0,
-            (Ok((4, 7)), 0, 1),
-        ),
-        // Where no page is committed, the numbers begin at the number given.
-        (
-            [Void, Blank, Blank, Blank, Blank, Blank],
-            10,
-            (Ok((12, 13)), 0, 0),
-        ),
-        (
-            [Void, Blank, Blank, Blank, Blank, Blank],
-            4294967295,
-            (
-                Err(RingFault::NoNumber {
-                    at_least: 4294967295,
-                }),
-                0,
-                0,
-            ),
-        ),
-        (
-            [
-                Sealed(0),
-                Sealed(1),
-                Sealed(2),
-                Sealed(3),
-                Sealed(4),
-                Sealed(5),
-            ],
-            0,
-            (Err(RingFault::BadHead { heads: 0 }), 0, 0),
-        ),
-        (
-            [Blank, Torn, Blank, Blank, Blank, Blank],
-            0,
-            (Err(RingFault::BadGap { page: 3 }), 0, 0),
-        ),
-        (
-            [Sealed(7), Blank, Blank, Blank, Blank, Blank],
-            0,
-            (
-                Err(RingFault::BadPage {
-                    page: 2,
-                    wanted: 0,
-                    found: 7,
-                }),
-                0,
-                0,
-            ),
-        ),
-    ];
-    for (pages, at_least, want) in rows {
-        assert_eq!(rt; mount_image(rt.alloc(), pages, at_least)?, want);
-    }
-    Ok(())
-}
-
 fn seal_next<F: Flash>(ring: &mut Ring, flash: &mut F) -> Result<(), FlashFault>
     requires lies { LiesOn ring.old (F.state flash.old) }
     requires size { (shape_of ring.old).size ≡ 64 }
@@ -195,38 +76,254 @@ fn seal_many<F: Flash>(ring: &mut Ring, flash: &mut F, count: u32) -> Result<(),
     Ok(())
 }
 
-// What a cut leaves: the fault of the seal, and the oldest and the next number that a mount finds.
-type Cut = (Result<(), FlashFault>, Result<(u32, u32), RingFault>);
-
-// Thirteen seals on a new ring, which go round it twice; the n-th operation is cut.
-fn cut_at(alloc: Global, n: u64, kind: CutKind) -> Result<Cut, NoMemory>
-    requires { 1 ≤ n }
+// Mounts a ring and seals so many pages.
+fn seal_on<F: Flash>(
+    flash: &mut F,
+    at_least: u32,
+    count: u32,
+    buf: &mut PageBuf,
+) -> Result<(), RingFault>
+    requires geometry { (F.state flash.old).geometry ≡ record { page = 64; block = 2 } }
+    requires blocks { (F.state flash.old).blocks ≡ 4 }
+    requires room { length buf.old.bytes ≡ 64 }
+    ensures goes { Goes (F.state flash.old) (F.state flash.new) }
+    ensures room { length buf.new.bytes ≡ 64 }
 {
-    let bytes = image(alloc, [Blank; 6])?;
-    let mut media = MemMedia::new(alloc, bytes, 512)?;
+    let mut ring = Ring::mount(flash, PLACE, at_least, buf)?;
+    seal_many(&mut ring, flash, count)?;
+    Ok(())
+}
+
+// The oldest and the next number that a mount finds.
+fn find_on<F: Flash>(
+    flash: &mut F,
+    at_least: u32,
+    buf: &mut PageBuf,
+) -> Result<(u32, u32), RingFault>
+    requires geometry { (F.state flash.old).geometry ≡ record { page = 64; block = 2 } }
+    requires blocks { (F.state flash.old).blocks ≡ 4 }
+    requires room { length buf.old.bytes ≡ 64 }
+{
+    let ring = Ring::mount(flash, PLACE, at_least, buf)?;
+    Ok((ring.oldest(), ring.next_number()))
+}
+
+/// What befalls a flash after so many programs and erases.
+#[derive(Drop)]
+enum Accident {
+    Nothing,
+    Cut { after: u32, kind: CutKind },
+    /// The operation leaves these bytes.
+    Torn { after: u32, bytes: Vec<u8> },
+}
+
+fn arm<'m>(flash: &mut SimFlash<'m, MemMedia>, accident: Accident)
+    ensures { Goes (⟦<SimFlash<'m, MemMedia> as Flash>⟧.state flash.old) (⟦<SimFlash<'m, MemMedia> as Flash>⟧.state flash.new) }
+{
+    match accident {
+        Accident::Nothing => {}
+        Accident::Cut { after, kind } => flash.arm(u64::from(after) + 1, kind),
+        Accident::Torn { after, bytes } => flash.tear(u64::from(after) + 1, bytes),
+    }
+}
+
+// How many pages are sealed on an image, and what befalls them.
+#[derive(Drop)]
+struct Story {
+    at_least: u32,
+    seals: u32,
+    accident: Accident,
+}
+
+// How the seals end, the oldest and the next number that a mount finds then, and the programs and erases of all.
+type Seen = (
+    Result<(), RingFault>,
+    Result<(u32, u32), RingFault>,
+    u64,
+    u64,
+);
+
+fn see(alloc: Global, pages: [Page; 6], story: Story) -> Result<Seen, NoMemory> {
+    let mut media = MemMedia::new(alloc, image(alloc, pages)?, 512)?;
     let mut buf = PageBuf::new(alloc, 64)?;
     let mut flash = SimFlash::new(alloc, &mut media, Geometry { page: 64, block: 2 }, 4, 0)?;
-    let cut = match Ring::mount(&mut flash, PLACE, 0, &mut buf) {
-        Ok(mut ring) => {
-            flash.arm(n, kind);
-            seal_many(&mut ring, &mut flash, 13)
-        }
-        Err(_) => Ok(()),
-    };
+    arm(&mut flash, story.accident);
+    let sealed = seal_on(&mut flash, story.at_least, story.seals, &mut buf);
     flash.power_on();
-    let found = match Ring::mount(&mut flash, PLACE, 0, &mut buf) {
-        Ok(ring) => Ok((ring.oldest(), ring.next_number())),
-        Err(fault) => Err(fault),
-    };
+    let found = find_on(&mut flash, story.at_least, &mut buf);
+    let work = flash.work();
     let _media = flash.into_media();
-    Ok((cut, found))
+    Ok((sealed, found, work.programs, work.erases))
+}
+
+// Whether mounts find these numbers, or this fault, after so many programs and erases.
+fn mounts(
+    alloc: Global,
+    pages: [Page; 6],
+    at_least: u32,
+    found: Result<(u32, u32), RingFault>,
+    work: (u64, u64),
+) -> Result<bool, NoMemory> {
+    let story = Story {
+        at_least,
+        seals: 0,
+        accident: Accident::Nothing,
+    };
+    let seen = see(alloc, pages, story)?;
+    Ok(seen.1 == found && (seen.2, seen.3) == work)
+}
+
+#[test]
+fn images_made_by_hand(rt: HostRuntime) -> Result<(), Fail> {
+    let rows = [
+        ([Blank; 6], 0, (0, 0), (0, 0)),
+        (
+            [Sealed(0), Sealed(1), Sealed(2), Blank, Blank, Blank],
+            0,
+            (0, 3),
+            (0, 0),
+        ),
+        // A torn page is given up, and the numbers go on after it.
+        (
+            [Sealed(0), Sealed(1), Torn, Blank, Blank, Blank],
+            0,
+            (0, 3),
+            (1, 0),
+        ),
+        // The oldest block goes before it is written again, whatever it holds.
+        (
+            [Sealed(0), Sealed(1), Sealed(2), Sealed(3), Sealed(4), Blank],
+            0,
+            (2, 5),
+            (0, 1),
+        ),
+        (
+            [
+                Sealed(600),
+                Sealed(601),
+                Sealed(2),
+                Sealed(3),
+                Sealed(4),
+                Blank,
+            ],
+            0,
+            (2, 5),
+            (0, 1),
+        ),
+        (
+            [Torn, Void, Sealed(2), Sealed(3), Sealed(4), Blank],
+            0,
+            (2, 5),
+            (0, 1),
+        ),
+        (
+            [Sealed(0), Sealed(1), Sealed(2), Sealed(3), Torn, Blank],
+            0,
+            (2, 5),
+            (1, 1),
+        ),
+        (
+            [Sealed(6), Blank, Sealed(2), Sealed(3), Sealed(4), Sealed(5)],
+            0,
+            (4, 7),
+            (0, 1),
+        ),
+        // Where no page is committed, the numbers begin at the number given.
+        (
+            [Void, Blank, Blank, Blank, Blank, Blank],
+            10,
+            (12, 13),
+            (0, 0),
+        ),
+    ];
+    for (pages, at_least, found, work) in rows {
+        let holds = mounts(rt.alloc(), pages, at_least, Ok(found), work)?;
+        assert!(rt; holds, "{found:?} {work:?}");
+    }
+    Ok(())
+}
+
+#[test]
+fn images_refused(rt: HostRuntime) -> Result<(), Fail> {
+    let rows = [
+        (
+            [Void, Blank, Blank, Blank, Blank, Blank],
+            4294967295,
+            RingFault::NoNumber {
+                at_least: 4294967295,
+            },
+        ),
+        (
+            [
+                Sealed(0),
+                Sealed(1),
+                Sealed(2),
+                Sealed(3),
+                Sealed(4),
+                Sealed(5),
+            ],
+            0,
+            RingFault::BadHead { heads: 0 },
+        ),
+        (
+            [Blank, Torn, Blank, Blank, Blank, Blank],
+            0,
+            RingFault::BadGap { page: 3 },
+        ),
+        (
+            [Sealed(7), Blank, Blank, Blank, Blank, Blank],
+            0,
+            RingFault::BadPage {
+                page: 2,
+                wanted: 0,
+                found: 7,
+            },
+        ),
+    ];
+    for (pages, at_least, fault) in rows {
+        let holds = mounts(rt.alloc(), pages, at_least, Err(fault), (0, 0))?;
+        assert!(rt; holds, "{fault:?}");
+    }
+    Ok(())
+}
+
+// Thirteen seals on a new ring, which go round it twice, with a cut after so many operations. Whether the seals end
+// there, and a mount finds these numbers.
+fn cut_leaves(
+    alloc: Global,
+    after: u32,
+    kind: CutKind,
+    found: (u32, u32),
+) -> Result<bool, NoMemory> {
+    let story = Story {
+        at_least: 0,
+        seals: 13,
+        accident: Accident::Cut { after, kind },
+    };
+    let seen = see(alloc, [Blank; 6], story)?;
+    Ok(seen.0 == Err(RingFault::Flash(FlashFault::PowerLost)) && seen.1 == Ok(found))
+}
+
+// The same with a cut of each kind; `before` is what a mount finds where no byte was written.
+fn each_cut_leaves(
+    alloc: Global,
+    after: u32,
+    before: (u32, u32),
+    found: (u32, u32),
+) -> Result<bool, NoMemory> {
+    for kind in [CutKind::After, CutKind::Half, CutKind::Noise(1)] {
+        if !cut_leaves(alloc, after, kind, found)? {
+            return Ok(false);
+        }
+    }
+    cut_leaves(alloc, after, CutKind::Before, before)
 }
 
 #[test]
 fn a_cut_at_each_operation(rt: HostRuntime) -> Result<(), Fail> {
     // For each page number: the operations before its seal, and those of the seal; the oldest number before and after.
     let seals = [
-        (0u32, 0u8, 2u8, 0u32, 0u32),
+        (0u32, 0u32, 2u32, 0u32, 0u32),
         (1, 2, 2, 0, 0),
         (2, 4, 2, 0, 0),
         (3, 6, 2, 0, 0),
@@ -241,64 +338,40 @@ fn a_cut_at_each_operation(rt: HostRuntime) -> Result<(), Fail> {
         (12, 28, 3, 8, 10),
     ];
     for (page, earlier, count, before, after) in seals {
-        for at in 0..count {
-            for kind in [
-                CutKind::Before,
-                CutKind::After,
-                CutKind::Half,
-                CutKind::Noise(1),
-            ] {
-                // A page of which any byte was written is kept, with its records or void.
-                let want = if at == 0 && kind == CutKind::Before {
-                    (before, page)
-                } else {
-                    (after, page.wrapping_add(1))
-                };
-                let n = u64::from(earlier) + u64::from(at) + 1;
-                let left = cut_at(rt.alloc(), n, kind)?;
-                assert_eq!(rt; left, (Err(FlashFault::PowerLost), Ok(want)), "{n}");
-            }
+        // A page of which any byte was written is kept, with its records or void.
+        let found = (after, page.wrapping_add(1));
+        let holds = each_cut_leaves(rt.alloc(), earlier, (before, page), found)?;
+        assert!(rt; holds, "the first operation of page {page}");
+        for later in 1..count {
+            let operation = earlier.wrapping_add(later);
+            let holds = each_cut_leaves(rt.alloc(), operation, found, found)?;
+            assert!(rt; holds, "operation {operation}");
         }
     }
     Ok(())
 }
 
-// Four committed pages of numbers that fit their places, and are greater than any that was given.
+// Two committed pages of numbers that fit their places, and are greater than any that was given.
 fn forged_block(alloc: Global) -> Result<Vec<u8>, AllocError> {
-    let mut bytes = vec![in alloc; 255; 256]?;
-    for i in 0..4 {
-        write_page(Sealed(1008 + i as u32), &mut bytes[64 * i..64 + 64 * i]);
-    }
+    let mut bytes = vec![in alloc; 255; 128]?;
+    write_page(Sealed(1008), &mut bytes[..64]);
+    write_page(Sealed(1009), &mut bytes[64..]);
     Ok(bytes)
 }
 
-// Twelve seals on a new ring of blocks of four pages; the erase of the block ahead, after the eleventh, leaves these bytes.
-fn tear_erase(alloc: Global, forged: Vec<u8>) -> Result<(Cut, u64, u64), NoMemory> {
-    let bytes = vec![in alloc; 255; 1024]?;
-    let mut media = MemMedia::new(alloc, bytes, 1024)?;
-    let mut buf = PageBuf::new(alloc, 64)?;
-    let mut flash = SimFlash::new(alloc, &mut media, Geometry { page: 64, block: 4 }, 4, 0)?;
-    let cut = match Ring::mount(&mut flash, PLACE, 0, &mut buf) {
-        Ok(mut ring) => {
-            flash.tear(23, forged);
-            seal_many(&mut ring, &mut flash, 12)
-        }
-        Err(_) => Ok(()),
-    };
-    flash.power_on();
-    let found = match Ring::mount(&mut flash, PLACE, 0, &mut buf) {
-        Ok(ring) => Ok((ring.oldest(), ring.next_number())),
-        Err(fault) => Err(fault),
-    };
-    let work = flash.work();
-    let _media = flash.into_media();
-    Ok(((cut, found), work.programs, work.erases))
-}
-
+// Five seals, of which the last one tears its erase of the block ahead.
 #[test]
 fn a_forged_block_is_not_believed(rt: HostRuntime) -> Result<(), Fail> {
-    let forged = forged_block(rt.alloc())?;
-    let want = (Err(FlashFault::PowerLost), Ok((4, 11)));
-    assert_eq!(rt; tear_erase(rt.alloc(), forged)?, (want, 22, 2));
+    let story = Story {
+        at_least: 0,
+        seals: 5,
+        accident: Accident::Torn {
+            after: 10,
+            bytes: forged_block(rt.alloc())?,
+        },
+    };
+    let seen = see(rt.alloc(), [Blank; 6], story)?;
+    let lost = Err(RingFault::Flash(FlashFault::PowerLost));
+    assert_eq!(rt; seen, (lost, Ok((2, 5)), 10, 2));
     Ok(())
 }

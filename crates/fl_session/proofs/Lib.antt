@@ -22,6 +22,7 @@ pub mod Calls
 pub mod Rested
 pub mod Rooms
 pub mod Over
+pub mod Fresh
 pub mod Completing
 pub mod BuiltOne
 pub mod Generating
@@ -31,3 +32,4 @@ pub mod PagesListed
 pub mod Scanned
 pub mod Scanning
 pub mod LoadLines
+pub mod RangeEnds

@@ -63,6 +63,13 @@ not-void plan table i count rows page found P is shows e at some =
     one : {a b : ℕ} → Some a ≡ Some b → a ≡ b
     one e = cc
 
+-- the rows of a page that were found
+pub found-rows : (plan : Plan) (table : model.Table) (i count : ℕ) (page : List ℕ) (found : Bool) (rows : List Row) → found ≡ true → ShowsRows plan table i count page (Ok found) →
+    rows ≡ rows_in (row_layout plan) page → rows ≡ map stored_row (rows_at table i count)
+found-rows plan table i count page found rows is shows at =
+    let h = subst (λ (b : Bool). ShowsRows plan table i count page (Ok b)) is shows in
+    at ∙ h.1
+
 -- the lines of a page whose rows were found
 pub found-lines : (plan : Plan) (table : model.Table) (i count : ℕ) (page : List ℕ) (found : Bool) (range : KeyRange) (span : Option Span) (rows : List Row) → found ≡ true → ShowsRows plan table i count page (Ok found) →
     rows ≡ rows_in (row_layout plan) page → lines_of range span (rows_at table i count) ≡ row_replies range span rows
@@ -84,9 +91,10 @@ lines-append range span es fs =
 -- lines behind lines
 pub lists-then : (xs ys all : List Reply) (told mid now : Option (List ℕ)) (f g h n m k : ℕ) → xs ++ ys ≡ all → k ≡ n + m →
     ListsAll xs told mid f g (Ok n) → ListsAll ys mid now g h (Ok m) → ListsAll all told now f h (Ok k)
-lists-then xs ys all told mid now f g h n m k is sum_is a b =
-    (subst (λ (l : List Reply). Appends told now (texts l)) is (subst (λ (bytes : List ℕ). Appends told now bytes) (sym (texts-append xs ys)) (appends-append told mid now (texts xs) (texts ys) a.0 b.0)),
-    omega (arith, sum_is, a.1, b.1, length-append xs ys, ap length is))
+lists-then xs ys all told mid now f g h n m k is sum_is a b = (
+  subst (λ (l : List Reply). Appends told now (texts l)) is (subst (λ (bytes : List ℕ). Appends told now bytes) (sym (texts-append xs ys)) (appends-append told mid now (texts xs) (texts ys) a.0 b.0)),
+  omega (arith, sum_is, a.1, b.1, length-append xs ys, ap length is),
+)
 
 take-front : (xs ys zs : List Reply) (n : ℕ) → n ≤ length ys → take (length xs + n) (xs ++ (ys ++ zs)) ≡ xs ++ take n ys
 take-front [] ys zs n h = ap (λ k. take k (ys ++ zs)) (let e : length {A = Reply} [] + n ≡ n = omega arith in e) ∙ take-append-le n ys zs h

@@ -75,7 +75,7 @@ blank-part head n at end h =
     ap (λ l. is_blank (take (end - at) l)) cut ∙ blank-take (end - at) (n - k)
 
 -- a medium that was opened stands for a state between two runs
-new-header : (config : Config) (old new : MediaState) → Opened config old new → new.content ≡ new_content config → length (header config) ≡ 1024
+pub new-header : (config : Config) (old new : MediaState) → Opened config old new → new.content ≡ new_content config → length (header config) ≡ 1024
 new-header config old new h e =
     let count : medium_len config ≡ length (header config) + (medium_len config - 1024) =
     sym h.len ∙ (ap length e ∙ (length-append (header config) (replicate (medium_len config - 1024) 255) ∙ ap (λ n. length (header config) + n) (length-replicate {A = ℕ} (medium_len config - 1024) 255))) in

@@ -81,9 +81,10 @@ module _ (range : KeyRange) (span : Option Span) (rows : List Row) (i : ℕ) (ro
 pub listed-all : (range : KeyRange) (span : Option Span) (rows : List Row) (i : ℕ) (told now : Option (List ℕ)) (count : ℕ) → length rows ≤ i → Listed range span rows i told now count →
     Appends told now (texts (row_replies range span rows)) × (count ≡ length (row_replies range span rows))
 listed-all range span rows i told now count end listed =
-    let none : row_replies range span (drop i rows) ≡ [] = ap (row_replies range span) (drop_all i rows end) in
-    (subst (λ (xs : List ℕ). Appends told now xs) (sym (append-nil listed.sent.front) ∙ (ap (λ (l : List ℕ). listed.sent.front ++ l) (sym (ap texts none)) ∙ listed.sent.parts)) listed.sent.appended,
-    omega (arith, listed.counted, ap length none))
+    let none : row_replies range span (drop i rows) ≡ [] = ap (row_replies range span) (drop_all i rows end) in (
+      subst (λ (xs : List ℕ). Appends told now xs) (sym (append-nil listed.sent.front) ∙ (ap (λ (l : List ℕ). listed.sent.front ++ l) (sym (ap texts none)) ∙ listed.sent.parts)) listed.sent.appended,
+      omega (arith, listed.counted, ap length none),
+    )
 
 -- a call that failed
 pub shows-err : (E : Type 0) (lines : List Reply) (told now : Option (List ℕ)) (result : Result ℕ E) → IsErr result → AppendsFront told now (texts lines) → Shows {E = E} lines told now result

@@ -1,3 +1,5 @@
+mod scans;
+
 use super::*;
 use fl_base::{MemSink, MemSource};
 use fl_flash::MemMedia;
@@ -237,11 +239,16 @@ fn reclaims(rt: HostRuntime) -> Result<(), Fail> {
 #[test]
 fn device_faults(rt: HostRuntime) -> Result<(), Fail> {
     let alloc = rt.alloc();
+    let pending: Talk = &[("mount", "ok"), ("put t 1 0", "ok")];
+    let mut media = empty_medium(alloc)?;
+    assert!(rt; is_answered(alloc, &mut media, pending, 0, &[])?);
+    let before = media.calls();
     let good: Talk = &[("mount", "ok"), ("put t 1 0", "ok"), ("flush t", "ok")];
     let mut media = empty_medium(alloc)?;
     assert!(rt; is_answered(alloc, &mut media, good, 0, &[])?);
 
-    // The last call is the write of the mark, and the one before it that of the body.
+    // A flush on a new image is two calls: the write of the body, and that of the mark.
+    assert!(rt; media.calls() == before.saturating_add(2));
     let fails: Talk = &[
         ("mount", "ok"),
         ("put t 1 0", "ok"),

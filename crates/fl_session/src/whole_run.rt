@@ -2,7 +2,8 @@
 ghost use Rattle.std.specs.Prelude.{◌≡◌, ℕ, ◌+◌, ◌*◌, ◌^◌, ◌<◌, ◌≤◌, ◌↔◌, map, string_bytes, true, Bool, IsTrue, Some, None, [], List, ◌++◌, length, is_some, IfOk, vec_len, sum_by};
 ghost use Rattle.fl_base.specs.Causes.{Rose};
 ghost use Rattle.fl_flash.specs.Flash.{Goes};
-ghost use Rattle.fl_flash.specs.Places.{extent};
+ghost use Rattle.fl_flash.specs.Places.{extent, IsGeometry};
+ghost use Rattle.fl_flash.specs.Sim.{on_medium};
 ghost use Rattle.fl_base.specs.declared.types.Geometry.{Geometry};
 ghost use Rattle.fl_model.specs.Record.{Config as Configuration, blocks_of};
 ghost use Rattle.fl_words.specs.Config.{whole};
@@ -11,7 +12,7 @@ ghost use Rattle.fl_session.specs.Built.{are_built};
 ghost use Rattle.fl_session.specs.Begin.{HoldsFirst};
 ghost use Rattle.fl_session.specs.Words.{image_named};
 ghost use Rattle.fl_session.specs.Ends.{Ends, told_of, IsEarlyBy, IsWhole, RunsToEnd, start_in};
-ghost use Rattle.fl_session.specs.Opening.{MediaGoes};
+ghost use Rattle.fl_session.specs.Opening.{MediaGoes, IsBlankBehind};
 ghost use Rattle.fl_session.specs.Run.{RunsFrom, HasRoom, around_of, IsOfCommands, refused_status};
 ghost use Rattle.fl_session.specs.Standing.{RestsOn, IsNewTable};
 ghost use Rattle.fl_machine.specs.Script.{StandsAfter};
@@ -22,9 +23,9 @@ use crate::executor::Executor;
 use crate::lines::Lines;
 use crate::session::Session;
 use crate::{Status, image_of};
-use fl_base::{NoMemory, Sink, Source};
+use fl_base::{Geometry, NoMemory, Sink, Source};
 use fl_config::{Config, ImageRefusal};
-use fl_flash::{FlashRoom, Media, PageBuf, SimFlash};
+use fl_flash::{Flash, FlashRoom, Media, PageBuf, SimFlash};
 use fl_script::{Command, LineRoom};
 use fl_table::Table;
 use std::alloc::Global;
@@ -87,10 +88,33 @@ fn run_first<E: Executor, S: Source, K: Sink>(
     }
 }
 
+/// The flash on an opened image. The pages of an image that was just made are known to be blank.
+fn flash_on<'m, M: Media>(
+    media: &'m mut M,
+    geometry: Geometry,
+    blocks: u32,
+    is_new: bool,
+    room: FlashRoom,
+) -> SimFlash<'m, M>
+    requires served { IsGeometry geometry }
+    requires reach { 1024 + extent geometry blocks ≤ length (M.state media.old).content }
+    requires room { HasRoom room geometry blocks }
+    requires blank { is_new ≡ true → IsTrue (M.state media.old).tells → IsBlankBehind geometry blocks (M.state media.old).content }
+    ensures { ⟦<SimFlash<'m, M> as Flash>⟧.state result
+        ≡ on_medium geometry blocks 1024 media.entry.ghost_name true None 0 (record { reads = 0; programs = 0; erases = 0 }) (M.state media.old) }
+{
+    let mut flash = SimFlash::with_room(media, geometry, blocks, HEADER, room);
+    if is_new {
+        flash.note_blank();
+    }
+    flash
+}
+
 /// Runs the commands of a script from the first on, over an image that was opened.
 fn run_session<M: Media, S: Source, K: Sink>(
     media: &mut M,
     config: &Config,
+    is_new: bool,
     rooms: Rooms,
     begun: Begun,
     lines: &mut Lines,
@@ -102,6 +126,7 @@ fn run_session<M: Media, S: Source, K: Sink>(
     requires built { are_built config.now.plans ≡ true }
     requires in_hand { HoldsFirst begun.first begun.number room.old lines.old }
     requires reach { (g : Geometry) → config.now.device ≡ Some g → 1024 + extent g (sum_by blocks_of config.now.plans) ≤ length (M.state media.old).content }
+    requires blank { is_new ≡ true → IsTrue (M.state media.old).tells → (g : Geometry) → config.now.device ≡ Some g → IsBlankBehind g (sum_by blocks_of config.now.plans) (M.state media.old).content }
     requires table { IsNewTable rooms.table config.now }
     requires page { (g : Geometry) → config.now.device ≡ Some g → length rooms.buf.bytes ≡ g.page }
     requires flash { (g : Geometry) → config.now.device ≡ Some g → HasRoom rooms.flash g (sum_by blocks_of config.now.plans) }
@@ -116,7 +141,7 @@ fn run_session<M: Media, S: Source, K: Sink>(
 {
     let Begun { first, number } = begun;
     let Rooms { table, buf, flash } = rooms;
-    let flash = SimFlash::with_room(media, config.geometry(), config.blocks(), HEADER, flash);
+    let flash = flash_on(media, config.geometry(), config.blocks(), is_new, flash);
     let mut session = Session::new(flash, table, config.name(0), buf);
     let status = run_first(&mut session, first, number, lines, room, script, out);
     let _media = session.end();
@@ -165,9 +190,10 @@ fn run_script<M: Media, S: Source, K: Sink>(
         Ok(rooms) => rooms,
         Err(_) => return Status::NoMemory,
     };
+    let is_new = media.len() == 0;
     match config.open_image(media) {
         Ok(()) => run_session(
-            media, &config, rooms, begun, &mut lines, &mut room, script, out,
+            media, &config, is_new, rooms, begun, &mut lines, &mut room, script, out,
         ),
         Err(refusal) => status_of(refusal),
     }

@@ -1,35 +1,92 @@
-use super::Config;
-use crate::words::TableWords;
-use fl_base::Name;
+// Lines as a script has them, and the answer to each.
+use crate::Config;
 use fl_plan::ConfigRefusal;
+use fl_plan::ConfigRefusal::{
+    Bits, BlobLimit, BlockSize, ColumnCount, ColumnType, DataBlocks, DeviceTooLarge, DeviceTwice,
+    ErrorBound, IndexBlocks, KeyWidth, NameTaken, PageSize, RowTooLong, TableFirst, TooManyTables,
+    VarBlocks, Width,
+};
+use fl_script::{LineRoom, read_line};
+use std::test::Fail;
 
-/// Bytes of a key; blocks of data, index and variable data; how many buckets and their width; the error bound; the
-/// greatest length of a blob.
-type Numbers = (u64, u64, u64, u64, u64, u64, u64, u64);
+/// The answer to a line, where it is one of the language.
+fn add(config: &mut Config, room: &mut LineRoom, line: &str) -> Option<Result<(), ConfigRefusal>> {
+    match read_line(line.as_bytes(), room) {
+        Ok(command) => Some(config.add(&command, room)),
+        Err(_) => None,
+    }
+}
 
-fn add(
-    config: &mut Config,
-    name: &[u8],
-    columns: &[u8],
-    numbers: Numbers,
-) -> Result<(), ConfigRefusal> {
-    let (key, rows, index, var, bits, width, error, blob) = numbers;
-    let Some(name) = Name::of(name) else {
-        return Ok(());
-    };
-    config.add_table(&TableWords {
-        name,
-        key,
-        columns,
-        rows,
-        index,
-        var,
-        bits,
-        base: 0,
-        width,
-        error,
-        blob,
-    })
+/// Whether the line is refused so.
+fn refuses(config: &mut Config, room: &mut LineRoom, line: &str, refusal: ConfigRefusal) -> bool {
+    add(config, room, line) == Some(Err(refusal))
+}
+
+#[test]
+fn device_lines(rt: HostRuntime) -> Result<(), Fail> {
+    let mut config = Config::new();
+    let mut room = LineRoom::new(rt.alloc())?;
+    let refused = [
+        ("table t 8 i32 3 0 0 8 0 10 1 0", TableFirst),
+        ("device 56 1", PageSize),
+        ("device 4104 4", PageSize),
+        ("device 18446744073709551615 4", PageSize),
+        ("device 100 4", PageSize),
+        ("device 128 1", BlockSize),
+        ("device 128 257", BlockSize),
+    ];
+    for (line, refusal) in refused {
+        assert!(rt; refuses(&mut config, &mut room, line, refusal), "{line}");
+    }
+    assert_eq!(rt; add(&mut config, &mut room, "device 128 4"), Some(Ok(())));
+    assert!(rt; !config.is_complete(), "no table");
+    assert!(rt;
+        refuses(&mut config, &mut room, "device 0 0", DeviceTwice),
+        "a second device"
+    );
+    Ok(())
+}
+
+/// Each line has the faults of the lines below it.
+#[test]
+fn table_lines(rt: HostRuntime) -> Result<(), Fail> {
+    let mut config = Config::new();
+    let mut room = LineRoom::new(rt.alloc())?;
+    let refused = [
+        ("table t 5 f32 2 2 2 7 0 0 256 1", NameTaken),
+        ("table u 5 f32 2 2 2 7 0 0 256 1", KeyWidth),
+        (
+            "table u 4 u8,u8,u8,u8,u8,u8,u8,u8,u8, 2 2 2 7 0 0 256 1",
+            ColumnType,
+        ),
+        (
+            "table u 8 u8,u8,u8,u8,u8,u8,u8,u8,u8 2 2 2 7 0 0 256 1",
+            ColumnCount,
+        ),
+        ("table u 8 i64 2 2 2 7 0 0 256 1", DataBlocks),
+        ("table u 8 i64 16385 2 2 7 0 0 256 1", DataBlocks),
+        ("table u 8 i64 16384 2 2 7 0 0 256 1", IndexBlocks),
+        ("table u 8 i64 16384 3 1 7 0 0 256 1", VarBlocks),
+        ("table u 8 i64 16384 3 0 7 0 0 256 1", Bits),
+        ("table u 8 i64 16384 3 0 0 0 0 256 1", Bits),
+        ("table u 8 i64 16384 3 0 8 0 0 256 1", Width),
+        (
+            "table u 8 i64 16384 0 0 0 0 9223372036854775808 256 1",
+            Width,
+        ),
+        ("table u 8 i64 16384 3 0 8 0 1 256 1", ErrorBound),
+        ("table u 8 i64 16384 3 0 8 0 1 255 1", BlobLimit),
+        ("table u 8 i64,i64,i64 16384 3 3 8 0 1 255 289", BlobLimit),
+        ("table u 8 i64,i64,i64 16384 3 3 8 0 1 255 288", RowTooLong),
+        ("table u 8 i64 16384 3 3 8 0 1 255 288", DeviceTooLarge),
+    ];
+    assert_eq!(rt; add(&mut config, &mut room, "device 64 4"), Some(Ok(())));
+    let first = "table t 8 i32 3 0 0 8 0 10 1 0";
+    assert_eq!(rt; add(&mut config, &mut room, first), Some(Ok(())));
+    for (line, refusal) in refused {
+        assert!(rt; refuses(&mut config, &mut room, line, refusal), "{line}");
+    }
+    Ok(())
 }
 
 /// The first blocks of a table's rings; 0 where there is none.
@@ -44,175 +101,29 @@ fn firsts(config: &Config, i: usize) -> Option<(u32, u32, u32)> {
 }
 
 #[test]
-fn device_lines(rt: HostRuntime) {
-    let cases = [
-        (56, 1, Err(ConfigRefusal::PageSize)),
-        (4104, 4, Err(ConfigRefusal::PageSize)),
-        (u64::MAX, 4, Err(ConfigRefusal::PageSize)),
-        (100, 4, Err(ConfigRefusal::PageSize)),
-        (128, 1, Err(ConfigRefusal::BlockSize)),
-        (128, 257, Err(ConfigRefusal::BlockSize)),
-        (128, 4, Ok(())),
+fn places(rt: HostRuntime) -> Result<(), Fail> {
+    let mut config = Config::new();
+    let mut room = LineRoom::new(rt.alloc())?;
+    let lines = [
+        "device 128 4",
+        "table s 4 i16 40 3 4 64 0 100 1 300",
+        "table t 8 i32,u8 3 0 5 0 0 1 1 10",
+        "table u 8 i32 3 0 0 8 0 10 1 0",
+        "table v 8 i32 3 0 0 8 0 10 1 0",
     ];
-    for (page, block, wanted) in cases {
-        let mut config = Config::new();
-        assert_eq!(rt; config.add_device(page, block), wanted, "{page} {block}");
-        assert!(rt; !config.is_complete(), "no table");
+    for line in lines {
+        assert_eq!(rt; add(&mut config, &mut room, line), Some(Ok(())), "{line}");
     }
-    let mut config = Config::new();
-    let _ = config.add_device(128, 4);
-    assert_eq!(rt; config.add_device(0, 0), Err(ConfigRefusal::DeviceTwice));
-}
-
-/// Each line has the faults of the lines below it.
-#[test]
-fn table_lines(rt: HostRuntime) {
-    let cases = [
-        (
-            b"t".as_slice(),
-            b"f32".as_slice(),
-            (5, 2, 2, 2, 7, 0, 256, 1),
-            ConfigRefusal::NameTaken,
-        ),
-        (
-            b"u",
-            b"f32",
-            (5, 2, 2, 2, 7, 0, 256, 1),
-            ConfigRefusal::KeyWidth,
-        ),
-        (
-            b"u",
-            b"u8,u8,u8,u8,u8,u8,u8,u8,u8,",
-            (4, 2, 2, 2, 7, 0, 256, 1),
-            ConfigRefusal::ColumnType,
-        ),
-        (
-            b"u",
-            b"u8,u8,u8,u8,u8,u8,u8,u8,u8",
-            (8, 2, 2, 2, 7, 0, 256, 1),
-            ConfigRefusal::ColumnCount,
-        ),
-        (
-            b"u",
-            b"i64",
-            (8, 2, 2, 2, 7, 0, 256, 1),
-            ConfigRefusal::DataBlocks,
-        ),
-        (
-            b"u",
-            b"i64",
-            (8, 16385, 2, 2, 7, 0, 256, 1),
-            ConfigRefusal::DataBlocks,
-        ),
-        (
-            b"u",
-            b"i64",
-            (8, 16384, 2, 2, 7, 0, 256, 1),
-            ConfigRefusal::IndexBlocks,
-        ),
-        (
-            b"u",
-            b"i64",
-            (8, 16384, 3, 1, 7, 0, 256, 1),
-            ConfigRefusal::VarBlocks,
-        ),
-        (
-            b"u",
-            b"i64",
-            (8, 16384, 3, 0, 7, 0, 256, 1),
-            ConfigRefusal::Bits,
-        ),
-        (
-            b"u",
-            b"i64",
-            (8, 16384, 3, 0, 0, 0, 256, 1),
-            ConfigRefusal::Bits,
-        ),
-        (
-            b"u",
-            b"i64",
-            (8, 16384, 3, 0, 8, 0, 256, 1),
-            ConfigRefusal::Width,
-        ),
-        (
-            b"u",
-            b"i64",
-            (8, 16384, 0, 0, 0, 9223372036854775808, 256, 1),
-            ConfigRefusal::Width,
-        ),
-        (
-            b"u",
-            b"i64",
-            (8, 16384, 3, 0, 8, 1, 256, 1),
-            ConfigRefusal::ErrorBound,
-        ),
-        (
-            b"u",
-            b"i64",
-            (8, 16384, 3, 0, 8, 1, 255, 1),
-            ConfigRefusal::BlobLimit,
-        ),
-        (
-            b"u",
-            b"i64,i64,i64",
-            (8, 16384, 3, 3, 8, 1, 255, 289),
-            ConfigRefusal::BlobLimit,
-        ),
-        (
-            b"u",
-            b"i64,i64,i64",
-            (8, 16384, 3, 3, 8, 1, 255, 288),
-            ConfigRefusal::RowTooLong,
-        ),
-        (
-            b"u",
-            b"i64",
-            (8, 16384, 3, 3, 8, 1, 255, 288),
-            ConfigRefusal::DeviceTooLarge,
-        ),
-    ];
-    let mut config = Config::new();
-    let first = (8, 3, 0, 0, 8, 10, 1, 0);
-    assert_eq!(rt;
-        add(&mut config, b"t", b"i32", first),
-        Err(ConfigRefusal::TableFirst)
+    let fifth = "table w 8 i32 3 0 0 8 0 10 1 0";
+    assert!(rt;
+        refuses(&mut config, &mut room, fifth, TooManyTables),
+        "a fifth table"
     );
-    assert_eq!(rt; config.add_device(64, 4), Ok(()));
-    assert_eq!(rt; add(&mut config, b"t", b"i32", first), Ok(()));
-    for (name, columns, numbers, wanted) in cases {
-        assert_eq!(rt;
-            add(&mut config, name, columns, numbers),
-            Err(wanted),
-            "{numbers:?}"
-        );
-    }
-}
-
-#[test]
-fn places(rt: HostRuntime) {
-    let mut config = Config::new();
-    assert_eq!(rt; config.add_device(128, 4), Ok(()));
-    assert_eq!(rt;
-        add(&mut config, b"s", b"i16", (4, 40, 3, 4, 64, 100, 1, 300)),
-        Ok(())
-    );
-    assert_eq!(rt;
-        add(&mut config, b"t", b"i32,u8", (8, 3, 0, 5, 0, 1, 1, 10)),
-        Ok(())
-    );
-    assert_eq!(rt;
-        add(&mut config, b"u", b"i32", (8, 3, 0, 0, 8, 10, 1, 0)),
-        Ok(())
-    );
-    assert_eq!(rt;
-        add(&mut config, b"v", b"i32", (8, 3, 0, 0, 8, 10, 1, 0)),
-        Ok(())
-    );
-    let fifth = add(&mut config, b"w", b"i32", (8, 3, 0, 0, 8, 10, 1, 0));
-    assert_eq!(rt; fifth, Err(ConfigRefusal::TooManyTables));
+    assert!(rt; config.is_complete(), "a device and a table");
     assert_eq!(rt; config.blocks(), 61);
     let wanted = [(0, 40, 43), (47, 0, 50), (55, 0, 0), (58, 0, 0)];
     for (i, places) in wanted.into_iter().enumerate() {
         assert_eq!(rt; firsts(&config, i), Some(places));
     }
+    Ok(())
 }

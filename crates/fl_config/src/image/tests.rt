@@ -1,20 +1,23 @@
-ghost use Rattle.std.specs.Prelude.{IfOk, IsTrue};
+// An image that is made, and others that are opened.
+ghost use Rattle.std.specs.Prelude.{IfSome, IsTrue};
 ghost use Rattle.fl_config.specs.Whole.{is_whole};
 
 use super::ImageRefusal;
 use crate::Config;
 use crate::words::TableWords;
-use fl_base::Name;
+use fl_base::{Name, NoMemory};
 use fl_flash::MemMedia;
+use std::alloc::Global;
 use std::test::Fail;
 
-fn config(error: u64) -> Result<Config, Fail>
-    ensures { IfOk result (λ config. IsTrue (is_whole config)) }
+/// A device and a table with this error bound.
+fn config(error: u64) -> Option<Config>
+    ensures { IfSome result (λ config. IsTrue (is_whole config)) }
 {
     let mut config = Config::new();
-    config.add_device(128, 4)?;
-    config.add_table(&TableWords {
-        name: Name::of(b"t").ok_or("no name")?,
+    config.add_device(128, 4).ok()?;
+    let table = TableWords {
+        name: Name::of(b"t")?,
         key: 8,
         columns: b"i32",
         rows: 3,
@@ -25,51 +28,72 @@ fn config(error: u64) -> Result<Config, Fail>
         width: 10,
         error,
         blob: 0,
-    })?;
+    };
+    config.add_table(&table).ok()?;
     if config.is_complete() {
-        Ok(config)
+        Some(config)
     } else {
-        Err(Fail::from("no table"))
+        None
     }
 }
 
-#[test]
-fn images(rt: HostRuntime) -> Result<(), Fail> {
-    let own = config(1)?;
-    let text = b"device 128 4\ntable t 8 i32 3 0 0 8 0 10 1 0\n";
-    let mut media = MemMedia::new(rt.alloc(), Vec::new(rt.alloc()), 4000)?;
-    assert_eq!(rt; own.open_image(&mut media), Ok(()));
-    let bytes = media.bytes();
-    assert_eq!(rt; bytes.len(), 2560);
-    assert!(rt; bytes.starts_with(text), "the header");
-    assert!(rt;
-        bytes[text.len()..1024].iter().all(|byte| *byte == b' '),
-        "spaces behind it"
-    );
-    assert!(rt;
-        bytes[1024..].iter().all(|byte| *byte == 0xff),
-        "blank pages"
-    );
+/// The answer of that configuration to a medium.
+fn open(error: u64, media: &mut MemMedia) -> Option<Result<(), ImageRefusal>> {
+    let config = config(error)?;
+    Some(config.open_image(media))
+}
 
-    assert_eq!(rt; own.open_image(&mut media), Ok(()));
-    let other = Err(ImageRefusal::Other {
+fn is_all(bytes: &[u8], byte: u8) -> bool {
+    bytes.iter().all(|found| *found == byte)
+}
+
+/// The parts of an image: the configuration and the spaces behind it, and blank pages.
+fn is_image(bytes: &[u8]) -> bool {
+    let text = b"device 128 4\ntable t 8 i32 3 0 0 8 0 10 1 0\n";
+    bytes.len() == 2560
+        && bytes.starts_with(text)
+        && is_all(&bytes[text.len()..1024], b' ')
+        && is_all(&bytes[1024..], 0xff)
+}
+
+#[test]
+fn an_image_is_made_and_found(rt: HostRuntime) -> Result<(), Fail> {
+    let mut media = MemMedia::new(rt.alloc(), Vec::new(rt.alloc()), 4000)?;
+    assert_eq!(rt; open(1, &mut media), Some(Ok(())));
+    assert!(rt; is_image(media.bytes()), "made");
+    assert_eq!(rt; open(1, &mut media), Some(Ok(())));
+    let other = ImageRefusal::Other {
         wanted: 50,
         found: 49,
         at: 40,
-    });
-    assert_eq!(rt; config(2)?.open_image(&mut media), other);
+    };
+    assert_eq!(rt; open(2, &mut media), Some(Err(other)));
     media.fail_call(1);
-    assert_eq!(rt; own.open_image(&mut media), Err(ImageRefusal::Media));
-    assert_eq!(rt; media.bytes().len(), 2560);
+    assert_eq!(rt; open(1, &mut media), Some(Err(ImageRefusal::Media)));
+    assert!(rt; is_image(media.bytes()), "unchanged");
+    Ok(())
+}
 
-    let mut short = MemMedia::new(rt.alloc(), vec![in rt.alloc(); 0; 2559]?, 4000)?;
-    let other = Err(ImageRefusal::Other {
+/// The answer to a medium of so many zeros, with this room.
+fn open_zeros(
+    alloc: Global,
+    len: usize,
+    room: usize,
+) -> Result<Option<Result<(), ImageRefusal>>, NoMemory> {
+    let bytes = vec![in alloc; 0; len]?;
+    let mut media = MemMedia::new(alloc, bytes, room)?;
+    Ok(open(1, &mut media))
+}
+
+#[test]
+fn lengths_that_do_not_fit(rt: HostRuntime) -> Result<(), Fail> {
+    let other = ImageRefusal::Other {
         wanted: 2560,
         found: 2559,
         at: 1024,
-    });
-    assert_eq!(rt; own.open_image(&mut short), other);
-    let mut full = MemMedia::new(rt.alloc(), Vec::new(rt.alloc()), 2000)?;
-    assert_eq!(rt; own.open_image(&mut full), Err(ImageRefusal::Media));
+    };
+    assert_eq!(rt; open_zeros(rt.alloc(), 2559, 4000)?, Some(Err(other)));
+    let full = open_zeros(rt.alloc(), 0, 2000)?;
+    assert_eq!(rt; full, Some(Err(ImageRefusal::Media)));
     Ok(())
 }
