@@ -1,8 +1,7 @@
 -- The commands of a session, each by its step.
-use Rattle.std.proofs.Common.{◌≡◌, ℕ, ◌≤◌, Bool, true, false, IsTrue, Option, Some, None, Result, Ok, Err, List, [], ◌∷◌, ◌++◌, map, refl, sym, ◌∙◌, ap, subst, arith}
-use Rattle.std.specs.Prelude.{MatchBool, nat_lt}
+use Rattle.std.proofs.Common.{◌≡◌, ℕ, ◌≤◌, Bool, true, false, Option, Some, None, Ok, List, [], ◌∷◌, map, refl, sym, ap, subst, arith}
+use Rattle.std.specs.Prelude.{MatchBool}
 use Rattle.std.proofs.lemmas.Bool.{le-ltb}
-use Rattle.fl_base.specs.Causes.{Rose}
 use Rattle.fl_base.specs.declared.types.CutKind.{CutKind}
 use Rattle.fl_flash.specs.declared.tear.Tear.TheVariants.{Kind}
 use Rattle.fl_flash.specs.Flash.{FlashState}
@@ -15,7 +14,6 @@ use Rattle.fl_words.specs.Command.{Command}
 use Rattle.fl_words.specs.Reply as reply
 use Rattle.fl_words.specs.Reply.{Reply, text, texts}
 use Rattle.fl_machine.specs.Machine.{Machine, stopped}
-use Rattle.fl_machine.specs.Step.{Moment}
 use Rattle.fl_script.specs.Written.{Written}
 use Rattle.fl_script.specs.declared.command.Command as code
 use Rattle.fl_script.specs.CommandView.{command_view}
@@ -25,9 +23,9 @@ use Rattle.fl_table.specs.Pages.{Rests}
 use Rattle.fl_table.specs.Standing.{Stands}
 use Rattle.fl_table.proofs.Holding.{lost-twice}
 use Rattle.fl_session.specs.Answer.{Answers}
-use Rattle.fl_session.specs.Built.{is_built, IsRunnable}
+use Rattle.fl_session.specs.Built.{IsRunnable}
 use Rattle.fl_session.specs.Execute.{Executes}
-use Rattle.fl_session.specs.Standing.{SessionStands, IsOnMedium}
+use Rattle.fl_session.specs.Standing.{SessionStands}
 use Rattle.fl_session.proofs.Answering.{answers-saying, saying, says}
 use Rattle.fl_session.proofs.Executing.{executes-by}
 use Rattle.fl_session.proofs.Running.{nothing-added}

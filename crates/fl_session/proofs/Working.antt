@@ -1,25 +1,24 @@
 -- The puts and flushes of a session.
-use Rattle.std.proofs.Common.{◌≡◌, ℕ, ◌+◌, ◌-◌, ◌^◌, ◌≤◌, ◌<◌, min, Bool, true, false, not, nat_le, IsTrue, IfErr, Option, Some, None, Result, Ok, Err, List, [], ◌∷◌, ◌++◌, map, length, take, slice_get, refl, sym, ◌∙◌, ap, subst}
+use Rattle.std.proofs.Common.{◌≡◌, ℕ, ◌+◌, ◌-◌, ◌^◌, min, Bool, true, false, not, nat_le, IsTrue, IfErr, Option, Some, None, Result, Ok, Err, List, [], ◌∷◌, map, take, slice_get, refl, sym, ◌∙◌, ap, subst}
 use Rattle.std.proofs.lemmas.Bool.{leb-true, le-leb}
 use Rattle.std.proofs.Math.IntN.{ℤ}
 use Rattle.fl_base.specs.Causes.{Rose}
 use Rattle.fl_flash.specs.Flash.{FlashState, Goes}
 use Rattle.fl_flash.specs.declared.flash.FlashFault.{FlashFault}
-use Rattle.fl_flash.specs.declared.flash.FlashFault.TheVariants.{PowerLost, Media}
 use Rattle.fl_ring.specs.Device.{SameDevice}
 use Rattle.fl_ring.specs.Step.{IsWatched}
 use Rattle.fl_model.specs.Record.{Config, Plan, Record}
 use Rattle.fl_model.specs.Table as model
 use Rattle.fl_model.specs.Table.{RingName, lose, refusal_of, put_seals, put_record, table_seals, flushed, Refusal, BadKey, BadColumns, BadValue, BadBlob, Spent}
 use Rattle.fl_model.specs.Work.{Device, Progress, Performs, operations_of, changed_at, PartEnd, Whole, CutIn, FailedIn, PartProgress}
-use Rattle.fl_model.specs.Within.{TablePerforms, seals_within, with_table, progress_at, outcome_at, at_place}
+use Rattle.fl_model.specs.Within.{TablePerforms, seals_within, with_table, progress_at, outcome_at}
 use Rattle.fl_model.proofs.Among.{seals-at, performs-at}
 use Rattle.fl_words.specs.Command as command
 use Rattle.fl_words.specs.Command.{Command}
 use Rattle.fl_words.specs.Reply as reply
 use Rattle.fl_words.specs.Reply.{Reply, text, texts}
-use Rattle.fl_machine.specs.Machine.{Machine, stopped, no_cursors}
-use Rattle.fl_machine.specs.Step.{Moment, Step, Says, Stops, EndsAs, Located, refused, PutStep, FlushStep, WithTable}
+use Rattle.fl_machine.specs.Machine.{Machine, stopped}
+use Rattle.fl_machine.specs.Step.{Moment, Step, Says, EndsAs, Located, refused, PutStep, FlushStep}
 use Rattle.fl_table.specs.declared.table.Table.{Table}
 use Rattle.fl_table.specs.declared.faults.PutRefusal.{PutRefusal}
 use Rattle.fl_table.specs.declared.faults.PutRefusal.TheVariants as put
