@@ -1,3 +1,4 @@
+mod loads;
 mod scans;
 
 use super::*;
@@ -390,5 +391,3 @@ fn long_scripts(rt: HostRuntime) -> Result<(), Fail> {
     assert!(rt; status == Status::ScriptLong);
     Ok(())
 }
-
-mod loads;

@@ -1,3 +1,4 @@
+// What loads put, and where they stop.
 use super::*;
 
 // The records of a load: their keys and values were computed apart.
