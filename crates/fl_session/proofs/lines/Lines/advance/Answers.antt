@@ -4,8 +4,8 @@ use Rattle.fl_session.specs.Stream.{IsOneLine}
 use Rattle.fl_session.proofs.Pieces.{advances-line}
 use Rattle.fl_session.proofs.lines.Lines.advance.Goals as goal
 
-pub returns-in-Some : goal.returns-in-Some
-returns-in-Some g c =
+pub returns-in-Some-clause-advances : goal.returns-in-Some-clause-advances
+returns-in-Some-clause-advances g c =
     let i = c.bytes.invariant in
     let v = c.ahead-ahead.ensures.value in
     let h = c.in-Some.ensures in
