@@ -18,3 +18,4 @@ pub mod Rested
 pub mod Over
 pub mod Completing
 pub mod BuiltOne
+pub mod Untouched
