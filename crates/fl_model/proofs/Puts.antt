@@ -38,14 +38,16 @@ accepted plan table item plain h =
     let b = neither (refuse_if (not (length item.values == length plan.columns)) (BadColumns (length plan.columns))) _ a.1 in
     let c = neither (value_refusal plan item) _ b.1 in
     let d = neither (blob_refusal plan item) _ c.1 in
-    let v = by_limit (nat_lt (key_limit plan) item.key) refl c.0 in
-    (record {
-      above = above (last_entry table) a.0;
-      key = omega (arith, ltb-false (key_limit plan) item.key v.0);
-      as_many = eqb-true (length item.values) (length plan.columns) (not_not (length item.values == length plan.columns) (not_refused (not (length item.values == length plan.columns)) (BadColumns (length plan.columns)) b.0));
-      values = v.1;
-      no_blob = no_blob item.blob (has_var plan) plain.no_var (not_refused (is_some item.blob && (not (has_var plan) || nat_lt (cond (has_var plan) plan.blob_limit 0) (blob_len item))) (BadBlob (cond (has_var plan) plan.blob_limit 0)) d.0);
-    }, let n = or_left (nat_le spent_from table.rows.next) (unwrap_or (option_map (λ ring. nat_le spent_from ring.next) table.index) false) (or_left (nat_le spent_from table.rows.next || unwrap_or (option_map (λ ring. nat_le spent_from ring.next) table.index) false) (unwrap_or (option_map (λ ring. nat_le spent_from ring.next) table.var) false) (not_refused (is_spent table) Spent d.1)) in omega (arith, leb-false spent_from table.rows.next n))
+    let v = by_limit (nat_lt (key_limit plan) item.key) refl c.0 in (
+      record {
+        above = above (last_entry table) a.0;
+        key = omega (arith, ltb-false (key_limit plan) item.key v.0);
+        as_many = eqb-true (length item.values) (length plan.columns) (not_not (length item.values == length plan.columns) (not_refused (not (length item.values == length plan.columns)) (BadColumns (length plan.columns)) b.0));
+        values = v.1;
+        no_blob = no_blob item.blob (has_var plan) plain.no_var (not_refused (is_some item.blob && (not (has_var plan) || nat_lt (cond (has_var plan) plan.blob_limit 0) (blob_len item))) (BadBlob (cond (has_var plan) plan.blob_limit 0)) d.0);
+      },
+      let n = or_left (nat_le spent_from table.rows.next) (unwrap_or (option_map (λ ring. nat_le spent_from ring.next) table.index) false) (or_left (nat_le spent_from table.rows.next || unwrap_or (option_map (λ ring. nat_le spent_from ring.next) table.index) false) (unwrap_or (option_map (λ ring. nat_le spent_from ring.next) table.var) false) (not_refused (is_spent table) Spent d.1)) in omega (arith, leb-false spent_from table.rows.next n),
+    )
   where
     or_left : (a b : Bool) → (a || b) ≡ false → a ≡ false
     or_left true b e = cc

@@ -1,16 +1,17 @@
 -- A session that was begun over an opened image, and ended.
 use Rattle.std.proofs.Common.{◌≡◌, ℕ, ◌+◌, Bool, true, false, IsTrue, Option, Some, None, Result, Ok, Err, inl, inr, length, take, List, [], ◌∷◌, ◌≤◌, sum_by, refl, sym, ◌∙◌, ap, subst, le_trans, arith}
-use Rattle.std.specs.Prelude.{if◌then◌else◌}
+use Rattle.std.specs.Prelude.{if◌then◌else◌, ◌*◌, ◌^◌, ◌<◌, ◌||◌, nat_lt, is_some, IfSome}
+use Rattle.std.proofs.lemmas.Bool.{ltb-false}
 use base.Fml.{GName}
 use Rattle.fl_base.specs.declared.types.Geometry.{Geometry}
-use Rattle.fl_flash.specs.Flash.{FlashState}
+use Rattle.fl_flash.specs.Flash.{FlashState, pages, Goes}
+use Rattle.fl_flash.specs.Buffer.{BufferState}
 use Rattle.fl_flash.specs.Media.{MediaState}
 use Rattle.fl_flash.specs.Sim.{on_medium}
 use Rattle.fl_flash.specs.Places.{extent}
 use Rattle.fl_model.specs.Image.{medium_len}
 use Rattle.fl_model.specs.Record.{Config, Plan, blocks_of}
-use Rattle.fl_model.specs.Table.{Table, lose}
-use Rattle.fl_words.specs.Config.{Lines, whole, whole_of}
+use Rattle.fl_words.specs.Config.{Lines, whole, whole_of, too_large}
 use Rattle.fl_machine.specs.Machine.{Machine}
 use Rattle.fl_machine.specs.Script.{StandsAfter, start_of, ended}
 use Rattle.fl_machine.proofs.Accepted.{StartHasRoom, accepted-room, accepted-room-ended}
@@ -18,8 +19,9 @@ use Rattle.fl_script.specs.declared.command.Command as code
 use Rattle.fl_session.specs.declared.status.Status.{Status}
 use Rattle.fl_session.specs.Built.{are_built}
 use Rattle.fl_session.specs.Stream.{LinesState}
-use Rattle.fl_session.specs.Pages.{Rests}
-use Rattle.fl_session.specs.Standing.{SessionStands, RestsOn}
+use Rattle.fl_table.specs.declared.table.Table as code_table
+use Rattle.fl_table.specs.Memory.{IsPlanned, LiesOn}
+use Rattle.fl_session.specs.Standing.{SessionStands, IsSound, RestsOn, IsNewTable}
 use Rattle.fl_session.specs.Run.{RunsFrom, around_of, IsOfCommands, refused_status}
 use Rattle.fl_session.specs.declared.status.Status.TheVariants.{Usage, MediaMake, OtherConfig}
 use Rattle.fl_config.specs.declared.image.ImageRefusal.{ImageRefusal}
@@ -27,8 +29,8 @@ use Rattle.fl_config.specs.declared.image.ImageRefusal.TheVariants.{Media, Other
 use Rattle.fl_base.specs.Causes.{Rose}
 use Rattle.fl_session.specs.Texts.{is_long, lines_read}
 use Rattle.fl_session.specs.Begin.{BeginsAt}
-use Rattle.fl_session.specs.Opening.{Opened, HalfOpened, Foreign, OpensAs, MediaGoes}
-use Rattle.fl_session.specs.Ends.{Ends, told_of, start_in, EndsMaking, EndsOther, IsEarlyBy, Differs}
+use Rattle.fl_session.specs.Opening.{Opened, HalfOpened, Foreign, OpensAs, KeepsForm, MediaGoes}
+use Rattle.fl_session.specs.Ends.{Ends, IsFormed, told_of, start_in, EndsMaking, EndsOther, IsEarlyBy, Differs}
 use Rattle.fl_words.specs.Medium.{header}
 use Rattle.fl_config.specs.Opening as opening
 use Rattle.fl_config.specs.Opening.{Opens}
@@ -36,7 +38,8 @@ use Rattle.fl_config.specs.Whole.{is_whole, is_whole_of, Makes}
 use Rattle.fl_session.proofs.Running.{nothing-added}
 use Rattle.fl_session.proofs.Ready.{ready-room, stands-ready}
 use Rattle.fl_session.proofs.Ending.{runs-seen, ends-of_run, begins-ready}
-use Rattle.fl_session.proofs.Rested.{IsOne, built-one, session-begins, session-ends, opened-rests}
+use Rattle.fl_session.proofs.Rooms.{some-plan}
+use Rattle.fl_session.proofs.Rested.{IsOne, built-one, session-begins, session-ends, opened-rests, opened-formed}
 
 -- the parts of a whole configuration
 pub record AreParts (knots : ℕ) (lines : Lines) (config : Config) : Type 0 where
@@ -66,20 +69,53 @@ whole-parts knots lines config e = parts_of knots lines lines.device lines.plans
 pub one-of : (knots : ℕ) (lines : Lines) (config : Config) → are_built lines.plans ≡ true → AreParts knots lines config → IsOne config.plans
 one-of knots lines config built parts = built-one config.plans (ap are_built (sym parts.plans) ∙ built) parts.some
 
+or-left : (a b : Bool) → (a || b) ≡ false → a ≡ false
+or-left true b e = e
+or-left false b e = refl
+
+-- a new table lies on a flash of its configuration
+few-pages : (f : FlashState) (plans : List Plan) → f.blocks ≡ sum_by blocks_of plans → too_large f.geometry plans ≡ false → pages f < 2 ^ 32
+few-pages f plans e fits =
+    let few = ltb-false 65536 (sum_by blocks_of plans * f.geometry.block) (or-left (nat_lt 65536 (sum_by blocks_of plans * f.geometry.block)) (nat_lt 67108864 (sum_by blocks_of plans * f.geometry.block * f.geometry.page)) fits) in
+    subst (λ blocks. blocks * f.geometry.block < 2 ^ 32) (sym e) (omega (arith, few))
+
+pub new-lies : (t : code_table.Table) (lines : Lines) (f : FlashState) → IsNewTable t lines → (one : IsOne lines.plans) → lines.device ≡ Some f.geometry → f.blocks ≡ sum_by blocks_of lines.plans → too_large f.geometry lines.plans ≡ false → LiesOn t f
+new-lies t lines f new one device blocks fits =
+    let planned = new.planned one.plan one.plans_are in
+    let geometry : f.geometry ≡ t.geometry = cc (device, new.device) in
+    let all : sum_by blocks_of lines.plans ≡ 0 + blocks_of one.plan = ap (λ ps. sum_by blocks_of ps) one.plans_are in
+    record {
+      geometry = geometry;
+      within = omega (arith, blocks, all, planned.begins, planned.blocks);
+      few = few-pages f lines.plans blocks fits;
+      ring = λ r is. absurd (some (ap is_some (sym is) ∙ new.rests));
+    }
+  where
+    some : true ≡ false → ⊥
+    some e = cc
+
+-- a session that begins over it is sound
+pub new-sound : (t t' : code_table.Table) (lines : Lines) (f f' : FlashState) (buf buf' : BufferState) → t' ≡ t → f' ≡ f → buf' ≡ buf → IsNewTable t lines → IsTrue (is_whole lines) → are_built lines.plans ≡ true → lines.device ≡ Some f.geometry → f.blocks ≡ sum_by blocks_of lines.plans →
+    IfSome lines.device (λ geometry. too_large geometry lines.plans ≡ false) → ((geometry : Geometry) → lines.device ≡ Some geometry → length buf.bytes ≡ geometry.page) → IsSound t' f' buf'
+new-sound t t' lines f f' buf buf' t_is f_is buf_is new whole built device blocks fits page =
+    let one = built-one lines.plans built (some-plan lines.device lines.plans whole) in
+    let small : too_large f.geometry lines.plans ≡ false = subst (λ d. IfSome d (λ geometry. too_large geometry lines.plans ≡ false)) device fits in
+    rw (t_is, f_is, buf_is) (record { lies = new-lies t lines f new one device blocks small; room = page f.geometry device })
+
 -- what was run in the session was run over the medium
-pub session-runs : (config : Config) (Stands Stands' : FlashState → Plan → Table → Type 0) (f f' : FlashState) (old new : MediaState) (mounted mounted' : Bool) (geometry : Geometry) (blocks : ℕ) (origin : GName) →
-    f ≡ on_medium geometry blocks 1024 origin true None 0 (record { reads = 0; programs = 0; erases = 0 }) old → geometry ≡ config.geometry → new ≡ f'.media → IsTrue old.tells → IsOne config.plans →
-    ((p : Plan) (t : Table) → Stands' f' p t → Rests f' 0 p (lose t)) → mounted ≡ false →
+pub session-runs : (config : Config) (t t' : code_table.Table) (name name' : List ℕ) (f f' : FlashState) (old new : MediaState) (mounted mounted' : Bool) (geometry : Geometry) (blocks : ℕ) (origin : GName) →
+    f ≡ on_medium geometry blocks 1024 origin true None 0 (record { reads = 0; programs = 0; erases = 0 }) old → geometry ≡ config.geometry → new ≡ f'.media → IsTrue old.tells →
+    (one : IsOne config.plans) → one.plan.name ≡ name → IsPlanned t 0 one.plan → mounted ≡ false →
     (first : Option code.Command) (number : ℕ) (state : LinesState) (left left_now told told_now : Option (List ℕ)) (status : Status) →
-    RunsFrom first number state left left_now (around_of config f.media f'.media told told_now) (SessionStands config Stands f mounted) (SessionStands config Stands' f' mounted') status →
+    RunsFrom first number state left left_now (around_of config f.media f'.media told told_now) (SessionStands config t name f mounted) (SessionStands config t' name' f' mounted') status →
     RunsFrom first number state left left_now (around_of config old new told told_now) (RestsOn config old.content) (StandsAfter config (Some new.content)) status
-session-runs config Stands Stands' f f' old new mounted mounted' geometry blocks origin is g_is media tells one settles off first number state left left_now told told_now status h =
-    let begin : (m : Machine) → RestsOn config old.content m → SessionStands config Stands f mounted m =
-    λ m r. subst (λ b. SessionStands config Stands f b m) (sym off)
-    (subst (λ x. SessionStands config Stands x false m) (sym is)
-    (session-begins config Stands (on_medium geometry blocks 1024 origin true None 0 (record { reads = 0; programs = 0; erases = 0 }) old) m tells refl g_is refl refl refl one r)) in
-    let end : (m : Machine) → SessionStands config Stands' f' mounted' m → StandsAfter config (Some f'.media.content) m = λ m s. session-ends config Stands' f' mounted' m settles s in
-    let seen = runs-seen first number state left left_now (around_of config f.media f'.media told told_now) (SessionStands config Stands f mounted) (SessionStands config Stands' f' mounted')
+session-runs config t t' name name' f f' old new mounted mounted' geometry blocks origin is g_is media tells one named planned off first number state left left_now told told_now status h =
+    let begin : (m : Machine) → RestsOn config old.content m → SessionStands config t name f mounted m =
+    λ m r. subst (λ b. SessionStands config t name f b m) (sym off)
+    (subst (λ x. SessionStands config t name x false m) (sym is)
+    (session-begins config t name (on_medium geometry blocks 1024 origin true None 0 (record { reads = 0; programs = 0; erases = 0 }) old) m tells refl g_is refl refl refl one named planned r)) in
+    let end : (m : Machine) → SessionStands config t' name' f' mounted' m → StandsAfter config (Some f'.media.content) m = λ m s. session-ends config t' name' f' mounted' m s in
+    let seen = runs-seen first number state left left_now (around_of config f.media f'.media told told_now) (SessionStands config t name f mounted) (SessionStands config t' name' f' mounted')
     (RestsOn config old.content) (StandsAfter config (Some f'.media.content)) status begin end h in
     let from : RunsFrom first number state left left_now (around_of config old f'.media told told_now) (RestsOn config old.content) (StandsAfter config (Some f'.media.content)) status =
     subst (λ (x : FlashState). RunsFrom first number state left left_now (around_of config x.media f'.media told told_now) (RestsOn config old.content) (StandsAfter config (Some f'.media.content)) status) is seen in
@@ -99,12 +135,22 @@ start-room knots text = by_test (is_long text)
     by_test true = accepted-room knots (lines_read text)
     by_test false = accepted-room-ended knots (lines_read text)
 
+-- an image that was opened, and was run on, has the form of its configuration
+kept-formed : (config : Config) (mid new : MediaState) → IsFormed config mid.content → IsTrue mid.tells → KeepsForm mid new → IsFormed config new.content
+kept-formed config mid new formed tells kept = (kept.len ∙ formed.0, kept.head tells ∙ formed.1)
+
+pub session-keeps : (f f' : FlashState) (old new : MediaState) (geometry : Geometry) (blocks : ℕ) (origin : GName) →
+    f ≡ on_medium geometry blocks 1024 origin true None 0 (record { reads = 0; programs = 0; erases = 0 }) old → new ≡ f'.media → Goes f f' → KeepsForm old new
+session-keeps f f' old new geometry blocks origin is media goes =
+    let goes' = subst (λ x. Goes x f') is goes in
+    subst (λ m. KeepsForm old m) (sym media) (record { len = goes'.size; head = goes'.front })
+
 -- a run over an image that was opened
 pub ends-opened : (knots : ℕ) (text : List ℕ) (lines : Lines) (first : Option code.Command) (number : ℕ) (state : LinesState) (left left_now told told_now : Option (List ℕ)) (config : Config) (old mid new : MediaState) (origin : GName) (status : Status) →
-    BeginsAt knots text lines first number state left → whole knots lines ≡ Some config → are_built lines.plans ≡ true → IsTrue old.tells → Opened config old mid → old.faults ≤ mid.faults → mid.faults ≤ new.faults →
+    BeginsAt knots text lines first number state left → whole knots lines ≡ Some config → are_built lines.plans ≡ true → IsTrue old.tells → Opened config old mid → KeepsForm mid new → mid.tells ≡ old.tells → old.faults ≤ mid.faults → mid.faults ≤ new.faults →
     RunsFrom first number state left left_now (around_of config mid new told told_now) (RestsOn config mid.content) (StandsAfter config (Some new.content)) status →
     Ends knots text (told_of old new left_now told told_now) status
-ends-opened knots text lines first number state left left_now told told_now config old mid new origin status begins w built tells opened later later' h =
+ends-opened knots text lines first number state left left_now told told_now config old mid new origin status begins w built tells opened kept same_tells later later' h =
     let ready = begins-ready knots text lines first number state left config begins w in
     let room = ready-room config ready.0 ready.1 (start_in knots text) (start-room knots text) ready.2 in
     let one = one-of knots lines config built (whole-parts knots lines config w) in
@@ -117,6 +163,7 @@ ends-opened knots text lines first number state left left_now told told_now conf
       written = refl;
       written_now = refl;
       own = opened.own tells;
+      formed = kept-formed config mid new (opened-formed config old mid tells opened) (subst IsTrue (sym same_tells) tells) kept;
       begins = λ m s. (opened-rests config old mid f m refl refl refl room one tells opened s, stands-ready config old.content m room s);
       ends = λ m s. s;
     })

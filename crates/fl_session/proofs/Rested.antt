@@ -1,6 +1,6 @@
 -- A session that isn't mounted, and the medium on which it stands.
 use Rattle.std.proofs.Common.{◌≡◌, ℕ, zero, suc, ◌+◌, ◌-◌, ◌*◌, ◌≤◌, Bool, true, false, ◌&&◌, nat_lt, nat_le, ◌==◌, inl, inr, IsTrue, Some, None, List, [], ◌∷◌, ◌++◌, map, length, take, drop, slice_range, refl, sym, ◌∙◌, ap, subst, length-append, arith}
-use Rattle.std.specs.Prelude.{MatchBool, replicate}
+use Rattle.std.specs.Prelude.{replicate}
 use Rattle.std.specs.List.{AllByRecursion, list_all}
 use Rattle.std.proofs.lemmas.List.{drop-replicate, length-replicate}
 use Rattle.std.proofs.Math.Seq.{drop-append-add, take-append_seam}
@@ -19,11 +19,14 @@ use Rattle.fl_machine.specs.Machine.{Machine, fresh_tables}
 use Rattle.fl_machine.specs.Found.{HasRoom}
 use Rattle.fl_machine.specs.Script.{StandsFor, StandsAfter}
 use Rattle.fl_session.specs.Built.{are_built, is_built_plan}
-use Rattle.fl_session.specs.Ends.{new_content}
+use Rattle.fl_session.specs.Ends.{IsOwn, IsFormed, new_content}
 use Rattle.fl_session.specs.Opening.{Opened}
-use Rattle.fl_session.specs.Pages.{Rests, place_in}
+use Rattle.fl_table.specs.declared.table.Table as code
+use Rattle.fl_table.specs.Memory.{IsPlanned}
+use Rattle.fl_table.specs.Pages.{Rests, place_in}
+use Rattle.fl_session.proofs.StepsOf.{off-rests}
 use Rattle.fl_session.specs.Standing.{SessionStands, RestsOn}
-use Rattle.fl_session.proofs.Images.{image-rests, rests-image, blank-rests}
+use Rattle.fl_table.proofs.Images.{image-rests, rests-image, blank-rests}
 
 and-left : (a b : Bool) → (a && b) ≡ true → a ≡ true
 and-left true b e = refl
@@ -72,7 +75,7 @@ blank-part head n at end h =
     ap (λ l. is_blank (take (end - at) l)) cut ∙ blank-take (end - at) (n - k)
 
 -- a medium that was opened stands for a state between two runs
-new-header : (config : Config) (old new : MediaState) → Opened config old new → new.content ≡ new_content config → length (header config) ≡ 1024
+pub new-header : (config : Config) (old new : MediaState) → Opened config old new → new.content ≡ new_content config → length (header config) ≡ 1024
 new-header config old new h e =
     let count : medium_len config ≡ length (header config) + (medium_len config - 1024) =
     sym h.len ∙ (ap length e ∙ (length-append (header config) (replicate (medium_len config - 1024) 255) ∙ ap (λ n. length (header config) + n) (length-replicate {A = ℕ} (medium_len config - 1024) 255))) in
@@ -96,6 +99,20 @@ new-rests config old new f start geometry content room one h e =
       tables_are = subst (λ ps. AreTableImages config new.content 0 ps (map fresh_table ps)) (sym one.plans_are) images;
     }
 
+-- .. and has the form of its configuration
+pub opened-formed : (config : Config) (old new : MediaState) → IsTrue old.tells → Opened config old new → IsFormed config new.content
+opened-formed config old new told h = (h.len, by-own (h.own told))
+  where
+    some : medium_len config ≡ 0 → ⊥
+    some e = absurd (omega (arith, e))
+
+    by-own : IsOwn config old.content → take 1024 new.content ≡ header config
+    by-own (inl empty) =
+        let made = h.made told empty in
+        let size = new-header config old new h made in
+        ap (take 1024) made ∙ (ap (λ n. take n (new_content config)) (sym size) ∙ take-append_seam (header config) (replicate (medium_len config - 1024) 255))
+    by-own (inr formed) = ap (take 1024) (h.kept told (λ e. some (sym formed.0 ∙ ap length e))) ∙ formed.1
+
 pub opened-rests : (config : Config) (old new : MediaState) (f : FlashState) (m : Machine) → f.start ≡ 1024 → f.geometry ≡ config.geometry → f.media.content ≡ new.content →
     AllByRecursion HasRoom config.plans → IsOne config.plans → IsTrue old.tells → Opened config old new → StandsFor config old.content m → RestsOn config new.content m
 opened-rests config old new f m start geometry content room one told h (inl s) = (fresh_tables config, new-rests config old new f start geometry content room one h (h.made told s.0), s.1)
@@ -114,33 +131,29 @@ one_table config content plan [] h = absurd h
 one_table config content plan (table ∷ []) h = (table, refl, h.0)
 one_table config content plan (table ∷ next ∷ tables) h = absurd h.1
 
-pub session-begins : (config : Config) (Stands : FlashState → Plan → Table → Type 0) (f : FlashState) (m : Machine) → IsTrue f.media.tells → f.start ≡ 1024 → f.geometry ≡ config.geometry →
-    f.armed ≡ None → f.work.programs ≡ 0 → f.work.erases ≡ 0 → IsOne config.plans → RestsOn config f.media.content m → SessionStands config Stands f false m
-session-begins config Stands f m told start geometry armed programs erases one h =
-    let t = one_table config f.media.content one.plan h.0 (subst (λ ps. AreTableImages config f.media.content 0 ps h.0) one.plans_are h.1.tables_are) in
+pub session-begins : (config : Config) (t : code.Table) (name : List ℕ) (f : FlashState) (m : Machine) → IsTrue f.media.tells → f.start ≡ 1024 → f.geometry ≡ config.geometry →
+    f.armed ≡ None → f.work.programs ≡ 0 → f.work.erases ≡ 0 → (one : IsOne config.plans) → one.plan.name ≡ name → IsPlanned t 0 one.plan → RestsOn config f.media.content m → SessionStands config t name f false m
+session-begins config t name f m told start geometry armed programs erases one named planned h =
+    let images = one_table config f.media.content one.plan h.0 (subst (λ ps. AreTableImages config f.media.content 0 ps h.0) one.plans_are h.1.tables_are) in
     record {
       medium = record { told = told; len = h.1.len; head = h.1.head; start = start; geometry = geometry };
       plan = one.plan;
       plans = one.plans_are;
-      table = t.0;
-      tables = ap (λ (m : Machine). m.tables) h.2 ∙ t.1;
+      named = named;
+      planned = planned;
+      table = images.0;
+      tables = ap (λ (m : Machine). m.tables) h.2 ∙ images.1;
       is_mounted = ap (λ (m : Machine). m.mounted) h.2;
       cursors = ap (λ (m : Machine). m.cursors) h.2;
       device = subst (λ (m : Machine). SameDevice f m.device) (sym h.2) (record { armed = subst (λ a. ArmsAs None a) (sym armed) refl; programs = sym programs; erases = sym erases });
-      on_flash = image-rests config 0 one.plan t.0 f start geometry t.2;
+      on_flash = image-rests config 0 one.plan images.0 f start geometry images.2;
       power = λ k. cc;
     }
 
 -- the medium on which a session ended stands for what it had on it
-ends-rests : (Stands : FlashState → Plan → Table → Type 0) (f : FlashState) (plan : Plan) (table : Table) (mounted : Bool) → ((p : Plan) (t : Table) → Stands f p t → Rests f 0 p (lose t)) →
-    MatchBool mounted (Stands f plan table) (Rests f 0 plan table) → Rests f 0 plan (lose table)
-ends-rests Stands f plan table true settles h = settles plan table h
-ends-rests Stands f plan table false settles h = subst (λ t. Rests f 0 plan t) h.settled.lost h
-
-pub session-ends : (config : Config) (Stands : FlashState → Plan → Table → Type 0) (f : FlashState) (mounted : Bool) (m : Machine) → ((p : Plan) (t : Table) → Stands f p t → Rests f 0 p (lose t)) →
-    SessionStands config Stands f mounted m → StandsAfter config (Some f.media.content) m
-session-ends config Stands f mounted m settles h =
-    let r = ends-rests Stands f h.plan h.table mounted settles h.on_flash in
+pub session-ends : (config : Config) (t : code.Table) (name : List ℕ) (f : FlashState) (mounted : Bool) (m : Machine) → SessionStands config t name f mounted m → StandsAfter config (Some f.media.content) m
+session-ends config t name f mounted m h =
+    let r = off-rests t f h.plan h.table mounted h.on_flash in
     let image = rests-image config 0 h.plan (lose h.table) f h.medium.start h.medium.geometry r in
     let images : AreTableImages config f.media.content 0 (h.plan ∷ []) (lose h.table ∷ []) = (image, tt) in
     record {

@@ -1,28 +1,34 @@
 -- The commands of a session, each by its step.
-use Rattle.std.proofs.Common.{◌≡◌, ℕ, Bool, true, false, Option, Some, None, Result, Ok, List, [], ◌∷◌, map, refl, sym, ap, subst}
+use Rattle.std.proofs.Common.{◌≡◌, ℕ, ◌≤◌, Bool, true, false, Option, Some, None, Ok, List, [], ◌∷◌, map, refl, sym, ap, subst, arith}
 use Rattle.std.specs.Prelude.{MatchBool}
+use Rattle.std.proofs.lemmas.Bool.{le-ltb}
+use Rattle.fl_base.specs.declared.types.CutKind.{CutKind}
+use Rattle.fl_flash.specs.declared.tear.Tear.TheVariants.{Kind}
 use Rattle.fl_flash.specs.Flash.{FlashState}
 use Rattle.fl_model.specs.Record.{Config, Plan}
-use Rattle.fl_model.specs.Table.{Table, lose}
+use Rattle.fl_model.specs.Table as model
+use Rattle.fl_model.specs.Table.{lose}
+use Rattle.fl_model.proofs.Plain.{IsPlain, plain-facts, facts-plain, plain-lose}
 use Rattle.fl_words.specs.Command as command
 use Rattle.fl_words.specs.Command.{Command}
 use Rattle.fl_words.specs.Reply as reply
 use Rattle.fl_words.specs.Reply.{Reply, text, texts}
 use Rattle.fl_machine.specs.Machine.{Machine, stopped}
-use Rattle.fl_machine.specs.Step.{Moment}
 use Rattle.fl_script.specs.Written.{Written}
 use Rattle.fl_script.specs.declared.command.Command as code
 use Rattle.fl_script.specs.CommandView.{command_view}
+use Rattle.fl_table.specs.declared.table.Table.{Table}
+use Rattle.fl_table.specs.Memory.{IsPlanned}
+use Rattle.fl_table.specs.Pages.{Rests}
+use Rattle.fl_table.specs.Standing.{Stands}
+use Rattle.fl_table.proofs.Holding.{lost-twice}
+use Rattle.fl_session.specs.Answer.{Answers}
 use Rattle.fl_session.specs.Built.{IsRunnable}
 use Rattle.fl_session.specs.Execute.{Executes}
-use Rattle.fl_session.specs.Pages.{Rests}
 use Rattle.fl_session.specs.Standing.{SessionStands}
-use Rattle.fl_session.proofs.Executing.{executes-by, one-text}
+use Rattle.fl_session.proofs.Answering.{answers-saying, saying, says}
+use Rattle.fl_session.proofs.Executing.{executes-by}
 use Rattle.fl_session.proofs.Running.{nothing-added}
-
--- a moment that says one thing and reads nothing
-abbrev pub saying : Command → List Reply → Machine → Moment
-saying c replies after = record { command = c; rose = false; reads = 0; last = None; replies = replies; after = after }
 
 -- nothing is done
 pub executes-nothing : (E : Type 0) (config : Config) (old : Machine) (c : Command) (stands : Machine → Type 0) (faults : ℕ) (told : Option (List ℕ)) → c ≡ command.Nothing → stands old →
@@ -32,20 +38,31 @@ executes-nothing E config old c stands faults told e s =
     subst (λ x. Executes {E = E} config old x stands faults faults told told (Ok tt)) (sym e)
     (executes-by E config old command.Nothing stands faults faults told told (Ok tt) (saying command.Nothing [] old) refl (record { replies_are = refl; after_is = refl; last_is = refl }) s (λ t. cc) w)
 
--- the table rests with what it had in memory lost
-off-rests : (Stands : FlashState → Plan → Table → Type 0) (f : FlashState) (plan : Plan) (table : Table) (mounted : Bool) → ((p : Plan) (t : Table) → Stands f p t → Rests f 0 p (lose t)) →
-    MatchBool mounted (Stands f plan table) (Rests f 0 plan table) → Rests f 0 plan (lose table)
-off-rests Stands f plan table true settles h = settles plan table h
-off-rests Stands f plan table false settles h = subst (λ t. Rests f 0 plan t) h.settled.lost h
+-- a table rests where what it has in memory is lost
+planned-plain : (t : Table) (plan : Plan) → IsPlanned t 0 plan → IsPlain plan
+planned-plain t plan h = record { no_index = le-ltb 0 plan.index_blocks (omega (arith, h.index)); no_var = le-ltb 0 plan.var_blocks (omega (arith, h.var)) }
 
-pub stands-off : (config : Config) (old : Machine) (Stands : FlashState → Plan → Table → Type 0) (f : FlashState) (mounted : Bool) → ((p : Plan) (t : Table) → Stands f p t → Rests f 0 p (lose t)) →
-    SessionStands config Stands f mounted old → SessionStands config Stands (record f { is_on = false }) false (stopped old)
-stands-off config old Stands f mounted settles h =
-    let r = off-rests Stands f h.plan h.table mounted settles h.on_flash in
+stands-rests : (t : Table) (f : FlashState) (plan : Plan) (table : model.Table) → Stands t f 0 plan table → Rests f 0 plan (lose table)
+stands-rests t f plan table h =
+    let plain = planned-plain t plan h.planned in
+    record {
+      settled = record { facts = facts-plain plan (lose table) plain (plain-lose plan table (plain-facts plan table plain h.facts)); lost = lost-twice table };
+      pages = h.pages;
+    }
+
+pub off-rests : (t : Table) (f : FlashState) (plan : Plan) (table : model.Table) (mounted : Bool) → MatchBool mounted (Stands t f 0 plan table) (Rests f 0 plan table) → Rests f 0 plan (lose table)
+off-rests t f plan table true h = stands-rests t f plan table h
+off-rests t f plan table false h = subst (λ x. Rests f 0 plan x) h.settled.lost h
+
+pub stands-off : (config : Config) (old : Machine) (t : Table) (name : List ℕ) (f : FlashState) (mounted : Bool) → SessionStands config t name f mounted old → SessionStands config t name (record f { is_on = false }) false (stopped old)
+stands-off config old t name f mounted h =
+    let r = off-rests t f h.plan h.table mounted h.on_flash in
     record {
       medium = record { told = h.medium.told; len = h.medium.len; head = h.medium.head; start = h.medium.start; geometry = h.medium.geometry };
       plan = h.plan;
       plans = h.plans;
+      named = h.named;
+      planned = h.planned;
       table = lose h.table;
       tables = ap (map lose) h.tables;
       is_mounted = refl;
@@ -55,25 +72,62 @@ stands-off config old Stands f mounted settles h =
       power = λ t. cc;
     }
 
-pub executes-off : (E : Type 0) (config : Config) (old : Machine) (stands : Machine → Type 0) (faults faults_now : ℕ) (told told_now : Option (List ℕ)) (result : Result (Unit {0}) E) →
-    stands (stopped old) → Written {E = E} told told_now result (text reply.Done) → Executes config old command.Off stands faults faults_now told told_now result
-executes-off E config old stands faults faults_now told told_now result s w =
-    executes-by E config old command.Off stands faults faults_now told told_now result (saying command.Off (reply.Done ∷ []) (stopped old)) refl
-    (record { replies_are = refl; after_is = refl; last_is = refl }) s (λ t. cc) (subst (λ t. Written {E = E} told told_now result t) (sym (one-text reply.Done)) w)
+pub answers-off : (config : Config) (old : Machine) (stands : Machine → Type 0) (faults faults_now : ℕ) → stands (stopped old) → Answers config old command.Off stands faults faults_now (text reply.Done)
+answers-off config old stands faults faults_now s = answers-saying config old command.Off reply.Done (stopped old) stands faults faults_now (says command.Off (reply.Done ∷ []) (stopped old)) s
+
+cut-flash : (t : Table) (f : FlashState) (plan : Plan) (table : model.Table) (mounted : Bool) (n : ℕ) (kind : CutKind) →
+    MatchBool mounted (Stands t f 0 plan table) (Rests f 0 plan table) →
+    MatchBool mounted (Stands t (record f { armed = Some (record { left = n; tear = Kind kind }) }) 0 plan table) (Rests (record f { armed = Some (record { left = n; tear = Kind kind }) }) 0 plan table)
+cut-flash t f plan table true n kind h = record { planned = h.planned; facts = h.facts; whole = h.whole; clean = h.clean; pages = h.pages; memory = h.memory }
+cut-flash t f plan table false n kind h = record { settled = h.settled; pages = h.pages }
+
+-- a cut is armed
+abbrev pub cut_to_come : Machine → ℕ → CutKind → Machine
+cut_to_come old n kind = record old { device = record old.device { armed = Some (n, kind) } }
+
+pub stands-cut : (config : Config) (old : Machine) (t : Table) (name : List ℕ) (f : FlashState) (mounted : Bool) (n : ℕ) (kind : CutKind) → 1 ≤ n →
+    SessionStands config t name f mounted old → SessionStands config t name (record f { armed = Some (record { left = n; tear = Kind kind }) }) mounted (cut_to_come old n kind)
+stands-cut config old t name f mounted n kind counted h = record {
+  medium = record { told = h.medium.told; len = h.medium.len; head = h.medium.head; start = h.medium.start; geometry = h.medium.geometry };
+  plan = h.plan;
+  plans = h.plans;
+  named = h.named;
+  planned = h.planned;
+  table = h.table;
+  tables = h.tables;
+  is_mounted = h.is_mounted;
+  cursors = h.cursors;
+  device = record { armed = (kind, refl, counted, refl); programs = h.device.programs; erases = h.device.erases };
+  on_flash = cut-flash t f h.plan h.table mounted n kind h.on_flash;
+  power = h.power;
+}
+
+pub answers-cut : (config : Config) (old : Machine) (n : ℕ) (kind : CutKind) (stands : Machine → Type 0) (faults faults_now : ℕ) → stands (cut_to_come old n kind) → Answers config old (command.Cut n kind) stands faults faults_now (text reply.Done)
+answers-cut config old n kind stands faults faults_now s =
+    answers-saying config old (command.Cut n kind) reply.Done (cut_to_come old n kind) stands faults faults_now (says (command.Cut n kind) (reply.Done ∷ []) (cut_to_come old n kind)) s
 
 -- a command that is run and isn't one of the others is nothing
-pub default-view : (c : code.Command) (room : List ℕ) → IsRunnable (command_view c room) → (c ≡ code.TheVariants.Off → ⊥) → command_view c room ≡ command.Nothing
-default-view code.TheVariants.Nothing room r n = refl
-default-view code.TheVariants.Off room r n = absurd (n refl)
-default-view (code.TheVariants.Device page block) room r n = absurd (none r.runs)
+pub default-view : (c : code.Command) (room : List ℕ) → IsRunnable (command_view c room) → (c ≡ code.TheVariants.Mount → ⊥) → (c ≡ code.TheVariants.Off → ⊥) → ((n : ℕ) (kind : CutKind) → c ≡ code.TheVariants.Cut n kind → ⊥) →
+    ((name : _) (key : ℕ) (values : _) (blob : Bool) → c ≡ code.TheVariants.Put name key values blob → ⊥) → ((name : _) → c ≡ code.TheVariants.Flush name → ⊥) → ((name : _) → c ≡ code.TheVariants.Stat name → ⊥) → ((name : _) (range : _) (span : _) → c ≡ code.TheVariants.Scan name range span → ⊥) →
+    ((name : _) (count step seed : ℕ) → c ≡ code.TheVariants.Load name count step seed → ⊥) → command_view c room ≡ command.Nothing
+default-view code.TheVariants.Nothing room r m n k p f s l o = refl
+default-view code.TheVariants.Mount room r m n k p f s l o = absurd (m refl)
+default-view code.TheVariants.Off room r m n k p f s l o = absurd (n refl)
+default-view (code.TheVariants.Cut i kind) room r m n k p f s l o = absurd (k i kind refl)
+default-view (code.TheVariants.Put name key values blob) room r m n k p f s l o = absurd (p name key values blob refl)
+default-view (code.TheVariants.Flush name) room r m n k p f s l o = absurd (f name refl)
+default-view (code.TheVariants.Stat name) room r m n k p f s l o = absurd (s name refl)
+default-view (code.TheVariants.Scan name range span) room r m n k p f s l o = absurd (l name range span refl)
+default-view (code.TheVariants.Load name count step seed) room r m n k p f s l o = absurd (o name count step seed refl)
+default-view (code.TheVariants.Device page block) room r m n k p f s l o = absurd (none r.runs)
   where
     none : None ≡ Some (command.Device page block) → ⊥
     none e = cc
-default-view (code.TheVariants.Table name key rows index var bits base width error blob) room r n = absurd (none r.runs)
+default-view (code.TheVariants.Table name key rows index var bits base width error blob) room r m n k p f s l o = absurd (none r.runs)
   where
     none : None ≡ Some (command_view (code.TheVariants.Table name key rows index var bits base width error blob) room) → ⊥
     none e = cc
-default-view c room r n = absurd (unbuilt r.built)
+default-view c room r m n k p f s l o = absurd (unbuilt r.built)
   where
     unbuilt : false ≡ true → ⊥
     unbuilt e = cc

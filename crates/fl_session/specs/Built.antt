@@ -9,9 +9,18 @@ use Rattle.fl_words.specs.Command.{Command}
 -- the commands
 abbrev pub is_built : Command → Bool
 is_built command.Nothing = true
-is_built command.Off = true
 is_built (command.Device page block) = true
 is_built (command.Table line) = true
+is_built command.Mount = true
+is_built command.Off = true
+-- a cut names an operation, counted from 1
+is_built (command.Cut n kind) = nat_le 1 n
+is_built (command.Put name key values blob) = true
+is_built (command.Flush name) = true
+is_built (command.Scan name range span) = true
+is_built (command.Stat name) = true
+-- the keys of a load grow
+is_built (command.Load name count step seed) = nat_le 1 step
 is_built c = false
 
 -- the configurations: one table, without an index ring and without variable data

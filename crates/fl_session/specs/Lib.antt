@@ -10,6 +10,9 @@ pub mod Loop
 pub mod Given
 pub mod Begin
 pub mod Opening
-pub mod Pages
+pub mod Answer
 pub mod Standing
+pub mod Load
 pub mod Run
+pub mod Rows
+pub mod Listed

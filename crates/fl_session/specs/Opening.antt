@@ -1,8 +1,11 @@
 -- What the opening of an image does to its medium.
-use Rattle.std.specs.Prelude.{◌≡◌, ℕ, ◌≤◌, IsTrue, Result, Ok, Err, [], length}
+use Rattle.std.specs.Prelude.{◌≡◌, ℕ, ◌*◌, ◌<◌, ◌≤◌, IsTrue, Result, Ok, Err, List, [], length, take}
 use Rattle.fl_config.specs.declared.image.ImageRefusal.{ImageRefusal}
 use Rattle.fl_config.specs.declared.image.ImageRefusal.TheVariants.{Media, Other}
 use Rattle.fl_base.specs.Causes.{Rose}
+use Rattle.fl_base.specs.declared.types.Geometry.{Geometry}
+use Rattle.fl_flash.specs.Flash.{blank}
+use Rattle.fl_flash.specs.Places.{page_of}
 use Rattle.fl_model.specs.Record.{Config}
 use Rattle.fl_model.specs.Image.{medium_len}
 use Rattle.fl_flash.specs.Media.{MediaState}
@@ -32,7 +35,16 @@ OpensAs config old (Ok done) new = Opened config old new
 OpensAs config old (Err Media) new = HalfOpened config old new
 OpensAs config old (Err (Other wanted found at)) new = Foreign config old new wanted found at
 
+-- what an opened image keeps, whatever stands behind its header
+pub record KeepsForm (old new : MediaState) : Type 0 where
+  pub len : length new.content ≡ length old.content
+  pub head : IsTrue old.tells → take 1024 new.content ≡ take 1024 old.content
+
 -- what no call changes of a medium
 pub record MediaGoes (old new : MediaState) : Type 0 where
   pub tells : new.tells ≡ old.tells
   pub faults : old.faults ≤ new.faults
+
+-- each page behind the header is blank
+abbrev pub IsBlankBehind : Geometry → ℕ → List ℕ → Type 0
+IsBlankBehind geometry blocks content = (p : ℕ) → p < blocks * geometry.block → page_of content 1024 geometry.page p ≡ blank geometry.page

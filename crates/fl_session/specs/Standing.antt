@@ -1,14 +1,18 @@
 -- A session, and the states of the machine for which it stands.
-use Rattle.std.specs.Prelude.{◌≡◌, ℕ, ◌^◌, ◌<◌, Bool, true, IsTrue, MatchBool, List, [], ◌∷◌, length, take}
-use Rattle.fl_flash.specs.Flash.{FlashState, pages}
+use Rattle.std.specs.Prelude.{◌≡◌, ℕ, Bool, true, false, IsTrue, MatchBool, List, [], ◌∷◌, length, take, Some}
+use Rattle.fl_flash.specs.Flash.{FlashState}
 use Rattle.fl_flash.specs.Buffer.{BufferState}
 use Rattle.fl_ring.specs.Device.{SameDevice}
 use Rattle.fl_model.specs.Record.{Config, Plan}
-use Rattle.fl_model.specs.Table.{Table}
+use Rattle.fl_model.specs.Table as model
 use Rattle.fl_model.specs.Image.{medium_len}
 use Rattle.fl_words.specs.Medium.{header, IsImage}
+use Rattle.fl_words.specs.Config.{Lines}
 use Rattle.fl_machine.specs.Machine.{Machine, begins, no_cursors}
-use Rattle.fl_session.specs.Pages.{Rests}
+use Rattle.fl_table.specs.declared.table.Table.{Table}
+use Rattle.fl_table.specs.Memory.{IsPlanned, LiesOn, is_running}
+use Rattle.fl_table.specs.Pages.{Rests}
+use Rattle.fl_table.specs.Standing.{Stands}
 
 -- the header and the length of the medium are those of the configuration
 pub record IsOnMedium (config : Config) (f : FlashState) : Type 0 where
@@ -18,33 +22,32 @@ pub record IsOnMedium (config : Config) (f : FlashState) : Type 0 where
   pub start : f.start ≡ 1024
   pub geometry : f.geometry ≡ config.geometry
 
--- `Stands` says for which tables the mounted table stands with its flash
-pub record SessionStands (config : Config) (Stands : FlashState → Plan → Table → Type 0) (f : FlashState) (mounted : Bool) (m : Machine) : Type 0 where
+-- a session over one table, which has this name
+pub record SessionStands (config : Config) (t : Table) (name : List ℕ) (f : FlashState) (mounted : Bool) (m : Machine) : Type 0 where
   pub medium : IsOnMedium config f
   pub plan : Plan
   pub plans : config.plans ≡ plan ∷ []
-  pub table : Table
+  pub named : plan.name ≡ name
+  pub planned : IsPlanned t 0 plan
+  pub table : model.Table
   pub tables : m.tables ≡ table ∷ []
   pub is_mounted : m.mounted ≡ mounted
   pub cursors : m.cursors ≡ no_cursors
   pub device : SameDevice f m.device
-  pub on_flash : MatchBool mounted (Stands f plan table) (Rests f 0 plan table)
+  pub on_flash : MatchBool mounted (Stands t f 0 plan table) (Rests f 0 plan table)
   pub power : IsTrue mounted → f.is_on ≡ true
 
 -- what holds of a session always
-pub record IsSound (Lies : FlashState → Type 0) (f : FlashState) (buf : BufferState) : Type 0 where
-  pub lies : Lies f
-  pub few : pages f < 2 ^ 32
+pub record IsSound (t : Table) (f : FlashState) (buf : BufferState) : Type 0 where
+  pub lies : LiesOn t f
   pub room : length buf.bytes ≡ f.geometry.page
 
--- the same pages of the same flash
-pub record IsSamePages (f g : FlashState) : Type 0 where
-  pub geometry : g.geometry ≡ f.geometry
-  pub blocks : g.blocks ≡ f.blocks
-  pub start : g.start ≡ f.start
-  pub content : g.media.content ≡ f.media.content
-  pub tells : g.media.tells ≡ f.media.tells
+-- a table that was made for the one that the lines configure, and never mounted
+pub record IsNewTable (t : Table) (lines : Lines) : Type 0 where
+  pub device : lines.device ≡ Some t.geometry
+  pub planned : (plan : Plan) → lines.plans ≡ plan ∷ [] → IsPlanned t 0 plan
+  pub rests : is_running t ≡ false
 
 -- a medium stands for a state between two runs; it is no empty one
 abbrev pub RestsOn : Config → List ℕ → Machine → Type 0
-RestsOn config content m = (tables : List Table) × IsImage config content tables × (m ≡ begins tables)
+RestsOn config content m = (tables : List model.Table) × IsImage config content tables × (m ≡ begins tables)

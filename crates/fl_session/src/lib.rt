@@ -5,15 +5,21 @@ mod begin;
 mod built;
 mod commands;
 mod executor;
+mod generator;
 mod lines;
+mod listing;
+mod load;
 mod next;
+mod replies;
+mod rows;
 mod session;
 mod status;
-mod stored;
-mod unmounted;
 mod whole_run;
 mod words;
 
 pub use status::Status;
 pub use whole_run::{KNOTS, run};
 pub use words::image_of;
+
+#[cfg(test)]
+mod tests;

@@ -5,6 +5,7 @@ ghost use Rattle.fl_base.specs.Causes.{HasCause};
 ghost use Rattle.fl_session.specs.Stream.{LinesState, IsOneLine, NeedsNoMore, Advances, Fills, after_line, after_rest};
 
 use fl_base::{NoMemory, Source, SourceFailed};
+use memchr::memchr;
 use std::alloc::Global;
 use std::marker::Model;
 
@@ -51,12 +52,7 @@ impl Model for Lines {
 fn newline_in(bytes: &[u8]) -> Option<usize>
     ensures { MatchOption result (IsOneLine bytes.now) (λ i. (i < length bytes.now) × (slice_get bytes.now i ≡ Some 10) × IsOneLine (take i bytes.now)) }
 {
-    for (i, byte) in bytes.iter().enumerate() {
-        if *byte == b'\n' {
-            return Some(i);
-        }
-    }
-    None
+    memchr(b'\n', bytes)
 }
 
 impl Lines {

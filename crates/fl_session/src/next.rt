@@ -12,10 +12,20 @@ use fl_script::{Command, LineRoom, read_line};
 fn is_built(command: &Command) -> bool
     ensures { (room : List ℕ) → result ≡ forms.is_built (command_view command.now room) }
 {
-    matches!(
-        command,
-        Command::Nothing | Command::Off | Command::Device { .. } | Command::Table { .. }
-    )
+    match command {
+        Command::Nothing
+        | Command::Device { .. }
+        | Command::Table { .. }
+        | Command::Mount
+        | Command::Off
+        | Command::Put { .. }
+        | Command::Flush { .. }
+        | Command::Scan { .. }
+        | Command::Stat { .. } => true,
+        Command::Cut { n, .. } => 1 <= *n,
+        Command::Load { step, .. } => 1 <= *step,
+        _ => false,
+    }
 }
 
 pub(crate) fn is_config(command: &Command) -> bool

@@ -1,33 +1,40 @@
 // A session over a flash.
-ghost use Rattle.std.specs.Prelude.{◌≡◌, ℕ, false};
+ghost use Rattle.std.specs.Prelude.{◌≡◌, ◌≤◌, ℕ, false, Some, None, option_map, if◌then◌else◌};
 ghost use Rattle.fl_base.specs.Causes.{HasCause};
 ghost use Rattle.fl_flash.specs.Flash.{Goes};
 ghost use Rattle.fl_model.specs.Record.{Config};
 ghost use Rattle.fl_words.specs.Command as words;
+ghost use Rattle.fl_words.specs.Reply.{text};
+ghost use Rattle.fl_words.specs.Reply as said;
 ghost use Rattle.fl_machine.specs.Machine.{Machine};
 ghost use Rattle.fl_script.specs.CommandView.{command_view};
+ghost use Rattle.fl_script.specs.ReplyView.{reply_text};
+ghost use Rattle.fl_session.specs.Answer.{Answers, Refusal};
 ghost use Rattle.fl_session.specs.Built.{IsRunnable};
 ghost use Rattle.fl_session.specs.Execute.{Executes};
 ghost use Rattle.fl_session.specs.Standing.{SessionStands, IsSound};
 
 use crate::executor::Executor;
-use crate::stored::Stored;
-use fl_base::{Name, Sink, SinkFailed};
+use crate::load::load;
+use crate::replies::{flush_breaks, flush_reply, mount_reply, put_breaks, put_reply};
+use crate::rows::Wanted;
+use fl_base::{CutKind, Name, Sink, SinkFailed};
 use fl_flash::{Flash, Media, PageBuf, SimFlash};
 use fl_script::{Command, LineRoom, Reply, write_reply};
+use fl_table::Table;
 
 /// A session over a flash: it mounts the table there and executes commands on it.
-pub struct Session<'m, M: Media, T: Stored> {
+pub struct Session<'m, M: Media> {
     flash: SimFlash<'m, M>,
-    table: T,
+    table: Table,
     name: Name,
     buf: PageBuf,
     mounted: bool,
 }
 
-impl<'m, M: Media, T: Stored> Session<'m, M, T> {
+impl<'m, M: Media> Session<'m, M> {
     /// A session that isn't mounted.
-    pub(crate) fn new(flash: SimFlash<'m, M>, table: T, name: Name, buf: PageBuf) -> Self
+    pub(crate) fn new(flash: SimFlash<'m, M>, table: Table, name: Name, buf: PageBuf) -> Self
         ensures flash { ⟦<SimFlash<'m, M> as Flash>⟧.state result.flash ≡ ⟦<SimFlash<'m, M> as Flash>⟧.state flash.entry }
         ensures rooms { (result.table ≡ table) × (result.name ≡ name) × (result.buf ≡ buf) }
         ensures off { result.mounted ≡ false }
@@ -57,42 +64,214 @@ impl<'m, M: Media, T: Stored> Session<'m, M, T> {
     }
 }
 
-impl<'m, M: Media, T: Stored> Session<'m, M, T> {
+impl<'m, M: Media> Session<'m, M> {
     /// Ends the session: the power goes off, and what is in memory alone is lost.
-    fn off<K: Sink>(&mut self, out: &mut K) -> Result<(), SinkFailed>
-        requires { IsSound (T.lies self.old.table) (⟦<SimFlash<'m, M> as Flash>⟧.state self.old.flash) self.old.buf }
-        ensures sound { IsSound (T.lies self.new.table) (⟦<SimFlash<'m, M> as Flash>⟧.state self.new.flash) self.new.buf }
+    fn off(&mut self) -> Reply
+        requires { IsSound self.old.table (⟦<SimFlash<'m, M> as Flash>⟧.state self.old.flash) self.old.buf }
+        ensures sound { IsSound self.new.table (⟦<SimFlash<'m, M> as Flash>⟧.state self.new.flash) self.new.buf }
         ensures goes { Goes (⟦<SimFlash<'m, M> as Flash>⟧.state self.old.flash) (⟦<SimFlash<'m, M> as Flash>⟧.state self.new.flash) }
-        ensures sink { HasCause (K.faults out.old) (K.faults out.new) result }
-        ensures step { (config : Config) (old : Machine) → SessionStands config (T.stands self.old.table) (⟦<SimFlash<'m, M> as Flash>⟧.state self.old.flash) self.old.mounted old →
-            Executes config old words.Off (SessionStands config (T.stands self.new.table) (⟦<SimFlash<'m, M> as Flash>⟧.state self.new.flash) self.new.mounted)
-            (⟦<SimFlash<'m, M> as Flash>⟧.state self.old.flash).media.faults (⟦<SimFlash<'m, M> as Flash>⟧.state self.new.flash).media.faults (K.written out.old) (K.written out.new) result }
+        ensures step { (config : Config) (old : Machine) → SessionStands config self.old.table self.old.name (⟦<SimFlash<'m, M> as Flash>⟧.state self.old.flash) self.old.mounted old →
+            Answers config old words.Off (SessionStands config self.new.table self.new.name (⟦<SimFlash<'m, M> as Flash>⟧.state self.new.flash) self.new.mounted)
+            (⟦<SimFlash<'m, M> as Flash>⟧.state self.old.flash).media.faults (⟦<SimFlash<'m, M> as Flash>⟧.state self.new.flash).media.faults (reply_text result) }
     {
         self.flash.power_off();
         self.mounted = false;
         self.buf.forget();
-        write_reply(&Reply::Done, out)
+        Reply::Done
+    }
+
+    /// The n-th program or erase from now on is torn.
+    fn cut(&mut self, n: u64, kind: CutKind) -> Reply
+        requires sound { IsSound self.old.table (⟦<SimFlash<'m, M> as Flash>⟧.state self.old.flash) self.old.buf }
+        requires counted { 1 ≤ n }
+        ensures sound { IsSound self.new.table (⟦<SimFlash<'m, M> as Flash>⟧.state self.new.flash) self.new.buf }
+        ensures goes { Goes (⟦<SimFlash<'m, M> as Flash>⟧.state self.old.flash) (⟦<SimFlash<'m, M> as Flash>⟧.state self.new.flash) }
+        ensures step { (config : Config) (old : Machine) → SessionStands config self.old.table self.old.name (⟦<SimFlash<'m, M> as Flash>⟧.state self.old.flash) self.old.mounted old →
+            Answers config old (words.Cut n kind) (SessionStands config self.new.table self.new.name (⟦<SimFlash<'m, M> as Flash>⟧.state self.new.flash) self.new.mounted)
+            (⟦<SimFlash<'m, M> as Flash>⟧.state self.old.flash).media.faults (⟦<SimFlash<'m, M> as Flash>⟧.state self.new.flash).media.faults (reply_text result) }
+    {
+        self.flash.arm(n, kind);
+        Reply::Done
+    }
+
+    /// Mounts the table: the power goes on, and what stands on the flash is found and repaired.
+    fn mount(&mut self) -> Reply
+        requires sound { IsSound self.old.table (⟦<SimFlash<'m, M> as Flash>⟧.state self.old.flash) self.old.buf }
+        ensures sound { IsSound self.new.table (⟦<SimFlash<'m, M> as Flash>⟧.state self.new.flash) self.new.buf }
+        ensures goes { Goes (⟦<SimFlash<'m, M> as Flash>⟧.state self.old.flash) (⟦<SimFlash<'m, M> as Flash>⟧.state self.new.flash) }
+        ensures step { (config : Config) (old : Machine) → SessionStands config self.old.table self.old.name (⟦<SimFlash<'m, M> as Flash>⟧.state self.old.flash) self.old.mounted old →
+            Answers config old words.Mount (SessionStands config self.new.table self.new.name (⟦<SimFlash<'m, M> as Flash>⟧.state self.new.flash) self.new.mounted)
+            (⟦<SimFlash<'m, M> as Flash>⟧.state self.old.flash).media.faults (⟦<SimFlash<'m, M> as Flash>⟧.state self.new.flash).media.faults (reply_text result) }
+    {
+        if self.mounted {
+            return Reply::AlreadyMounted;
+        }
+        self.flash.power_on();
+        let outcome = self.table.mount(&mut self.flash, &mut self.buf);
+        self.mounted = outcome.is_ok();
+        mount_reply(self.name, outcome)
+    }
+
+    /// Why a command on the table of this name isn't executed, if it isn't.
+    fn refusal(&self, name: Name) -> Option<Reply>
+        ensures { Refusal self.now.name self.now.mounted name result }
+    {
+        if !self.mounted {
+            return Some(Reply::NotMounted);
+        }
+        if name.bytes() != self.name.bytes() {
+            return Some(Reply::NoTable);
+        }
+        None
+    }
+
+    /// Puts a record.
+    fn put(&mut self, name: Name, key: u64, values: &[i64], blob: Option<&[u8]>) -> Reply
+        requires sound { IsSound self.old.table (⟦<SimFlash<'m, M> as Flash>⟧.state self.old.flash) self.old.buf }
+        ensures sound { IsSound self.new.table (⟦<SimFlash<'m, M> as Flash>⟧.state self.new.flash) self.new.buf }
+        ensures goes { Goes (⟦<SimFlash<'m, M> as Flash>⟧.state self.old.flash) (⟦<SimFlash<'m, M> as Flash>⟧.state self.new.flash) }
+        ensures step { (config : Config) (old : Machine) → SessionStands config self.old.table self.old.name (⟦<SimFlash<'m, M> as Flash>⟧.state self.old.flash) self.old.mounted old →
+            Answers config old (words.Put name key values.now (option_map (λ b. b.now) blob.entry)) (SessionStands config self.new.table self.new.name (⟦<SimFlash<'m, M> as Flash>⟧.state self.new.flash) self.new.mounted)
+            (⟦<SimFlash<'m, M> as Flash>⟧.state self.old.flash).media.faults (⟦<SimFlash<'m, M> as Flash>⟧.state self.new.flash).media.faults (reply_text result) }
+    {
+        if let Some(refusal) = self.refusal(name) {
+            return refusal;
+        }
+        let outcome = self.table.put(&mut self.flash, key, values, blob);
+        self.mounted = !put_breaks(&outcome);
+        put_reply(outcome)
+    }
+
+    /// Makes a page of the rows that wait in memory.
+    fn flush(&mut self, name: Name) -> Reply
+        requires sound { IsSound self.old.table (⟦<SimFlash<'m, M> as Flash>⟧.state self.old.flash) self.old.buf }
+        ensures sound { IsSound self.new.table (⟦<SimFlash<'m, M> as Flash>⟧.state self.new.flash) self.new.buf }
+        ensures goes { Goes (⟦<SimFlash<'m, M> as Flash>⟧.state self.old.flash) (⟦<SimFlash<'m, M> as Flash>⟧.state self.new.flash) }
+        ensures step { (config : Config) (old : Machine) → SessionStands config self.old.table self.old.name (⟦<SimFlash<'m, M> as Flash>⟧.state self.old.flash) self.old.mounted old →
+            Answers config old (words.Flush name) (SessionStands config self.new.table self.new.name (⟦<SimFlash<'m, M> as Flash>⟧.state self.new.flash) self.new.mounted)
+            (⟦<SimFlash<'m, M> as Flash>⟧.state self.old.flash).media.faults (⟦<SimFlash<'m, M> as Flash>⟧.state self.new.flash).media.faults (reply_text result) }
+    {
+        if let Some(refusal) = self.refusal(name) {
+            return refusal;
+        }
+        let outcome = self.table.flush(&mut self.flash);
+        self.mounted = !flush_breaks(&outcome);
+        flush_reply(outcome)
+    }
+
+    /// How much the table holds, and the programs and erases of the whole run.
+    fn stat(&self, name: Name) -> Reply
+        ensures { (config : Config) (old : Machine) → SessionStands config self.now.table self.now.name (⟦<SimFlash<'m, M> as Flash>⟧.state self.now.flash) self.now.mounted old →
+            Answers config old (words.Stat name) (SessionStands config self.now.table self.now.name (⟦<SimFlash<'m, M> as Flash>⟧.state self.now.flash) self.now.mounted)
+            (⟦<SimFlash<'m, M> as Flash>⟧.state self.now.flash).media.faults (⟦<SimFlash<'m, M> as Flash>⟧.state self.now.flash).media.faults (reply_text result) }
+    {
+        if let Some(refusal) = self.refusal(name) {
+            return refusal;
+        }
+        let counts = self.table.counts();
+        let work = self.flash.work();
+        Reply::Stat {
+            rows: counts.rows,
+            pending: counts.pending,
+            pages: counts.pages,
+            voids: counts.voids,
+            programs: work.programs,
+            erases: work.erases,
+        }
+    }
+
+    /// Lists the rows that are asked for, and their number.
+    fn scan<K: Sink>(&mut self, name: Name, wanted: Wanted, out: &mut K) -> Result<(), SinkFailed>
+        requires sound { IsSound self.old.table (⟦<SimFlash<'m, M> as Flash>⟧.state self.old.flash) self.old.buf }
+        ensures sound { IsSound self.new.table (⟦<SimFlash<'m, M> as Flash>⟧.state self.new.flash) self.new.buf }
+        ensures goes { Goes (⟦<SimFlash<'m, M> as Flash>⟧.state self.old.flash) (⟦<SimFlash<'m, M> as Flash>⟧.state self.new.flash) }
+        ensures sink { HasCause (K.faults out.old) (K.faults out.new) result }
+        ensures step { (config : Config) (old : Machine) → SessionStands config self.old.table self.old.name (⟦<SimFlash<'m, M> as Flash>⟧.state self.old.flash) self.old.mounted old →
+            Executes config old (words.Scan name wanted.range wanted.span) (SessionStands config self.new.table self.new.name (⟦<SimFlash<'m, M> as Flash>⟧.state self.new.flash) self.new.mounted)
+            (⟦<SimFlash<'m, M> as Flash>⟧.state self.old.flash).media.faults (⟦<SimFlash<'m, M> as Flash>⟧.state self.new.flash).media.faults (K.written out.old) (K.written out.new) result }
+    {
+        if let Some(refusal) = self.refusal(name) {
+            return write_reply(&refusal, out);
+        }
+        wanted.scan(&self.table, &mut self.flash, &mut self.buf, out)
+    }
+
+    /// Puts generated records, up to the first one that is refused, and tells how many.
+    fn load<K: Sink>(
+        &mut self,
+        name: Name,
+        count: u64,
+        step: u64,
+        seed: u64,
+        out: &mut K,
+    ) -> Result<(), SinkFailed>
+        requires sound { IsSound self.old.table (⟦<SimFlash<'m, M> as Flash>⟧.state self.old.flash) self.old.buf }
+        requires steps { 1 ≤ step }
+        ensures sound { IsSound self.new.table (⟦<SimFlash<'m, M> as Flash>⟧.state self.new.flash) self.new.buf }
+        ensures goes { Goes (⟦<SimFlash<'m, M> as Flash>⟧.state self.old.flash) (⟦<SimFlash<'m, M> as Flash>⟧.state self.new.flash) }
+        ensures sink { HasCause (K.faults out.old) (K.faults out.new) result }
+        ensures step { (config : Config) (old : Machine) → SessionStands config self.old.table self.old.name (⟦<SimFlash<'m, M> as Flash>⟧.state self.old.flash) self.old.mounted old →
+            Executes config old (words.Load name count step seed) (SessionStands config self.new.table self.new.name (⟦<SimFlash<'m, M> as Flash>⟧.state self.new.flash) self.new.mounted)
+            (⟦<SimFlash<'m, M> as Flash>⟧.state self.old.flash).media.faults (⟦<SimFlash<'m, M> as Flash>⟧.state self.new.flash).media.faults (K.written out.old) (K.written out.new) result }
+    {
+        if let Some(refusal) = self.refusal(name) {
+            return write_reply(&refusal, out);
+        }
+        let loaded = load(&mut self.table, &mut self.flash, count, step, seed);
+        self.mounted = !put_breaks(&loaded.outcome);
+        loaded.write(out)
     }
 }
 
-impl<'m, M: Media, T: Stored> Executor for Session<'m, M, T> {
+/// The blob of a put, which stands in the room of its line.
+fn blob_in(room: &LineRoom, blob: bool) -> Option<&[u8]>
+    ensures { option_map (λ b. b.now) result ≡ (if blob then Some room.now else None) }
+{
+    if blob { Some(room.bytes()) } else { None }
+}
+
+impl<'m, M: Media> Executor for Session<'m, M> {
     ghost use Rattle.fl_session.specs.Standing.{SessionStands, IsSound};
 
-    ghost stands = { λ s config. SessionStands config (T.stands s.table) (⟦<SimFlash<'m, M> as Flash>⟧.state s.flash) s.mounted };
+    ghost stands = { λ s config. SessionStands config s.table s.name (⟦<SimFlash<'m, M> as Flash>⟧.state s.flash) s.mounted };
 
-    ghost sound = { λ s. IsSound (T.lies s.table) (⟦<SimFlash<'m, M> as Flash>⟧.state s.flash) s.buf };
+    ghost sound = { λ s. IsSound s.table (⟦<SimFlash<'m, M> as Flash>⟧.state s.flash) s.buf };
 
     ghost flash = { λ s. ⟦<SimFlash<'m, M> as Flash>⟧.state s.flash };
 
     fn execute<K: Sink>(
         &mut self,
         command: &Command,
-        _room: &LineRoom,
+        room: &LineRoom,
         out: &mut K,
     ) -> Result<(), SinkFailed> {
-        match command {
-            Command::Off => self.off(out),
-            _ => Ok(()),
-        }
+        let reply = match command {
+            Command::Mount => self.mount(),
+            Command::Off => self.off(),
+            Command::Cut { n, kind } => self.cut(*n, *kind),
+            Command::Put {
+                name,
+                key,
+                values,
+                blob,
+            } => self.put(*name, *key, values.as_slice(), blob_in(room, *blob)),
+            Command::Flush { name } => self.flush(*name),
+            Command::Stat { name } => self.stat(*name),
+            Command::Scan { name, range, span } => {
+                let wanted = Wanted {
+                    range: *range,
+                    span: *span,
+                };
+                return self.scan(*name, wanted, out);
+            }
+            Command::Load {
+                name,
+                count,
+                step,
+                seed,
+            } => return self.load(*name, *count, *step, *seed, out),
+            _ => return Ok(()),
+        };
+        write_reply(&reply, out)
     }
 }

@@ -1,8 +1,9 @@
 // The run of a script over an image.
 ghost use Rattle.std.specs.Prelude.{◌≡◌, ℕ, ◌+◌, ◌*◌, ◌^◌, ◌<◌, ◌≤◌, ◌↔◌, map, string_bytes, true, Bool, IsTrue, Some, None, [], List, ◌++◌, length, is_some, IfOk, vec_len, sum_by};
 ghost use Rattle.fl_base.specs.Causes.{Rose};
-ghost use Rattle.fl_flash.specs.Flash.{FlashState, Goes};
-ghost use Rattle.fl_flash.specs.Places.{extent};
+ghost use Rattle.fl_flash.specs.Flash.{Goes};
+ghost use Rattle.fl_flash.specs.Places.{extent, IsGeometry};
+ghost use Rattle.fl_flash.specs.Sim.{on_medium};
 ghost use Rattle.fl_base.specs.declared.types.Geometry.{Geometry};
 ghost use Rattle.fl_model.specs.Record.{Config as Configuration, blocks_of};
 ghost use Rattle.fl_words.specs.Config.{whole};
@@ -11,9 +12,9 @@ ghost use Rattle.fl_session.specs.Built.{are_built};
 ghost use Rattle.fl_session.specs.Begin.{HoldsFirst};
 ghost use Rattle.fl_session.specs.Words.{image_named};
 ghost use Rattle.fl_session.specs.Ends.{Ends, told_of, IsEarlyBy, IsWhole, RunsToEnd, start_in};
-ghost use Rattle.fl_session.specs.Opening.{MediaGoes};
+ghost use Rattle.fl_session.specs.Opening.{MediaGoes, KeepsForm, IsBlankBehind};
 ghost use Rattle.fl_session.specs.Run.{RunsFrom, HasRoom, around_of, IsOfCommands, refused_status};
-ghost use Rattle.fl_session.specs.Standing.{RestsOn};
+ghost use Rattle.fl_session.specs.Standing.{RestsOn, IsNewTable};
 ghost use Rattle.fl_machine.specs.Script.{StandsAfter};
 
 use crate::begin::{Begun, read_config};
@@ -21,13 +22,12 @@ use crate::commands::run_commands;
 use crate::executor::Executor;
 use crate::lines::Lines;
 use crate::session::Session;
-use crate::stored::Stored;
-use crate::unmounted::Unmounted;
 use crate::{Status, image_of};
-use fl_base::{NoMemory, Sink, Source};
+use fl_base::{Geometry, NoMemory, Sink, Source};
 use fl_config::{Config, ImageRefusal};
-use fl_flash::{FlashRoom, Media, PageBuf, SimFlash};
+use fl_flash::{Flash, FlashRoom, Media, PageBuf, SimFlash};
 use fl_script::{Command, LineRoom};
+use fl_table::Table;
 use std::alloc::Global;
 
 /// The knots that a table's spline keeps.
@@ -38,21 +38,25 @@ const HEADER: u64 = 1024;
 
 /// What a session needs, taken before its image is opened.
 #[derive(Drop)]
-struct Rooms<T: Stored> {
-    table: T,
+struct Rooms {
+    table: Table,
     buf: PageBuf,
     flash: FlashRoom,
 }
 
-fn make_rooms<T: Stored>(alloc: Global, config: &Config) -> Result<Rooms<T>, NoMemory>
-    requires { IsTrue (is_whole config.now) }
-    ensures lies { IfOk result (λ r. (f : FlashState) → config.now.device ≡ Some f.geometry → f.blocks ≡ sum_by blocks_of config.now.plans → T.lies r.table f) }
+fn make_rooms(alloc: Global, config: &Config) -> Result<Rooms, NoMemory>
+    requires whole { IsTrue (is_whole config.now) }
+    requires built { are_built config.now.plans ≡ true }
+    ensures table { IfOk result (λ r. IsNewTable r.table config.now) }
     ensures page { IfOk result (λ r. (g : Geometry) → config.now.device ≡ Some g → length r.buf.bytes ≡ g.page) }
     ensures flash { IfOk result (λ r. (g : Geometry) → config.now.device ≡ Some g → HasRoom r.flash g (sum_by blocks_of config.now.plans)) }
 {
     let geometry = config.geometry();
+    let Ok(table) = Table::plan(alloc, config.table(0)) else {
+        return Err(NoMemory);
+    };
     Ok(Rooms {
-        table: T::plan(alloc, config)?,
+        table,
         buf: PageBuf::new(alloc, geometry.page)?,
         flash: FlashRoom::new(alloc, geometry, config.blocks())?,
     })
@@ -84,11 +88,34 @@ fn run_first<E: Executor, S: Source, K: Sink>(
     }
 }
 
+/// The flash on an opened image. The pages of an image that was just made are known to be blank.
+fn flash_on<'m, M: Media>(
+    media: &'m mut M,
+    geometry: Geometry,
+    blocks: u32,
+    is_new: bool,
+    room: FlashRoom,
+) -> SimFlash<'m, M>
+    requires served { IsGeometry geometry }
+    requires reach { 1024 + extent geometry blocks ≤ length (M.state media.old).content }
+    requires room { HasRoom room geometry blocks }
+    requires blank { is_new ≡ true → IsTrue (M.state media.old).tells → IsBlankBehind geometry blocks (M.state media.old).content }
+    ensures { ⟦<SimFlash<'m, M> as Flash>⟧.state result
+        ≡ on_medium geometry blocks 1024 media.entry.ghost_name true None 0 (record { reads = 0; programs = 0; erases = 0 }) (M.state media.old) }
+{
+    let mut flash = SimFlash::with_room(media, geometry, blocks, HEADER, room);
+    if is_new {
+        flash.note_blank();
+    }
+    flash
+}
+
 /// Runs the commands of a script from the first on, over an image that was opened.
-fn run_session<T: Stored, M: Media, S: Source, K: Sink>(
+fn run_session<M: Media, S: Source, K: Sink>(
     media: &mut M,
     config: &Config,
-    rooms: Rooms<T>,
+    is_new: bool,
+    rooms: Rooms,
     begun: Begun,
     lines: &mut Lines,
     room: &mut LineRoom,
@@ -99,12 +126,14 @@ fn run_session<T: Stored, M: Media, S: Source, K: Sink>(
     requires built { are_built config.now.plans ≡ true }
     requires in_hand { HoldsFirst begun.first begun.number room.old lines.old }
     requires reach { (g : Geometry) → config.now.device ≡ Some g → 1024 + extent g (sum_by blocks_of config.now.plans) ≤ length (M.state media.old).content }
-    requires lies { (f : FlashState) → config.now.device ≡ Some f.geometry → f.blocks ≡ sum_by blocks_of config.now.plans → T.lies rooms.table f }
+    requires blank { is_new ≡ true → IsTrue (M.state media.old).tells → (g : Geometry) → config.now.device ≡ Some g → IsBlankBehind g (sum_by blocks_of config.now.plans) (M.state media.old).content }
+    requires table { IsNewTable rooms.table config.now }
     requires page { (g : Geometry) → config.now.device ≡ Some g → length rooms.buf.bytes ≡ g.page }
     requires flash { (g : Geometry) → config.now.device ≡ Some g → HasRoom rooms.flash g (sum_by blocks_of config.now.plans) }
     ensures runs { (configured : Configuration) → whole configured.knots config.now ≡ Some configured → IsTrue (M.state media.old).tells →
         RunsFrom begun.first begun.number lines.old (S.left script.old) (S.left script.new) (around_of configured (M.state media.old) (M.state media.new) (K.written out.old) (K.written out.new))
         (RestsOn configured (M.state media.old).content) (StandsAfter configured (Some (M.state media.new).content)) result }
+    ensures form { KeepsForm (M.state media.old) (M.state media.new) }
     ensures goes { MediaGoes (M.state media.old) (M.state media.new) }
     ensures read { result ≡ Status.ScriptRead → Rose (S.faults script.old) (S.faults script.new) }
     ensures write { result ≡ Status.OutWrite → Rose (K.faults out.old) (K.faults out.new) }
@@ -113,7 +142,7 @@ fn run_session<T: Stored, M: Media, S: Source, K: Sink>(
 {
     let Begun { first, number } = begun;
     let Rooms { table, buf, flash } = rooms;
-    let flash = SimFlash::with_room(media, config.geometry(), config.blocks(), HEADER, flash);
+    let flash = flash_on(media, config.geometry(), config.blocks(), is_new, flash);
     let mut session = Session::new(flash, table, config.name(0), buf);
     let status = run_first(&mut session, first, number, lines, room, script, out);
     let _media = session.end();
@@ -131,7 +160,7 @@ fn status_of(refusal: ImageRefusal) -> Status
 }
 
 // Runs a script over an image, whose words were read.
-fn run_script<T: Stored, M: Media, S: Source, K: Sink>(
+fn run_script<M: Media, S: Source, K: Sink>(
     alloc: Global,
     media: &mut M,
     script: &mut S,
@@ -158,13 +187,14 @@ fn run_script<T: Stored, M: Media, S: Source, K: Sink>(
         Ok(begun) => begun,
         Err(status) => return status,
     };
-    let rooms: Rooms<T> = match make_rooms(alloc, &config) {
+    let rooms = match make_rooms(alloc, &config) {
         Ok(rooms) => rooms,
         Err(_) => return Status::NoMemory,
     };
+    let is_new = media.len() == 0;
     match config.open_image(media) {
         Ok(()) => run_session(
-            media, &config, rooms, begun, &mut lines, &mut room, script, out,
+            media, &config, is_new, rooms, begun, &mut lines, &mut room, script, out,
         ),
         Err(refusal) => status_of(refusal),
     }
@@ -200,40 +230,8 @@ pub fn run<M: Media, S: Source, K: Sink>(
         (Rose (S.faults script.old) (S.faults script.new) → ⊥) → (Rose (K.faults out.old) (K.faults out.new) → ⊥) → (Rose (M.state media.old).faults (M.state media.new).faults → ⊥) →
         RunsToEnd result }
 {
-    run_over::<Unmounted, M, S, K>(alloc, words, media, script, out)
-}
-
-// The same, over any form of a table.
-pub(crate) fn run_over<T: Stored, M: Media, S: Source, K: Sink>(
-    alloc: Global,
-    words: &[String],
-    media: &mut M,
-    script: &mut S,
-    out: &mut K,
-) -> Status
-    // What is written is a run of the machine, and the medium stands for the state after it.
-    ensures run { (text : List ℕ) → IsTrue (M.state media.old).tells → S.left script.old ≡ Some text →
-        Ends KNOTS text (told_of (M.state media.old) (M.state media.new) (S.left script.new) (K.written out.old) (K.written out.new)) result }
-
-    // Each status has its cause.
-    ensures usage { (result ≡ Status.Usage) ↔ (image_named (map (λ word. string_bytes word) words.now) ≡ None) }
-    ensures read { result ≡ Status.ScriptRead → Rose (S.faults script.old) (S.faults script.new) }
-    ensures write { result ≡ Status.OutWrite → Rose (K.faults out.old) (K.faults out.new) }
-    ensures make { result ≡ Status.MediaMake → Rose (M.state media.old).faults (M.state media.new).faults }
-
-    // An early status leaves medium and sink as they were, whoever tells the script.
-    ensures early { IsEarlyBy (M.state media.old) (M.state media.new) (K.written out.old) (K.written out.new) result }
-    ensures goes { MediaGoes (M.state media.old) (M.state media.new) }
-    ensures later { (S.faults script.old ≤ S.faults script.new) × (K.faults out.old ≤ K.faults out.new) }
-
-    // Where no cause holds and no count rises, the script is run to its end, or memory is wanted, or a line isn't built.
-    ensures complete { (text : List ℕ) → IsTrue (M.state media.old).tells → S.left script.old ≡ Some text → length text ≤ 2 ^ 24 →
-        (image_named (map (λ word. string_bytes word) words.now) ≡ None → ⊥) → IsWhole (start_in KNOTS text) (M.state media.old).content →
-        (Rose (S.faults script.old) (S.faults script.new) → ⊥) → (Rose (K.faults out.old) (K.faults out.new) → ⊥) → (Rose (M.state media.old).faults (M.state media.new).faults → ⊥) →
-        RunsToEnd result }
-{
     if image_of(words).is_none() {
         return Status::Usage;
     }
-    run_script::<T, M, S, K>(alloc, media, script, out)
+    run_script(alloc, media, script, out)
 }

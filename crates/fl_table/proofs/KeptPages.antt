@@ -1,17 +1,16 @@
 -- What the kept pages of a table read as.
-use Rattle.std.proofs.Common.{◌≡◌, ℕ, zero, suc, ◌+◌, ◌-◌, ◌*◌, ◌/◌, ◌%◌, ◌^◌, ◌<◌, ◌≤◌, ◌⊎◌, Bool, true, false, cond, ◌==◌, Option, Some, None, IfSome, option_map, List, [], ◌∷◌, length, map, take, drop, refl, sym, ◌∙◌, ap, subst, arith, inl, inr, IsTrue}
+use Rattle.std.proofs.Common.{◌≡◌, ℕ, zero, suc, ◌+◌, ◌-◌, ◌*◌, ◌<◌, ◌≤◌, ◌⊎◌, Bool, true, false, cond, ◌==◌, Option, Some, None, option_map, List, [], ◌∷◌, length, map, take, drop, refl, sym, ◌∙◌, ap, subst, arith, inl, inr, IsTrue}
 use Rattle.std.proofs.Math.Nat.{le-div_iff_mul-le, mul-le-mul_left}
 use Rattle.std.proofs.lemmas.Bool.{cases_lt}
 use Rattle.std.proofs.lemmas.List.{length-map, length-take-le, length-drop}
 use Rattle.std.proofs.lemmas.List.Sums.{sum_by-cons, sum_by-take-le}
-use Rattle.std.specs.List.{slice_get, sum, sum_by, count_by, last_or, AllByRecursion}
+use Rattle.std.specs.List.{slice_get, sum, sum_by, count_by, AllByRecursion}
 use Rattle.fl_mark.specs.Mark.{state_of_page}
-use Rattle.fl_mark.specs.declared.page_state.PageState.{PageState}
 use Rattle.fl_mark.specs.declared.page_state.PageState.TheVariants.{Committed, Void}
 use Rattle.fl_mark.proofs.InModel.{model_state}
-use Rattle.fl_model.specs.Record.{Plan, RowLayout, row_layout, row_len, layout_len, rows_per_page, has_var}
+use Rattle.fl_model.specs.Record.{Plan, row_layout, row_len, rows_per_page, has_var}
 use Rattle.fl_model.specs.Ring as model
-use Rattle.fl_model.specs.Row.{Row, IsStorable, FitsReference, FitsBytes, stored_row}
+use Rattle.fl_model.specs.Row.{Row, IsStorable, stored_row}
 use Rattle.fl_model.specs.Table.{Table, Entry, DataRing, shape_of}
 use Rattle.fl_model.specs.Facts.{FitsPlan, BlobFits}
 use Rattle.fl_model.specs.Layout.{data_body, committed}
@@ -19,14 +18,14 @@ use Rattle.fl_model.specs.Image.{IsRingImage, HoldsRows, rows_at}
 use Rattle.fl_model.proofs.Lists.{slice_get-some, slice_get-short, each-drop, each-take}
 use Rattle.fl_model.proofs.Plain.{IsPlain, IsPlainTable}
 use Rattle.fl_page.specs.Page.{IsGoodPage, rows_in}
-use Rattle.fl_page.proofs.DataPages.{IsDataPage, data_page}
+use Rattle.fl_page.proofs.DataPages.{data_page}
 use Rattle.fl_ring.specs.Ring.{OnRing, place}
 use Rattle.fl_ring.proofs.Found.{committed_state}
 use Rattle.fl_schema.specs.Form.{layout_with}
 use Rattle.fl_schema.specs.declared.column.ColumnType.{ColumnType}
 use Rattle.fl_schema.specs.declared.schema.KeyWidth.{KeyWidth}
 use Rattle.fl_table.specs.Pages.{bytes_in}
-use Rattle.fl_table.specs.Reading.{page_rows, rows_where, keys_fault, last_in, IsRead, AreRead, last_after, rows_after, voids_after}
+use Rattle.fl_table.specs.Reading.{page_rows, rows_where, keys_fault, last_in, AreRead, last_after, rows_after, voids_after}
 use Rattle.fl_table.proofs.KeyOrder.{key_before, rising}
 use Rattle.fl_table.proofs.States.{shape_in, state_of, HaveSize, to-image, committed-end}
 
@@ -38,7 +37,7 @@ stored-entry plan entry plain h = by_blob entry.kept.blob refl h.blob
     no e = cc
 
     is_true : (b : Bool) → IsTrue b → b ≡ true
-    is_true true t = refl
+    is_true b t = t
 
     row_of_blob : (o : Option (List ℕ)) → Row
     row_of_blob o = record { key = entry.kept.key; values = entry.kept.values; blob = option_map (λ bytes. record { page = entry.page; offset = entry.offset; length = length bytes }) o }
@@ -61,7 +60,7 @@ each-at P (y ∷ ys) zero x h e = let same : y ≡ x = cc in subst P same h.0
 each-at P (y ∷ ys) (suc i) x h e = each-at P ys i x h.1 e
 
 -- a sum over one more
-sum-next : {X : Type 0} (f : X → ℕ) (xs : List X) (i : ℕ) (x : X) → slice_get xs i ≡ Some x → sum_by f (take (suc i) xs) ≡ sum_by f (take i xs) + f x
+pub sum-next : {X : Type 0} (f : X → ℕ) (xs : List X) (i : ℕ) (x : X) → slice_get xs i ≡ Some x → sum_by f (take (suc i) xs) ≡ sum_by f (take i xs) + f x
 sum-next {X} f [] i x e = absurd (none e)
   where
     none : ◌≡◌ {A = Option X} None (Some x) → ⊥
@@ -104,12 +103,12 @@ module _ (page : ℕ → List ℕ) (first : ℕ) (plan : Plan) (table : Table) (
   at i = page (place (shape_in first plan) (model.oldest table.rows + i))
 
   -- a kept page, by its count
-  record IsKept (i c : ℕ) : Type 0 where
-    good : state_of_page (page (place (shape_in first plan) (model.oldest table.rows + i))) ≡ Committed →
+  pub record IsKept (i c : ℕ) : Type 0 where
+    pub good : state_of_page (page (place (shape_in first plan) (model.oldest table.rows + i))) ≡ Committed →
         IsGoodPage (row_layout plan) (model.oldest table.rows + i) (page (place (shape_in first plan) (model.oldest table.rows + i)))
-    rows : page_rows (row_layout plan) (page (place (shape_in first plan) (model.oldest table.rows + i))) ≡ map stored_row (rows_at table i c)
+    pub rows : page_rows (row_layout plan) (page (place (shape_in first plan) (model.oldest table.rows + i))) ≡ map stored_row (rows_at table i c)
 
-  kept : (i c : ℕ) → slice_get table.rows.counts i ≡ Some c → IsKept i c
+  pub kept : (i c : ℕ) → slice_get table.rows.counts i ≡ Some c → IsKept i c
   kept i c e = by_count (cases_lt 0 c)
     where
       by_count : (0 < c) ⊎ (c ≤ 0) → IsKept i c
@@ -177,11 +176,14 @@ module _ (page : ℕ → List ℕ) (first : ℕ) (plan : Plan) (table : Table) (
       let more : sum (take (suc n) table.rows.counts) ≡ sum (take n table.rows.counts) + at_n.0 = sum-next (λ (m : ℕ). m) table.rows.counts n at_n.0 at_n.1 in
       let many = length-kept n at_n.0 at_n.1 in
       record {
-        read = (h.read, record {
-          good = k.good;
-          keys = ap (λ (l : Option ℕ). keys_fault (model.oldest table.rows + n) l (page_rows (row_layout plan) (page (place (shape_in first plan) (model.oldest table.rows + n))))) h.last
-              ∙ (ap (keys_fault (model.oldest table.rows + n) (key_before table.entries (sum (take n table.rows.counts)))) k.rows ∙ up.0);
-        });
+        read = (
+          h.read,
+          record {
+            good = k.good;
+            keys = ap (λ (l : Option ℕ). keys_fault (model.oldest table.rows + n) l (page_rows (row_layout plan) (page (place (shape_in first plan) (model.oldest table.rows + n))))) h.last
+                ∙ (ap (keys_fault (model.oldest table.rows + n) (key_before table.entries (sum (take n table.rows.counts)))) k.rows ∙ up.0);
+          },
+        );
         last = ap (λ (l : Option ℕ). last_in l (page_rows (row_layout plan) (page (place (shape_in first plan) (model.oldest table.rows + n))))) h.last
             ∙ (ap (last_in (key_before table.entries (sum (take n table.rows.counts)))) k.rows ∙ (up.1 ∙ ap (key_before table.entries) (omega (arith, as_many n at_n.0 at_n.1, more))));
         rows = omega (arith, h.rows, many, more);

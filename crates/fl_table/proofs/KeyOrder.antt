@@ -1,5 +1,5 @@
 -- The keys of entries that ascend, read row by row.
-use Rattle.std.proofs.Common.{◌≡◌, ℕ, zero, suc, ◌+◌, ◌<◌, ◌≤◌, Bool, true, cond, Option, Some, None, option_map, unwrap_or, List, [], ◌∷◌, length, map, take, drop, refl, sym, ◌∙◌, ap, arith}
+use Rattle.std.proofs.Common.{◌≡◌, ℕ, zero, suc, ◌+◌, ◌<◌, true, cond, Option, Some, None, option_map, unwrap_or, List, [], ◌∷◌, length, map, take, drop, refl, sym, ◌∙◌, ap, arith}
 use Rattle.std.proofs.lemmas.Bool.{lt-ltb}
 use Rattle.std.specs.List.{slice_get, last_or}
 use Rattle.fl_model.specs.Row.{stored_row}
@@ -49,10 +49,11 @@ module _ (entries : List Entry) (ascending : (i j : ℕ) (a b : Entry) → i < j
   rising number k (x ∷ rest) e (suc c) =
       let at = split-at k entries x rest e in
       let more = rising number (suc k) rest at.1 c in
-      let last : key_before entries (suc k) ≡ Some x.kept.key = ap (option_map (λ (entry : Entry). entry.kept.key)) at.0 in
-      (ap (λ b. cond b (keys_fault number (Some x.kept.key) (map stored_row (take c rest))) (Some (BadKeys number (unwrap_or (key_before entries k) 0) x.kept.key))) (up k x at.0)
-      ∙ (ap (λ (l : Option ℕ). keys_fault number l (map stored_row (take c rest))) (sym last) ∙ more.0),
-      ap (λ (l : Option ℕ). last_in l (map stored_row (take c rest))) (sym last) ∙ (more.1 ∙ ap (key_before entries) (let s : suc k + length (take c rest) ≡ k + suc (length (take c rest)) = omega arith in s)))
+      let last : key_before entries (suc k) ≡ Some x.kept.key = ap (option_map (λ (entry : Entry). entry.kept.key)) at.0 in (
+        ap (λ b. cond b (keys_fault number (Some x.kept.key) (map stored_row (take c rest))) (Some (BadKeys number (unwrap_or (key_before entries k) 0) x.kept.key))) (up k x at.0)
+            ∙ (ap (λ (l : Option ℕ). keys_fault number l (map stored_row (take c rest))) (sym last) ∙ more.0),
+        ap (λ (l : Option ℕ). last_in l (map stored_row (take c rest))) (sym last) ∙ (more.1 ∙ ap (key_before entries) (let s : suc k + length (take c rest) ≡ k + suc (length (take c rest)) = omega arith in s)),
+      )
 
 -- after all of them
 pub key-last : (entries : List Entry) → key_before entries (length entries) ≡ option_map (λ (entry : Entry). entry.kept.key) (last_or None entries)

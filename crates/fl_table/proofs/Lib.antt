@@ -18,3 +18,11 @@ pub mod Refused
 pub mod PagesRead
 pub mod KeyOrder
 pub mod KeptPages
+pub mod Looks
+pub mod KeptRead
+pub mod StillStands
+pub mod MountGood
+pub mod MountRead
+pub mod MountEnded
+pub mod MountCalls
+pub mod MountReads

@@ -57,19 +57,20 @@ last-sealed plan table shape counted some = by_test (model.is_full (shape_of pla
             omega (arith, lt, two, k.pages)
     by_test false e = last_drop 0 table.entries (omega (arith, counted, some))
 
+-- a ring keeps fewer pages than it has room for
+pub few-kept : (plan : Plan) (table : Table) → model.IsShape (shape_of plan DataRing) → model.IsRing (shape_of plan DataRing) table.rows → length table.rows.counts < plan.data_blocks * plan.geometry.block
+few-kept plan table shape facts =
+    let small : table.rows.next % plan.geometry.block < plan.geometry.block = mod-lt table.rows.next (let k : 0 < plan.geometry.block = omega (arith, shape.pages) in k) in
+    let last : (plan.data_blocks - 1 + 1) * plan.geometry.block ≡ (plan.data_blocks - 1) * plan.geometry.block + plan.geometry.block = add-mul (plan.data_blocks - 1) 1 plan.geometry.block ∙ omega arith in
+    let same : plan.data_blocks - 1 + 1 ≡ plan.data_blocks = omega (arith, shape.blocks) in
+    omega (arith, facts.kept, small, last, ap (λ n. n * plan.geometry.block) same)
+
 -- the places of the pages of a ring differ
 module _ (plan : Plan) (table : Table) (counts : List ℕ) (shape : model.IsShape (shape_of plan DataRing)) (facts : model.IsRing (shape_of plan DataRing) table.rows)
     (room : length counts ≡ plan.data_blocks * plan.geometry.block)
     (were : (i count : ℕ) → slice_get table.rows.counts i ≡ Some count → get_or counts ((model.oldest table.rows + i) % (plan.data_blocks * plan.geometry.block)) 0 ≡ count) where
-  R : ℕ
-  R = plan.data_blocks * plan.geometry.block
-
   few : length table.rows.counts < plan.data_blocks * plan.geometry.block
-  few =
-      let small : table.rows.next % plan.geometry.block < plan.geometry.block = mod-lt table.rows.next (let k : 0 < plan.geometry.block = omega (arith, shape.pages) in k) in
-      let last : (plan.data_blocks - 1 + 1) * plan.geometry.block ≡ (plan.data_blocks - 1) * plan.geometry.block + plan.geometry.block = add-mul (plan.data_blocks - 1) 1 plan.geometry.block ∙ omega arith in
-      let same : plan.data_blocks - 1 + 1 ≡ plan.data_blocks = omega (arith, shape.blocks) in
-      omega (arith, facts.kept, small, last, ap (λ n. n * plan.geometry.block) same)
+  few = few-kept plan table shape facts
 
   -- with the new page
   at_all : (j c : ℕ) → slice_get (table.rows.counts ++ table.pending ∷ []) j ≡ Some c →

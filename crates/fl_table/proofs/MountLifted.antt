@@ -1,5 +1,5 @@
 -- The mount of the data ring is the mount of its table.
-use Rattle.std.proofs.Common.{◌≡◌, ℕ, ◌≤◌, Bool, true, false, cond, Result, Ok, Err, List, [], ◌∷◌, ◌++◌, map, length, refl, sym, ◌∙◌, ap, subst, ◌⊎◌, inl, inr, IsOk}
+use Rattle.std.proofs.Common.{◌≡◌, ℕ, ◌≤◌, Bool, true, false, cond, Result, Ok, Err, List, [], ◌∷◌, ◌++◌, map, length, refl, sym, ◌∙◌, ap, subst, ◌⊎◌, inl, inr, IsOk, IsTrue}
 use Rattle.fl_flash.specs.Flash.{FlashState, page_at}
 use Rattle.fl_flash.specs.declared.flash.FlashFault.{FlashFault}
 use Rattle.fl_flash.specs.declared.flash.FlashFault.TheVariants.{PowerLost, Media}
@@ -58,6 +58,8 @@ pub record RowsMount (first : ℕ) (plan : Plan) (table : Table) (rose : Bool) (
   pub clean : now.state.rows.dirty ≡ false
   pub on : OnRing (shape_in first plan) (page_at new) (state_of plan (lose now.state))
   pub stands : StandsFor ring (state_of plan (lose now.state))
+  -- the same mount where a read fails after it
+  pub unread : IsTrue rose → (last : PartProgress Table) × TableMounts plan rose (rings_of plan) device table (TableUnread last) × (last.device ≡ now.device) × (last.state ≡ now.state)
 
 -- a mount that failed in its ring
 pub record RowsFail (first : ℕ) (plan : Plan) (table : Table) (rose : Bool) (device : Device) (fault : FlashFault) (new : FlashState) : Type 0 where
@@ -80,7 +82,7 @@ module _ (first : ℕ) (plan : Plan) (table : Table) (rose : Bool) (device : Dev
   same : map of_rows (repair_kinds (shape_in first plan) (state_of plan (renumber plan DataRing table))) ≡ repair_within plan DataRing (renumber plan DataRing table)
   same = repair-kinds first plan (renumber plan DataRing table) shape known
 
-  append-nil : (xs : List Kind) → xs ≡ xs ++ []
+  append-nil : {A : Type 0} (xs : List A) → xs ≡ xs ++ []
   append-nil [] = refl
   append-nil (x ∷ xs) = ap (λ ys. x ∷ ys) (append-nil xs)
 
@@ -109,6 +111,17 @@ module _ (first : ℕ) (plan : Plan) (table : Table) (rose : Bool) (device : Dev
         clean = ap (λ (t : Table). t.rows.dirty) after ∙ tidy.1;
         on = l.on;
         stands = subst (λ (s : RingState). StandsFor ring s) l.left_is m.stands;
+        unread = λ risen.
+            let unread : TableUnreads plan rose (repair_within plan DataRing (renumber plan DataRing table)) device (renumber plan DataRing table) l.now =
+            record {
+              may_fail = risen;
+              front = repair_within plan DataRing (renumber plan DataRing table);
+              others = [];
+              split = append-nil (repair_within plan DataRing (renumber plan DataRing table));
+              did = did;
+              whole = whole.0;
+            } in
+            (l.now, rw (plain-rings plan plain) (inl (l.now, unread, refl)), refl, refl);
       }
     where
       all_whole : (e : PartEnd Table) → TableAnswers e (Ok tt) new → (e ≡ Whole) × (new.is_on ≡ true)

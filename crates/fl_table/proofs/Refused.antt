@@ -1,13 +1,13 @@
 -- What a refused page answers.
-use Rattle.std.proofs.Common.{◌≡◌, ℕ, Bool, true, false, cond, Option, Some, None, unwrap_or, List, [], ◌∷◌, refl, sym, ◌∙◌, ap, subst, inl, inr}
+use Rattle.std.proofs.Common.{◌≡◌, ℕ, Bool, true, false, cond, Option, Some, None, unwrap_or, List, [], ◌∷◌, refl, sym, subst, inl, inr}
 use Rattle.fl_flash.specs.declared.flash.FlashFault.{FlashFault}
 use Rattle.fl_model.specs.Record.{RowLayout}
 use Rattle.fl_model.specs.Row.{Row}
-use Rattle.fl_page.specs.Page.{rows_in, bad_page}
+use Rattle.fl_page.specs.Page.{rows_in}
 use Rattle.fl_table.specs.Causes.{IfFlash, is_of_pages}
 use Rattle.fl_table.specs.Reading.{rises, keys_fault, IsRefused}
 use Rattle.fl_table.specs.declared.faults.MountFault.{MountFault}
-use Rattle.fl_table.specs.declared.faults.MountFault.TheVariants.{Flash, BadPage, BadKeys}
+use Rattle.fl_table.specs.declared.faults.MountFault.TheVariants.{BadKeys}
 
 -- it is a fault of a page alone
 record IsPageFault (fault : MountFault) : Type 1 where

@@ -97,7 +97,7 @@ pub blank-is : (size : ℕ) → is_blank (blank size) ≡ true
 blank-is zero = refl
 blank-is (suc size) = blank-is size
 
-committed-end : (body : List ℕ) → committed body ≡ body ++ committed_end
+pub committed-end : (body : List ℕ) → committed body ≡ body ++ committed_end
 committed-end body = append_assoc body (replicate 4 0) (replicate 4 255)
 
 -- a page with rows isn't void

@@ -7,3 +7,5 @@ pub mod Outcomes
 pub mod Causes
 pub mod Reading
 pub mod Mounting
+pub mod Look
+pub mod Kept

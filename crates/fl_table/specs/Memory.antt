@@ -1,10 +1,10 @@
 -- What clauses see of a table in memory.
-use Rattle.std.specs.Prelude.{◌≡◌, ℕ, ◌+◌, ◌*◌, ◌%◌, ◌^◌, ◌<◌, ◌≤◌, Bool, ◌||◌, Option, Some, None, ℤ, is_some, option_map, unwrap_or, map, slice_get, slice_index}
+use Rattle.std.specs.Prelude.{◌≡◌, ℕ, ◌+◌, ◌*◌, ◌%◌, ◌^◌, ◌<◌, ◌≤◌, Bool, ◌||◌, Option, Some, None, ℤ, is_some, option_map, unwrap_or, map, length, slice_get, slice_index}
 use Rattle.std.specs.Option.{ForSome}
 use Rattle.fl_bitmap.specs.Bucket.{AreBucketsOf, with_value}
 use Rattle.fl_bitmap.specs.declared.buckets.Buckets.{Buckets}
 use Rattle.fl_flash.specs.Flash.{FlashState, pages}
-use Rattle.fl_model.specs.Record.{Plan, row_layout}
+use Rattle.fl_model.specs.Record.{Plan, row_layout, layout_len}
 use Rattle.fl_model.specs.Ring as rings
 use Rattle.fl_model.specs.Row.{stored_row}
 use Rattle.fl_model.specs.Layout.{bitmap_of}
@@ -12,8 +12,10 @@ use Rattle.fl_model.specs.Table as model
 use Rattle.fl_model.specs.Table.{pending_entries, last_entry}
 use Rattle.fl_page.specs.Writer.{Gathers}
 use Rattle.fl_ring.specs.declared.ring.Ring.{Ring}
+use Rattle.fl_ring.specs.Mounting.{shape_at}
 use Rattle.fl_ring.specs.Place.{next_of, oldest_of}
 use Rattle.fl_ring.specs.Place as place
+use Rattle.fl_ring.specs.Ring.{Shape}
 use Rattle.fl_schema.specs.Schema.{layout_of}
 use Rattle.fl_table.specs.declared.table.Table.{Table}
 
@@ -42,6 +44,18 @@ bitmap_with (Some buckets) bitmap value = with_value buckets bitmap value
 -- the next number of a running table
 abbrev pub next_in : Table → ℕ
 next_in t = unwrap_or (option_map (λ ring. next_of ring) t.ring) 0
+
+-- how many rows are pending
+abbrev pub pending_in : Table → ℕ
+pending_in t = t.writer.count
+
+-- the page buffer has room for one row more
+abbrev pub HasRoom : Table → Type 0
+HasRoom t = t.writer.end + layout_len (layout_of t.schema) ≤ length t.writer.body
+
+-- where the data ring of a table stands
+abbrev pub ring_shape : Table → Shape
+ring_shape t = shape_at t.place t.geometry
 
 -- a table of this plan, whose blocks begin at `first`
 pub record IsPlanned (t : Table) (first : ℕ) (plan : Plan) : Type 0 where

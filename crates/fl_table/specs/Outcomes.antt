@@ -1,5 +1,5 @@
 -- How the calls of a table end, over a flash that stands for a table of the model.
-use Rattle.std.specs.Prelude.{◌≡◌, ℕ, Bool, true, false, ◌⊎◌, Some, None, Result, Ok, Err, List}
+use Rattle.std.specs.Prelude.{◌≡◌, ℕ, Bool, true, false, ◌⊎◌, Some, None, Result, Ok, Err, List, length}
 use Rattle.fl_flash.specs.Flash.{FlashState}
 use Rattle.fl_flash.specs.declared.flash.FlashFault.{FlashFault}
 use Rattle.fl_flash.specs.declared.flash.FlashFault.TheVariants.{PowerLost, Media}
@@ -7,6 +7,7 @@ use Rattle.fl_ring.specs.Device.{SameDevice}
 use Rattle.fl_model.specs.Record.{Record, Plan}
 use Rattle.fl_model.specs.Table as model
 use Rattle.fl_model.specs.Table.{RingName, DataRing, after_seal, after_seals, make_room_seals, refusal_of, put_seals, put_record, table_seals, flushed, lose}
+use Rattle.fl_model.specs.Spline.{voids_of}
 use Rattle.fl_model.specs.Work.{Kind, Device, PartEnd, Whole, CutIn, FailedIn, PartProgress}
 use Rattle.fl_model.specs.Within.{TablePerforms, seal_within, seals_within, TableMounted, TableStopped, TableUnread, TableMounts}
 use Rattle.fl_model.specs.Mount.{rings_of, ready}
@@ -78,13 +79,18 @@ FlushEnds first plan table rose device (Err (flush.Flash fault)) t new =
     Breaks first plan (seals_within plan (table_seals plan table) table) table rose device fault new
 FlushEnds first plan table rose device (Err flush.Stopped) t new = ⊥
 
+-- what a mount answers of the table that it leaves: the records, the kept data pages, and the void ones among these
+abbrev pub mounted_of : model.Table → Mounted
+mounted_of table = record { rows = length table.entries; pages = length table.rows.counts; voids = voids_of table }
+
 -- A mount that ended well: the table is ready.
-pub record MountsWell (first : ℕ) (plan : Plan) (table : model.Table) (rose : Bool) (device : Device) (t : Table) (new : FlashState) : Type 0 where
+pub record MountsWell (first : ℕ) (plan : Plan) (table : model.Table) (rose : Bool) (device : Device) (mounted : Mounted) (t : Table) (new : FlashState) : Type 0 where
   pub now : PartProgress model.Table
   pub did : TableMounts plan rose (rings_of plan) device table (TableMounted now)
   pub counts : SameDevice new now.device
   pub power : new.is_on ≡ true
   pub stands : Stands t new first plan (ready plan now.state)
+  pub answer : mounted ≡ mounted_of (ready plan now.state)
 
 -- It failed in an operation of a repair, or in a read: what was repaired until then stays.
 pub record MountsBadly (first : ℕ) (plan : Plan) (table : model.Table) (rose : Bool) (device : Device) (fault : FlashFault) (new : FlashState) : Type 0 where
@@ -95,7 +101,7 @@ pub record MountsBadly (first : ℕ) (plan : Plan) (table : model.Table) (rose :
   pub rests : Rests new first plan now.state
 
 abbrev pub MountEnds : ℕ → Plan → model.Table → Bool → Device → Result Mounted MountFault → Table → FlashState → Type 0
-MountEnds first plan table rose device (Ok mounted) t new = MountsWell first plan table rose device t new
+MountEnds first plan table rose device (Ok mounted) t new = MountsWell first plan table rose device mounted t new
 MountEnds first plan table rose device (Err (mount.Flash fault)) t new = MountsBadly first plan table rose device fault new
 MountEnds first plan table rose device (Err (mount.Ring fault)) t new = ⊥
 MountEnds first plan table rose device (Err (mount.BadPage bad)) t new = ⊥

@@ -12,7 +12,6 @@ use Rattle.fl_ring.specs.Ring.{place}
 use Rattle.fl_ring.specs.declared.ring.Ring.{Ring}
 use Rattle.fl_table.specs.declared.faults.MountFault.{MountFault}
 use Rattle.fl_table.specs.declared.faults.MountFault.TheVariants.{BadPage, BadKeys}
-use Rattle.fl_table.specs.declared.counts.Mounted.{Mounted}
 
 -- the rows of a page in this state; a page that isn't committed has none
 abbrev pub rows_where : PageState → RowLayout → List ℕ → List Row

@@ -1,4 +1,7 @@
 // How much a table holds.
+ghost use Rattle.std.specs.Prelude.{◌≡◌};
+
+use crate::table::Table;
 
 /// All records, those of them that are pending, the kept data pages, and the void ones among these.
 #[derive(Clone, Copy, Debug, PartialEq, Eq)]
@@ -15,4 +18,37 @@ pub struct Mounted {
     pub rows: u64,
     pub pages: u32,
     pub voids: u32,
+}
+
+impl Table {
+    ghost use Rattle.std.specs.Prelude.{ℕ};
+    ghost use Rattle.fl_flash.specs.Flash.{FlashState};
+    ghost use Rattle.fl_model.specs.Record.{Plan};
+    ghost use Rattle.fl_model.specs.Table as model;
+    ghost use Rattle.fl_table.specs.Look.{counts_in, counts_of};
+    ghost use Rattle.fl_table.specs.Standing.{Stands};
+
+    /// How much it holds. A table that isn't running keeps no pages.
+    pub fn counts(&self) -> TableCounts
+        ensures exact { result ≡ counts_in self.now }
+        ensures stands { (f : FlashState) → (first : ℕ) → (plan : Plan) → (table : model.Table) → Stands self.now f first plan table → result ≡ counts_of table }
+    {
+        let oldest = self.oldest();
+        let next = self.next_number();
+        let pending = self.pending_rows();
+        let mut counts = TableCounts {
+            rows: u64::from(pending),
+            pending,
+            pages: next - oldest,
+            voids: 0,
+        };
+        for number in oldest..next {
+            let rows = self.rows_of(number);
+            counts.rows += u64::from(rows);
+            if rows == 0 {
+                counts.voids += 1;
+            }
+        }
+        counts
+    }
 }

@@ -3,14 +3,19 @@
 
 mod counts;
 mod faults;
+mod kept;
+mod look;
 mod misfit;
 mod mount;
 mod plan;
-mod reading;
 mod put;
+mod reading;
 mod refusal;
+mod running;
 mod seal;
 mod table;
+#[cfg(test)]
+mod tests;
 
 pub use counts::{Mounted, TableCounts};
 pub use faults::{FlushFault, MountFault, PutRefusal};

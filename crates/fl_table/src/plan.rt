@@ -1,12 +1,13 @@
 // A table of a configuration.
-ghost use Rattle.std.specs.Prelude.{◌≡◌, ◌≤◌, ◌⊎◌, ◌+◌, None, Err, false, length, IfOk, IfErr, OnOk};
+ghost use Rattle.std.specs.Prelude.{◌≡◌, ◌≤◌, ◌<◌, ◌⊎◌, ◌+◌, ◌^◌, None, Err, false, length, IfOk, IfErr, OnOk};
+ghost use Rattle.fl_flash.specs.Flash.{FlashState, pages};
 ghost use Rattle.fl_plan.specs.Limits.{IsWithinLimits};
 ghost use Rattle.fl_plan.specs.Plan.{IsConfigOf};
 ghost use Rattle.fl_plan.specs.Refusal.{config_fault, Tells};
 ghost use Rattle.fl_model.specs.Record.{layout_len};
 ghost use Rattle.fl_schema.specs.Form.{layout_with};
 ghost use Rattle.fl_schema.specs.Schema.{layout_of, types_of};
-ghost use Rattle.fl_table.specs.Memory.{is_running, is_stopped, IsPlanned};
+ghost use Rattle.fl_table.specs.Memory.{is_running, is_stopped, IsPlanned, LiesOn};
 
 use crate::table::Table;
 use fl_page::PageWriter;
@@ -40,6 +41,7 @@ impl Table {
         requires var { config.now.var ≡ None }
         ensures fits { OnOk result (config_fault config.now ≡ None) }
         ensures planned { IfOk result (λ t. (plan : Plan) → IsConfigOf config.now plan → IsPlanned t config.now.rows.first_block plan) }
+        ensures lies { IfOk result (λ t. (f : FlashState) → f.geometry ≡ config.now.geometry → config.now.rows.first_block + config.now.rows.blocks ≤ f.blocks → pages f < 2 ^ 32 → LiesOn t f) }
         ensures fresh { IfOk result (λ t. (is_running t ≡ false) × (is_stopped t ≡ false)) }
         ensures refused { IfErr result (λ refusal. (refusal ≡ NoMemory) ⊎ Tells {A = Table} (Err refusal) (config_fault config.now)) }
     {

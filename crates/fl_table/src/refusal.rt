@@ -14,13 +14,6 @@ impl Table {
     ghost use Rattle.fl_table.specs.Memory.{is_running};
     ghost use Rattle.fl_table.specs.Refusal.{key_refused, value_refused, spent_refused, put_refusal};
 
-    /// It is mounted, and no program or erase failed since.
-    pub(crate) fn is_running(&self) -> bool
-        ensures { result ≡ is_running self.now }
-    {
-        self.ring.is_some()
-    }
-
     fn key_refused(&self, key: u64) -> Option<PutRefusal>
         ensures { result ≡ key_refused self.now.last_key key }
     {

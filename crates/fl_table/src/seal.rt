@@ -11,10 +11,9 @@ impl Table {
     ghost use Rattle.fl_model.specs.Record.{Plan};
     ghost use Rattle.fl_model.specs.Table as model;
     ghost use Rattle.fl_model.specs.Work.{Device};
-    ghost use Rattle.fl_ring.specs.Mounting.{shape_at};
     ghost use Rattle.fl_ring.specs.Ring.{OutsideStands};
     ghost use Rattle.fl_ring.specs.Step.{IsWatched};
-    ghost use Rattle.fl_table.specs.Memory.{is_running, is_stopped, next_in, IsSamePlan, LiesOn};
+    ghost use Rattle.fl_table.specs.Memory.{is_running, is_stopped, ring_shape, next_in, IsSamePlan, LiesOn};
     ghost use Rattle.fl_table.specs.Standing.{Stands};
     ghost use Rattle.fl_table.specs.Outcomes.{SealEnds};
 
@@ -33,7 +32,9 @@ impl Table {
         ensures next { OnOk result (next_in self.new ≡ next_in self.old + 1) }
         ensures calm { OnOk result (is_stopped self.new ≡ is_stopped self.old) }
         ensures stopped { OnErr result ((is_running self.new ≡ false) × (is_stopped self.new ≡ true)) }
-        ensures outside { IsTrue (F.state flash.old).media.tells → OutsideStands (shape_at self.old.place self.old.geometry) (page_at (F.state flash.old)) (page_at (F.state flash.new)) }
+        ensures outside { IsTrue (F.state flash.old).media.tells → OutsideStands (ring_shape self.old) (page_at (F.state flash.old)) (page_at (F.state flash.new)) }
+        ensures reads { (F.state flash.new).work.reads ≡ (F.state flash.old).work.reads }
+        ensures media_reads { (F.state flash.new).media.reads ≤ (F.state flash.old).media.reads + 1 }
         ensures cause { IfErr result (λ e. CausedBy (F.state flash.old) e (F.state flash.new)) }
     {
         let Some(mut ring) = self.ring.take() else {

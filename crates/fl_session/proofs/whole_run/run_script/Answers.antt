@@ -1,10 +1,11 @@
-use Rattle.std.proofs.Common.{IsTrue, Ok, Err, refl, sym, ◌∙◌, ap, subst}
+use Rattle.std.proofs.Common.{◌≡◌, [], IsTrue, Ok, Err, refl, sym, ◌∙◌, ap, subst}
 use Rattle.fl_words.specs.Config.{whole}
 use Rattle.fl_words.specs.Medium.{header}
 use Rattle.fl_model.specs.Image.{medium_len}
 use Rattle.fl_session.proofs.Running.{nothing-added}
 use Rattle.fl_session.proofs.Ending.{ends-in_begin, commands-early}
 use Rattle.fl_session.proofs.Over.{whole-parts, reach-of, ends-opened, whole-of, makes-of, opens-as, opens-goes, media-goes_on, ends-refused, early-refused, make-refused, commands-words}
+use Rattle.fl_session.proofs.Fresh.{new-blank, none-of}
 use Rattle.fl_session.proofs.whole_run.run_script.Goals as goal
 
 pub returns-in-Err-clause-ends : goal.returns-in-Err-clause-ends
@@ -17,6 +18,17 @@ run_session-requires-clause-reach g c = λ geometry e.
     let w = whole-of 0 lines c.in-Ok-read_config.ensures.whole in
     reach-of 0 lines w.0 _ geometry (whole-parts 0 lines w.0 w.1) e (opens-as w.0 _ (Ok tt) _ (c.in-Ok-open_image.ensures w.0 (makes-of 0 lines w.0 w.1))).len
 
+pub run_session-requires-clause-blank : goal.run_session-requires-clause-blank
+run_session-requires-clause-blank g c = λ new told geometry device.
+    let lines = c.read_config.new.config in
+    let w = whole-of 0 lines c.in-Ok-read_config.ensures.whole in
+    let old = g.M.Media.state c.args.media.now in
+    let made = g.M.Media.state c.open_image.new.media in
+    let opened = opens-as w.0 old (Ok tt) made (c.in-Ok-open_image.ensures w.0 (makes-of 0 lines w.0 w.1)) in
+    let goes = opens-goes (medium_len w.0) (header w.0) old (Ok tt) made (c.in-Ok-open_image.ensures w.0 (makes-of 0 lines w.0 w.1)) in
+    let empty : old.content ≡ [] = none-of old.content c.len-is_new.result c.len-is_new.ensures new in
+    new-blank 0 lines w.0 old made geometry (whole-parts 0 lines w.0 w.1) device opened (opened.made (subst IsTrue goes.tells told) empty)
+
 pub returns-in-Ok-open_image-clause-ends : goal.returns-in-Ok-open_image-clause-ends
 returns-in-Ok-open_image-clause-ends g c = λ text told l.
     let lines = c.read_config.new.config in
@@ -24,7 +36,7 @@ returns-in-Ok-open_image-clause-ends g c = λ text told l.
     let goes = opens-goes (medium_len w.0) (header w.0) (g.M.Media.state c.args.media.now) (Ok tt) (g.M.Media.state c.open_image.new.media) (c.in-Ok-open_image.ensures w.0 (makes-of 64 lines w.0 w.1)) in
     ends-opened 64 text lines c.in-Ok-read_config.begun.first c.in-Ok-read_config.begun.number _ _ _ _ _ w.0
     (g.M.Media.state c.args.media.now) (g.M.Media.state c.open_image.new.media) (g.M.Media.state c.run_session.new.media) c.args.media.ghost_name _
-    (c.in-Ok-read_config.ensures.begins 64 text l) w.1 c.in-Ok-read_config.ensures.built told (opens-as w.0 (g.M.Media.state c.args.media.now) (Ok tt) (g.M.Media.state c.open_image.new.media) (c.in-Ok-open_image.ensures w.0 (makes-of 64 lines w.0 w.1))) goes.faults c.run_session.ensures.goes.faults
+    (c.in-Ok-read_config.ensures.begins 64 text l) w.1 c.in-Ok-read_config.ensures.built told (opens-as w.0 (g.M.Media.state c.args.media.now) (Ok tt) (g.M.Media.state c.open_image.new.media) (c.in-Ok-open_image.ensures w.0 (makes-of 64 lines w.0 w.1))) c.run_session.ensures.form goes.tells goes.faults c.run_session.ensures.goes.faults
     (c.run_session.ensures.runs w.0 (ap (λ n. whole n lines) (whole-parts 64 lines w.0 w.1).knots_are ∙ w.1) (subst IsTrue (sym goes.tells) told))
 
 pub returns-in-Ok-open_image-clause-words : goal.returns-in-Ok-open_image-clause-words

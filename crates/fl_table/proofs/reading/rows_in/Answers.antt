@@ -1,7 +1,7 @@
-use Rattle.std.proofs.Common.{◌≡◌, ◌+◌, ◌<◌, length, arith, sym, ◌∙◌}
+use Rattle.std.proofs.Common.{◌≡◌, ◌<◌, length, arith, sym, ◌∙◌}
 use Rattle.std.proofs.lemmas.Result.{IfOk-weaker}
 use Rattle.fl_schema.specs.Schema.{layout_of}
-use Rattle.fl_table.specs.Reading.{page_rows, keys_fault, last_in}
+use Rattle.fl_table.specs.Reading.{page_rows}
 use Rattle.fl_table.proofs.KeyRows.{page-length, good-few}
 use Rattle.fl_table.proofs.reading.rows_in.Goals as goal
 

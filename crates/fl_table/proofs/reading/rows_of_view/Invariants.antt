@@ -1,4 +1,4 @@
-use Rattle.std.proofs.Common.{◌≡◌, ◌+◌, drop}
+use Rattle.std.proofs.Common.{◌≡◌, drop}
 use Rattle.fl_page.specs.View.{rows_of}
 use Rattle.fl_table.specs.Reading.{keys_fault, last_in}
 use Rattle.fl_table.proofs.reading.rows_of_view.Given as goal

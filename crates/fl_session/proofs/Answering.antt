@@ -1,0 +1,74 @@
+-- A command that was executed up to its reply, and the reply that was written.
+use Rattle.std.proofs.Common.{◌≡◌, ℕ, Bool, true, false, if◌then◌else◌, Option, Some, None, Result, List, [], ◌∷◌, refl, sym, ◌∙◌, ap, subst}
+use Rattle.fl_model.specs.Record.{Config, Plan, bytes_equal}
+use Rattle.fl_model.specs.Table as model
+use Rattle.fl_words.specs.Command.{Command}
+use Rattle.fl_words.specs.Reply as reply
+use Rattle.fl_words.specs.Reply.{Reply, text, texts}
+use Rattle.fl_machine.specs.Machine.{Machine}
+use Rattle.fl_machine.specs.Step.{Moment, Step, StepOf, Says, Located, located, WhenMounted, WithTable}
+use Rattle.std.specs.Prelude.{MatchBool, MatchOption}
+use Rattle.fl_script.specs.Written.{Written}
+use Rattle.fl_config.proofs.Names.{bytes_equal-other}
+use Rattle.std.proofs.lemmas.Bool.{eq-eqb}
+use Rattle.fl_session.specs.Answer.{Answers}
+use Rattle.fl_session.specs.Execute.{Executes}
+use Rattle.fl_session.proofs.Executing.{executes-by, one-text}
+
+-- the replies were written
+pub executes-answered : (E : Type 0) (config : Config) (old : Machine) (command : Command) (stands : Machine → Type 0) (faults faults_now : ℕ) (said : List ℕ) (told told_now : Option (List ℕ)) (result : Result (Unit {0}) E) →
+    Answers config old command stands faults faults_now said → Written {E = E} told told_now result said → Executes config old command stands faults faults_now told told_now result
+executes-answered E config old command stands faults faults_now said told told_now result a w =
+    executes-by E config old command stands faults faults_now told told_now result a.moment a.command_is a.step a.stands_after a.rose (subst (λ t. Written {E = E} told told_now result t) (sym a.said_is) w)
+
+-- a moment that says one thing and reads nothing
+abbrev pub saying : Command → List Reply → Machine → Moment
+saying c replies after = record { command = c; rose = false; reads = 0; last = None; replies = replies; after = after }
+
+pub says : (c : Command) (replies : List Reply) (after : Machine) → Says (saying c replies after) replies after
+says c replies after = record { replies_are = refl; after_is = refl; last_is = refl }
+
+-- a command that says one thing and changes nothing but the state
+pub answers-saying : (config : Config) (old : Machine) (c : Command) (r : Reply) (after : Machine) (stands : Machine → Type 0) (faults faults_now : ℕ) → Step config old (saying c (r ∷ []) after) → stands after → Answers config old c stands faults faults_now (text r)
+answers-saying config old c r after stands faults faults_now step s =
+    record { moment = saying c (r ∷ []) after; command_is = refl; step = step; stands_after = s; rose = λ t. cc; said_is = one-text r }
+
+-- a step of a moment whose command is known
+pub step-is : (config : Config) (old : Machine) (moment : Moment) (c : Command) → moment.command ≡ c → StepOf config old moment c → Step config old moment
+step-is config old moment c is step = subst (λ x. StepOf config old moment x) (sym is) step
+
+-- nothing is mounted, or the table is another's
+when-mounted : (old : Machine) (moment : Moment) (P : Type 0) → old.mounted ≡ true → P → WhenMounted old moment P
+when-mounted old moment P e p = subst (λ b. MatchBool b P (Says moment (reply.NotMounted ∷ []) old)) (sym e) p
+
+pub not_mounted-step : (config : Config) (old : Machine) (c : Command) (name : List ℕ) (P : Located → Type 0) → old.mounted ≡ false → WithTable config old (saying c (reply.NotMounted ∷ []) old) name P
+not_mounted-step config old c name P e =
+    let moment = saying c (reply.NotMounted ∷ []) old in
+    subst (λ b. MatchBool b (MatchOption (located config old name) (Says moment (reply.NoTable ∷ []) old) P) (Says moment (reply.NotMounted ∷ []) old)) (sym e) (says c (reply.NotMounted ∷ []) old)
+
+pub no_table-step : (config : Config) (old : Machine) (c : Command) (name : List ℕ) (P : Located → Type 0) → old.mounted ≡ true → located config old name ≡ None → WithTable config old (saying c (reply.NoTable ∷ []) old) name P
+no_table-step config old c name P e k =
+    let moment = saying c (reply.NoTable ∷ []) old in
+    when-mounted old moment (MatchOption (located config old name) (Says moment (reply.NoTable ∷ []) old) P) e
+    (subst (λ (at : Option Located). MatchOption at (Says moment (reply.NoTable ∷ []) old) P) (sym k) (says c (reply.NoTable ∷ []) old))
+
+pub table-step : (config : Config) (old : Machine) (moment : Moment) (name : List ℕ) (P : Located → Type 0) (at : Located) → old.mounted ≡ true → located config old name ≡ Some at → P at → WithTable config old moment name P
+table-step config old moment name P at e k p =
+    when-mounted old moment (MatchOption (located config old name) (Says moment (reply.NoTable ∷ []) old) P) e
+    (subst (λ (x : Option Located). MatchOption x (Says moment (reply.NoTable ∷ []) old) P) (sym k) p)
+
+-- the one table, by its name
+bytes_equal-own : (a : List ℕ) → bytes_equal a a ≡ true
+bytes_equal-own [] = refl
+bytes_equal-own (a ∷ as') = ap (λ (t : Bool). if t then bytes_equal as' as' else false) (eq-eqb a a refl) ∙ bytes_equal-own as'
+
+pub located-own : (config : Config) (old : Machine) (plan : Plan) (table : model.Table) (name : List ℕ) → config.plans ≡ plan ∷ [] → old.tables ≡ table ∷ [] → plan.name ≡ name →
+    located config old name ≡ Some (record { place = 0; plan = plan; table = table })
+located-own config old plan table name e k n =
+    let same : bytes_equal plan.name name ≡ true = ap (bytes_equal plan.name) (sym n) ∙ bytes_equal-own plan.name in
+    rw (e, k, same) refl
+
+pub located-other : (config : Config) (old : Machine) (plan : Plan) (table : model.Table) (name : List ℕ) → config.plans ≡ plan ∷ [] → old.tables ≡ table ∷ [] → (name ≡ plan.name → ⊥) → located config old name ≡ None
+located-other config old plan table name e k n =
+    let other : bytes_equal plan.name name ≡ false = bytes_equal-other plan.name name n in
+    rw (e, k, other) refl

@@ -1,0 +1,67 @@
+-- One command of a session, up to its reply.
+use Rattle.std.specs.Prelude.{◌≡◌, ℕ, Bool, true, false, IsTrue, Option, Some, None, Result, Ok, Err, List, [], ◌∷◌}
+use Rattle.fl_base.specs.Causes.{Rose}
+use Rattle.fl_flash.specs.declared.flash.FlashFault.{FlashFault}
+use Rattle.fl_flash.specs.declared.flash.FlashFault.TheVariants.{PowerLost, Media}
+use Rattle.fl_model.specs.Record.{Config}
+use Rattle.fl_words.specs.Command.{Command}
+use Rattle.fl_words.specs.Reply as reply
+use Rattle.fl_words.specs.Reply.{Reply, text, texts}
+use Rattle.fl_machine.specs.Machine.{Machine}
+use Rattle.fl_machine.specs.Step.{Moment, Step}
+use Rattle.fl_script.specs.declared.reply.Reply as code
+use Rattle.fl_table.specs.declared.faults.PutRefusal.{PutRefusal}
+use Rattle.fl_table.specs.declared.faults.PutRefusal.TheVariants as put
+use Rattle.fl_table.specs.declared.counts.Mounted.{Mounted}
+use Rattle.fl_table.specs.declared.faults.MountFault.{MountFault}
+use Rattle.fl_table.specs.declared.faults.MountFault.TheVariants as mount
+use Rattle.fl_table.specs.declared.faults.FlushFault.{FlushFault}
+use Rattle.fl_table.specs.declared.faults.FlushFault.TheVariants as flush
+
+-- From a state of the machine a command went on to another one, for which the session stands; this is the text of its replies.
+pub record Answers (config : Config) (old : Machine) (command : Command) (stands : Machine → Type 0) (faults faults_now : ℕ) (said : List ℕ) : Type 0 where
+  pub moment : Moment
+  pub command_is : moment.command ≡ command
+  pub step : Step config old moment
+  pub stands_after : stands moment.after
+  pub rose : IsTrue moment.rose → Rose faults faults_now
+  pub said_is : texts moment.replies ≡ said
+
+-- the reply to an operation that failed
+abbrev pub fault_reply : FlashFault → Reply
+fault_reply PowerLost = reply.PowerLost
+fault_reply Media = reply.DeviceFault
+
+-- .. to a put, and to a flush
+abbrev pub put_reply : Result (Unit {0}) PutRefusal → Reply
+put_reply (Ok done) = reply.Done
+put_reply (Err (put.Key last)) = reply.RefusedKey last
+put_reply (Err (put.Columns wanted)) = reply.RefusedColumns wanted
+put_reply (Err (put.Value column)) = reply.RefusedValue column
+put_reply (Err (put.Blob limit)) = reply.RefusedBlob limit
+put_reply (Err put.Spent) = reply.RefusedSpent
+put_reply (Err put.Stopped) = reply.NotMounted
+put_reply (Err (put.Flash fault)) = fault_reply fault
+
+-- .. and to a load: how many records were put, and why the next one wasn't
+abbrev pub load_replies : ℕ → Result (Unit {0}) PutRefusal → List Reply
+load_replies count (Ok done) = reply.Loaded count ∷ []
+load_replies count (Err refusal) = reply.Loaded count ∷ put_reply (Err refusal) ∷ []
+
+abbrev pub flush_reply : Result (Unit {0}) FlushFault → Reply
+flush_reply (Ok done) = reply.Done
+flush_reply (Err flush.Stopped) = reply.NotMounted
+flush_reply (Err (flush.Flash fault)) = fault_reply fault
+
+-- why a command on a table isn't executed: nothing is mounted, or the table is no other name's
+abbrev pub Refusal : List ℕ → Bool → List ℕ → Option code.Reply → Type 0
+Refusal own mounted name None = (mounted ≡ true) × (name ≡ own)
+Refusal own mounted name (Some code.TheVariants.NotMounted) = mounted ≡ false
+Refusal own mounted name (Some code.TheVariants.NoTable) = (mounted ≡ true) × (name ≡ own → ⊥)
+Refusal own mounted name (Some _) = ⊥
+
+-- the reply to a mount of the table of this name
+abbrev pub mount_reply : List ℕ → Result Mounted MountFault → Reply
+mount_reply name (Ok done) = reply.Done
+mount_reply name (Err (mount.Flash fault)) = fault_reply fault
+mount_reply name (Err _) = reply.BadImage name

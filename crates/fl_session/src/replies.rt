@@ -1,0 +1,68 @@
+// The replies to the calls of a table.
+ghost use Rattle.std.specs.Prelude.{◌≡◌};
+ghost use Rattle.fl_words.specs.Reply.{text};
+ghost use Rattle.fl_script.specs.ReplyView.{reply_text};
+ghost use Rattle.fl_session.specs.Answer as said;
+ghost use Rattle.fl_table.specs.Causes as causes;
+
+use fl_base::Name;
+use fl_flash::FlashFault;
+use fl_script::Reply;
+use fl_table::{FlushFault, MountFault, Mounted, PutRefusal};
+
+pub(crate) fn fault_reply(fault: FlashFault) -> Reply
+    ensures { reply_text result ≡ text (said.fault_reply fault) }
+{
+    match fault {
+        FlashFault::PowerLost => Reply::PowerLost,
+        FlashFault::Media => Reply::DeviceFault,
+    }
+}
+
+pub(crate) fn put_reply(outcome: Result<(), PutRefusal>) -> Reply
+    ensures { reply_text result ≡ text (said.put_reply outcome) }
+{
+    match outcome {
+        Ok(()) => Reply::Done,
+        Err(PutRefusal::Key { last }) => Reply::RefusedKey { last },
+        Err(PutRefusal::Columns { wanted }) => Reply::RefusedColumns { wanted },
+        Err(PutRefusal::Value { column }) => Reply::RefusedValue { column },
+        Err(PutRefusal::Blob { limit }) => Reply::RefusedBlob { limit },
+        Err(PutRefusal::Spent) => Reply::RefusedSpent,
+        Err(PutRefusal::Stopped) => Reply::NotMounted,
+        Err(PutRefusal::Flash(fault)) => fault_reply(fault),
+    }
+}
+
+/// Whether an operation failed in a put.
+pub(crate) fn put_breaks(outcome: &Result<(), PutRefusal>) -> bool
+    ensures { result ≡ causes.put_breaks outcome.now }
+{
+    matches!(outcome, Err(PutRefusal::Flash(_)))
+}
+
+pub(crate) fn flush_reply(outcome: Result<(), FlushFault>) -> Reply
+    ensures { reply_text result ≡ text (said.flush_reply outcome) }
+{
+    match outcome {
+        Ok(()) => Reply::Done,
+        Err(FlushFault::Stopped) => Reply::NotMounted,
+        Err(FlushFault::Flash(fault)) => fault_reply(fault),
+    }
+}
+
+pub(crate) fn flush_breaks(outcome: &Result<(), FlushFault>) -> bool
+    ensures { result ≡ causes.flush_breaks outcome.now }
+{
+    matches!(outcome, Err(FlushFault::Flash(_)))
+}
+
+pub(crate) fn mount_reply(name: Name, outcome: Result<Mounted, MountFault>) -> Reply
+    ensures { reply_text result ≡ text (said.mount_reply name outcome) }
+{
+    match outcome {
+        Ok(_) => Reply::Done,
+        Err(MountFault::Flash(fault)) => fault_reply(fault),
+        Err(_) => Reply::BadImage { name },
+    }
+}

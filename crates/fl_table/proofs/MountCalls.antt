@@ -1,0 +1,133 @@
+-- What the calls of a mount say of its table.
+use Rattle.std.proofs.Common.{◌≡◌, ℕ, ◌-◌, Bool, true, false, List, Some, sym, ◌∙◌, ap, subst, arith, IsTrue, inl, inr}
+use Rattle.fl_base.specs.Causes.{Rose}
+use Rattle.fl_base.specs.declared.types.Geometry.{Geometry}
+use Rattle.fl_base.specs.declared.types.RingPlace.{RingPlace}
+use Rattle.fl_flash.specs.Flash.{FlashState, Goes, page_at}
+use Rattle.fl_flash.specs.declared.flash.FlashFault.TheVariants.{PowerLost, Media}
+use Rattle.fl_model.specs.Record.{RowLayout}
+use Rattle.fl_model.specs.Work.{Device}
+use Rattle.fl_ring.specs.Causes as ring_causes
+use Rattle.fl_ring.specs.Causes.{CausedBy}
+use Rattle.fl_ring.specs.Finding.{FoundFault}
+use Rattle.fl_ring.specs.Looking.{OnlyReads, ReadFails}
+use Rattle.fl_ring.specs.Mounting.{shape_at, HasNumbers, FailsAs}
+use Rattle.fl_ring.specs.Place.{next_of, oldest_of, shape_of}
+use Rattle.fl_ring.specs.Ring.{Shape, OutsideStands, place}
+use Rattle.fl_ring.specs.Step.{IsWatched}
+use Rattle.fl_ring.specs.declared.fault.RingFault.{RingFault}
+use Rattle.fl_ring.specs.declared.fault.RingFault.TheVariants as ring
+use Rattle.fl_ring.specs.declared.ring.Ring.{Ring}
+use Rattle.fl_ring.proofs.Founds.{same_pages}
+use Rattle.fl_ring.proofs.Readings.{same_page}
+use Rattle.fl_schema.specs.Schema.{layout_of}
+use Rattle.fl_table.specs.Causes.{IfFlash, IfPage, MountCausedBy, is_of_pages, of_ring}
+use Rattle.fl_table.specs.Memory.{IsSamePlan}
+use Rattle.fl_table.specs.Mounting.{ReadsRing, FindsPages, HasBadPage, RefusesPages}
+use Rattle.fl_table.specs.Reading.{AreRead, AreRefused, last_after, rows_after, voids_after, pages_of}
+use Rattle.fl_table.specs.declared.counts.Mounted.{Mounted}
+use Rattle.fl_table.specs.declared.faults.MountFault.{MountFault}
+use Rattle.fl_table.specs.declared.faults.MountFault.TheVariants.{Flash, Ring as OfRing, BadPage, BadKeys, BadIndex, BadBlob}
+use Rattle.fl_table.specs.declared.table.Table.{Table}
+
+-- where its ring lies
+pub same-shape : (old new : Table) (f : FlashState) → IsSamePlan old new → f.geometry ≡ old.geometry → shape_at new.place f.geometry ≡ shape_at old.place old.geometry
+same-shape old new f same geometry = ap (λ (p : RingPlace). shape_at p f.geometry) same.place ∙ ap (λ (g : Geometry). shape_at old.place g) geometry
+
+-- a call within another is watched as that is
+pub watched-front : (old mid new : FlashState) (rose : Bool) (device : Device) → IsWatched old new rose device → Goes mid new → IsWatched old mid rose device
+watched-front old mid new rose device w goes = record {
+  told = w.told;
+  on = w.on;
+  risen = λ rises. w.risen (omega (arith, rises, goes.faults));
+  counts = w.counts;
+}
+
+pub risen-later : (old mid new : FlashState) (rose : Bool) (device : Device) → IsWatched old new rose device → Goes old mid → Rose mid.media.faults new.media.faults → IsTrue rose
+risen-later old mid new rose device w goes rises = w.risen (omega (arith, rises, goes.faults))
+
+-- the kept pages are read on a flash that a repair left
+module _ (old new : Table) (f mid g : FlashState) (n : ℕ) (same : IsSamePlan old new) (geometry : f.geometry ≡ old.geometry) (reads : OnlyReads mid n g) where
+  pub outside-stands : OutsideStands (shape_at new.place f.geometry) (page_at f) (page_at mid) → OutsideStands (shape_at old.place old.geometry) (page_at f) (page_at g)
+  outside-stands h q out = same_page mid g n q reads ∙ subst (λ (r : Shape). OutsideStands r (page_at f) (page_at mid)) (same-shape old new f same geometry) h q out
+
+  module _ (ring : Ring) (numbers : HasNumbers f (shape_at new.place f.geometry) 0 ring mid) (all : n ≡ next_of ring - oldest_of ring) where
+    pub reads-ring : ReadsRing old f ring g
+    reads-ring = record {
+      repaired = mid;
+      numbers = subst (λ (r : Shape). HasNumbers f r 0 ring mid) (same-shape old new f same geometry) numbers;
+      reads = subst (λ (k : ℕ). OnlyReads mid k g) all reads;
+    }
+
+    now_read : (P : (ℕ → List ℕ) → Type 0) → P (pages_of ring mid) → P (pages_of ring g)
+    now_read P h = subst (λ (page : ℕ → List ℕ). P (λ number. page (place (shape_of ring) number))) (sym (same_pages mid g n reads)) h
+
+    refused-page : (fault : MountFault) → AreRefused (layout_of new.schema) (pages_of ring mid) (oldest_of ring) (next_of ring - oldest_of ring) fault → HasBadPage old f fault g
+    refused-page fault h = record {
+      ring = ring;
+      ring_reads = reads-ring;
+      refused = subst (λ (l : RowLayout). AreRefused l (pages_of ring g) (oldest_of ring) (next_of ring - oldest_of ring) fault) same.layout
+          (now_read (λ page. AreRefused (layout_of new.schema) page (oldest_of ring) (next_of ring - oldest_of ring) fault) h);
+    }
+
+    pub refuses-page : (e : MountFault) → is_of_pages e ≡ true → IsTrue mid.media.tells → IfFlash (λ fault. ReadFails mid fault g) e → IfPage (λ fault. IsTrue mid.media.tells → AreRefused (layout_of new.schema) (pages_of ring mid) (oldest_of ring) (next_of ring - oldest_of ring) fault) e → RefusesPages old f e g
+    unfolding reads-ring
+    refuses-page (Flash fault) only told fails h = inr (record { ring = ring; ring_reads = reads-ring; fails = fails })
+    refuses-page (OfRing fault) only told fails h = absurd (cc only)
+    refuses-page (BadPage bad) only told fails h = refused-page (BadPage bad) (h told)
+    refuses-page (BadKeys number last first) only told fails h = refused-page (BadKeys number last first) (h told)
+    refuses-page (BadIndex end next) only told fails h = absurd (cc only)
+    refuses-page (BadBlob number next) only told fails h = absurd (cc only)
+
+    pub finds-pages : (mounted : Mounted) (now : Table) → now.ring ≡ Some ring → AreRead (layout_of new.schema) (pages_of ring mid) (oldest_of ring) (next_of ring - oldest_of ring) →
+        mounted ≡ record {
+          rows = rows_after (layout_of new.schema) (pages_of ring mid) (oldest_of ring) (next_of ring - oldest_of ring);
+          pages = next_of ring - oldest_of ring;
+          voids = voids_after (layout_of new.schema) (pages_of ring mid) (oldest_of ring) (next_of ring - oldest_of ring);
+        } → now.last_key ≡ last_after (layout_of new.schema) (pages_of ring mid) (oldest_of ring) (next_of ring - oldest_of ring) → FindsPages old f mounted now g
+    finds-pages mounted now ring_is read is last =
+        let m = next_of ring - oldest_of ring in
+        record {
+          ring = ring;
+          ring_is = ring_is;
+          ring_reads = reads-ring;
+          read = subst (λ (l : RowLayout). AreRead l (pages_of ring g) (oldest_of ring) (next_of ring - oldest_of ring)) same.layout (now_read (λ page. AreRead (layout_of new.schema) page (oldest_of ring) (next_of ring - oldest_of ring)) read);
+          mounted_is = subst (λ (l : RowLayout). mounted ≡ record { rows = rows_after l (pages_of ring g) (oldest_of ring) (next_of ring - oldest_of ring); pages = next_of ring - oldest_of ring; voids = voids_after l (pages_of ring g) (oldest_of ring) (next_of ring - oldest_of ring) }) same.layout
+              (now_read (λ page. mounted ≡ record { rows = rows_after (layout_of new.schema) page (oldest_of ring) (next_of ring - oldest_of ring); pages = next_of ring - oldest_of ring; voids = voids_after (layout_of new.schema) page (oldest_of ring) (next_of ring - oldest_of ring) }) is);
+          last = subst (λ (l : RowLayout). now.last_key ≡ last_after l (pages_of ring g) (oldest_of ring) (next_of ring - oldest_of ring)) same.layout
+              (now_read (λ page. now.last_key ≡ last_after (layout_of new.schema) page (oldest_of ring) (next_of ring - oldest_of ring)) last);
+        }
+
+-- the ring was refused
+pub refuses-ring : (old new : Table) (f g : FlashState) (e : RingFault) → IsSamePlan old new → f.geometry ≡ old.geometry → FoundFault f (shape_at new.place f.geometry) 0 e → FailsAs f (shape_at new.place f.geometry) 0 e g →
+    RefusesPages old f (of_ring e) g
+refuses-ring old new f g e same geometry found fails =
+    by_fault e (subst (λ (r : Shape). FoundFault f r 0 e) (same-shape old new f same geometry) found) (subst (λ (r : Shape). FailsAs f r 0 e g) (same-shape old new f same geometry) fails)
+  where
+    by_fault : (e : RingFault) → FoundFault f (shape_at old.place old.geometry) 0 e → FailsAs f (shape_at old.place old.geometry) 0 e g → RefusesPages old f (of_ring e) g
+    by_fault (ring.Flash fault) found fails = inl fails
+    by_fault (ring.BadHead heads) found fails = record { found = found; reads = fails }
+    by_fault (ring.BadGap page) found fails = record { found = found; reads = fails }
+    by_fault (ring.BadPage page wanted there) found fails = record { found = found; reads = fails }
+    by_fault (ring.NoNumber least) found fails = record { found = found; reads = fails }
+
+-- why the ring's mount failed
+pub ring-cause : (old new : FlashState) (e : RingFault) → ring_causes.IfFlash (λ fault. CausedBy old fault new) e → MountCausedBy old (of_ring e) new
+ring-cause old new (ring.Flash fault) cause = cause
+ring-cause old new (ring.BadHead heads) cause = tt
+ring-cause old new (ring.BadGap page) cause = tt
+ring-cause old new (ring.BadPage page wanted there) cause = tt
+ring-cause old new (ring.NoNumber least) cause = tt
+
+-- why a kept page wasn't read, or refused
+pub pages-cause : (old mid new : FlashState) → Goes old mid → mid.is_on ≡ true → (e : MountFault) → is_of_pages e ≡ true → IfFlash (λ fault. ReadFails mid fault new) e → MountCausedBy old e new
+pages-cause old mid new goes on (Flash PowerLost) only off = absurd (not_both on off)
+  where
+    not_both : mid.is_on ≡ true → mid.is_on ≡ false → ⊥
+    not_both e k = cc
+pages-cause old mid new goes on (Flash Media) only rises = omega (arith, rises, goes.faults)
+pages-cause old mid new goes on (OfRing fault) only fails = absurd (cc only)
+pages-cause old mid new goes on (BadPage bad) only fails = tt
+pages-cause old mid new goes on (BadKeys number last first) only fails = tt
+pages-cause old mid new goes on (BadIndex end next) only fails = tt
+pages-cause old mid new goes on (BadBlob number next) only fails = tt

@@ -1,0 +1,269 @@
+-- How the mount of a table ends, by the mount of its ring and the read of the kept pages.
+use Rattle.std.proofs.Common.{◌≡◌, ℕ, ◌+◌, ◌-◌, ◌*◌, ◌%◌, ◌≤◌, Bool, true, false, cond, ◌==◌, Option, Some, Result, Ok, Err, List, [], ◌∷◌, map, length, drop, get_or, refl, sym, ◌∙◌, ap, subst, ◌⊎◌, inl, inr, arith, IsTrue}
+use Rattle.fl_base.specs.Causes.{Rose}
+use Rattle.fl_flash.specs.Flash.{FlashState, page_at}
+use Rattle.fl_flash.specs.Places.{extent}
+use Rattle.fl_flash.specs.declared.armed.Armed.{Armed}
+use Rattle.fl_flash.specs.declared.flash.FlashFault.{FlashFault}
+use Rattle.fl_flash.specs.declared.flash.FlashFault.TheVariants.{PowerLost, Media}
+use Rattle.fl_model.specs.Record.{Plan, RowLayout, row_layout, row_len, layout_len}
+use Rattle.fl_model.specs.Ring as model
+use Rattle.fl_model.specs.Row.{stored_row}
+use Rattle.fl_model.specs.Table.{Table, Entry, DataRing, shape_of, pending_entries, lose}
+use Rattle.fl_model.specs.Layout.{bitmap_of}
+use Rattle.fl_model.specs.Mount.{renumber, rings_of, ready}
+use Rattle.fl_model.specs.Facts.{IsTable}
+use Rattle.fl_model.specs.Work.{Device, PartProgress}
+use Rattle.fl_model.specs.Within.{TableMounts, TableStopped, TableUnread}
+use Rattle.fl_model.proofs.Lists.{slice_get-short}
+use Rattle.fl_model.proofs.Plain.{IsPlain, IsPlainTable, plain-facts, facts-plain}
+use Rattle.fl_page.specs.Writer.{Gathers}
+use Rattle.fl_ring.specs.Device.{ArmsAs, SameDevice}
+use Rattle.fl_ring.specs.Looking.{OnlyReads, ReadFails}
+use Rattle.fl_ring.specs.Mounting as ring_mount
+use Rattle.fl_ring.specs.Numbers.{renumbered}
+use Rattle.fl_ring.specs.Place.{next_of, oldest_of}
+use Rattle.fl_ring.specs.Place as place
+use Rattle.fl_ring.specs.Ring.{Shape, RingState, OnRing}
+use Rattle.fl_ring.specs.Ring.{place as place_at}
+use Rattle.fl_ring.specs.Step.{IsWatched}
+use Rattle.fl_ring.specs.declared.fault.RingFault.{RingFault}
+use Rattle.fl_ring.specs.declared.fault.RingFault.TheVariants as ring
+use Rattle.fl_ring.specs.declared.ring.Ring.{Ring}
+use Rattle.fl_ring.proofs.Founds.{same_pages}
+use Rattle.fl_schema.specs.Schema.{layout_of, types_of}
+use Rattle.fl_table.specs.Causes.{of_ring, IfFlash, IfPage, is_of_pages}
+use Rattle.fl_table.specs.Memory.{IsPlanned, LiesOn}
+use Rattle.fl_table.specs.Outcomes.{FaultEnds, MountsBadly, MountEnds, mounted_of}
+use Rattle.fl_table.specs.Pages.{Rests}
+use Rattle.fl_table.specs.Reading.{AreRefused, AreNoted, last_after, rows_after, voids_after, pages_of}
+use Rattle.fl_table.specs.Standing.{Stands}
+use Rattle.fl_table.specs.declared.counts.Mounted.{Mounted}
+use Rattle.fl_table.specs.declared.faults.MountFault.{MountFault}
+use Rattle.fl_table.specs.declared.faults.MountFault.TheVariants as mount
+use Rattle.fl_table.specs.declared.table.Table as code
+use Rattle.fl_table.proofs.Holding.{plain-on, plain-rests}
+use Rattle.fl_table.proofs.Lifted.{TableAnswers}
+use Rattle.fl_table.proofs.Memories.{few-kept}
+use Rattle.fl_table.proofs.MountGood.{ring-renumbered, numbered-facts, numbered-idle, good-ring}
+use Rattle.fl_table.proofs.MountLifted.{RowsMount, mount-lifts, mount-fails}
+use Rattle.fl_table.proofs.MountRead.{HoldRows, hold-rows, not-refused}
+use Rattle.fl_table.proofs.Repaired.{IsIdle, idle-lost, lost-idle}
+use Rattle.fl_table.proofs.SealAnswers.{planned-plain, planned-shape, planned-large, lies-size, counts-room}
+use Rattle.fl_table.proofs.Sealings.{fault-ends}
+use Rattle.fl_table.proofs.States.{shape_in, state_of, state-oldest, HaveSize}
+
+-- what a mount is told of its table
+pub record IsMounting (first : ℕ) (plan : Plan) (table : Table) (old : FlashState) : Type 0 where
+  pub plain : IsPlain plan
+  pub shape : model.IsShape (shape_of plan DataRing)
+  pub large : 64 ≤ plan.geometry.page
+  pub facts : IsPlainTable plan table
+  pub idle : IsIdle table
+  pub on : OnRing (shape_in first plan) (page_at old) (state_of plan table)
+
+pub mounting-of : (t : code.Table) (f : FlashState) (first : ℕ) (plan : Plan) (table : Table) → IsPlanned t first plan → LiesOn t f → f.start + extent f.geometry f.blocks ≤ length f.media.content → Rests f first plan table →
+    IsMounting first plan table f
+mounting-of t f first plan table planned lies reaches rests =
+    let facts = plain-facts plan table (planned-plain t first plan planned) rests.settled.facts in
+    let large = planned-large t first plan planned in
+    record {
+      plain = planned-plain t first plan planned;
+      shape = planned-shape t first plan planned;
+      large = large;
+      facts = facts;
+      idle = lost-idle table rests.settled.lost;
+      on = plain-on (page_at f) first plan table (lies-size t f first plan planned lies.geometry lies.within reaches) large facts rests.pages;
+    }
+
+module _ (first : ℕ) (plan : Plan) (table : Table) (rose : Bool) (device : Device) (old : FlashState) (is : IsMounting first plan table old) where
+  plain : IsPlain plan
+  plain = is.plain
+
+  shape : model.IsShape (shape_of plan DataRing)
+  shape = is.shape
+
+  large : 64 ≤ plan.geometry.page
+  large = is.large
+
+  facts : IsPlainTable plan table
+  facts = is.facts
+
+  idle : IsIdle table
+  idle = is.idle
+
+  -- the mount of the ring failed
+  pub ring-fails : (e : RingFault) (t : code.Table) (new : FlashState) → HaveSize first plan (page_at new) →
+      ring_mount.MountEnds (shape_in first plan) rose device (renumbered (shape_in first plan) 0 (state_of plan table)) (Err e) new → MountEnds first plan table rose device (Err (of_ring e)) t new
+  ring-fails e t new sizes h =
+      by_fault e (subst (λ (s : RingState). ring_mount.MountEnds (shape_in first plan) rose device s (Err e) new) (ring-renumbered first plan table shape facts idle) h)
+    where
+      did_not : (now : PartProgress Table) (fault : FlashFault) → (TableMounts plan rose (rings_of plan) device table (TableStopped now) × TableAnswers now.end (Err fault) new) ⊎ (TableMounts plan rose (rings_of plan) device table (TableUnread now) × (fault ≡ Media)) →
+          (TableMounts plan rose (rings_of plan) device table (TableStopped now) × FaultEnds now.end fault new) ⊎ (TableMounts plan rose (rings_of plan) device table (TableUnread now) × (fault ≡ Media))
+      did_not now fault (inl p) = inl (p.0, fault-ends now.end fault new p.1)
+      did_not now fault (inr p) = inr p
+
+      by_fault : (e : RingFault) → ring_mount.MountEnds (shape_in first plan) rose device (state_of plan (renumber plan DataRing table)) (Err e) new → MountEnds first plan table rose device (Err (of_ring e)) t new
+      by_fault (ring.Flash fault) m =
+          let l = mount-fails first plan table rose device new plain shape (numbered-facts first plan table shape facts idle) (numbered-idle first plan table shape facts idle) fault m in
+          record {
+            now = l.now;
+            did = did_not l.now fault l.did;
+            counts = l.counts;
+            rests = subst (λ (x : Table). Rests new first plan x) (sym (idle-lost l.now.state l.idle)) (plain-rests new first plan l.now.state plain sizes large l.facts l.on);
+          }
+      by_fault (ring.BadHead heads) m = absurd m
+      by_fault (ring.BadGap page) m = absurd m
+      by_fault (ring.BadPage page wanted found) m = absurd m
+      by_fault (ring.NoNumber least) m = absurd m
+
+  -- what the ring's mount says of its state says it of the table
+  pub ring-ends : (r : Shape) → r ≡ shape_in first plan → (new : FlashState) (result : Result Ring RingFault) →
+      ((s : RingState) (rose : Bool) (device : Device) → ring_mount.IsGood old r 0 s → IsWatched old new rose device → ring_mount.MountEnds r rose device (renumbered r 0 s) result new) →
+      IsWatched old new rose device → ring_mount.MountEnds (shape_in first plan) rose device (renumbered (shape_in first plan) 0 (state_of plan table)) result new
+  ring-ends r e new result ends watched =
+      subst (λ (x : Shape). ring_mount.MountEnds x rose device (renumbered x 0 (state_of plan table)) result new) e
+      (ends (state_of plan table) rose device (subst (λ (x : Shape). ring_mount.IsGood old x 0 (state_of plan table)) (sym e) (good-ring first plan table shape facts idle old watched.told is.on)) watched)
+
+  -- it ended well
+  pub ring-mounts : (ring : Ring) (new : FlashState) → ring_mount.MountEnds (shape_in first plan) rose device (renumbered (shape_in first plan) 0 (state_of plan table)) (Ok ring) new →
+      RowsMount first plan table rose device ring new
+  ring-mounts ring new h =
+      mount-lifts first plan table rose device new plain shape (numbered-facts first plan table shape facts idle) (numbered-idle first plan table shape facts idle) ring
+      (subst (λ (s : RingState). ring_mount.MountEnds (shape_in first plan) rose device s (Ok ring) new) (ring-renumbered first plan table shape facts idle) h)
+
+  -- and then the kept pages are read
+  module _ (ring : Ring) (mid new : FlashState) (n : ℕ) (l : RowsMount first plan table rose device ring mid) (reads : OnlyReads mid n new) (sizes : HaveSize first plan (page_at new)) where
+    on_now : OnRing (shape_in first plan) (page_at new) (state_of plan (lose l.now.state))
+    on_now = subst (λ (page : ℕ → List ℕ). OnRing (shape_in first plan) page (state_of plan (lose l.now.state))) (sym (same_pages mid new n reads)) l.on
+
+    pub same_device : SameDevice new l.now.device
+    same_device = record {
+      armed = subst (λ (a : Option Armed). ArmsAs l.now.device.armed a) (sym reads.armed) l.counts.armed;
+      programs = l.counts.programs ∙ sym reads.programs;
+      erases = l.counts.erases ∙ sym reads.erases;
+    }
+
+    rests_now : Rests new first plan l.now.state
+    rests_now = subst (λ (x : Table). Rests new first plan x) (sym (idle-lost l.now.state l.idle)) (plain-rests new first plan l.now.state plain sizes large l.facts on_now)
+
+    pub reads-fail : (fault : FlashFault) → ReadFails mid fault new → (Rose mid.media.faults new.media.faults → IsTrue rose) → MountsBadly first plan table rose device fault new
+    reads-fail PowerLost off risen = absurd (not_both l.power off)
+      where
+        not_both : mid.is_on ≡ true → mid.is_on ≡ false → ⊥
+        not_both e k = cc
+    reads-fail Media rises risen =
+        let u = l.unread (risen rises) in
+        record {
+          now = u.0;
+          did = inr (u.1, refl);
+          counts = subst (λ (d : Device). SameDevice new d) (sym u.2) same_device;
+          rests = subst (λ (x : Table). Rests new first plan x) (sym u.3) rests_now;
+        }
+
+    -- the pages that the ring reads hold the table's rows
+    pub reads-hold : (t : code.Table) → IsPlanned t first plan → place.shape_of ring ≡ shape_in first plan → HoldRows l.now.state (layout_of t.schema) (pages_of ring mid) (oldest_of ring) (next_of ring - oldest_of ring)
+    reads-hold t planned is =
+        let st = l.now.state in
+        let on : OnRing (shape_in first plan) (page_at mid) (state_of plan l.now.state) = subst (λ (x : Table). OnRing (shape_in first plan) (page_at mid) (state_of plan x)) (sym (idle-lost l.now.state l.idle)) l.on in
+        let old : oldest_of ring ≡ model.oldest st.rows = l.stands.oldest ∙ state-oldest plan (lose l.now.state) in
+        let many : next_of ring - oldest_of ring ≡ length st.rows.counts = omega (arith, l.stands.next, old, l.facts.rows.not_negative) in
+        let mid_sizes : HaveSize first plan (page_at mid) = subst (λ (page : ℕ → List ℕ). HaveSize first plan page) (same_pages mid new n reads) sizes in
+        let size : t.geometry.page ≡ plan.geometry.page = ap (λ g. g.page) (sym planned.geometry) in
+        let len : row_len plan ≡ layout_len (layout_of t.schema) = ap (λ (x : RowLayout). layout_len x) planned.layout in
+        let h = hold-rows (page_at mid) first plan st t.schema.key (types_of t.schema) t.schema.blobs (sym planned.layout) plain l.facts l.idle.pending large
+        (omega (arith, len, size, t.room_for_row)) (omega (arith, len, t.some_row)) (omega (arith, size, t.served.page_greatest)) mid_sizes on in
+        subst (λ (x : RowLayout). HoldRows l.now.state x (pages_of ring mid) (oldest_of ring) (next_of ring - oldest_of ring)) planned.layout
+        (subst (λ (r : Shape). HoldRows l.now.state (row_layout plan) (λ number. page_at mid (place_at r number)) (oldest_of ring) (next_of ring - oldest_of ring)) (sym is)
+        (subst (λ (k : ℕ). HoldRows l.now.state (row_layout plan) (λ number. page_at mid (place_at (shape_in first plan) number)) k (next_of ring - oldest_of ring)) (sym old)
+        (subst (λ (k : ℕ). HoldRows l.now.state (row_layout plan) (λ number. page_at mid (place_at (shape_in first plan) number)) (model.oldest l.now.state.rows) k) (sym many) h)))
+
+    -- no page is refused
+    pub reads-end : (t t' : code.Table) (e : MountFault) → IsPlanned t first plan → place.shape_of ring ≡ shape_in first plan → (Rose mid.media.faults new.media.faults → IsTrue rose) → is_of_pages e ≡ true → IfFlash (λ fault. ReadFails mid fault new) e →
+        IsTrue mid.media.tells → IfPage (λ fault. IsTrue mid.media.tells → AreRefused (layout_of t.schema) (pages_of ring mid) (oldest_of ring) (next_of ring - oldest_of ring) fault) e → MountEnds first plan table rose device (Err e) t' new
+    reads-end t t' (mount.Flash fault) planned is risen only fails told refused = reads-fail fault fails risen
+    reads-end t t' (mount.BadPage bad) planned is risen only fails told refused = absurd (not-refused _ _ _ _ (mount.BadPage bad) (reads-hold t planned is).read (refused told))
+    reads-end t t' (mount.BadKeys page last first_key) planned is risen only fails told refused = absurd (not-refused _ _ _ _ (mount.BadKeys page last first_key) (reads-hold t planned is).read (refused told))
+    reads-end t t' (mount.Ring fault) planned is risen only fails told refused = absurd (cc only)
+    reads-end t t' (mount.BadIndex end next) planned is risen only fails told refused = absurd (cc only)
+    reads-end t t' (mount.BadBlob page next) planned is risen only fails told refused = absurd (cc only)
+
+    nothing_pending : pending_entries (ready plan l.now.state) ≡ []
+    nothing_pending = ap (λ k. drop (length l.now.state.entries - k) l.now.state.entries) l.idle.pending ∙ gone l.now.state.entries
+      where
+        rest : (xs : List Entry) → drop (length xs) xs ≡ []
+        rest [] = refl
+        rest (x ∷ xs) = rest xs
+
+        gone : (xs : List Entry) → drop (length xs - 0) xs ≡ []
+        gone xs = ap (λ k. drop k xs) (let e : length xs - 0 ≡ length xs = omega arith in e) ∙ rest xs
+
+    no_values : (b : Bool) → ◌≡◌ {A = ℕ} (cond b 0 0) 0
+    no_values true = refl
+    no_values false = refl
+
+    idle_now : (ready plan l.now.state).waiting ≡ 0
+    idle_now = rw plain.no_index refl
+
+    ready_facts : IsTable plan (ready plan l.now.state)
+    ready_facts = facts-plain plan (ready plan l.now.state) plain (record {
+      rows = l.facts.rows;
+      kept = l.facts.kept;
+      few_pending = l.facts.few_pending;
+      index = l.facts.index;
+      var = l.facts.var;
+      firsts = l.facts.firsts;
+      fill = l.facts.fill;
+      waiting = omega (arith, idle_now);
+      number = l.facts.number;
+      number_pending = l.facts.number_pending;
+    })
+
+    -- the table that was started
+    pub started-stands : (t : code.Table) → IsPlanned t first plan → place.shape_of ring ≡ shape_in first plan → t.ring ≡ Some ring → ((layout : RowLayout) → Gathers layout [] t.writer) → t.bitmap ≡ 0 →
+        t.last_key ≡ last_after (layout_of t.schema) (pages_of ring mid) (oldest_of ring) (next_of ring - oldest_of ring) →
+        (next_of ring - oldest_of ring ≤ length t.counts.items → AreNoted (layout_of t.schema) (pages_of ring mid) (oldest_of ring) (next_of ring - oldest_of ring) t.counts.items) →
+        Stands t new first plan (ready plan l.now.state)
+    started-stands t planned is ring_is empty bitmap last noted =
+        let st = l.now.state in
+        let h = reads-hold t planned is in
+        let old : oldest_of ring ≡ model.oldest st.rows = l.stands.oldest ∙ state-oldest plan (lose l.now.state) in
+        let many : next_of ring - oldest_of ring ≡ length st.rows.counts = omega (arith, l.stands.next, old, l.facts.rows.not_negative) in
+        let room = counts-room t first plan planned in
+        let fits = few-kept plan st shape l.facts.rows in
+        let are = noted (omega (arith, many, fits, room)) in
+        record {
+          planned = planned;
+          facts = ready_facts;
+          whole = l.whole;
+          clean = l.clean;
+          pages = (plain-rests new first plan l.now.state plain sizes large l.facts on_now).pages;
+          memory = record {
+            ring = ring;
+            ring_is = ring_is;
+            next = l.stands.next;
+            oldest = old;
+            gathers = subst (λ (es : List Entry). Gathers (layout_of t.schema) (map stored_row es) t.writer) (sym nothing_pending) (empty (layout_of t.schema));
+            bitmap = bitmap ∙ sym (ap (bitmap_of plan) nothing_pending ∙ no_values (plan.bits == 0));
+            last = last ∙ h.last;
+            counts = λ i c e.
+                ap (λ (k : ℕ). get_or t.counts.items (k % (plan.data_blocks * plan.geometry.block)) 0) (let s : model.oldest st.rows + i ≡ oldest_of ring + i = omega (arith, old) in s)
+                ∙ (ap (λ (k : ℕ). get_or t.counts.items ((oldest_of ring + i) % k) 0) (sym room)
+                ∙ (are i (omega (arith, many, slice_get-short st.rows.counts i c e)) ∙ h.each i c e));
+            no_fill = l.idle.fill;
+            idle = idle_now;
+          };
+        }
+
+    -- what it answers
+    pub mount-answer : (t : code.Table) (mounted : Mounted) → IsPlanned t first plan → place.shape_of ring ≡ shape_in first plan → mounted ≡ record {
+      rows = rows_after (layout_of t.schema) (pages_of ring mid) (oldest_of ring) (next_of ring - oldest_of ring);
+      pages = next_of ring - oldest_of ring;
+      voids = voids_after (layout_of t.schema) (pages_of ring mid) (oldest_of ring) (next_of ring - oldest_of ring);
+    } → mounted ≡ mounted_of (ready plan l.now.state)
+    mount-answer t mounted planned is e =
+        let st = l.now.state in
+        let h = reads-hold t planned is in
+        let old : oldest_of ring ≡ model.oldest st.rows = l.stands.oldest ∙ state-oldest plan (lose l.now.state) in
+        let many : next_of ring - oldest_of ring ≡ length st.rows.counts = omega (arith, l.stands.next, old, l.facts.rows.not_negative) in
+        e ∙ rw (h.rows, h.voids, many) refl

@@ -1,0 +1,78 @@
+-- How many reads a mount makes.
+use Rattle.std.proofs.Common.{◌≡◌, ℕ, ◌+◌, ◌-◌, ◌*◌, ◌<◌, ◌≤◌, min, Bool, true, false, cond, ◌&&◌, ◌==◌, sym, ap, subst, arith, IsTrue}
+use Rattle.std.proofs.Math.Nat.{mul-le-mul_right, mul-le-mul_left, add-mul}
+use Rattle.fl_flash.specs.Flash.{FlashState}
+use Rattle.fl_ring.specs.Finding.{kept_pages, kept_at, full_of}
+use Rattle.fl_ring.specs.Head.{one, fulls}
+use Rattle.fl_ring.specs.Looking.{OnlyReads}
+use Rattle.fl_ring.specs.Mounting.{shape_at, search_reads, HasNumbers}
+use Rattle.fl_ring.specs.Place.{next_of, oldest_of}
+use Rattle.fl_ring.specs.Repairing.{Beside}
+use Rattle.fl_ring.specs.Ring.{Shape, room, is_due_at}
+use Rattle.fl_ring.specs.declared.ring.Ring.{Ring}
+use Rattle.fl_table.specs.Memory.{IsSamePlan}
+use Rattle.fl_table.specs.Mounting.{FewReads}
+use Rattle.fl_table.specs.declared.table.Table.{Table}
+use Rattle.fl_table.proofs.MountCalls.{same-shape}
+
+-- a ring is found to keep fewer pages than it has
+kept-few : (r : Shape) (full sealed : ℕ) → 1 ≤ r.blocks → sealed < r.per_block → kept_pages r full sealed < room r
+kept-few r full sealed some below = by_test (sealed == r.per_block - 1)
+  where
+    by_test : (b : Bool) → min full (cond b (r.blocks - 2) (r.blocks - 1)) * r.per_block + sealed < r.blocks * r.per_block
+    by_test b =
+        let few : min full (cond b (r.blocks - 2) (r.blocks - 1)) ≤ r.blocks - 1 = at_most b in
+        let le : min full (cond b (r.blocks - 2) (r.blocks - 1)) * r.per_block ≤ (r.blocks - 1) * r.per_block = mul-le-mul_right r.per_block few in
+        let last : (r.blocks - 1 + 1) * r.per_block ≡ (r.blocks - 1) * r.per_block + 1 * r.per_block = add-mul (r.blocks - 1) 1 r.per_block in
+        let same : r.blocks - 1 + 1 ≡ r.blocks = omega (arith, some) in
+        omega (arith, le, last, ap (λ n. n * r.per_block) same, below)
+      where
+        at_most : (b : Bool) → min full (cond b (r.blocks - 2) (r.blocks - 1)) ≤ r.blocks - 1
+        at_most true = omega arith
+        at_most false = omega arith
+
+pub ring-few : (old new : FlashState) (r : Shape) (ring : Ring) → 1 ≤ r.blocks → HasNumbers old r 0 ring new → IsTrue old.media.tells → next_of ring - oldest_of ring ≤ room r
+ring-few old new r ring some h told =
+    let found = h.is_found told in
+    let few : kept_at old r found.front < room r = kept-few r (fulls (full_of old r) r.blocks) found.front.sealed some found.head.front_is.below in
+    let next = h.next in
+    let more : one h.numbers.torn ≤ 1 = one_at_most h.numbers.torn in
+    let low : h.numbers.oldest ≤ ring.oldest = subst (λ n. h.numbers.oldest ≤ n) (sym h.oldest) (not_less (h.numbers.torn && is_due_at r ring.next (ring.next - h.numbers.oldest))) in
+    omega (arith, few, next, more, low, found.oldest)
+  where
+    one_at_most : (b : Bool) → one b ≤ 1
+    one_at_most true = omega arith
+    one_at_most false = omega arith
+
+    not_less : (b : Bool) → h.numbers.oldest ≤ cond b (h.numbers.oldest + r.per_block) h.numbers.oldest
+    not_less true = omega arith
+    not_less false = omega arith
+
+-- four for each page
+four-each : (blocks pages : ℕ) → 3 ≤ blocks → 2 ≤ pages → blocks + pages + blocks * pages + pages + blocks * pages ≤ 4 * (blocks * pages)
+four-each blocks pages b p =
+    let rows : blocks * 2 ≤ blocks * pages = mul-le-mul_left blocks p in
+    let columns : 3 * pages ≤ blocks * pages = mul-le-mul_right pages b in
+    omega (arith, rows, columns)
+
+module _ (old new : Table) (f mid : FlashState) (same : IsSamePlan old new) (geometry : f.geometry ≡ old.geometry)
+    (beside : Beside (shape_at new.place f.geometry) (search_reads (shape_at new.place f.geometry) + f.geometry.block) 1 1 f mid) where
+  searched : Beside (shape_at old.place old.geometry) (search_reads (shape_at old.place old.geometry) + old.geometry.block) 1 1 f mid
+  searched =
+      subst (λ (n : ℕ). Beside (shape_at old.place old.geometry) (search_reads (shape_at old.place old.geometry) + n) 1 1 f mid) (ap (λ g. g.block) geometry)
+      (subst (λ (r : Shape). Beside r (search_reads r + f.geometry.block) 1 1 f mid) (same-shape old new f same geometry) beside)
+
+  all : old.place.blocks + old.geometry.block + old.place.blocks * old.geometry.block + old.geometry.block + old.place.blocks * old.geometry.block ≤ 4 * (old.place.blocks * old.geometry.block)
+  all = four-each old.place.blocks old.geometry.block old.some_blocks old.served.block_least
+
+  pub few-first : FewReads (4 * (old.place.blocks * old.geometry.block)) f mid
+  few-first = record { reads = omega (arith, searched.few_reads, all); media_reads = omega (arith, searched.media_reads, all) }
+
+  pub few-all : (ring : Ring) (n : ℕ) (g : FlashState) → n ≡ next_of ring - oldest_of ring → HasNumbers f (shape_at new.place f.geometry) 0 ring mid → OnlyReads mid n g → IsTrue f.media.tells →
+      FewReads (4 * (old.place.blocks * old.geometry.block)) f g
+  few-all ring n g many numbers reads told =
+      let few = ring-few f mid (shape_at old.place old.geometry) ring (omega (arith, old.some_blocks)) (subst (λ (r : Shape). HasNumbers f r 0 ring mid) (same-shape old new f same geometry) numbers) told in
+      record {
+        reads = omega (arith, searched.few_reads, reads.reads, few, many, all);
+        media_reads = omega (arith, searched.media_reads, reads.media_reads, few, many, all);
+      }

@@ -1,0 +1,39 @@
+use Rattle.std.proofs.Common.{rules, ◌≡◌, ◌≤◌, true, false, Ok, Err, sym, ◌∙◌, arith}
+use Rattle.fl_flash.specs.Flash.{page_at}
+use Rattle.fl_model.specs.Ring as rings
+use Rattle.fl_page.specs.declared.fault.ReadFault.TheVariants.{BadPage}
+use Rattle.fl_table.specs.Kept.{place_of, IsFound}
+use Rattle.fl_table.specs.Look.{layout_in}
+use Rattle.fl_table.proofs.KeptRead.{ring-place, shows-rows}
+use Rattle.fl_table.proofs.Looks.{oldest-is}
+use Rattle.fl_table.proofs.table.Table.read_page.Goals as goal
+
+pub returns-in_default-state_of-clause-stands : goal.returns-in_default-state_of-clause-stands
+returns-in_default-state_of-clause-stands g c = λ first plan table count told stands e.
+    let t = c.args.self.now in
+    let f = g.F.Flash.state c.args.flash.now in
+    let low : rings.oldest table.rows ≤ c.args.number = omega (arith, c.requires.kept, oldest-is t f first plan table stands) in
+    let at : place_of t c.args.number ≡ c.place_of.result = ring-place t c.in-Some.ring c.args.number c.in-Some.is ∙ sym c.place_of.ensures.place in
+    let bytes : c.read.new.into.bytes ≡ page_at f (place_of t c.args.number) = search rules in
+    let found : IsFound (layout_in t) c.args.number c.read.new.into.bytes (Ok false) = search rules in
+    shows-rows t f first plan table stands c.requires.lies (g.met.F.Flash.reaches c.args.flash.now) c.args.number count low e c.read.new.into.bytes bytes (Ok false) found
+
+pub returns-in-Ok-clause-stands : goal.returns-in-Ok-clause-stands
+returns-in-Ok-clause-stands g c = λ first plan table count told stands e.
+    let t = c.args.self.now in
+    let f = g.F.Flash.state c.args.flash.now in
+    let low : rings.oldest table.rows ≤ c.args.number = omega (arith, c.requires.kept, oldest-is t f first plan table stands) in
+    let at : place_of t c.args.number ≡ c.place_of.result = ring-place t c.in-Some.ring c.args.number c.in-Some.is ∙ sym c.place_of.ensures.place in
+    let bytes : c.read.new.into.bytes ≡ page_at f (place_of t c.args.number) = search rules in
+    let found : IsFound (layout_in t) c.args.number c.read.new.into.bytes (Ok true) = search rules in
+    shows-rows t f first plan table stands c.requires.lies (g.met.F.Flash.reaches c.args.flash.now) c.args.number count low e c.read.new.into.bytes bytes (Ok true) found
+
+pub returns-in-Err-of-clause-stands : goal.returns-in-Err-of-clause-stands
+returns-in-Err-of-clause-stands g c = λ first plan table count told stands e.
+    let t = c.args.self.now in
+    let f = g.F.Flash.state c.args.flash.now in
+    let low : rings.oldest table.rows ≤ c.args.number = omega (arith, c.requires.kept, oldest-is t f first plan table stands) in
+    let at : place_of t c.args.number ≡ c.place_of.result = ring-place t c.in-Some.ring c.args.number c.in-Some.is ∙ sym c.place_of.ensures.place in
+    let bytes : c.read.new.into.bytes ≡ page_at f (place_of t c.args.number) = search rules in
+    let found : IsFound (layout_in t) c.args.number c.read.new.into.bytes (Err (BadPage c.in-Err-of.bad)) = search rules in
+    shows-rows t f first plan table stands c.requires.lies (g.met.F.Flash.reaches c.args.flash.now) c.args.number count low e c.read.new.into.bytes bytes (Err (BadPage c.in-Err-of.bad)) found

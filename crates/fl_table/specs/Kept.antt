@@ -1,0 +1,47 @@
+-- A kept page that was read, over any bytes and for a table of the model.
+use Rattle.std.specs.Prelude.{◌≡◌, ℕ, ◌<◌, Bool, true, false, option_map, unwrap_or, Result, Ok, Err, List, map}
+use Rattle.fl_flash.specs.declared.flash.FlashFault.{FlashFault}
+use Rattle.fl_mark.specs.Mark.{state_of_page}
+use Rattle.fl_mark.specs.declared.page_state.PageState.TheVariants.{Committed}
+use Rattle.fl_model.specs.Image.{rows_at}
+use Rattle.fl_model.specs.Record.{Plan, RowLayout, row_layout}
+use Rattle.fl_model.specs.Row.{stored_row}
+use Rattle.fl_model.specs.Table as model
+use Rattle.fl_page.specs.Page.{IsGoodPage, bad_page, rows_in}
+use Rattle.fl_page.specs.declared.fault.ReadFault.{ReadFault}
+use Rattle.fl_page.specs.declared.fault.ReadFault.TheVariants.{Flash, BadPage}
+use Rattle.fl_ring.specs.Place.{shape_of}
+use Rattle.fl_ring.specs.Ring.{place}
+use Rattle.fl_table.specs.declared.table.Table.{Table}
+
+-- the flash page at which a number of a running table stands
+abbrev pub place_of : Table → ℕ → ℕ
+place_of t number = unwrap_or (option_map (λ ring. place (shape_of ring) number) t.ring) 0
+
+-- what holds where no read failed
+abbrev pub IfRead : Result Bool ReadFault → Type 0 → Type 0
+IfRead (Ok found) P = P
+IfRead (Err (BadPage bad)) P = P
+IfRead (Err (Flash fault)) P = Unit {0}
+
+-- why a read failed
+abbrev pub IfUnread : (FlashFault → Type 0) → ReadFault → Type 0
+IfUnread P (Flash fault) = P fault
+IfUnread P (BadPage bad) = Unit {0}
+
+-- The bytes that were read for the page with this number: a page with rows, one that isn't committed, or one that is
+-- committed and has another number or no count that a page has.
+abbrev pub IsFound : RowLayout → ℕ → List ℕ → Result Bool ReadFault → Type 0
+IsFound layout number page (Ok true) = (state_of_page page ≡ Committed) × IsGoodPage layout number page
+IsFound layout number page (Ok false) = state_of_page page ≡ Committed → ⊥
+IsFound layout number page (Err (BadPage bad)) =
+    (state_of_page page ≡ Committed) × (IsGoodPage layout number page → ⊥) × (bad ≡ bad_page number page)
+IsFound layout number page (Err (Flash fault)) = Unit {0}
+
+-- The bytes of the i-th kept page of a table, which has so many rows: they are its rows, and no page is bad.
+abbrev pub ShowsRows : Plan → model.Table → ℕ → ℕ → List ℕ → Result Bool ReadFault → Type 0
+ShowsRows plan table i count page (Ok true) =
+    (0 < count) × (rows_in (row_layout plan) page ≡ map stored_row (rows_at table i count))
+ShowsRows plan table i count page (Ok false) = count ≡ 0
+ShowsRows plan table i count page (Err (BadPage bad)) = ⊥
+ShowsRows plan table i count page (Err (Flash fault)) = Unit {0}

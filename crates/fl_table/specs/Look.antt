@@ -1,0 +1,48 @@
+-- What a table in memory tells of itself, and the same in the model.
+use Rattle.std.specs.Prelude.{ℕ, ◌+◌, ◌-◌, ◌%◌, ◌==◌, Option, option_map, unwrap_or, List, length, map, sum, count_by, slice_index, vec_len}
+use Rattle.std.specs.List.{range_with_len}
+use Rattle.fl_model.specs.Record.{RowLayout}
+use Rattle.fl_model.specs.Spline.{voids_of}
+use Rattle.fl_model.specs.Table as model
+use Rattle.fl_ring.specs.Place.{oldest_of}
+use Rattle.fl_schema.specs.Schema.{layout_of}
+use Rattle.fl_table.specs.declared.table.Table.{Table}
+use Rattle.fl_table.specs.declared.counts.TableCounts.{TableCounts}
+use Rattle.fl_table.specs.Memory.{next_in, pending_in}
+
+-- the form of its rows
+abbrev pub layout_in : Table → RowLayout
+layout_in t = layout_of t.schema
+
+-- the key of its last record
+abbrev pub last_key_in : Table → Option ℕ
+last_key_in t = t.last_key
+
+-- the number of the oldest kept page of a running table
+abbrev pub oldest_in : Table → ℕ
+oldest_in t = unwrap_or (option_map (λ ring. oldest_of ring) t.ring) 0
+
+-- how many rows the kept page with this number has
+abbrev pub rows_noted : Table → ℕ → ℕ
+rows_noted t number = slice_index t.counts.items (number % vec_len t.counts)
+
+-- how many rows each kept page has, the oldest first
+abbrev pub kept_counts : Table → List ℕ
+kept_counts t = map (rows_noted t) (range_with_len (oldest_in t) (next_in t - oldest_in t))
+
+abbrev pub counts_in : Table → TableCounts
+counts_in t = record {
+  rows = sum (kept_counts t) + pending_in t;
+  pending = pending_in t;
+  pages = next_in t - oldest_in t;
+  voids = count_by (λ count. count == 0) (kept_counts t);
+}
+
+-- what a table of the model holds
+abbrev pub counts_of : model.Table → TableCounts
+counts_of table = record {
+  rows = length table.entries;
+  pending = table.pending;
+  pages = length table.rows.counts;
+  voids = voids_of table;
+}

@@ -1,0 +1,387 @@
+// Records that are put, flushed, cut and mounted again, and images made by hand.
+ghost use Rattle.std.specs.Prelude.{◌≡◌, ◌≤◌, ◌<◌, ◌+◌, length, vec_len, IfOk};
+ghost use Rattle.fl_flash.specs.Flash.{FlashState, Goes};
+ghost use Rattle.fl_table.specs.Memory.{LiesOn};
+
+use crate::{FlushFault, MountFault, Mounted, PutRefusal, Table};
+use arrayvec::ArrayVec;
+use fl_base::{CutKind, Geometry, NoMemory, RingPlace, put_u16, put_u32, put_u64};
+use fl_flash::{Flash, FlashFault, MemMedia, PageBuf, SimFlash};
+use fl_page::BadPage;
+use fl_plan::{ConfigRefusal, TableConfig};
+use fl_ring::RingFault;
+use fl_schema::{ColumnType, KeyWidth};
+use std::alloc::Global;
+use std::test::Fail;
+
+const GEOMETRY: Geometry = Geometry { page: 64, block: 2 };
+
+// Three rows a page, in a ring of three blocks after the first one.
+fn table(alloc: Global) -> Result<Table, ConfigRefusal>
+    ensures { IfOk result (λ t. (f : FlashState) → f.geometry ≡ record { page = 64; block = 2 } → f.blocks ≡ 4 → LiesOn t f) }
+{
+    let mut columns = ArrayVec::new();
+    columns.push(ColumnType::I32);
+    let config = TableConfig {
+        geometry: GEOMETRY,
+        key: KeyWidth::Eight,
+        columns,
+        rows: RingPlace {
+            first_block: 1,
+            blocks: 3,
+        },
+        index: None,
+        var: None,
+        buckets: None,
+        error: 1,
+        blob_limit: 0,
+    };
+    Table::plan(alloc, &config)
+}
+
+#[derive(Clone, Copy)]
+enum Step {
+    Mount,
+    Put(u64),
+    Flush,
+}
+
+#[derive(Clone, Copy, Debug, PartialEq)]
+enum Answer {
+    Mounted(Result<Mounted, MountFault>),
+    Put(Result<(), PutRefusal>),
+    Flushed(Result<(), FlushFault>),
+}
+
+use Answer::{Flushed, Mounted as Found};
+use Step::{Flush, Mount, Put};
+
+fn take<F: Flash>(step: Step, table: &mut Table, flash: &mut F, buf: &mut PageBuf) -> Answer
+    requires lies { LiesOn table.old (F.state flash.old) }
+    requires room { length buf.old.bytes ≡ (F.state flash.old).geometry.page }
+    ensures goes { Goes (F.state flash.old) (F.state flash.new) }
+    ensures lies { LiesOn table.new (F.state flash.new) }
+    ensures room { length buf.new.bytes ≡ length buf.old.bytes }
+{
+    match step {
+        Mount => Found(table.mount(flash, buf)),
+        Put(key) => Answer::Put(table.put(flash, key, &[-7], None)),
+        Flush => Flushed(table.flush(flash)),
+    }
+}
+
+// The first steps that were answered as they are to be.
+fn answered<F: Flash>(
+    steps: &[(Step, Answer)],
+    table: &mut Table,
+    flash: &mut F,
+    buf: &mut PageBuf,
+) -> usize
+    requires lies { LiesOn table.old (F.state flash.old) }
+    requires room { length buf.old.bytes ≡ (F.state flash.old).geometry.page }
+    ensures goes { Goes (F.state flash.old) (F.state flash.new) }
+    ensures lies { LiesOn table.new (F.state flash.new) }
+    ensures room { length buf.new.bytes ≡ length buf.old.bytes }
+{
+    for i in 0..steps.len() {
+        let (step, want) = steps[i];
+        if take(step, table, flash, buf) != want {
+            return i;
+        }
+    }
+    steps.len()
+}
+
+fn found(rows: u64, pages: u32, voids: u32) -> Answer {
+    Found(Ok(Mounted { rows, pages, voids }))
+}
+
+const TAKEN: Answer = Answer::Put(Ok(()));
+
+fn refused(refusal: PutRefusal) -> Answer {
+    Answer::Put(Err(refusal))
+}
+
+// Four blocks of two pages.
+fn blank(alloc: Global) -> Result<Vec<u8>, NoMemory>
+    ensures { IfOk result (λ v. vec_len v ≡ 512) }
+{
+    Ok(vec![in alloc; 255; 512]?)
+}
+
+fn run(alloc: Global, bytes: Vec<u8>, steps: &[(Step, Answer)]) -> Result<usize, ConfigRefusal>
+    requires { vec_len bytes ≡ 512 }
+{
+    let mut media = MemMedia::new(alloc, bytes, 512)?;
+    let mut buf = PageBuf::new(alloc, 64)?;
+    let mut table = table(alloc)?;
+    let mut flash = SimFlash::new(alloc, &mut media, GEOMETRY, 4, 0)?;
+    let done = answered(steps, &mut table, &mut flash, &mut buf);
+    let _media = flash.into_media();
+    Ok(done)
+}
+
+#[test]
+fn pending_rows_are_lost_and_flushed_ones_found(rt: HostRuntime) -> Result<(), Fail> {
+    let steps = [
+        (Put(1), refused(PutRefusal::Stopped)),
+        (Flush, Flushed(Err(FlushFault::Stopped))),
+        (Mount, found(0, 0, 0)),
+        (Flush, Flushed(Ok(()))),
+        (Put(1), TAKEN),
+        (Put(1), refused(PutRefusal::Key { last: 1 })),
+        (Put(2), TAKEN),
+        (Put(3), TAKEN),
+        (Mount, found(0, 0, 0)),
+        (Put(1), TAKEN),
+        (Put(2), TAKEN),
+        (Put(3), TAKEN),
+        (Put(4), TAKEN),
+        (Mount, found(3, 1, 0)),
+        (Put(3), refused(PutRefusal::Key { last: 3 })),
+        (Put(4), TAKEN),
+        (Flush, Flushed(Ok(()))),
+        (Mount, found(4, 2, 0)),
+        (Put(4), refused(PutRefusal::Key { last: 4 })),
+        (Put(5), TAKEN),
+    ];
+    let bytes = blank(rt.alloc())?;
+    assert_eq!(rt; run(rt.alloc(), bytes, &steps)?, steps.len());
+    Ok(())
+}
+
+#[test]
+fn the_oldest_block_goes(rt: HostRuntime) -> Result<(), Fail> {
+    let steps = [
+        (Mount, found(0, 0, 0)),
+        (Put(1), TAKEN),
+        (Flush, Flushed(Ok(()))),
+        (Put(2), TAKEN),
+        (Flush, Flushed(Ok(()))),
+        (Put(3), TAKEN),
+        (Put(4), TAKEN),
+        (Flush, Flushed(Ok(()))),
+        (Put(5), TAKEN),
+        (Flush, Flushed(Ok(()))),
+        (Mount, found(5, 4, 0)),
+        // Behind the fifth page the block ahead is the oldest, so it goes with its two pages.
+        (Put(6), TAKEN),
+        (Flush, Flushed(Ok(()))),
+        (Mount, found(4, 3, 0)),
+        (Put(7), TAKEN),
+        (Put(8), TAKEN),
+        (Flush, Flushed(Ok(()))),
+        (Mount, found(6, 4, 0)),
+        (Put(9), TAKEN),
+        (Flush, Flushed(Ok(()))),
+        (Mount, found(4, 3, 0)),
+        (Put(9), refused(PutRefusal::Key { last: 9 })),
+    ];
+    let bytes = blank(rt.alloc())?;
+    assert_eq!(rt; run(rt.alloc(), bytes, &steps)?, steps.len());
+    Ok(())
+}
+
+// What the table says of itself.
+type Standing = (bool, bool);
+
+fn standing(table: &Table) -> Standing {
+    (table.is_mounted(), table.is_stopped())
+}
+
+// Two rows are flushed, and then a third one, of which an operation is cut: how the table stands before the mount, after
+// it, after the cut and after the next mount; and the steps that were answered as they are to be.
+fn cut_at(
+    alloc: Global,
+    n: u64,
+    kind: CutKind,
+    after: &[(Step, Answer)],
+) -> Result<([Standing; 4], [usize; 3]), ConfigRefusal>
+    requires { 1 ≤ n }
+{
+    let bytes = blank(alloc)?;
+    let mut media = MemMedia::new(alloc, bytes, 512)?;
+    let mut buf = PageBuf::new(alloc, 64)?;
+    let mut table = table(alloc)?;
+    let mut flash = SimFlash::new(alloc, &mut media, GEOMETRY, 4, 0)?;
+    let planned = standing(&table);
+    let first = answered(
+        &[
+            (Mount, found(0, 0, 0)),
+            (Put(1), TAKEN),
+            (Put(2), TAKEN),
+            (Flush, Flushed(Ok(()))),
+            (Put(3), TAKEN),
+        ],
+        &mut table,
+        &mut flash,
+        &mut buf,
+    );
+    let mounted = standing(&table);
+    flash.arm(n, kind);
+    let second = answered(
+        &[
+            (
+                Flush,
+                Flushed(Err(FlushFault::Flash(FlashFault::PowerLost))),
+            ),
+            (Put(4), refused(PutRefusal::Stopped)),
+        ],
+        &mut table,
+        &mut flash,
+        &mut buf,
+    );
+    let stopped = standing(&table);
+    flash.power_on();
+    let third = answered(after, &mut table, &mut flash, &mut buf);
+    let again = standing(&table);
+    let _media = flash.into_media();
+    Ok(([planned, mounted, stopped, again], [first, second, third]))
+}
+
+#[test]
+fn a_torn_page_is_given_up(rt: HostRuntime) -> Result<(), Fail> {
+    let cuts = [
+        // The body wasn't begun.
+        (1, CutKind::Before, found(2, 1, 0), 2),
+        // It was, and the mark wasn't.
+        (1, CutKind::Half, found(2, 2, 1), 2),
+        (1, CutKind::After, found(2, 2, 1), 2),
+        (2, CutKind::Before, found(2, 2, 1), 2),
+        (2, CutKind::Half, found(2, 2, 1), 2),
+        // The page was committed.
+        (2, CutKind::After, found(3, 2, 0), 3),
+    ];
+    for (n, kind, mounted, last) in cuts {
+        let after = [
+            (Mount, mounted),
+            (Put(last), refused(PutRefusal::Key { last })),
+            (Mount, mounted),
+        ];
+        let want = (
+            [(false, false), (true, false), (true, true), (true, false)],
+            [5, 2, 3],
+        );
+        assert_eq!(rt; cut_at(rt.alloc(), n, kind, &after)?, want, "{n}");
+    }
+    Ok(())
+}
+
+// The number of a page, the count of rows that it tells, and its first two keys.
+type Page = (u32, u16, [u64; 2]);
+
+fn write_page(page: Page, into: &mut [u8])
+    requires { length into.old ≡ 64 }
+{
+    let (number, count, keys) = page;
+    put_u32(into, 0, number);
+    put_u16(into, 4, count);
+    put_u64(into, 16, keys[0]);
+    put_u64(into, 28, keys[1]);
+    into[56..60].fill(0);
+}
+
+// The first two pages of the ring.
+fn image(alloc: Global, first: Page, second: Option<Page>) -> Result<Vec<u8>, NoMemory>
+    ensures { IfOk result (λ v. vec_len v ≡ 512) }
+{
+    let mut bytes = blank(alloc)?;
+    write_page(first, &mut bytes[128..192]);
+    if let Some(second) = second {
+        write_page(second, &mut bytes[192..256]);
+    }
+    Ok(bytes)
+}
+
+#[test]
+fn images_made_by_hand(rt: HostRuntime) -> Result<(), Fail> {
+    let images = [
+        ((0, 2, [5, 9]), Some((1, 1, [10, 0])), found(3, 2, 0)),
+        (
+            (7, 2, [5, 9]),
+            None,
+            Found(Err(MountFault::Ring(RingFault::BadPage {
+                page: 2,
+                wanted: 0,
+                found: 7,
+            }))),
+        ),
+        // A page of no rows, of more than it has room for, and of another number.
+        (
+            (0, 0, [5, 9]),
+            None,
+            Found(Err(MountFault::BadPage(BadPage {
+                wanted: 0,
+                found: 0,
+                count: 0,
+            }))),
+        ),
+        (
+            (0, 4, [5, 9]),
+            None,
+            Found(Err(MountFault::BadPage(BadPage {
+                wanted: 0,
+                found: 0,
+                count: 4,
+            }))),
+        ),
+        (
+            (3, 2, [5, 5]),
+            Some((1, 2, [4, 4])),
+            Found(Err(MountFault::BadPage(BadPage {
+                wanted: 0,
+                found: 3,
+                count: 2,
+            }))),
+        ),
+        // The first key that isn't above the one before it, in a page and over two pages.
+        (
+            (0, 2, [5, 5]),
+            Some((1, 2, [4, 4])),
+            Found(Err(MountFault::BadKeys {
+                page: 0,
+                last: 5,
+                first: 5,
+            })),
+        ),
+        (
+            (0, 2, [5, 9]),
+            Some((1, 2, [8, 4])),
+            Found(Err(MountFault::BadKeys {
+                page: 1,
+                last: 9,
+                first: 8,
+            })),
+        ),
+    ];
+    for (first, second, mounted) in images {
+        let bytes = image(rt.alloc(), first, second)?;
+        assert_eq!(rt;
+            run(rt.alloc(), bytes, &[(Mount, mounted)])?,
+            1,
+            "{mounted:?}"
+        );
+    }
+    Ok(())
+}
+
+#[test]
+fn records_are_refused(rt: HostRuntime) -> Result<(), Fail> {
+    let bytes = blank(rt.alloc())?;
+    let mut media = MemMedia::new(rt.alloc(), bytes, 512)?;
+    let mut buf = PageBuf::new(rt.alloc(), 64)?;
+    let mut table = table(rt.alloc())?;
+    let mut flash = SimFlash::new(rt.alloc(), &mut media, GEOMETRY, 4, 0)?;
+    let mounted = take(Mount, &mut table, &mut flash, &mut buf);
+    let columns = table.put(&mut flash, 1, &[1, 2], Some(&[]));
+    let value = table.put(&mut flash, 1, &[2147483648], Some(&[]));
+    let blob = table.put(&mut flash, 1, &[2147483647], Some(&[]));
+    let fits = table.put(&mut flash, 1, &[2147483647], None);
+    let _media = flash.into_media();
+    assert_eq!(rt; mounted, found(0, 0, 0));
+    assert_eq!(rt; columns, Err(PutRefusal::Columns { wanted: 1 }));
+    assert_eq!(rt; value, Err(PutRefusal::Value { column: 1 }));
+    assert_eq!(rt; blob, Err(PutRefusal::Blob { limit: 0 }));
+    assert_eq!(rt; fits, Ok(()));
+    Ok(())
+}
