@@ -2,7 +2,7 @@
 ghost use Rattle.std.specs.Prelude.{◌≡◌, ℕ, ◌+◌, ◌-◌, ◌^◌, ◌<◌, ◌≤◌, Bool, true, false, ◌==◌, List, [], ◌∷◌, ◌++◌, length, take, drop, Option, Some, All, MatchOption, IfOk, slice_get};
 ghost use Rattle.std.specs.Bool.{OnTrue, OnFalse};
 ghost use Rattle.fl_base.specs.Causes.{HasCause};
-ghost use Rattle.fl_session.specs.Stream.{LinesState, IsOneLine, Advances, Fills, after_line, after_rest};
+ghost use Rattle.fl_session.specs.Stream.{LinesState, IsOneLine, NeedsNoMore, Advances, Fills, after_line, after_rest};
 
 use fl_base::{NoMemory, Source, SourceFailed};
 use memchr::memchr;
@@ -161,10 +161,11 @@ impl Lines {
     }
 
     /// Goes on to the next line. False says that there is none. At most 4,097 bytes are then taken from the source
-    /// that weren't given.
+    /// that weren't given, and none is taken where those decide the answer.
     pub fn advance<S: Source>(&mut self, script: &mut S) -> Result<bool, LinesFault>
         ensures advances { Advances self.old (S.left script.old) (S.faults script.old) result self.new (S.left script.new) (S.faults script.new) }
         ensures few { length self.new.ahead ≤ 4097 }
+        ensures alone { NeedsNoMore self.old → script.new ≡ script.old }
     {
         if self.closed {
             return Ok(false);
