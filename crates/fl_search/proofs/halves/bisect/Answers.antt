@@ -1,7 +1,5 @@
-use Rattle.std.proofs.Common.{arith, ◌≡◌, ◌+◌, ◌-◌, ◌*◌, ◌/◌, ◌≤◌, ℕ, Some, None}
-use Rattle.std.specs.Prelude.{IfSome}
-use Rattle.fl_search.specs.Search.{IsLastFull, IsLastAt, probed}
-use Rattle.fl_search.proofs.Pages.{AreVoid, step-none, step-low, step-high, step-fault, found-none, found-some, none-from}
+use Rattle.std.proofs.Common.{arith, ◌∙◌, ◌+◌, ◌-◌, ◌/◌, ◌≤◌}
+use Rattle.fl_search.proofs.Pages.{step-none, step-low, step-high, step-fault, found-none, found-some, none-from, grows-then, rose-after, some-later}
 use Rattle.fl_search.proofs.halves.bisect.Goals as goal
 
 pub returns-in_err-last_full-clause-few : goal.returns-in_err-last_full-clause-few
@@ -37,6 +35,10 @@ loop-low-preserved-in-None g c =
             calls,
             step-none first low m high (omega arith) (omega arith) (omega arith) (rw c.in-None.is at (after.last first (inv.tells first told))),
           );
+      some = some-later _ _ _ c.loop-low.found inv.some after.grows;
+      grows = grows-then _ _ _ inv.grows after.grows;
+      names = after.names ∙ inv.names;
+      since = λ first from. after.since first (inv.since first from);
       later = omega (arith, inv.later, after.cause.later);
     }
 
@@ -68,6 +70,10 @@ loop-low-preserved-then-first-key g c =
             calls,
             step-low first low page c.in-Some.first m high (omega arith) (omega arith) (omega arith) (omega arith) (rw c.in-Some.is at (after.last first (inv.tells first told))),
           );
+      some = rose-after _ _ _ inv.grows (rw c.in-Some.is at after.some);
+      grows = grows-then _ _ _ inv.grows after.grows;
+      names = after.names ∙ inv.names;
+      since = λ first from. after.since first (inv.since first from);
       later = omega (arith, inv.later, after.cause.later);
     }
 
@@ -99,5 +105,9 @@ loop-low-preserved g c =
             calls,
             step-high first low page c.in-Some.first m high (omega arith) (omega arith) (omega arith) (omega (arith, within)) (rw c.in-Some.is at (after.last first (inv.tells first told))),
           );
+      some = some-later _ _ _ c.loop-low.found inv.some after.grows;
+      grows = grows-then _ _ _ inv.grows after.grows;
+      names = after.names ∙ inv.names;
+      since = λ first from. after.since first (inv.since first from);
       later = omega (arith, inv.later, after.cause.later);
     }
