@@ -1,0 +1,7 @@
+//! The page of a key in a ring of data pages: by the line of a spline where the key is covered, else by halves.
+#![tactic(auto)]
+
+mod first;
+mod keys;
+
+pub use keys::PageKeys;
