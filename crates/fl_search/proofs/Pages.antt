@@ -185,3 +185,7 @@ rose-before a b c first second small =
 pub some-later : (a b c : ℕ) (found : Option ℕ) → IfSome found (λ page. RoseSome a b) → (c < 2 ^ 64 - 1 → b ≤ c) → IfSome found (λ page. RoseSome a c)
 some-later a b c None first second = tt
 some-later a b c (Some page) first second = rose-before a b c first second
+
+pub found-starts : (first : ℕ → Option ℕ) (oldest low key : ℕ) (page : Option ℕ) → IsPageOf first oldest low key page → IfSome page (λ n. starts_by first key n ≡ true)
+found-starts first oldest low key None is = tt
+found-starts first oldest low key (Some page) is = is.here

@@ -28,6 +28,7 @@ pub fn near<K: FirstKeys>(
     ensures since { (first : K) → K.since first keys.old → K.since first keys.new }
     ensures fails { (first : K) → K.since first keys.old → IfErr result (λ fault. K.fails first fault keys.new) }
     ensures here { IfOk result (λ page. IfSome page (λ number. K.here keys.new number)) }
+    ensures within { IfOk result (λ page. IfSome page (λ number. (oldest ≤ number) × (number ≤ top))) }
 {
     // In 64 bits, since the page after `top` may have no number.
     let mut end = u64::from(top) + 1;
