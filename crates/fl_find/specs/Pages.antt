@@ -1,5 +1,5 @@
 -- The rows of pages by their bytes, and their first keys.
-use Rattle.std.specs.Prelude.{◌≡◌, ℕ, Option, Some, option_map, List, [], slice_get}
+use Rattle.std.specs.Prelude.{◌≡◌, ℕ, Option, Some, option_map, List, [], slice_get, IsTrue}
 use Rattle.fl_flash.specs.Buffer.{BufferState}
 use Rattle.fl_flash.specs.Flash.{FlashState, page_at}
 use Rattle.fl_mark.specs.Mark.{state_of_page}
@@ -32,11 +32,12 @@ bytes_at shape f number = page_at f (place shape number)
 abbrev pub first_on : RowLayout → Shape → FlashState → ℕ → Option ℕ
 first_on layout shape f number = first_key (rows_on layout (bytes_at shape f number))
 
--- a buffer holds a page with rows that has this number
-pub record Holds (layout : RowLayout) (shape : Shape) (number : ℕ) (buf : BufferState) : Type 0 where
+-- a buffer holds a page with rows that has this number; its bytes are those of the flash, where that tells them
+pub record Holds (layout : RowLayout) (shape : Shape) (f : FlashState) (number : ℕ) (buf : BufferState) : Type 0 where
   pub holds : buf.holds ≡ Some (place shape number)
   pub committed : state_of_page buf.bytes ≡ Committed
   pub good : IsGoodPage layout number buf.bytes
+  pub bytes : IsTrue f.media.tells → buf.bytes ≡ bytes_at shape f number
 
 -- a committed page that has another number, or no count that a page has
 pub record IsBadPage (layout : RowLayout) (number : ℕ) (page : List ℕ) (bad : BadPage) : Type 0 where

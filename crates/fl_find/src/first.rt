@@ -48,7 +48,7 @@ pub(crate) fn read_first<F: Flash>(
     ensures lies { LiesOn ring.now (F.state flash.new) }
     ensures room { length buf.new.bytes ≡ length buf.old.bytes }
     ensures key { IsTrue (F.state flash.old).media.tells → IfOk result (λ key. key ≡ first_on (layout_of schema.now) (shape_of ring.now) (F.state flash.old) number) }
-    ensures holds { IfOk result (λ key. IfSome key (λ first. Holds (layout_of schema.now) (shape_of ring.now) number buf.new)) }
+    ensures holds { IfOk result (λ key. IfSome key (λ first. Holds (layout_of schema.now) (shape_of ring.now) (F.state flash.new) number buf.new)) }
     ensures fails { IsKept ring.now number → IfErr result (λ e. LookFails (layout_of schema.now) ring.now (F.state flash.old) e (F.state flash.new)) }
     ensures one { OnOk result (RoseBy 1 (F.state flash.old).work.reads (F.state flash.new).work.reads) }
     ensures most { (F.state flash.new).work.reads ≤ (F.state flash.old).work.reads + 1 }

@@ -11,6 +11,7 @@ use fl_search::FirstKeys;
 
 /// The first keys of the pages of a ring. Each is read from the flash, one read for one key, and a page that isn't
 /// committed is void. The buffer holds the page that was asked for last.
+#[derive(Drop)]
 pub struct PageKeys<'r, 's, 'f, 'b, F: Flash> {
     pub(crate) ring: &'r Ring,
     pub(crate) schema: &'s Schema<8>,
@@ -43,7 +44,7 @@ impl<'r, 's, 'f, 'b, F: Flash> FirstKeys for PageKeys<'r, 's, 'f, 'b, F> {
 
     ghost fails = { λ a fault b. LookFails (layout_of a.schema.now) a.ring.now (F.state a.flash.now) fault (F.state b.flash.now) };
 
-    ghost here = { λ k n. Holds (layout_of k.schema.now) (shape_of k.ring.now) n k.buf.now };
+    ghost here = { λ k n. Holds (layout_of k.schema.now) (shape_of k.ring.now) (F.state k.flash.now) n k.buf.now };
 
     fn first_key(&mut self, number: u32) -> Result<Option<u64>, ReadFault> {
         let read = read_first(self.ring, self.schema, self.flash, self.buf, number);

@@ -3,5 +3,6 @@
 
 mod first;
 mod keys;
+mod search;
 
 pub use keys::PageKeys;
