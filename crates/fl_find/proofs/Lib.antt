@@ -1,2 +1,5 @@
 pub mod Looks
 pub mod Moves
+pub mod Firsts
+pub mod Windows
+pub mod Modelled

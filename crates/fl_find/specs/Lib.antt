@@ -1,2 +1,5 @@
 pub mod Pages
 pub mod Looking
+pub mod Index
+pub mod Standing
+pub mod Finding

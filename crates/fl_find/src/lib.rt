@@ -1,8 +1,12 @@
 //! The page of a key in a ring of data pages: by the line of a spline where the key is covered, else by halves.
 #![tactic(auto)]
 
+ghost use Rattle.std.specs.Prelude.{◌≤◌};
+
 mod first;
+mod index;
 mod keys;
 mod search;
 
+pub use index::LearnedIndex;
 pub use keys::PageKeys;
