@@ -2,6 +2,7 @@
 use Rattle.std.proofs.Common.{◌≡◌, ℕ, zero, suc, ◌+◌, ◌-◌, ◌<◌, ◌≤◌, ◌⊎◌, inl, inr, ⊎_elim, Bool, true, false, leb, Option, Some, None, option_map, List, [], ◌∷◌, ◌++◌, length, map, take, drop, refl, sym, ◌∙◌, ap, subst, arith, get_or}
 use Rattle.std.specs.Prelude.{filter, nat_le, unwrap_or, is_none, ◌==◌, if◌then◌else◌}
 use Rattle.std.specs.List.{slice_get, sum, sum_by, count_by, last_or}
+use Rattle.std.proofs.Math.Dec.{eqb-suc-zero}
 use Rattle.std.proofs.lemmas.Bool.{cases_lt, le-leb, lt-leb, leb-true, leb-false}
 use Rattle.std.proofs.lemmas.List.{drop-drop, take-take, drop-take, length-drop}
 use Rattle.std.proofs.lemmas.List.Sums.{sum_by-cons}
@@ -46,6 +47,12 @@ firsts-more first number (count ∷ counts) entries n le firsts =
       (subst (λ (l : List Entry). AreFirsts first (number + 1) counts l) (ap (λ k. drop count (take k entries)) split ∙ drop-take count (n - count) entries) firsts.1),
     )
 
+-- a page with rows comes before the others
+pages-suc : (number c : ℕ) (counts : List ℕ) (entry : Entry) (entries : List Entry) →
+    pages_from number (suc c ∷ counts) (entry ∷ entries) ≡ (number, entry ∷ take c entries) ∷ pages_from (number + 1) counts (drop c entries)
+pages-suc number c counts entry entries =
+    ap (λ (b : Bool). if b then pages_from (number + 1) counts (entry ∷ entries) else (number, entry ∷ take c entries) ∷ pages_from (number + 1) counts (drop c entries)) (eqb-suc-zero c)
+
 -- the greatest page whose first key is at most the key, or this one where there is none
 abbrev pub page_from : Option ℕ → ℕ → List ℕ → List Entry → ℕ → Option ℕ
 page_from before number counts entries key = last_or before (map (λ page. page.0) (filter (λ page. nat_le (page_key page) key) (pages_from number counts entries)))
@@ -86,23 +93,23 @@ page_from-is first number (zero ∷ counts) entries key lo before firsts enough 
     drop_none [] = refl
     drop_none (x ∷ xs) = refl
 page_from-is first number (suc c ∷ counts) [] key lo before firsts enough le is = let total = sum-cons (suc c) counts in absurd (omega (arith, total, enough))
-page_from-is first number (suc c ∷ counts) (entry ∷ entries) key lo before firsts enough le is = by_key (leb entry.kept.key key) refl
+page_from-is first number (suc c ∷ counts) (entry ∷ entries) key lo before firsts enough le is =
+    let total = sum-cons (suc c) counts in
+    by_key
+    (λ d h. subst (λ n. IsPageOf first lo n key (page_from d (number + 1) counts (drop c entries) key)) (omega arith)
+      (page_from-is first (number + 1) counts (drop c entries) key lo d firsts.1 (omega (arith, total, enough, length-drop c entries)) (omega (arith, le)) h))
+    (leb entry.kept.key key) refl
   where
-    rest : List Entry
-    rest = drop c entries
-
-    enough_left : sum counts ≤ length (drop c entries)
-    enough_left = let total = sum-cons (suc c) counts in omega (arith, total, enough, length-drop c entries)
-
-    by_key : (b : Bool) → leb entry.kept.key key ≡ b → IsPageOf first lo (number + length (suc c ∷ counts)) key (page_from before number (suc c ∷ counts) (entry ∷ entries) key)
-    by_key true e =
-        let step : page_from before number (suc c ∷ counts) (entry ∷ entries) key ≡ page_from (Some number) (number + 1) counts (drop c entries) key = rw e refl in
-        rw step (subst (λ n. IsPageOf first lo n key (page_from (Some number) (number + 1) counts (drop c entries) key)) (omega arith)
-        (page_from-is first (number + 1) counts (drop c entries) key lo (Some number) firsts.1 enough_left (omega (arith, le)) (some-here first lo number key le (starts-low first key number entry.kept.key firsts.0 (leb-true _ _ e)))))
-    by_key false e =
-        let step : page_from before number (suc c ∷ counts) (entry ∷ entries) key ≡ page_from before (number + 1) counts (drop c entries) key = rw e refl in
-        rw step (subst (λ n. IsPageOf first lo n key (page_from before (number + 1) counts (drop c entries) key)) (omega arith)
-        (page_from-is first (number + 1) counts (drop c entries) key lo before firsts.1 enough_left (omega (arith, le)) (none-here first lo number key before (starts-high first key number entry.kept.key firsts.0 (leb-false _ _ e)) is)))
+    by_key : ((d : Option ℕ) → IsPageOf first lo (number + 1) key d → IsPageOf first lo (number + length (suc c ∷ counts)) key (page_from d (number + 1) counts (drop c entries) key)) →
+        (b : Bool) → leb entry.kept.key key ≡ b → IsPageOf first lo (number + length (suc c ∷ counts)) key (page_from before number (suc c ∷ counts) (entry ∷ entries) key)
+    by_key left true e =
+        let step : page_from before number (suc c ∷ counts) (entry ∷ entries) key ≡ page_from (Some number) (number + 1) counts (drop c entries) key =
+        ap (λ (l : List (ℕ × List Entry)). last_or before (map (λ page. page.0) (filter (λ page. nat_le (page_key page) key) l))) (pages-suc number c counts entry entries) ∙ rw e refl in
+        rw step (left (Some number) (some-here first lo number key le (starts-low first key number entry.kept.key firsts.0 (leb-true _ _ e))))
+    by_key left false e =
+        let step : page_from before number (suc c ∷ counts) (entry ∷ entries) key ≡ page_from before (number + 1) counts (drop c entries) key =
+        ap (λ (l : List (ℕ × List Entry)). last_or before (map (λ page. page.0) (filter (λ page. nat_le (page_key page) key) l))) (pages-suc number c counts entry entries) ∙ rw e refl in
+        rw step (left before (none-here first lo number key before (starts-high first key number entry.kept.key firsts.0 (leb-false _ _ e)) is))
 
 -- how many pages are void
 pub voids-counted : (first : ℕ → Option ℕ) (number : ℕ) (counts : List ℕ) (entries : List Entry) → AreFirsts first number counts entries → sum counts ≤ length entries →
@@ -128,9 +135,10 @@ voids-counted first number (suc c ∷ counts) (entry ∷ entries) firsts enough 
     let total = sum-cons (suc c) counts in
     let full : first number ≡ Some entry.kept.key = firsts.0 in
     let more = sum_by-cons (λ (n : ℕ). if n == 0 then 1 else 0) (suc c) counts in
-    let one : voids_from first number (length (suc c ∷ counts)) ≡ voids_from first (number + 1) (length counts) = rw full refl in
+    let one : voids_from first number (length (suc c ∷ counts)) ≡ voids_from first (number + 1) (length counts) = rw full (omega arith) in
     let left = voids-counted first (number + 1) counts (drop c entries) firsts.1 (omega (arith, total, enough, length-drop c entries)) in
-    one ∙ (left ∙ sym more)
+    let none : (if suc c == 0 then 1 else 0) + count_by (λ count. count == 0) counts ≡ count_by (λ count. count == 0) counts = ap (λ (b : Bool). (if b then 1 else 0) + count_by (λ count. count == 0) counts) (eqb-suc-zero c) ∙ omega arith in
+    one ∙ (left ∙ sym (more ∙ none))
 
 -- a page with rows begins by an entry
 pub record BeginsBy (entries : List Entry) (key : ℕ) : Type 0 where
@@ -234,12 +242,18 @@ point-of first number (suc c ∷ counts) (entry ∷ entries) n key firsts enough
     (λ after.
       let total = sum-cons (suc c) counts in
       let p = point-of first (number + 1) counts (drop c entries) n key firsts.1 (omega (arith, total, enough, length-drop c entries)) (omega arith) (omega (arith, less)) e in
-      record { index = suc p.index; within = omega (arith, p.within); here = p.here })
+      let step : points_from number (suc c ∷ counts) (entry ∷ entries) ≡ (entry.kept.key, number) ∷ points_from (number + 1) counts (drop c entries) =
+      ap (λ (l : List (ℕ × List Entry)). map (λ page. (page_key page, page.0)) l) (pages-suc number c counts entry entries) in
+      let many = ap length step in
+      record { index = suc p.index; within = omega (arith, p.within, many); here = ap (λ (l : List (ℕ × ℕ)). point_at l (suc p.index)) step ∙ p.here })
     (λ here.
       let same : number ≡ n = omega (arith, from) in
       let k : ◌≡◌ {A = Option ℕ} (Some entry.kept.key) (Some key) = sym firsts.0 ∙ (ap first same ∙ e) in
       let is : entry.kept.key ≡ key = cc in
-      record { index = 0; within = omega arith; here = ap (λ k. (k, number)) is ∙ ap (λ m. (key, m)) same })
+      let step : points_from number (suc c ∷ counts) (entry ∷ entries) ≡ (entry.kept.key, number) ∷ points_from (number + 1) counts (drop c entries) =
+      ap (λ (l : List (ℕ × List Entry)). map (λ page. (page_key page, page.0)) l) (pages-suc number c counts entry entries) in
+      let many = ap length step in
+      record { index = 0; within = omega (arith, many); here = ap (λ (l : List (ℕ × ℕ)). point_at l 0) step ∙ (ap (λ k. (k, number)) is ∙ ap (λ m. (key, m)) same) })
     (cases_lt number n)
 
 pub point-behind : (older points : List (ℕ × ℕ)) (key number : ℕ) → IsPoint points key number → IsPoint (older ++ points) key number

@@ -3,3 +3,4 @@ pub mod Moves
 pub mod Firsts
 pub mod Windows
 pub mod Modelled
+pub mod Indexed

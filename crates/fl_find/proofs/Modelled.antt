@@ -102,6 +102,10 @@ module _ (layout : RowLayout) (ring : Ring) (f : FlashState) (plan : Plan) (tabl
       no : false ≡ true → ⊥
       no e = cc
 
+      none_covered : (n : ℕ) → is_covered (drop n []) key ≡ false
+      none_covered zero = refl
+      none_covered (suc n) = refl
+
       none_last : (l : List (ℕ × ℕ)) → last_of l ≡ None → l ≡ []
       none_last [] e = refl
       none_last (p ∷ l) e = absurd (none (slice_get-some (p ∷ l) (length (p ∷ l) - 1) (omega arith)))
@@ -117,7 +121,7 @@ module _ (layout : RowLayout) (ring : Ring) (f : FlashState) (plan : Plan) (tabl
       by_counts [] e =
           let none : points_of table ≡ [] = points_none (table.rows.counts) e in
           let empty : table.points ≡ [] = none_last table.points (points.last ∙ ap last_of none) in
-          absurd (no (sym (ap (λ (l : List (ℕ × ℕ)). is_covered (retained knots plan.error l) key) empty) ∙ covered))
+          absurd (no (sym (ap (λ (l : List (ℕ × ℕ)). is_covered (retained knots plan.error l) key) empty ∙ none_covered (0 - knots)) ∙ covered))
         where
           points_none : (counts : List ℕ) → table.rows.counts ≡ [] → points_of table ≡ []
           points_none counts e = ap (λ (l : List ℕ). map (λ page. (Rattle.fl_model.specs.Spline.page_key page, page.0)) (Rattle.fl_model.specs.Spline.pages_from (model.oldest table.rows) l table.entries)) e
@@ -195,3 +199,42 @@ module _ (layout : RowLayout) (ring : Ring) (f : FlashState) (plan : Plan) (tabl
   finds-result knots key before now new (Ok page) ok err = ok
   finds-result knots key before now new (Err (fault.Flash e)) ok err = tt
   finds-result knots key before now new (Err (fault.BadPage bad)) ok err = no-bad bad (err holds.tells)
+
+  -- the numbers of the ring are those of the model
+  at-numbers : (P : ℕ → ℕ → Type 0) → P (oldest_of ring) (next_of ring) → P (model.oldest table.rows) table.rows.next
+  at-numbers P h = subst (λ n. P (model.oldest table.rows) n) holds.next (subst (λ n. P n (next_of ring)) holds.oldest h)
+
+  pub ascend-ring : Ascends (first_on layout (shape_of ring) f) (oldest_of ring) (next_of ring)
+  ascend-ring = subst (λ n. Ascends (first_on layout (shape_of ring) f) (oldest_of ring) n) (sym holds.next) (subst (λ n. Ascends (first_on layout (shape_of ring) f) n table.rows.next) (sym holds.oldest) ascend)
+
+  pub near-found : (knots : ℕ) (points : HasPoints table) (key before now end : ℕ) (new : FlashState) (result : Result (Option ℕ) ReadFault) → Rises table.points →
+      is_covered (retained knots plan.error table.points) key ≡ true → end ≡ end_of knots plan table key →
+      IfOk result (λ page. IsPageOf (first_on layout (shape_of ring) f) (oldest_of ring) end key page) → IfOk result (λ page. RoseBy (looked_at (oldest_of ring) end page) before now) →
+      IfErr result (λ e. LookFails layout ring f e new) → FindsPage knots plan table key before now result
+  near-found knots points key before now end new (Ok page) up covered end_at is rose err =
+      finds-near knots points key before now page up covered
+      (subst (λ n. IsPageOf (first_on layout (shape_of ring) f) n (end_of knots plan table key) key page) holds.oldest (subst (λ n. IsPageOf (first_on layout (shape_of ring) f) (oldest_of ring) n key page) end_at is))
+      (subst (λ n. RoseBy (looked_at n (end_of knots plan table key) page) before now) holds.oldest (subst (λ n. RoseBy (looked_at (oldest_of ring) n page) before now) end_at rose))
+  near-found knots points key before now end new (Err e) up covered end_at is rose err = finds-result knots key before now new (Err e) tt err
+
+  pub far-found : (knots key before now : ℕ) (new : FlashState) (result : Result (Option ℕ) ReadFault) → is_covered (retained knots plan.error table.points) key ≡ false →
+      IfOk result (λ page. IsPageOf (first_on layout (shape_of ring) f) (oldest_of ring) (next_of ring) key page) → IfOk result (λ page. IfSome page (λ n. RoseSome before now)) →
+      IfErr result (λ e. LookFails layout ring f e new) → FindsPage knots plan table key before now result
+  far-found knots key before now new (Ok page) uncovered is rose err =
+      finds-far knots key before now page uncovered (at-numbers (λ lo hi. IsPageOf (first_on layout (shape_of ring) f) lo hi key page) is) rose
+  far-found knots key before now new (Err e) uncovered is rose err = finds-result knots key before now new (Err e) tt err
+
+  pub near-limit : (knots : ℕ) (points : HasPoints table) (key before now end : ℕ) → Rises table.points → is_covered (retained knots plan.error table.points) key ≡ true → is_pending_key table key ≡ false →
+      end ≡ end_of knots plan table key →
+      ((page : Option ℕ) → IsPageOf (first_on layout (shape_of ring) f) (oldest_of ring) end key page → now ≤ before + looked_at (oldest_of ring) end page) → now ≤ before + lookup_limit knots plan table key
+  near-limit knots points key before now end up covered pending end_at most =
+      limit-near knots points key before now up covered pending (λ page is.
+        subst (λ n. now ≤ before + looked_at n (end_of knots plan table key) page) holds.oldest
+        (subst (λ n. now ≤ before + looked_at (oldest_of ring) n page) end_at
+          (most page (subst (λ n. IsPageOf (first_on layout (shape_of ring) f) (oldest_of ring) n key page) (sym end_at)
+            (subst (λ n. IsPageOf (first_on layout (shape_of ring) f) n (end_of knots plan table key) key page) (sym holds.oldest) is)))))
+
+  pub far-limit : (knots key before now : ℕ) → is_covered (retained knots plan.error table.points) key ≡ false → is_pending_key table key ≡ false →
+      now ≤ before + bits (next_of ring - oldest_of ring) + 1 + voids_in (first_on layout (shape_of ring) f) (oldest_of ring) (next_of ring) → now ≤ before + lookup_limit knots plan table key
+  far-limit knots key before now uncovered pending most =
+      limit-far knots key before now uncovered pending (at-numbers (λ lo hi. now ≤ before + bits (hi - lo) + 1 + voids_in (first_on layout (shape_of ring) f) lo hi) most)

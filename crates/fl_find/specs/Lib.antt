@@ -3,3 +3,4 @@ pub mod Looking
 pub mod Index
 pub mod Standing
 pub mod Finding
+pub mod Rows

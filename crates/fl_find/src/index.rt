@@ -25,7 +25,9 @@ pub struct LearnedIndex<const KNOTS: usize, const SLOTS: usize> {
 
 impl<const KNOTS: usize, const SLOTS: usize> LearnedIndex<KNOTS, SLOTS> {
     ghost use Rattle.std.specs.Prelude.{◌≤◌, ◌<◌, ◌+◌, ◌-◌, ◌^◌, min, ℕ, true, false, IsTrue, List, [], ◌∷◌, ◌++◌, length, Option, Some, IfSome, IfOk, IfErr};
-    ghost use Rattle.fl_model.specs.Spline.{bits, is_covered};
+    ghost use Rattle.fl_model.specs.Record.{Plan};
+    ghost use Rattle.fl_model.specs.Table as model;
+    ghost use Rattle.fl_model.specs.Spline.{bits, is_covered, is_pending_key, lookup_limit};
     ghost use Rattle.fl_radix.specs.Slots.{knots_in_slot};
     ghost use Rattle.fl_ring.specs.Place.{shape_of, oldest_of, next_of, LiesOn};
     ghost use Rattle.fl_schema.specs.Schema.{layout_of};
@@ -34,6 +36,8 @@ impl<const KNOTS: usize, const SLOTS: usize> LearnedIndex<KNOTS, SLOTS> {
     ghost use Rattle.fl_spline.specs.Segment.{IsSegment};
     ghost use Rattle.fl_find.specs.Pages.{first_on, Holds};
     ghost use Rattle.fl_find.specs.Looking.{OnlyLooks, LookFails};
+    ghost use Rattle.fl_find.specs.Standing.{HoldsPages, HasPoints};
+    ghost use Rattle.fl_find.specs.Finding.{FindsPage};
     ghost use Rattle.fl_find.specs.Index.{error_in, knots_in, shift_in, IndexOf, window_end, most_reads};
 
     /// The index of no pages, whose lines may be off by `error` pages.
@@ -140,6 +144,10 @@ impl<const KNOTS: usize, const SLOTS: usize> LearnedIndex<KNOTS, SLOTS> {
         ensures holds { IfOk result (λ page. IfSome page (λ number. Holds (layout_of schema.now) (shape_of ring.now) (F.state flash.new) number buf.new)) }
         ensures within { IfOk result (λ page. IfSome page (λ number. (oldest_of ring.now ≤ number) × (number < next_of ring.now))) }
         ensures fails { IfErr result (λ e. LookFails (layout_of schema.now) ring.now (F.state flash.old) e (F.state flash.new)) }
+        ensures found { (plan : Plan) (table : model.Table) → HoldsPages (layout_of schema.now) ring.now (F.state flash.old) plan table → HasPoints table → IndexOf plan.error table.points self.now →
+            FindsPage KNOTS plan table key (F.state flash.old).work.reads (F.state flash.new).work.reads result }
+        ensures reads { (plan : Plan) (table : model.Table) → HoldsPages (layout_of schema.now) ring.now (F.state flash.old) plan table → HasPoints table → IndexOf plan.error table.points self.now →
+            is_pending_key table key ≡ false → (F.state flash.new).work.reads ≤ (F.state flash.old).work.reads + lookup_limit KNOTS plan table key }
         ensures later { min steps.old (2 ^ 64 - 1) ≤ steps.new }
         ensures comparisons { steps.new ≤ steps.old + bits (knots_in_slot (knots_in self.now) (shift_in self.now) key) + 2 }
     {

@@ -6,7 +6,10 @@ ghost use Rattle.std.specs.Prelude.{◌≤◌};
 mod first;
 mod index;
 mod keys;
+mod row;
 mod search;
+mod seek;
 
 pub use index::LearnedIndex;
 pub use keys::PageKeys;
+pub use row::PageRow;
