@@ -4,3 +4,4 @@ pub mod Firsts
 pub mod Windows
 pub mod Modelled
 pub mod Indexed
+pub mod Seeking
