@@ -5,3 +5,5 @@ pub mod Windows
 pub mod Modelled
 pub mod Indexed
 pub mod Seeking
+pub mod Entries
+pub mod Lookups

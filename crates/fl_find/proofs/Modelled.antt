@@ -27,7 +27,7 @@ use Rattle.fl_find.specs.Finding.{IsFound, FindsPage}
 use Rattle.fl_find.proofs.Firsts.{key_of, AreFirsts, firsts-each, firsts-more, page_from-is, voids-counted, firsts-ascend, IsPoint, point-of, point-behind}
 use Rattle.fl_find.proofs.Windows.{IsWindow, window-page, window-back, window-looks, one-page}
 
-first-stored : (entries : List Entry) → first_key (map stored_row entries) ≡ key_of entries
+pub first-stored : (entries : List Entry) → first_key (map stored_row entries) ≡ key_of entries
 first-stored [] = refl
 first-stored (entry ∷ entries) = refl
 

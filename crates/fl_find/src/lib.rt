@@ -3,6 +3,7 @@
 
 ghost use Rattle.std.specs.Prelude.{◌≤◌};
 
+mod find;
 mod first;
 mod index;
 mod keys;
