@@ -7,3 +7,4 @@ pub mod Indexed
 pub mod Seeking
 pub mod Entries
 pub mod Lookups
+pub mod Points

@@ -4,3 +4,4 @@ pub mod Index
 pub mod Standing
 pub mod Finding
 pub mod Rows
+pub mod Laws

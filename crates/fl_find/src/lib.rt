@@ -7,10 +7,12 @@ mod find;
 mod first;
 mod index;
 mod keys;
+mod laws;
 mod row;
 mod search;
 mod seek;
 
 pub use index::LearnedIndex;
 pub use keys::PageKeys;
+pub use laws::points_go_with_pages;
 pub use row::PageRow;

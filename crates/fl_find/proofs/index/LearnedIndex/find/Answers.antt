@@ -9,7 +9,7 @@ use Rattle.fl_find.proofs.index.LearnedIndex.find.Goals as goal
 pub returns-in_err-number-clause-entry : goal.returns-in_err-number-clause-entry
 returns-in_err-number-clause-entry g c = λ plan table holds points index.
     let p = err_from_is_err_and c.from_residual.result c.from_residual.ensures.1 in
-    rw (p.1, p.2) (looks-err g.row.KNOTS plan (layout_of c.args.schema.now) table c.args.key _ _ c.in_err-number.field-0.0 _ (c.in_err-number.ensures.found plan table holds points index))
+    rw (p.1, p.2) (looks-err g.row.KNOTS plan (layout_of c.args.schema.now) table c.args.key (g.F.Flash.state c.args.flash.now).work.reads (g.F.Flash.state c.page_of.new.flash).work.reads c.in_err-number.field-0.0 c.page_of.new.buf (c.in_err-number.ensures.found plan table holds points index))
 
 pub returns-in_default-clause-entry : goal.returns-in_default-clause-entry
 returns-in_default-clause-entry g c = λ plan table holds points index.
