@@ -1,8 +1,8 @@
 -- The entry with a key: where it stands among the pages of a table.
-use Rattle.std.proofs.Common.{◌≡◌, ℕ, zero, suc, ◌+◌, ◌-◌, ◌<◌, ◌≤◌, ◌⊎◌, inl, inr, ⊎_elim, Bool, true, false, Option, Some, None, option_map, List, [], ◌∷◌, length, map, take, drop, refl, sym, ◌∙◌, ap, subst, arith}
+use Rattle.std.proofs.Common.{◌≡◌, ℕ, zero, suc, ◌+◌, ◌-◌, ◌<◌, ◌≤◌, ◌⊎◌, inl, inr, ⊎_elim, true, false, Option, Some, None, option_map, List, [], ◌∷◌, length, map, take, drop, refl, sym, ◌∙◌, ap, arith}
 use Rattle.std.specs.Prelude.{◌==◌}
-use Rattle.std.specs.List.{slice_get, sum, find}
-use Rattle.std.proofs.lemmas.Bool.{cases_lt, eq-eqb, ne_eqb, eqb-true}
+use Rattle.std.specs.List.{slice_get, sum}
+use Rattle.std.proofs.lemmas.Bool.{cases_lt, eq-eqb, ne_eqb}
 use Rattle.fl_model.specs.Row.{Row, stored_row}
 use Rattle.fl_model.specs.Table.{Entry}
 use Rattle.fl_model.specs.Query.{entry_at}
@@ -55,10 +55,10 @@ stands-in [] i lt = absurd (omega (arith, lt))
 stands-in (count ∷ counts) i lt = ⊎_elim
     (λ here. record { page = 0; count = count; at = refl; from = omega arith; to = omega (arith, here) })
     (λ later.
-      let total = sum-cons count counts in
-      let left = stands-in counts (i - count) (omega (arith, total, lt, later)) in
-      let more = sum-cons count (take left.page counts) in
-      record { page = suc left.page; count = left.count; at = left.at; from = omega (arith, more, left.from, later); to = omega (arith, more, left.to) })
+    let total = sum-cons count counts in
+    let left = stands-in counts (i - count) (omega (arith, total, lt, later)) in
+    let more = sum-cons count (take left.page counts) in
+    record { page = suc left.page; count = left.count; at = left.at; from = omega (arith, more, left.from, later); to = omega (arith, more, left.to) })
     (cases_lt i count)
 
 -- the rows of a page, the i-th one
@@ -185,15 +185,15 @@ module _ (first : ℕ → Option ℕ) (oldest : ℕ) (counts : List ℕ) (entrie
       ⊎_elim
       (λ after. no (sym (is.later (oldest + s.page) (omega (arith, after)) (omega (arith, hi_is, within))) ∙ begins))
       (λ upto. ⊎_elim
-        (λ before. earlier i entry s e k before)
-        (λ ge.
-          let same : s.page ≡ page = omega (arith, upto, ge) in
-          let counts_same : ◌≡◌ {A = Option ℕ} (Some s.count) (Some count) = sym s.at ∙ (ap (slice_get counts) same ∙ at) in
-          let count_is : s.count ≡ count = cc in
-          let sums = ap (λ p. sum (take p counts)) same in
-          let got = part-get counts entries page count i entry (omega (arith, sums, s.from)) (omega (arith, sums, s.to, count_is)) e in
-          lacks (i - sum (take page counts)) (stored_row entry) (entry-row (part counts entries page count) (i - sum (take page counts)) entry got) k)
-        (cases_lt s.page page))
+      (λ before. earlier i entry s e k before)
+      (λ ge.
+      let same : s.page ≡ page = omega (arith, upto, ge) in
+      let counts_same : ◌≡◌ {A = Option ℕ} (Some s.count) (Some count) = sym s.at ∙ (ap (slice_get counts) same ∙ at) in
+      let count_is : s.count ≡ count = cc in
+      let sums = ap (λ p. sum (take p counts)) same in
+      let got = part-get counts entries page count i entry (omega (arith, sums, s.from)) (omega (arith, sums, s.to, count_is)) e in
+      lacks (i - sum (take page counts)) (stored_row entry) (entry-row (part counts entries page count) (i - sum (take page counts)) entry got) k)
+      (cases_lt s.page page))
       (cases_lt page s.page))
     where
       -- an entry of an earlier page lies below the first key of this one

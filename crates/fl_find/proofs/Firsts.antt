@@ -1,16 +1,16 @@
 -- The first keys of a table's pages, page by page.
-use Rattle.std.proofs.Common.{◌≡◌, ℕ, zero, suc, ◌+◌, ◌-◌, ◌<◌, ◌≤◌, ◌⊎◌, inl, inr, ⊎_elim, Bool, true, false, leb, Option, Some, None, option_map, List, [], ◌∷◌, ◌++◌, length, map, take, drop, refl, sym, ◌∙◌, ap, subst, arith, get_or}
-use Rattle.std.specs.Prelude.{filter, nat_le, unwrap_or, is_none, ◌==◌, if◌then◌else◌}
-use Rattle.std.specs.List.{slice_get, sum, sum_by, count_by, last_or}
+use Rattle.std.proofs.Common.{◌≡◌, ℕ, zero, suc, ◌+◌, ◌-◌, ◌<◌, ◌≤◌, ⊎_elim, Bool, true, false, leb, Option, Some, None, option_map, List, [], ◌∷◌, ◌++◌, length, map, take, drop, refl, sym, ◌∙◌, ap, subst, arith}
+use Rattle.std.specs.Prelude.{filter, nat_le, ◌==◌, if◌then◌else◌}
+use Rattle.std.specs.List.{slice_get, sum, count_by, last_or}
 use Rattle.std.proofs.Math.Dec.{eqb-suc-zero}
-use Rattle.std.proofs.lemmas.Bool.{cases_lt, le-leb, lt-leb, leb-true, leb-false}
+use Rattle.std.proofs.lemmas.Bool.{cases_lt, leb-true, leb-false}
 use Rattle.std.proofs.lemmas.List.{drop-drop, take-take, drop-take, length-drop}
 use Rattle.std.proofs.lemmas.List.Sums.{sum_by-cons}
 use Rattle.fl_model.specs.Table.{Entry}
 use Rattle.fl_model.specs.Spline.{pages_from, page_key}
-use Rattle.fl_model.proofs.Lists.{slice_get-drop, slice_get-front, slice_get-short}
+use Rattle.fl_model.proofs.Lists.{slice_get-drop, slice_get-front}
 use Rattle.fl_spline.specs.Segment.{point_at}
-use Rattle.fl_search.specs.Search.{IsPageOf, IsGreatest, starts_by, Ascends, voids_from}
+use Rattle.fl_search.specs.Search.{IsPageOf, starts_by, Ascends, voids_from}
 use Rattle.fl_search.proofs.Pages.{starts-void, starts-low, starts-high}
 
 -- the first key of entries
@@ -31,7 +31,7 @@ firsts-each first number [] entries each = tt
 firsts-each first number (count ∷ counts) entries each = (
   ap first (omega arith) ∙ each 0 count refl,
   firsts-each first (number + 1) counts (drop count entries) (λ i c e.
-    ap first (omega arith) ∙ (each (suc i) c e
+      ap first (omega arith) ∙ (each (suc i) c e
       ∙ ap (λ (l : List Entry). key_of (take c l)) (ap (λ n. drop n entries) (sum-cons count (take i counts)) ∙ sym (drop-drop (sum (take i counts)) count entries)))),
 )
 
@@ -40,11 +40,10 @@ pub firsts-more : (first : ℕ → Option ℕ) (number : ℕ) (counts : List ℕ
 firsts-more first number [] entries n le firsts = tt
 firsts-more first number (count ∷ counts) entries n le firsts =
     let total = sum-cons count counts in
-    let split : n ≡ count + (n - count) = omega (arith, total, le) in
-    (
+    let split : n ≡ count + (n - count) = omega (arith, total, le) in (
       firsts.0 ∙ ap key_of (take-take count n entries (omega (arith, total, le))),
       firsts-more first (number + 1) counts (drop count entries) (n - count) (omega (arith, total, le))
-      (subst (λ (l : List Entry). AreFirsts first (number + 1) counts l) (ap (λ k. drop count (take k entries)) split ∙ drop-take count (n - count) entries) firsts.1),
+          (subst (λ (l : List Entry). AreFirsts first (number + 1) counts l) (ap (λ k. drop count (take k entries)) split ∙ drop-take count (n - count) entries) firsts.1),
     )
 
 -- a page with rows comes before the others
@@ -97,7 +96,7 @@ page_from-is first number (suc c ∷ counts) (entry ∷ entries) key lo before f
     let total = sum-cons (suc c) counts in
     by_key
     (λ d h. subst (λ n. IsPageOf first lo n key (page_from d (number + 1) counts (drop c entries) key)) (omega arith)
-      (page_from-is first (number + 1) counts (drop c entries) key lo d firsts.1 (omega (arith, total, enough, length-drop c entries)) (omega (arith, le)) h))
+    (page_from-is first (number + 1) counts (drop c entries) key lo d firsts.1 (omega (arith, total, enough, length-drop c entries)) (omega (arith, le)) h))
     (leb entry.kept.key key) refl
   where
     by_key : ((d : Option ℕ) → IsPageOf first lo (number + 1) key d → IsPageOf first lo (number + length (suc c ∷ counts)) key (page_from d (number + 1) counts (drop c entries) key)) →
@@ -152,11 +151,11 @@ pub begins-by : (first : ℕ → Option ℕ) (number : ℕ) (counts : List ℕ) 
 begins-by first number [] entries n key firsts from less e = absurd (omega (arith, from, less))
 begins-by first number (count ∷ counts) entries n key firsts from less e = ⊎_elim
     (λ after.
-      let b = begins-by first (number + 1) counts (drop count entries) n key firsts.1 (omega arith) (omega (arith, less)) e in
-      record { index = count + b.index; entry = b.entry; here = sym (slice_get-drop count entries b.index) ∙ b.here; key_is = b.key_is })
+    let b = begins-by first (number + 1) counts (drop count entries) n key firsts.1 (omega arith) (omega (arith, less)) e in
+    record { index = count + b.index; entry = b.entry; here = sym (slice_get-drop count entries b.index) ∙ b.here; key_is = b.key_is })
     (λ here.
-      let same : number ≡ n = omega (arith, from) in
-      head (take count entries) (slice_get entries 0) (λ x f. slice_get-front count entries 0 x f) (sym firsts.0 ∙ (ap first same ∙ e)))
+    let same : number ≡ n = omega (arith, from) in
+    head (take count entries) (slice_get entries 0) (λ x f. slice_get-front count entries 0 x f) (sym firsts.0 ∙ (ap first same ∙ e)))
     (cases_lt number n)
   where
     head : (taken : List Entry) (o : Option Entry) → ((x : Entry) → slice_get taken 0 ≡ Some x → slice_get entries 0 ≡ Some x) → key_of taken ≡ Some key → BeginsBy entries key
@@ -179,9 +178,9 @@ firsts-ascend first number [] entries firsts up i j x y from less before e f = a
 firsts-ascend first number (count ∷ counts) entries firsts up i j x y from less before e f = ⊎_elim
     (λ after. firsts-ascend first (number + 1) counts (drop count entries) firsts.1 (ascending-drop count entries up) i j x y (omega arith) less (omega (arith, before)) e f)
     (λ here.
-      let same : number ≡ i = omega (arith, from) in
-      let b = begins-by first (number + 1) counts (drop count entries) j y firsts.1 (omega (arith, less, from)) (omega (arith, before)) f in
-      by_head (take count entries) count refl (sym firsts.0 ∙ (ap first same ∙ e)) b)
+    let same : number ≡ i = omega (arith, from) in
+    let b = begins-by first (number + 1) counts (drop count entries) j y firsts.1 (omega (arith, less, from)) (omega (arith, before)) f in
+    by_head (take count entries) count refl (sym firsts.0 ∙ (ap first same ∙ e)) b)
     (cases_lt number i)
   where
     by_head : (taken : List Entry) (n : ℕ) → take count entries ≡ taken → key_of taken ≡ Some x → BeginsBy (drop count entries) y → x < y
@@ -222,8 +221,8 @@ pub point-of : (first : ℕ → Option ℕ) (number : ℕ) (counts : List ℕ) (
 point-of first number [] entries n key firsts enough from less e = absurd (omega (arith, from, less))
 point-of first number (zero ∷ counts) entries n key firsts enough from less e = ⊎_elim
     (λ after.
-      let total = sum-cons 0 counts in
-      point-of first (number + 1) counts entries n key (subst (λ (l : List Entry). AreFirsts first (number + 1) counts l) (drop_none entries) firsts.1) (omega (arith, total, enough)) (omega arith) (omega (arith, less)) e)
+    let total = sum-cons 0 counts in
+    point-of first (number + 1) counts entries n key (subst (λ (l : List Entry). AreFirsts first (number + 1) counts l) (drop_none entries) firsts.1) (omega (arith, total, enough)) (omega arith) (omega (arith, less)) e)
     (λ here. let same : number ≡ n = omega (arith, from) in absurd (no (sym (firsts.0 ∙ ap key_of (take_none entries)) ∙ (ap first same ∙ e))))
     (cases_lt number n)
   where
@@ -240,20 +239,20 @@ point-of first number (zero ∷ counts) entries n key firsts enough from less e 
 point-of first number (suc c ∷ counts) [] n key firsts enough from less e = let total = sum-cons (suc c) counts in absurd (omega (arith, total, enough))
 point-of first number (suc c ∷ counts) (entry ∷ entries) n key firsts enough from less e = ⊎_elim
     (λ after.
-      let total = sum-cons (suc c) counts in
-      let p = point-of first (number + 1) counts (drop c entries) n key firsts.1 (omega (arith, total, enough, length-drop c entries)) (omega arith) (omega (arith, less)) e in
-      let step : points_from number (suc c ∷ counts) (entry ∷ entries) ≡ (entry.kept.key, number) ∷ points_from (number + 1) counts (drop c entries) =
-      ap (λ (l : List (ℕ × List Entry)). map (λ page. (page_key page, page.0)) l) (pages-suc number c counts entry entries) in
-      let many = ap length step in
-      record { index = suc p.index; within = omega (arith, p.within, many); here = ap (λ (l : List (ℕ × ℕ)). point_at l (suc p.index)) step ∙ p.here })
+    let total = sum-cons (suc c) counts in
+    let p = point-of first (number + 1) counts (drop c entries) n key firsts.1 (omega (arith, total, enough, length-drop c entries)) (omega arith) (omega (arith, less)) e in
+    let step : points_from number (suc c ∷ counts) (entry ∷ entries) ≡ (entry.kept.key, number) ∷ points_from (number + 1) counts (drop c entries) =
+    ap (λ (l : List (ℕ × List Entry)). map (λ page. (page_key page, page.0)) l) (pages-suc number c counts entry entries) in
+    let many = ap length step in
+    record { index = suc p.index; within = omega (arith, p.within, many); here = ap (λ (l : List (ℕ × ℕ)). point_at l (suc p.index)) step ∙ p.here })
     (λ here.
-      let same : number ≡ n = omega (arith, from) in
-      let k : ◌≡◌ {A = Option ℕ} (Some entry.kept.key) (Some key) = sym firsts.0 ∙ (ap first same ∙ e) in
-      let is : entry.kept.key ≡ key = cc in
-      let step : points_from number (suc c ∷ counts) (entry ∷ entries) ≡ (entry.kept.key, number) ∷ points_from (number + 1) counts (drop c entries) =
-      ap (λ (l : List (ℕ × List Entry)). map (λ page. (page_key page, page.0)) l) (pages-suc number c counts entry entries) in
-      let many = ap length step in
-      record { index = 0; within = omega (arith, many); here = ap (λ (l : List (ℕ × ℕ)). point_at l 0) step ∙ (ap (λ k. (k, number)) is ∙ ap (λ m. (key, m)) same) })
+    let same : number ≡ n = omega (arith, from) in
+    let k : ◌≡◌ {A = Option ℕ} (Some entry.kept.key) (Some key) = sym firsts.0 ∙ (ap first same ∙ e) in
+    let is : entry.kept.key ≡ key = cc in
+    let step : points_from number (suc c ∷ counts) (entry ∷ entries) ≡ (entry.kept.key, number) ∷ points_from (number + 1) counts (drop c entries) =
+    ap (λ (l : List (ℕ × List Entry)). map (λ page. (page_key page, page.0)) l) (pages-suc number c counts entry entries) in
+    let many = ap length step in
+    record { index = 0; within = omega (arith, many); here = ap (λ (l : List (ℕ × ℕ)). point_at l 0) step ∙ (ap (λ k. (k, number)) is ∙ ap (λ m. (key, m)) same) })
     (cases_lt number n)
 
 pub point-behind : (older points : List (ℕ × ℕ)) (key number : ℕ) → IsPoint points key number → IsPoint (older ++ points) key number

@@ -1,5 +1,5 @@
 -- A learned index of points, and what it tells of keys.
-use Rattle.std.proofs.Common.{◌≡◌, ℕ, ◌+◌, min, Bool, List, refl, sym, ◌∙◌, ap, arith}
+use Rattle.std.proofs.Common.{◌≡◌, ℕ, ◌+◌, min, Bool, List, sym, ◌∙◌, ap}
 use Rattle.fl_model.specs.Record.{Plan}
 use Rattle.fl_model.specs.Table.{Table}
 use Rattle.fl_model.specs.Spline.{retained, is_covered, estimate}
@@ -15,5 +15,5 @@ pub index-end : {KNOTS SLOTS : ℕ} (index : LearnedIndex KNOTS SLOTS) (plan : P
     end ≡ window_end index next key → end ≡ end_of KNOTS plan table key
 index-end {KNOTS} {SLOTS} index plan table key next end of at is =
     is ∙ (ap (λ n. min (estimate (knots_in index) key + error_in index + 1) n) at
-      ∙ (ap (λ n. min (estimate (knots_in index) key + n + 1) table.rows.next) (sym index.same ∙ of.bound)
-        ∙ ap (λ (l : List (ℕ × ℕ)). min (estimate l key + plan.error + 1) table.rows.next) of.knots))
+    ∙ (ap (λ n. min (estimate (knots_in index) key + n + 1) table.rows.next) (sym index.same ∙ of.bound)
+    ∙ ap (λ (l : List (ℕ × ℕ)). min (estimate l key + plan.error + 1) table.rows.next) of.knots))

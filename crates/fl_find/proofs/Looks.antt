@@ -1,12 +1,12 @@
 -- Looks at pages, one after another.
-use Rattle.std.proofs.Common.{◌≡◌, ℕ, ◌<◌, ◌≤◌, false, IsTrue, List, refl, sym, ap, subst, ◌∙◌, arith, Result}
+use Rattle.std.proofs.Common.{◌≡◌, ℕ, IsTrue, List, refl, sym, ap, subst, ◌∙◌, arith, Result}
 use Rattle.fl_flash.specs.Buffer.{BufferState}
 use Rattle.fl_flash.specs.Places.{page_of}
 use Rattle.fl_flash.specs.Flash.{FlashState, ReadsPage, page_at}
 use Rattle.fl_flash.specs.declared.flash.FlashFault.{FlashFault}
 use Rattle.fl_flash.specs.declared.flash.FlashFault.TheVariants.{PowerLost, Media}
 use Rattle.fl_model.specs.Record.{RowLayout}
-use Rattle.fl_page.specs.Contents.{Contents, contents_of, OnlyReads}
+use Rattle.fl_page.specs.Contents.{Contents}
 use Rattle.fl_page.proofs.Reading.{OnlyReads-read, OnlyReads-same, OnlyReads-then}
 use Rattle.fl_page.specs.declared.fault.BadPage.{BadPage}
 use Rattle.fl_page.specs.declared.fault.ReadFault.{ReadFault}
@@ -14,8 +14,8 @@ use Rattle.fl_page.specs.declared.fault.ReadFault.TheVariants as fault
 use Rattle.fl_ring.specs.Place.{shape_of}
 use Rattle.fl_ring.specs.Ring.{place}
 use Rattle.fl_ring.specs.declared.ring.Ring.{Ring}
-use Rattle.fl_find.specs.Pages.{bytes_at, IsBadPage}
-use Rattle.fl_find.specs.Looking.{OnlyLooks, IsKept, HasBadPage, LookFails, Since}
+use Rattle.fl_find.specs.Pages.{IsBadPage}
+use Rattle.fl_find.specs.Looking.{OnlyLooks, HasBadPage, LookFails, Since}
 
 pub looks-read : (old new : FlashState) (page size : ℕ) (result : Result (Unit {0}) FlashFault) (into : BufferState) → ReadsPage old page size result into new → OnlyLooks old new
 looks-read old new page size result into is = record { reads = OnlyReads-read old new page size result into is; power = is.power; cuts = is.cuts }

@@ -1,6 +1,5 @@
 -- What a lookup ends with, in the words of the store's model.
-use Rattle.std.proofs.Common.{◌≡◌, ℕ, ◌+◌, ◌-◌, ◌<◌, ◌≤◌, true, IsTrue, Option, Some, None, List, map, take, drop, length, refl, sym, ◌∙◌, ap, subst, arith, Result, Ok, Err}
-use Rattle.std.specs.Prelude.{IfSome}
+use Rattle.std.proofs.Common.{◌≡◌, ℕ, ◌+◌, ◌-◌, IsTrue, Some, None, List, map, length, sym, ◌∙◌, ap, subst, arith, Err}
 use Rattle.std.specs.List.{slice_get, sum}
 use Rattle.std.proofs.lemmas.List.{length-take-le}
 use Rattle.fl_flash.specs.Buffer.{BufferState}
@@ -8,7 +7,7 @@ use Rattle.fl_flash.specs.Flash.{FlashState}
 use Rattle.fl_model.specs.Record.{Plan, RowLayout}
 use Rattle.fl_model.specs.Ring as model
 use Rattle.fl_model.specs.Row.{Row, stored_row}
-use Rattle.fl_model.specs.Table.{Table, Entry, written, lose}
+use Rattle.fl_model.specs.Table.{Table, written, lose}
 use Rattle.fl_model.specs.Image.{rows_at}
 use Rattle.fl_model.specs.Query.{entry_at}
 use Rattle.fl_model.specs.Spline.{page_at}
@@ -18,7 +17,7 @@ use Rattle.fl_page.specs.declared.fault.ReadFault.TheVariants as fault
 use Rattle.fl_ring.specs.Place.{shape_of}
 use Rattle.fl_ring.specs.Ring.{place}
 use Rattle.fl_ring.specs.declared.ring.Ring.{Ring}
-use Rattle.fl_search.specs.Search.{IsPageOf, RoseSome}
+use Rattle.fl_search.specs.Search.{IsPageOf}
 use Rattle.fl_find.specs.Pages.{first_key, first_on, bytes_at, rows_on, Holds}
 use Rattle.fl_find.specs.Looking.{OnlyLooks}
 use Rattle.fl_find.specs.Standing.{HoldsPages}

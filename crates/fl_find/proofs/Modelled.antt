@@ -1,12 +1,11 @@
 -- What a lookup finds, in the words of the store's model.
-use Rattle.std.proofs.Common.{◌≡◌, ℕ, zero, suc, ◌+◌, ◌-◌, ◌*◌, ◌^◌, ◌<◌, ◌≤◌, ◌⊎◌, inl, inr, ⊎_elim, min, Bool, true, false, IsTrue, cond, Option, Some, None, option_map, List, [], ◌∷◌, ◌++◌, length, map, take, drop, refl, sym, ◌∙◌, ap, subst, arith, Result, Ok, Err, IfOk}
+use Rattle.std.proofs.Common.{◌≡◌, ℕ, zero, suc, ◌+◌, ◌-◌, ◌*◌, ◌<◌, ◌≤◌, min, true, false, Option, Some, None, option_map, List, [], ◌∷◌, length, map, drop, refl, sym, ◌∙◌, ap, subst, arith, Result, Ok, Err, IfOk}
 use Rattle.std.specs.Prelude.{unwrap_or, IfSome, IfErr}
-use Rattle.std.specs.List.{slice_get, sum, count_by, last_or}
-use Rattle.std.proofs.lemmas.Bool.{cases_lt}
+use Rattle.std.specs.List.{slice_get, sum}
 use Rattle.fl_flash.specs.Flash.{FlashState}
 use Rattle.fl_model.specs.Record.{Plan, RowLayout}
 use Rattle.fl_model.specs.Ring as model
-use Rattle.fl_model.specs.Row.{Row, stored_row}
+use Rattle.fl_model.specs.Row.{stored_row}
 use Rattle.fl_model.specs.Table.{Table, Entry, written, lose}
 use Rattle.fl_model.specs.Image.{rows_at}
 use Rattle.fl_model.specs.Spline.{bits, retained, is_covered, is_pending_key, estimate, page_at, points_of, voids_of, lookup_limit, lookup_reads}
@@ -18,9 +17,9 @@ use Rattle.fl_ring.specs.Place.{shape_of, next_of, oldest_of}
 use Rattle.fl_ring.specs.declared.ring.Ring.{Ring}
 use Rattle.fl_search.specs.Search.{IsPageOf, Ascends, RoseBy, RoseSome, looked_at, voids_in, voids_from}
 use Rattle.fl_spline.specs.Points.{Rises, last_of}
-use Rattle.fl_spline.specs.Segment.{InWindow, point_at}
+use Rattle.fl_spline.specs.Segment.{InWindow}
 use Rattle.fl_spline.proofs.Window.{in-window}
-use Rattle.fl_find.specs.Pages.{first_key, first_on, bytes_at, rows_on}
+use Rattle.fl_find.specs.Pages.{first_key, first_on, bytes_at}
 use Rattle.fl_find.specs.Looking.{LookFails, HasBadPage}
 use Rattle.fl_find.specs.Standing.{HoldsPages, HasPoints, HoldsEntries}
 use Rattle.fl_find.specs.Finding.{IsFound, FindsPage}
@@ -55,7 +54,7 @@ module _ (layout : RowLayout) (ring : Ring) (f : FlashState) (plan : Plan) (tabl
   firsts : AreFirsts (first_on layout (shape_of ring) f) (model.oldest table.rows) table.rows.counts table.entries
   firsts = firsts-more (first_on layout (shape_of ring) f) (model.oldest table.rows) table.rows.counts table.entries (length table.entries - table.pending) (omega (arith, holds.facts.counted))
       (firsts-each (first_on layout (shape_of ring) f) (model.oldest table.rows) table.rows.counts (written table) (λ i count e.
-        ap first_key (holds.pages i count e).rows ∙ first-stored (rows_at (lose table) i count)))
+      ap first_key (holds.pages i count e).rows ∙ first-stored (rows_at (lose table) i count)))
 
   pub found : (key : ℕ) → IsPageOf (first_on layout (shape_of ring) f) (model.oldest table.rows) table.rows.next key (page_at table key)
   found key = subst (λ n. IsPageOf (first_on layout (shape_of ring) f) (model.oldest table.rows) n key (page_at table key)) end_is
@@ -73,7 +72,7 @@ module _ (layout : RowLayout) (ring : Ring) (f : FlashState) (plan : Plan) (tabl
   point points n x from before e =
       subst (λ (l : List (ℕ × ℕ)). IsPoint l x n) (sym points.points)
       (point-behind points.older (points_of table) x n
-        (point-of (first_on layout (shape_of ring) f) (model.oldest table.rows) table.rows.counts table.entries n x firsts enough from (omega (arith, before, end_is)) e))
+      (point-of (first_on layout (shape_of ring) f) (model.oldest table.rows) table.rows.counts table.entries n x firsts enough from (omega (arith, before, end_is)) e))
 
   window : (points : HasPoints table) (key page error : ℕ) → InWindow error table.points key page → IsWindow (first_on layout (shape_of ring) f) (model.oldest table.rows) table.rows.next key page error
   window points key page error w = record {
@@ -171,7 +170,7 @@ module _ (layout : RowLayout) (ring : Ring) (f : FlashState) (plan : Plan) (tabl
 
   pub limit-near : (knots : ℕ) (points : HasPoints table) (key before now : ℕ) → Rises table.points → is_covered (retained knots plan.error table.points) key ≡ true → is_pending_key table key ≡ false →
       ((page : Option ℕ) → IsPageOf (first_on layout (shape_of ring) f) (model.oldest table.rows) (end_of knots plan table key) key page →
-        now ≤ before + looked_at (model.oldest table.rows) (end_of knots plan table key) page) → now ≤ before + lookup_limit knots plan table key
+      now ≤ before + looked_at (model.oldest table.rows) (end_of knots plan table key) page) → now ≤ before + lookup_limit knots plan table key
   limit-near knots points key before now up covered pending most =
       let w = covered-window knots points key up covered in
       let back = window-back (first_on layout (shape_of ring) f) (model.oldest table.rows) table.rows.next key (estimate_of knots plan table key) plan.error (page_at table key) w (found key) in
@@ -229,10 +228,10 @@ module _ (layout : RowLayout) (ring : Ring) (f : FlashState) (plan : Plan) (tabl
       ((page : Option ℕ) → IsPageOf (first_on layout (shape_of ring) f) (oldest_of ring) end key page → now ≤ before + looked_at (oldest_of ring) end page) → now ≤ before + lookup_limit knots plan table key
   near-limit knots points key before now end up covered pending end_at most =
       limit-near knots points key before now up covered pending (λ page is.
-        subst (λ n. now ≤ before + looked_at n (end_of knots plan table key) page) holds.oldest
-        (subst (λ n. now ≤ before + looked_at (oldest_of ring) n page) end_at
-          (most page (subst (λ n. IsPageOf (first_on layout (shape_of ring) f) (oldest_of ring) n key page) (sym end_at)
-            (subst (λ n. IsPageOf (first_on layout (shape_of ring) f) n (end_of knots plan table key) key page) (sym holds.oldest) is)))))
+      subst (λ n. now ≤ before + looked_at n (end_of knots plan table key) page) holds.oldest
+      (subst (λ n. now ≤ before + looked_at (oldest_of ring) n page) end_at
+      (most page (subst (λ n. IsPageOf (first_on layout (shape_of ring) f) (oldest_of ring) n key page) (sym end_at)
+      (subst (λ n. IsPageOf (first_on layout (shape_of ring) f) n (end_of knots plan table key) key page) (sym holds.oldest) is)))))
 
   pub far-limit : (knots key before now : ℕ) → is_covered (retained knots plan.error table.points) key ≡ false → is_pending_key table key ≡ false →
       now ≤ before + bits (next_of ring - oldest_of ring) + 1 + voids_in (first_on layout (shape_of ring) f) (oldest_of ring) (next_of ring) → now ≤ before + lookup_limit knots plan table key

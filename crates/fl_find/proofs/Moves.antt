@@ -1,5 +1,5 @@
 -- Facts of searched pages, after the search and at other names of the same values.
-use Rattle.std.proofs.Common.{◌≡◌, ℕ, ◌+◌, ◌-◌, ◌<◌, ◌≤◌, Bool, true, false, Option, Some, None, List, [], ◌∷◌, IsTrue, refl, sym, ap, subst, ◌∙◌, arith, length}
+use Rattle.std.proofs.Common.{◌≡◌, ℕ, true, false, Option, Some, None, List, refl, sym, ap, subst, ◌∙◌, arith, length}
 use Rattle.std.specs.Prelude.{IfSome, is_some}
 use Rattle.fl_flash.specs.Buffer.{BufferState}
 use Rattle.fl_flash.specs.Flash.{FlashState}

@@ -1,22 +1,21 @@
 -- The points of a table, as pages come and go.
-use Rattle.std.proofs.Common.{◌≡◌, ℕ, zero, suc, ◌+◌, ◌-◌, ◌*◌, ◌%◌, ◌<◌, ◌≤◌, ◌⊎◌, inl, inr, ⊎_elim, Bool, true, false, nat_lt, ◌==◌, ◌&&◌, cond, Option, Some, None, option_map, List, [], ◌∷◌, ◌++◌, length, map, take, drop, refl, sym, ◌∙◌, ap, subst, arith, append_assoc, length-append}
+use Rattle.std.proofs.Common.{◌≡◌, ℕ, zero, suc, ◌+◌, ◌-◌, ◌*◌, ◌%◌, ◌<◌, ◌≤◌, Bool, true, false, nat_lt, ◌==◌, ◌&&◌, Option, Some, None, option_map, List, [], ◌∷◌, ◌++◌, length, map, take, drop, refl, sym, ◌∙◌, ap, subst, arith, append_assoc, length-append}
 use Rattle.std.specs.Prelude.{unwrap_or, if◌then◌else◌, IfSome}
-use Rattle.std.specs.List.{slice_get, sum, sum_by}
+use Rattle.std.specs.List.{slice_get, sum}
 use Rattle.std.proofs.Math.Dec.{eqb-suc-zero}
 use Rattle.std.proofs.Math.Nat.{mul-le-mul_right}
-use Rattle.std.proofs.lemmas.Bool.{cases_lt, ltb-true}
+use Rattle.std.proofs.lemmas.Bool.{ltb-true}
 use Rattle.std.proofs.lemmas.List.{drop-drop, take-append-drop, length-drop, length-take-le}
 use Rattle.fl_model.specs.Record.{Plan}
-use Rattle.fl_model.specs.Ring.{Shape, Ring, IsShape, oldest, is_full, extended, sealed, given_up}
+use Rattle.fl_model.specs.Ring.{IsShape, oldest, is_full, extended}
 use Rattle.fl_model.specs.Table.{Table, Entry, DataRing, shape_of, pending_entries, first_pending, seal_buffer}
 use Rattle.fl_model.specs.Facts.{IsTable}
-use Rattle.fl_model.specs.Mount.{ready}
 use Rattle.fl_model.specs.Spline.{pages_from, page_key, points_of}
-use Rattle.fl_model.proofs.Lists.{slice_get-drop, slice_get-some, slice_get-front, slice_get-short}
+use Rattle.fl_model.proofs.Lists.{slice_get-drop, slice_get-some}
 use Rattle.fl_spline.specs.Points.{IsFurther, IsPast, last_of}
 use Rattle.fl_spline.proofs.Lists.{last_of-push}
 use Rattle.fl_find.specs.Standing.{HasPoints}
-use Rattle.fl_find.specs.Laws.{MountsHavePoints, SealsComeFurther, SealsKeepPoints}
+use Rattle.fl_find.specs.Laws.{MountsHavePoints}
 use Rattle.fl_find.proofs.Firsts.{points_from, sum-cons}
 
 drop_none : {X : Type 0} (xs : List X) → drop 0 xs ≡ xs
@@ -35,16 +34,16 @@ points-append number (zero ∷ xs) ys entries =
     let total = sum-cons 0 xs in
     points-append (number + 1) xs ys entries
     ∙ ap (λ (l : List (ℕ × ℕ)). points_from (number + 1) xs entries ++ l)
-      (ap (λ n. points_from n ys (drop (sum xs) entries)) (omega arith) ∙ ap (λ n. points_from (number + length (zero ∷ xs)) ys (drop n entries)) (omega (arith, total)))
+    (ap (λ n. points_from n ys (drop (sum xs) entries)) (omega arith) ∙ ap (λ n. points_from (number + length (zero ∷ xs)) ys (drop n entries)) (omega (arith, total)))
 points-append number (suc c ∷ xs) ys entries =
     let total = sum-cons (suc c) xs in
     let head : ℕ × ℕ = (page_key (number, take (suc c) entries), number) in
     points-suc number c (xs ++ ys) entries
     ∙ (ap (λ (l : List (ℕ × ℕ)). (page_key (number, take (suc c) entries), number) ∷ l) (points-append (number + 1) xs ys (drop (suc c) entries))
-      ∙ (ap (λ (l : List (ℕ × ℕ)). (page_key (number, take (suc c) entries), number) ∷ points_from (number + 1) xs (drop (suc c) entries) ++ l)
-        (ap (λ n. points_from n ys (drop (sum xs) (drop (suc c) entries))) (omega arith)
-          ∙ ap (λ (l : List Entry). points_from (number + length (suc c ∷ xs)) ys l) (drop-drop (sum xs) (suc c) entries ∙ ap (λ n. drop n entries) (sym total)))
-        ∙ ap (λ (l : List (ℕ × ℕ)). l ++ points_from (number + length (suc c ∷ xs)) ys (drop (sum (suc c ∷ xs)) entries)) (sym (points-suc number c xs entries))))
+    ∙ (ap (λ (l : List (ℕ × ℕ)). (page_key (number, take (suc c) entries), number) ∷ points_from (number + 1) xs (drop (suc c) entries) ++ l)
+    (ap (λ n. points_from n ys (drop (sum xs) (drop (suc c) entries))) (omega arith)
+    ∙ ap (λ (l : List Entry). points_from (number + length (suc c ∷ xs)) ys l) (drop-drop (sum xs) (suc c) entries ∙ ap (λ n. drop n entries) (sym total)))
+    ∙ ap (λ (l : List (ℕ × ℕ)). l ++ points_from (number + length (suc c ∷ xs)) ys (drop (sum (suc c ∷ xs)) entries)) (sym (points-suc number c xs entries))))
 
 -- where a point of pages comes from: a page before the last number, and an entry that is written
 record IsBounded (number : ℕ) (counts : List ℕ) (entries : List Entry) (p : ℕ × ℕ) : Type 0 where
@@ -85,9 +84,13 @@ drop-push (suc n) (x ∷ xs) y le = drop-push n xs y (omega (arith, le))
 -- pages whose last one has rows end by its point
 ends-by : (m : ℕ) (xs : List ℕ) (y : ℕ) (entries : List Entry) → 0 < y → (cs : List ℕ) → cs ≡ xs ++ y ∷ [] → (l : List (ℕ × ℕ)) × ((p : ℕ × ℕ) × (points_from m cs entries ≡ l ++ p ∷ []))
 ends-by m xs zero entries some cs e = absurd (omega (arith, some))
-ends-by m xs (suc c) entries some cs e =
-    (points_from m xs entries, ((page_key (m + length xs, take (suc c) (drop (sum xs) entries)), m + length xs),
-      ap (λ (l : List ℕ). points_from m l entries) e ∙ (points-append m xs (suc c ∷ []) entries ∙ ap (λ (l : List (ℕ × ℕ)). points_from m xs entries ++ l) (points-suc (m + length xs) c [] (drop (sum xs) entries)))))
+ends-by m xs (suc c) entries some cs e = (
+  points_from m xs entries,
+  (
+    (page_key (m + length xs, take (suc c) (drop (sum xs) entries)), m + length xs),
+    ap (λ (l : List ℕ). points_from m l entries) e ∙ (points-append m xs (suc c ∷ []) entries ∙ ap (λ (l : List (ℕ × ℕ)). points_from m xs entries ++ l) (points-suc (m + length xs) c [] (drop (sum xs) entries))),
+  ),
+)
 
 last-same : (front l points : List (ℕ × ℕ)) (p q : ℕ × ℕ) → front ++ (l ++ p ∷ []) ≡ points ++ q ∷ [] → p ≡ q
 last-same front l points p q e =
@@ -136,7 +139,7 @@ module _ (plan : Plan) (table : Table) (facts : IsTable plan table) where
       by_count (suc c) z =
           ap (λ n. points_from table.rows.next (n ∷ []) (drop (sum table.rows.counts) table.entries)) z
           ∙ (points-suc table.rows.next c [] (drop (sum table.rows.counts) table.entries)
-            ∙ ap (λ k. (k, table.rows.next) ∷ []) (key_is c (drop (sum table.rows.counts) table.entries) here))
+          ∙ ap (λ k. (k, table.rows.next) ∷ []) (key_is c (drop (sum table.rows.counts) table.entries) here))
 
   first-pending : 0 < table.pending → (e : Entry) × (slice_get (pending_entries table) 0 ≡ Some e)
   first-pending some = slice_get-some (pending_entries table) 0 (omega (arith, some, facts.counted, length-drop (length table.entries - table.pending) table.entries))
@@ -147,7 +150,7 @@ module _ (plan : Plan) (table : Table) (facts : IsTable plan table) where
   more-points e first some =
       points-append (oldest table.rows) table.rows.counts (table.pending ∷ []) table.entries
       ∙ ap (λ (l : List (ℕ × ℕ)). points_of table ++ l)
-        (ap (λ n. points_from n (table.pending ∷ []) (drop (sum table.rows.counts) table.entries)) (omega (arith, fits)) ∙ next-point e first some)
+      (ap (λ n. points_from n (table.pending ∷ []) (drop (sum table.rows.counts) table.entries)) (omega (arith, fits)) ∙ next-point e first some)
 
   -- a point of the pages comes before the next page
   last-before : (l : List (ℕ × ℕ)) (end : ℕ × ℕ) (key next : ℕ) → ((k : ℕ) (p : ℕ × ℕ) → slice_get l k ≡ Some p → IsPast p (key, next)) → last_of l ≡ Some end → IsPast end (key, next)
@@ -205,7 +208,7 @@ module _ (plan : Plan) (table : Table) (facts : IsTable plan table) where
       by_full false f =
           let now : points_of (seal_buffer plan DataRing table) ≡ points_of table ++ (e.kept.key, table.rows.next) ∷ [] =
           ap after f ∙ (ap (λ n. points_from n (table.rows.counts ++ table.pending ∷ []) (drop 0 table.entries)) (omega (arith, many, fits))
-            ∙ (ap (λ (l : List Entry). points_from (oldest table.rows) (table.rows.counts ++ table.pending ∷ []) l) (drop_none table.entries) ∙ whole)) in
+          ∙ (ap (λ (l : List Entry). points_from (oldest table.rows) (table.rows.counts ++ table.pending ∷ []) l) (drop_none table.entries) ∙ whole)) in
           record {
             older = points.older;
             points = joined ∙ (ap (λ (l : List (ℕ × ℕ)). l ++ (e.kept.key, table.rows.next) ∷ []) points.points ∙ (append_assoc points.older (points_of table) ((e.kept.key, table.rows.next) ∷ []) ∙ ap (λ (l : List (ℕ × ℕ)). points.older ++ l) (sym now)));
@@ -218,11 +221,11 @@ module _ (plan : Plan) (table : Table) (facts : IsTable plan table) where
           let left = length-drop plan.geometry.block (table.rows.counts ++ table.pending ∷ []) in
           let front : List (ℕ × ℕ) = points_from (oldest table.rows) (take plan.geometry.block (table.rows.counts ++ table.pending ∷ [])) table.entries in
           let split : points_from (oldest table.rows) (table.rows.counts ++ table.pending ∷ []) table.entries
-              ≡ points_from (oldest table.rows) (take plan.geometry.block (table.rows.counts ++ table.pending ∷ [])) table.entries ++ after true =
+          ≡ points_from (oldest table.rows) (take plan.geometry.block (table.rows.counts ++ table.pending ∷ [])) table.entries ++ after true =
           ap (λ (l : List ℕ). points_from (oldest table.rows) l table.entries) (sym (take-append-drop plan.geometry.block (table.rows.counts ++ table.pending ∷ [])))
           ∙ (points-append (oldest table.rows) (take plan.geometry.block (table.rows.counts ++ table.pending ∷ [])) (drop plan.geometry.block (table.rows.counts ++ table.pending ∷ [])) table.entries
-            ∙ ap (λ n. points_from (oldest table.rows) (take plan.geometry.block (table.rows.counts ++ table.pending ∷ [])) table.entries
-              ++ points_from n (drop plan.geometry.block (table.rows.counts ++ table.pending ∷ [])) (drop (sum (take plan.geometry.block (table.rows.counts ++ table.pending ∷ []))) table.entries)) (omega (arith, taken, left, many, long, fits))) in
+          ∙ ap (λ n. points_from (oldest table.rows) (take plan.geometry.block (table.rows.counts ++ table.pending ∷ [])) table.entries
+          ++ points_from n (drop plan.geometry.block (table.rows.counts ++ table.pending ∷ [])) (drop (sum (take plan.geometry.block (table.rows.counts ++ table.pending ∷ []))) table.entries)) (omega (arith, taken, left, many, long, fits))) in
           let now : points_of (seal_buffer plan DataRing table) ≡ after true = ap after f in
           let ends = ends-at plan.geometry.block (omega (arith, long, many)) in
           let same : ends.1.0 ≡ (e.kept.key, table.rows.next) =
@@ -232,9 +235,9 @@ module _ (plan : Plan) (table : Table) (facts : IsTable plan table) where
             older = points.older ++ points_from (oldest table.rows) (take plan.geometry.block (table.rows.counts ++ table.pending ∷ [])) table.entries;
             points = joined ∙ (ap (λ (l : List (ℕ × ℕ)). l ++ (e.kept.key, table.rows.next) ∷ []) points.points
                 ∙ (append_assoc points.older (points_of table) ((e.kept.key, table.rows.next) ∷ [])
-                  ∙ (ap (λ (l : List (ℕ × ℕ)). points.older ++ l) (sym whole ∙ split)
-                    ∙ (sym (append_assoc points.older (points_from (oldest table.rows) (take plan.geometry.block (table.rows.counts ++ table.pending ∷ [])) table.entries) (after true))
-                      ∙ ap (λ (l : List (ℕ × ℕ)). (points.older ++ points_from (oldest table.rows) (take plan.geometry.block (table.rows.counts ++ table.pending ∷ [])) table.entries) ++ l) (sym now)))));
+                ∙ (ap (λ (l : List (ℕ × ℕ)). points.older ++ l) (sym whole ∙ split)
+                ∙ (sym (append_assoc points.older (points_from (oldest table.rows) (take plan.geometry.block (table.rows.counts ++ table.pending ∷ [])) table.entries) (after true))
+                ∙ ap (λ (l : List (ℕ × ℕ)). (points.older ++ points_from (oldest table.rows) (take plan.geometry.block (table.rows.counts ++ table.pending ∷ [])) table.entries) ++ l) (sym now)))));
             last = ap last_of joined ∙ (last_of-push table.points (e.kept.key, table.rows.next)
                 ∙ sym (ap last_of (now ∙ ends.1.1) ∙ (last_of-push ends.0 ends.1.0 ∙ ap (λ (p : ℕ × ℕ). Some p) same)));
           }

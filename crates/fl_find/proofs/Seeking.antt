@@ -1,5 +1,5 @@
 -- Rows of a page, looked for by their keys.
-use Rattle.std.proofs.Common.{◌≡◌, ℕ, zero, suc, ◌+◌, ◌-◌, ◌*◌, ◌<◌, ◌≤◌, ⊎_elim, Bool, Option, Some, None, List, [], ◌∷◌, length, take, drop, refl, sym, ◌∙◌, ap, subst, arith}
+use Rattle.std.proofs.Common.{◌≡◌, ℕ, zero, suc, ◌+◌, ◌-◌, ◌*◌, ◌<◌, ◌≤◌, ⊎_elim, Bool, Some, List, length, take, drop, refl, sym, ◌∙◌, ap, arith}
 use Rattle.std.specs.List.{slice_get}
 use Rattle.std.proofs.lemmas.Bool.{cases_lt}
 use Rattle.std.proofs.lemmas.List.{drop-drop}
@@ -24,7 +24,7 @@ pub rows-view : (layout view_layout : RowLayout) (page view_page : List ℕ) (co
 rows-view layout view_layout page view_page count state page_is layout_is count_is =
     ap (λ (s : PageState). rows_where s layout page) state
     ∙ (ap (λ (n : ℕ). rows_from n layout (drop 16 page)) (sym count_is)
-      ∙ (ap (λ (l : RowLayout). rows_from count l (drop 16 page)) (sym layout_is) ∙ ap (λ (p : List ℕ). rows_from count view_layout (drop 16 p)) (sym page_is)))
+    ∙ (ap (λ (l : RowLayout). rows_from count l (drop 16 page)) (sym layout_is) ∙ ap (λ (p : List ℕ). rows_from count view_layout (drop 16 p)) (sym page_is)))
 
 pub length-rows_from : (n : ℕ) (layout : RowLayout) (bytes : List ℕ) → length (rows_from n layout bytes) ≡ n
 length-rows_from zero layout bytes = refl
@@ -41,7 +41,7 @@ row-key key types blobs count i page row e =
     let is : slice_get (rows_from count (layout_with key types blobs) (drop 16 page)) i ≡ Some (row_in (layout_with key types blobs) (row_at (layout_with key types blobs) page i)) =
     slice_get-rows_from key types blobs count i (drop 16 page) few
     ∙ ap (λ (l : List ℕ). Some (row_in (layout_with key types blobs) l)) (ap (λ (l : List ℕ). take (layout_len (layout_with key types blobs)) l) (drop-drop (i * layout_len (layout_with key types blobs)) 16 page)
-      ∙ sym (ap (λ (k : ℕ). take k (drop (16 + i * layout_len (layout_with key types blobs)) page)) one)) in
+    ∙ sym (ap (λ (k : ℕ). take k (drop (16 + i * layout_len (layout_with key types blobs)) page)) one)) in
     same (sym e ∙ is)
   where
     same : Some row ≡ Some (row_in (layout_with key types blobs) (row_at (layout_with key types blobs) page i)) → row.key ≡ key_at (layout_with key types blobs) page i
@@ -51,10 +51,10 @@ module _ (rows : List Row) (at : ℕ → ℕ) (each : (i : ℕ) (row : Row) → 
   pub keys-rise : (i j : ℕ) → i ≤ j → j < length rows → at i ≤ at j
   keys-rise i j le lt = ⊎_elim
       (λ less.
-        let a = slice_get-some rows i (omega (arith, less, lt)) in
-        let b = slice_get-some rows j lt in
-        let up = rise i j a.0 b.0 less a.1 b.1 in
-        omega (arith, up, each i a.0 a.1, each j b.0 b.1))
+      let a = slice_get-some rows i (omega (arith, less, lt)) in
+      let b = slice_get-some rows j lt in
+      let up = rise i j a.0 b.0 less a.1 b.1 in
+      omega (arith, up, each i a.0 a.1, each j b.0 b.1))
       (λ ge. let same : i ≡ j = omega (arith, le, ge) in omega (arith, ap at same))
       (cases_lt i j)
 
@@ -65,7 +65,7 @@ module _ (rows : List Row) (at : ℕ → ℕ) (each : (i : ℕ) (row : Row) → 
       ⊎_elim
       (λ less. let b = below i less in omega (arith, b, key_is, k))
       (λ ge.
-        let a = above (omega (arith, ge, lt)) in
-        let up = keys-rise place i ge lt in
-        omega (arith, a, up, key_is, k))
+      let a = above (omega (arith, ge, lt)) in
+      let up = keys-rise place i ge lt in
+      omega (arith, a, up, key_is, k))
       (cases_lt i place)

@@ -1,8 +1,8 @@
 -- What the window of a key allows, and how many pages are looked at in it.
-use Rattle.std.proofs.Common.{◌≡◌, ℕ, zero, suc, ◌+◌, ◌-◌, ◌*◌, ◌<◌, ◌≤◌, ◌⊎◌, inl, inr, ⊎_elim, min, Bool, true, false, leb, Option, Some, None, refl, sym, ◌∙◌, ap, subst, arith}
-use Rattle.std.proofs.lemmas.Bool.{cases_lt, leb-false, lt-leb}
-use Rattle.fl_search.specs.Search.{IsPageOf, IsGreatest, starts_by, looked_at, voids_in}
-use Rattle.fl_search.proofs.Pages.{AreVoid, starts-void, starts-low, starts-high, voids-end, voids-all, voids-split}
+use Rattle.std.proofs.Common.{◌≡◌, ℕ, zero, suc, ◌+◌, ◌-◌, ◌*◌, ◌<◌, ◌≤◌, ◌⊎◌, inl, inr, ⊎_elim, min, true, false, Option, Some, None, refl, sym, ◌∙◌, ap, arith}
+use Rattle.std.proofs.lemmas.Bool.{cases_lt}
+use Rattle.fl_search.specs.Search.{IsPageOf, starts_by, looked_at, voids_in}
+use Rattle.fl_search.proofs.Pages.{AreVoid, starts-void, starts-low, starts-high, voids-end, voids-split}
 
 -- an estimate of a key's page, and the pages round it
 pub record IsWindow (first : ℕ → Option ℕ) (lo hi key estimate error : ℕ) : Type 0 where
@@ -66,15 +66,15 @@ in-window first lo from hi key estimate error window le fits none =
     let split : from + (hi - from) ≡ hi = omega (arith, fits) in
     ⊎_elim
     (λ voids.
-      let all = voids-end first lo from hi le fits (λ n f b. voids n f (omega (arith, split, b))) in
-      omega (arith, all))
+    let all = voids-end first lo from hi le fits (λ n f b. voids n f (omega (arith, split, b))) in
+    omega (arith, all))
     (λ next.
-      let b : next.page < hi = omega (arith, next.before, split) in
-      let some = voids-split first lo next.page hi (omega (arith, le, next.from)) (omega (arith, b)) in
-      let voids = voids-end first lo from next.page le next.from next.voids in
-      let above = above_key next.page next.key next.here (none next.page next.from b) in
-      let to = window.to next.page next.key (omega (arith, le, next.from)) b next.here above in
-      omega (arith, some, voids, to, next.from))
+    let b : next.page < hi = omega (arith, next.before, split) in
+    let some = voids-split first lo next.page hi (omega (arith, le, next.from)) (omega (arith, b)) in
+    let voids = voids-end first lo from next.page le next.from next.voids in
+    let above = above_key next.page next.key next.here (none next.page next.from b) in
+    let to = window.to next.page next.key (omega (arith, le, next.from)) b next.here above in
+    omega (arith, some, voids, to, next.from))
     (next-full first from (hi - from))
   where
     above_key : (n x : ℕ) → first n ≡ Some x → starts_by first key n ≡ false → key < x
@@ -108,9 +108,9 @@ one-page first lo hi key (Some m) None a b = absurd (no (sym (b m a.from a.befor
 one-page first lo hi key (Some m) (Some n) a b = ap (λ (k : ℕ). Some k) (⊎_elim
     (λ less. absurd (no (sym (a.later n less b.before) ∙ b.here)))
     (λ ge. ⊎_elim
-      (λ less. absurd (no (sym (b.later m less a.before) ∙ a.here)))
-      (λ le. omega arith)
-      (cases_lt n m))
+    (λ less. absurd (no (sym (b.later m less a.before) ∙ a.here)))
+    (λ le. omega arith)
+    (cases_lt n m))
     (cases_lt m n))
   where
     no : false ≡ true → ⊥

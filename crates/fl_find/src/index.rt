@@ -104,7 +104,11 @@ impl<const KNOTS: usize, const SLOTS: usize> LearnedIndex<KNOTS, SLOTS> {
     {
         let estimate = u64::from(self.spline.estimate(segment, key));
         let end = estimate + u64::from(self.error) + 1;
-        if end < u64::from(next) { end as u32 } else { next }
+        if end < u64::from(next) {
+            end as u32
+        } else {
+            next
+        }
     }
 
     /// The greatest kept page with rows whose first key is at most the key, and none where there is none. The buffer
@@ -139,7 +143,7 @@ impl<const KNOTS: usize, const SLOTS: usize> LearnedIndex<KNOTS, SLOTS> {
         ensures some { is_covered (knots_in self.now) key ≡ false → IfOk result (λ page. IfSome page (λ number. RoseSome (F.state flash.old).work.reads (F.state flash.new).work.reads)) }
         ensures few { is_covered (knots_in self.now) key ≡ false → IsTrue (F.state flash.old).media.tells →
             (F.state flash.new).work.reads ≤ (F.state flash.old).work.reads + bits (next_of ring.now - oldest_of ring.now) + 1
-                + voids_in (first_on (layout_of schema.now) (shape_of ring.now) (F.state flash.old)) (oldest_of ring.now) (next_of ring.now) }
+            + voids_in (first_on (layout_of schema.now) (shape_of ring.now) (F.state flash.old)) (oldest_of ring.now) (next_of ring.now) }
         ensures most { (F.state flash.new).work.reads ≤ (F.state flash.old).work.reads + (next_of ring.now - oldest_of ring.now) + 1 }
         ensures holds { IfOk result (λ page. IfSome page (λ number. Holds (layout_of schema.now) (shape_of ring.now) (F.state flash.new) number buf.new)) }
         ensures within { IfOk result (λ page. IfSome page (λ number. (oldest_of ring.now ≤ number) × (number < next_of ring.now))) }

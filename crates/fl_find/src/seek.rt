@@ -11,12 +11,7 @@ use fl_page::PageView;
 use fl_schema::Schema;
 
 /// The place of the row with the key in a committed page, and none where no row has it.
-pub(crate) fn row_of(
-    schema: &Schema<8>,
-    bytes: &[u8],
-    number: u32,
-    key: u64,
-) -> Option<usize>
+pub(crate) fn row_of(schema: &Schema<8>, bytes: &[u8], number: u32, key: u64) -> Option<usize>
     requires size { 24 ≤ length bytes.now }
     requires committed { state_of_page bytes.now ≡ Committed }
     requires good { IsGoodPage (layout_of schema.now) number bytes.now }

@@ -1,7 +1,7 @@
-use Rattle.std.proofs.Common.{rules, ◌≡◌, ◌+◌, ◌-◌, ◌<◌, ◌≤◌, ℕ, IsTrue, refl, sym, subst, arith}
+use Rattle.std.proofs.Common.{rules, ◌≡◌, ◌+◌, ◌-◌, refl, sym, subst, arith}
 use Rattle.std.proofs.lemmas.Result.{IfOk-weaker, IfErr-weaker}
 use Rattle.fl_flash.specs.Flash.{FlashState}
-use Rattle.fl_ring.specs.Place.{shape_of, oldest_of, next_of}
+use Rattle.fl_ring.specs.Place.{shape_of, oldest_of}
 use Rattle.fl_schema.specs.Schema.{layout_of}
 use Rattle.fl_find.specs.Pages.{first_on}
 use Rattle.fl_find.specs.Looking.{OnlyLooks, LookFails}
