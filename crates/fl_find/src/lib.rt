@@ -11,6 +11,8 @@ mod laws;
 mod row;
 mod search;
 mod seek;
+#[cfg(test)]
+mod tests;
 
 pub use index::LearnedIndex;
 pub use keys::PageKeys;
