@@ -1,5 +1,5 @@
 -- Calls that only read, one after another.
-use Rattle.std.proofs.Common.{◌≡◌, ◌⊎◌, ℕ, zero, suc, ◌+◌, ◌≤◌, Bool, true, false, IsTrue, List, take, drop, length, inl, inr, refl, sym, ap, subst, ◌∙◌, arith, Result, Ok, OnOk}
+use Rattle.std.proofs.Common.{◌≡◌, ℕ, zero, suc, ◌+◌, ◌-◌, ◌^◌, ◌<◌, ◌≤◌, Bool, true, false, IsTrue, List, take, drop, length, refl, sym, ap, subst, ◌∙◌, arith, Result, Ok, OnOk}
 use Rattle.fl_base.specs.Causes.{Rose}
 use Rattle.fl_base.specs.declared.types.Geometry.{Geometry}
 use Rattle.fl_flash.specs.Buffer.{BufferState}
@@ -11,11 +11,11 @@ use Rattle.fl_flash.specs.declared.flash.FlashFault.{FlashFault}
 use Rattle.fl_flash.specs.declared.flash.FlashFault.TheVariants.{PowerLost, Media}
 use Rattle.fl_page.specs.declared.fault.ReadFault.{ReadFault}
 use Rattle.fl_page.specs.declared.fault.ReadFault.TheVariants.{Flash, BadPage}
-use Rattle.fl_page.specs.Contents.{Contents, contents_of, counted, OnlyReads, StaysOn, IsCaused}
+use Rattle.fl_page.specs.Contents.{Contents, contents_of, counted, OnlyReads, IsCaused}
 
 -- nothing was done
 pub OnlyReads-same : (flash : FlashState) → OnlyReads flash flash
-OnlyReads-same flash = record { contents = refl; origin = refl; armed = refl; cuts = omega arith; faults = omega arith; reads = 0; work = refl; media = refl }
+OnlyReads-same flash = record { contents = refl; origin = refl; power = refl; armed = refl; cuts = refl; faults = omega arith; reads = 0; work = refl; media = refl }
 
 pub counted-add : (m n before : ℕ) → counted (m + n) before ≡ counted m (counted n before)
 counted-add zero n before = ap (λ (k : ℕ). counted k before) (omega arith)
@@ -28,8 +28,9 @@ pub OnlyReads-then : (a b c : FlashState) → OnlyReads a b → OnlyReads b c �
 OnlyReads-then a b c first second = record {
   contents = second.contents ∙ first.contents;
   origin = second.origin ∙ first.origin;
+  power = second.power ∙ first.power;
   armed = second.armed ∙ first.armed;
-  cuts = omega (arith, first.cuts, second.cuts);
+  cuts = second.cuts ∙ first.cuts;
   faults = omega (arith, first.faults, second.faults);
   reads = second.reads + first.reads;
   work = second.work ∙ ap (λ (w : Work). record w { reads = counted second.reads w.reads }) first.work
@@ -53,8 +54,9 @@ OnlyReads-read old new page size result into is = by_power old.is_on refl
     by_power true e = record {
       contents = same_contents old new is.goes is.same;
       origin = is.goes.origin;
+      power = is.power;
       armed = is.armed;
-      cuts = is.goes.cuts;
+      cuts = is.cuts;
       faults = is.goes.faults;
       reads = 1;
       work = is.counted e;
@@ -73,16 +75,25 @@ OnlyReads-goes old new is = record {
   size = ap (λ (c : Contents). length c.bytes) is.contents;
   front = λ told. ap (λ (c : Contents). take old.start c.bytes) is.contents;
   back = λ told. ap (λ (c : Contents). drop (old.start + extent old.geometry old.blocks) c.bytes) is.contents;
-  cuts = is.cuts;
+  cuts = omega (arith, is.cuts);
   faults = is.faults;
 }
 
 -- a fault of a later call has its cause in both
-pub IsCaused-later : (a b c : FlashState) (fault : ReadFault) → OnlyReads a b → StaysOn a b → IsCaused b fault c → IsCaused a fault c
-IsCaused-later a b c (Flash PowerLost) first on (inl off) = elim on [
-  | inl is_on ↦ absurd (cc (is_on, off))
-  | inr same ↦ inl (sym same ∙ off)
-]
-IsCaused-later a b c (Flash PowerLost) first on (inr rose) = inr (omega (arith, first.cuts, rose))
-IsCaused-later a b c (Flash Media) first on cause = omega (arith, first.faults, cause)
-IsCaused-later a b c (BadPage bad) first on cause = cause
+pub IsCaused-later : (a b c : FlashState) (fault : ReadFault) → OnlyReads a b → IsCaused b fault c → IsCaused a fault c
+IsCaused-later a b c (Flash PowerLost) first off = sym first.power ∙ off
+IsCaused-later a b c (Flash Media) first rose = omega (arith, first.faults, rose)
+IsCaused-later a b c (BadPage bad) first cause = cause
+
+-- a count that isn't at its end rose by each read
+counted-rises : (n before : ℕ) → counted n before < 2 ^ 64 - 1 → before ≤ counted n before
+counted-rises zero before below = omega arith
+counted-rises (suc n) before below =
+    let less : counted n before < 2 ^ 64 - 1 = omega arith in
+    omega (arith, counted-rises n before less)
+
+-- where the count of reads isn't at its end it didn't fall
+pub OnlyReads-reads : (a b : FlashState) → OnlyReads a b → b.work.reads < 2 ^ 64 - 1 → a.work.reads ≤ b.work.reads
+OnlyReads-reads a b is below =
+    let count : b.work.reads ≡ counted is.reads a.work.reads = ap (λ (w : Work). w.reads) is.work in
+    omega (arith, count, counted-rises is.reads a.work.reads (omega (arith, count)))

@@ -1,5 +1,5 @@
 -- What a flash holds, and calls that only read it.
-use Rattle.std.specs.Prelude.{◌≡◌, ◌⊎◌, ℕ, zero, suc, ◌≤◌, Bool, true, false, List}
+use Rattle.std.specs.Prelude.{◌≡◌, ℕ, zero, suc, ◌≤◌, Bool, false, List}
 use Rattle.fl_base.specs.Causes.{Rose}
 use Rattle.fl_base.specs.declared.types.Geometry.{Geometry}
 use Rattle.fl_flash.specs.Media.{next_count}
@@ -30,23 +30,20 @@ abbrev pub counted : ℕ → ℕ → ℕ
 counted zero before = before
 counted (suc n) before = next_count (counted n before)
 
--- nothing is programmed and nothing erased; flash and medium count the same reads
+-- nothing is programmed and nothing erased, and the power stays; flash and medium count the same reads
 pub record OnlyReads (old new : FlashState) : Type 0 where
   pub contents : contents_of new ≡ contents_of old
   pub origin : new.origin ≡ old.origin
+  pub power : new.is_on ≡ old.is_on
   pub armed : new.armed ≡ old.armed
-  pub cuts : old.cuts ≤ new.cuts
+  pub cuts : new.cuts ≡ old.cuts
   pub faults : old.media.faults ≤ new.media.faults
   pub reads : ℕ
   pub work : new.work ≡ record old.work { reads = counted reads old.work.reads }
   pub media : new.media.reads ≡ counted reads old.media.reads
 
--- the power is on, or it is as it was
-abbrev pub StaysOn : FlashState → FlashState → Type 0
-StaysOn old new = (new.is_on ≡ true) ⊎ (new.is_on ≡ old.is_on)
-
--- a fault of the flash has its cause in the call
+-- a fault of the flash has its cause: the power was off, which no read can lose, or the medium failed in the call
 abbrev pub IsCaused : FlashState → ReadFault → FlashState → Type 0
-IsCaused old (Flash PowerLost) new = (old.is_on ≡ false) ⊎ Rose old.cuts new.cuts
+IsCaused old (Flash PowerLost) new = old.is_on ≡ false
 IsCaused old (Flash Media) new = Rose old.media.faults new.media.faults
 IsCaused old (BadPage bad) new = Unit {0}

@@ -7,7 +7,7 @@ ghost use Rattle.fl_model.specs.Row.{Row};
 ghost use Rattle.fl_model.specs.Query.{is_above};
 ghost use Rattle.fl_flash.specs.Flash.{FlashState};
 ghost use Rattle.fl_schema.specs.Schema.{layout_of_row, row_of};
-ghost use Rattle.fl_page.specs.Contents.{Contents, contents_of, OnlyReads, StaysOn, IsCaused};
+ghost use Rattle.fl_page.specs.Contents.{Contents, contents_of, OnlyReads, IsCaused};
 ghost use Rattle.fl_page.specs.Steps.{Steps, Ascends};
 ghost use Rattle.fl_page.specs.declared.fault.BadPage.{BadPage};
 
@@ -25,6 +25,9 @@ pub trait RowHere {
 
     /// What the rows are made of.
     ghost schema: { Self → RowLayout };
+
+    /// The key above which the next row lies.
+    ghost above: { Self → Option ℕ };
 
     /// The present row, after a step that answered true.
     fn row(&self) -> RowRef<'_>
@@ -47,9 +50,6 @@ pub trait Rows<F: Flash>: RowHere {
     /// The rows left.
     ghost left: { Self → Contents → List Row };
 
-    /// The key above which the next row lies.
-    ghost above: { Self → Option ℕ };
-
     /// Whether the last row was given.
     ghost ended: { Self → Bool };
 
@@ -65,15 +65,14 @@ pub trait Rows<F: Flash>: RowHere {
     fn step(&mut self, flash: &mut F) -> Result<bool, ReadFault>
         requires { ready self.old (contents_of (F.state flash.old)) }
         ensures reads_only { OnlyReads (F.state flash.old) (F.state flash.new) }
-        ensures power { OnOk result (StaysOn (F.state flash.old) (F.state flash.new)) }
         ensures cause { IfErr result (λ fault. IsCaused (F.state flash.old) fault (F.state flash.new)) }
         ensures names { names self.new ≡ names self.old }
         ensures schema { Self.schema self.new ≡ Self.schema self.old }
         ensures stays_ready { (contents : Contents) → ready self.old contents → ready self.new contents }
         ensures here { IfOk result (λ more. Self.here self.new ≡ more) }
-        ensures key { IfOk result (λ more. OnTrue more ((above self.new ≡ Some (Self.present self.new).key)
-            × (is_above (above self.old) (Self.present self.new).key ≡ true) × ((Self.present self.new).key < 2 ^ 64))) }
-        ensures never_falls { (key : ℕ) → is_above (above self.new) key ≡ true → is_above (above self.old) key ≡ true }
+        ensures key { IfOk result (λ more. OnTrue more ((Self.above self.new ≡ Some (Self.present self.new).key)
+            × (is_above (Self.above self.old) (Self.present self.new).key ≡ true) × ((Self.present self.new).key < 2 ^ 64))) }
+        ensures never_falls { (key : ℕ) → is_above (Self.above self.new) key ≡ true → is_above (Self.above self.old) key ≡ true }
         ensures end { IfOk result (λ more. OnFalse more (ended self.new ≡ true)) }
         ensures stays_ended { ended self.old ≡ true → (result ≡ Ok false) × (F.state flash.new ≡ F.state flash.old) }
         ensures bad_page { (bad : BadPage) → result ≡ Err (ReadFault.BadPage bad) → passes self.old (contents_of (F.state flash.old)) bad }
@@ -88,5 +87,5 @@ pub trait Rows<F: Flash>: RowHere {
         ensures none_left { told self.old (contents_of (F.state flash.old)) → IfOk result (λ more. OnFalse more (least self.new (contents_of (F.state flash.old)) ≡ 0)) };
 
     /// The rows left come in the order of their keys, above the last one given.
-    ghost ascends: { (rows : Self) (contents : Contents) → told rows contents → Ascends (above rows) (left rows contents) };
+    ghost ascends: { (rows : Self) (contents : Contents) → told rows contents → Ascends (Self.above rows) (left rows contents) };
 }
