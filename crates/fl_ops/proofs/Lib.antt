@@ -1,3 +1,4 @@
 pub mod Calls
 pub mod ColumnValues
 pub mod Room
+pub mod Selections

@@ -1,3 +1,5 @@
 pub mod Columns
 pub mod Ascending
+pub mod Inputs
 pub mod Select
+pub mod Project

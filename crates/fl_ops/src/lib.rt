@@ -2,6 +2,10 @@
 #![tactic(auto)]
 
 mod columns;
+mod project;
 mod select;
+mod selection;
 
+pub use project::Project;
 pub use select::Select;
+pub use selection::selection_is_the_models;
