@@ -1,4 +1,8 @@
 pub mod Calls
+pub mod Climbing
 pub mod ColumnValues
+pub mod GroupLists
+pub mod Joins
 pub mod Room
 pub mod Selections
+pub mod Sums

@@ -3,3 +3,6 @@ pub mod Ascending
 pub mod Inputs
 pub mod Select
 pub mod Project
+pub mod Tally
+pub mod Groups
+pub mod Join

@@ -1,5 +1,5 @@
 // The columns of a row, and how they compare.
-ghost use Rattle.std.specs.Prelude.{◌≡◌, ◌≤◌, length, pos, ◌≤ℤ◌, neg_ℤ, ◌^◌, ◌-◌, ◌<◌, unsigned_abs};
+ghost use Rattle.std.specs.Prelude.{◌≡◌, ◌^◌, ◌<◌, ◌≤◌, pos, unsigned_abs};
 ghost use Rattle.fl_model.specs.Operators.{column_of, compares};
 ghost use Rattle.fl_schema.specs.Schema.{layout_of_row, row_of};
 ghost use Rattle.fl_ops.specs.Columns.{HasColumn, record_of};
@@ -11,7 +11,10 @@ use fl_schema::RowRef;
 #[tactic(auto, using(crate::proofs::ColumnValues::column_values))]
 pub(crate) fn column(row: &RowRef<'_>, column: usize) -> i128
     requires { HasColumn (layout_of_row row.now) column }
-    ensures { result ≡ column_of (record_of (row_of row.now)) column }
+    ensures value { result ≡ column_of (record_of (row_of row.now)) column }
+    ensures key { column ≡ 0 → result ≡ pos (row_of row.now).key }
+    ensures small { unsigned_abs result < 2 ^ 64 }
+    ensures value_small { 0 < column → unsigned_abs result ≤ 2 ^ 63 }
 {
     if column == 0 {
         i128::from(row.key())
