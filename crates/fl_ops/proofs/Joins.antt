@@ -1,12 +1,16 @@
 -- The pairs of lists whose keys ascend, found from their fronts.
-use Rattle.std.proofs.Common.{ℕ, ◌≡◌, ◌<◌, ◌≤◌, List, [], ◌∷◌, eqb, true, false, refl, ap, arith, Option, Some, None}
+use Rattle.std.proofs.Common.{ℕ, ◌≡◌, ◌∙◌, ◌<◌, ◌≤◌, Bool, true, false, List, [], ◌∷◌, eqb, refl, ap, arith, Option, Some, None, Result, Ok, Err, IfOk, MatchBool}
 use Rattle.std.specs.Prelude.{◌==◌, option_map}
 use Rattle.std.specs.List.{find}
 use Rattle.std.proofs.lemmas.Grind.{common_steps}
 use Rattle.fl_model.specs.Record.{Record}
+use Rattle.fl_model.specs.Row.{Row}
 use Rattle.fl_model.specs.Operators.{key_join}
-use Rattle.fl_page.proofs.Reading.{OnlyReads-then}
-use Rattle.fl_ops.proofs.Climbing.{Climbs}
+use Rattle.fl_page.specs.Steps.{Steps, Ascends}
+use Rattle.fl_page.specs.declared.fault.ReadFault.{ReadFault}
+use Rattle.fl_ops.specs.Columns.{record_of, records_of}
+use Rattle.fl_ops.specs.Pairs.{pairs_from}
+use Rattle.fl_ops.proofs.Climbing.{Climbs, Climbs-rows}
 
 -- no later record has this key or one below
 find-none : (key low : ℕ) (items : List Record) → Climbs key items → low ≤ key → find (λ item. item.key == low) items ≡ None
@@ -22,24 +26,59 @@ join-past key b (a ∷ left) right climbs below =
     let other : eqb b.key a.key ≡ false = let above : key < a.key = climbs.0 in grind (arith, common_steps) in
     rw (other, join-past a.key b left right climbs.1 (omega (arith, climbs.0, below))) refl
 
-pub join-none : (left : List Record) → key_join left [] ≡ []
+join-none : (left : List Record) → key_join left [] ≡ []
 join-none [] = refl
 join-none (a ∷ left) = join-none left
 
-pub join-less : (a b : Record) (left right : List Record) → a.key < b.key → Climbs b.key right → key_join (a ∷ left) (b ∷ right) ≡ key_join left (b ∷ right)
+join-less : (a b : Record) (left right : List Record) → a.key < b.key → Climbs b.key right → key_join (a ∷ left) (b ∷ right) ≡ key_join left (b ∷ right)
 join-less a b left right less climbs =
     let other : eqb b.key a.key ≡ false = grind (arith, common_steps) in
     let none : find (λ item. item.key == a.key) right ≡ None = find-none b.key a.key right climbs (omega arith) in
     rw (other, none) refl
 
-pub join-greater : (a b : Record) (left right : List Record) → b.key < a.key → Climbs a.key left → key_join (a ∷ left) (b ∷ right) ≡ key_join (a ∷ left) right
+join-greater : (a b : Record) (left right : List Record) → b.key < a.key → Climbs a.key left → key_join (a ∷ left) (b ∷ right) ≡ key_join (a ∷ left) right
 join-greater a b left right less climbs =
     let other : eqb b.key a.key ≡ false = grind (arith, common_steps) in
     rw (other, join-past a.key b left right climbs (omega arith)) refl
 
-pub join-equal : (a b : Record) (left right : List Record) → a.key ≡ b.key → Climbs a.key left → key_join (a ∷ left) (b ∷ right) ≡ (a, b) ∷ key_join left right
+join-equal : (a b : Record) (left right : List Record) → a.key ≡ b.key → Climbs a.key left → key_join (a ∷ left) (b ∷ right) ≡ (a, b) ∷ key_join left right
 join-equal a b left right same climbs =
     let here : eqb b.key a.key ≡ true = grind (arith, common_steps) in
     rw (here, join-past a.key b left right climbs (omega arith)) refl
 
-pub ruleset joins = (join-none, join-less, join-greater, join-equal, OnlyReads-then)
+-- the first row of each
+pub begin-pairs : (result : Result Bool ReadFault) (a b : Row) (start left before after : List Row) → start ≡ a ∷ left → Steps result before b after
+    → IfOk result (λ more. MatchBool more (key_join (records_of start) (records_of before) ≡ pairs_from a left b after) (key_join (records_of start) (records_of before) ≡ []))
+begin-pairs (Ok true) a b start left before after first is =
+    ap (λ rows. key_join (records_of rows) (records_of before)) first ∙ ap (λ rows. key_join (record_of a ∷ records_of left) (records_of rows)) is
+begin-pairs (Ok false) a b start left before after first is =
+    ap (λ rows. key_join (records_of start) (records_of rows)) is.0 ∙ join-none (records_of start)
+begin-pairs (Err fault) a b start left before after first is = tt
+
+-- the left row has the lesser key, and so no pair
+pub pass-left : (result : Result Bool ReadFault) (a b next : Row) (before after right : List Row) → a.key < b.key → Ascends (Some b.key) right → Steps result before next after
+    → IfOk result (λ more. MatchBool more (pairs_from a before b right ≡ pairs_from next after b right) (pairs_from a before b right ≡ []))
+pass-left (Ok true) a b next before after right less ascends is =
+    join-less (record_of a) (record_of b) (records_of before) (records_of right) less (Climbs-rows b.key right ascends)
+    ∙ ap (λ rows. key_join (records_of rows) (record_of b ∷ records_of right)) is
+pass-left (Ok false) a b next before after right less ascends is =
+    join-less (record_of a) (record_of b) (records_of before) (records_of right) less (Climbs-rows b.key right ascends)
+    ∙ ap (λ rows. key_join (records_of rows) (record_of b ∷ records_of right)) is.0
+pass-left (Err fault) a b next before after right less ascends is = tt
+
+-- the right row has the lesser key
+pub pass-right : (result : Result Bool ReadFault) (a b next : Row) (left before after : List Row) → b.key < a.key → Ascends (Some a.key) left → Steps result before next after
+    → IfOk result (λ more. MatchBool more (pairs_from a left b before ≡ pairs_from a left next after) (pairs_from a left b before ≡ []))
+pass-right (Ok true) a b next left before after less ascends is =
+    join-greater (record_of a) (record_of b) (records_of left) (records_of before) less (Climbs-rows a.key left ascends)
+    ∙ ap (λ rows. key_join (record_of a ∷ records_of left) (records_of rows)) is
+pass-right (Ok false) a b next left before after less ascends is =
+    join-greater (record_of a) (record_of b) (records_of left) (records_of before) less (Climbs-rows a.key left ascends)
+    ∙ ap (λ rows. key_join (record_of a ∷ records_of left) (records_of rows)) is.0 ∙ join-none (record_of a ∷ records_of left)
+pass-right (Err fault) a b next left before after less ascends is = tt
+
+-- both rows have one key
+pub pair-equal : (a b : Row) (left right : List Row) → a.key ≡ b.key → Ascends (Some a.key) left
+    → pairs_from a left b right ≡ (record_of a, record_of b) ∷ key_join (records_of left) (records_of right)
+pair-equal a b left right same ascends =
+    join-equal (record_of a) (record_of b) (records_of left) (records_of right) same (Climbs-rows a.key left ascends)

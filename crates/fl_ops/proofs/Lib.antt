@@ -1,6 +1,7 @@
 pub mod Calls
 pub mod Climbing
 pub mod ColumnValues
+pub mod Continuing
 pub mod GroupLists
 pub mod Joins
 pub mod Room

@@ -21,3 +21,10 @@ pub sum_small : (column key : ℕ) (tally : Tally) (value : ℤ) → HasBounds c
 sum_small zero key tally value bounds few small is eight = keys_small key tally.sum value small (is refl) (bounds.keys refl)
 sum_small (suc n) key tally value bounds few small is eight =
     let some : 0 < suc n = omega arith in values_small tally.count tally.sum value few (eight some) (bounds.values some)
+
+-- the bounds stay where the end rises
+pub HasBounds-later : (column end later : ℕ) (tally : Tally) → end ≤ later → HasBounds column end tally → HasBounds column later tally
+HasBounds-later column end later tally rises bounds = record {
+  keys = λ is. omega (arith, bounds.keys is, mul-le end (end - 1) later (later - 1) rises (omega (arith, rises)));
+  values = bounds.values;
+}

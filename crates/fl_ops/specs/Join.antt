@@ -3,7 +3,7 @@ use Rattle.std.specs.Prelude.{Bool, List, [], if◌then◌else◌}
 use Rattle.fl_model.specs.Record.{Record}
 use Rattle.fl_model.specs.Row.{Row}
 use Rattle.fl_model.specs.Operators.{key_join}
-use Rattle.fl_ops.specs.Columns.{record_of, records_of}
+use Rattle.fl_ops.specs.Columns.{records_of}
 use Rattle.fl_ops.specs.declared.join.KeyJoin.{KeyJoin}
 
 abbrev pub left_of : {A B : Type 0} → KeyJoin A B → A
@@ -19,6 +19,3 @@ has_ended join = join.ended
 -- the pairs that these rows make
 abbrev pub pairs_left : {A B : Type 0} → KeyJoin A B → List Row → List Row → List (Record × Record)
 pairs_left join left right = if has_ended join then [] else key_join (records_of left) (records_of right)
-
-abbrev pub pair_of : Row → Row → Record × Record
-pair_of left right = (record_of left, record_of right)

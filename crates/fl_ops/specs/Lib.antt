@@ -5,4 +5,5 @@ pub mod Select
 pub mod Project
 pub mod Tally
 pub mod Groups
+pub mod Pairs
 pub mod Join

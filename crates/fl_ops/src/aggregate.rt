@@ -1,11 +1,23 @@
 // Rows in groups.
-ghost use Rattle.std.specs.Prelude.{◌≡◌, ◌≤◌, true, Some};
+ghost use Rattle.std.specs.Prelude.{◌≡◌, ◌+◌, ◌*◌, ◌/◌, ◌<◌, ◌≤◌, true, Some};
+ghost use Rattle.fl_schema.specs.Schema.{row_of};
 ghost use Rattle.fl_ops.specs.Columns.{HasColumn};
 
 use crate::Group;
 use crate::tally::Tally;
 use fl_flash::Flash;
 use fl_page::{ReadFault, RowHere, Rows};
+use fl_schema::RowRef;
+
+// The group of a row.
+fn group_number(row: &RowRef<'_>, width: u64) -> u64
+    requires { 1 ≤ width }
+    ensures number { result ≡ (row_of row.now).key / width }
+    ensures from { result * width ≤ (row_of row.now).key }
+    ensures to { (row_of row.now).key < result * width + width }
+{
+    row.key() / width
+}
 
 /// The rows in groups by their keys divided by the width, and in each group the values of one column. Column 0 is the key.
 #[derive(Drop)]
@@ -22,7 +34,7 @@ pub struct Aggregate<R: RowHere> {
 }
 
 impl<R: RowHere> Aggregate<R> {
-    ghost use Rattle.std.specs.Prelude.{◌+◌, ◌-◌, ◌^◌, ◌<◌, false, None, Ok, Err, OnOk, IfOk, IfErr, IfNone, List, ◌∷◌};
+    ghost use Rattle.std.specs.Prelude.{◌-◌, ◌^◌, false, None, Ok, Err, OnOk, IfOk, IfErr, IfNone, List, ◌∷◌};
     ghost use Rattle.std.specs.Bool.{OnTrue, OnFalse};
     ghost use Rattle.fl_model.specs.Row.{Row};
     ghost use Rattle.fl_model.specs.Operators.{aggregate};
@@ -105,11 +117,11 @@ impl<R: RowHere> Aggregate<R> {
             return Ok(None);
         }
         let first = self.rows.row();
-        let group = first.key() / self.width;
+        let group = group_number(&first, self.width);
         let mut tally = Tally::of_row(&first, self.column);
         while self.rows.step(flash)? {
             let row = self.rows.row();
-            if row.key() / self.width != group {
+            if group_number(&row, self.width) != group {
                 self.waiting = true;
                 return Ok(Some(tally.group(group)));
             }

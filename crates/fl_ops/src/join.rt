@@ -12,7 +12,7 @@ pub struct KeyJoin<A, B> {
 }
 
 impl<A: RowHere, B: RowHere> KeyJoin<A, B> {
-    ghost use Rattle.std.specs.Prelude.{◌≡◌, ◌+◌, ◌-◌, ◌^◌, ◌<◌, ◌≤◌, ◌⊎◌, true, false, Some, Ok, Err, OnOk, IfOk, IfErr, ◌∷◌};
+    ghost use Rattle.std.specs.Prelude.{◌≡◌, ◌≢◌, ◌⊎◌, ◌+◌, ◌<◌, ◌≤◌, true, false, Some, Ok, Err, IfOk, IfErr, MatchBool, []};
     ghost use Rattle.std.specs.Bool.{OnTrue, OnFalse};
     ghost use Rattle.fl_model.specs.Operators.{key_join};
     ghost use Rattle.fl_flash.specs.Flash.{FlashState};
@@ -21,7 +21,8 @@ impl<A: RowHere, B: RowHere> KeyJoin<A, B> {
     ghost use Rattle.fl_page.specs.declared.fault.BadPage.{BadPage};
     ghost use Rattle.fl_ops.specs.Columns.{records_of};
     ghost use Rattle.fl_ops.specs.Inputs.{Continues, StepsOver};
-    ghost use Rattle.fl_ops.specs.Join.{left_of, right_of, has_ended, pairs_left, pair_of};
+    ghost use Rattle.fl_ops.specs.Pairs.{pair_of, pairs_from, keys_above};
+    ghost use Rattle.fl_ops.specs.Join.{left_of, right_of, has_ended, pairs_left};
 
     pub fn new(left: A, right: B) -> KeyJoin<A, B>
         ensures left { left_of result ≡ left }
@@ -53,9 +54,8 @@ impl<A: RowHere, B: RowHere> KeyJoin<A, B> {
         self.right.row()
     }
 
-    // Goes on to the next rows with one key.
-    #[tactic(auto, using(crate::proofs::Joins::joins))]
-    fn next_pair<F: Flash>(&mut self, flash: &mut F) -> Result<bool, ReadFault>
+    // Goes to the next row of each.
+    fn step_both<F: Flash>(&mut self, flash: &mut F) -> Result<bool, ReadFault>
     where
         A: Rows<F>,
         B: Rows<F>,
@@ -63,15 +63,15 @@ impl<A: RowHere, B: RowHere> KeyJoin<A, B> {
         requires right { B.ready (right_of self.old) (contents_of (F.state flash.old)) }
         ensures reads_only { OnlyReads (F.state flash.old) (F.state flash.new) }
         ensures cause { IfErr result (λ fault. IsCaused (F.state flash.old) fault (F.state flash.new)) }
-        ensures bad_page { (bad : BadPage) → result ≡ Err (ReadFault.BadPage bad) →
-            A.passes (left_of self.old) (contents_of (F.state flash.old)) bad ⊎ B.passes (right_of self.old) (contents_of (F.state flash.old)) bad }
+        ensures bad_page { (bad : BadPage) → result ≡ Err (ReadFault.BadPage bad) → A.passes (left_of self.old) (contents_of (F.state flash.old)) bad ⊎ B.passes (right_of self.old) (contents_of (F.state flash.old)) bad }
         ensures left { Continues A.names A.schema A.above A.ready A.told A.passes (contents_of (F.state flash.old)) (left_of self.old) (left_of self.new) }
         ensures right { Continues B.names B.schema B.above B.ready B.told B.passes (contents_of (F.state flash.old)) (right_of self.old) (right_of self.new) }
+        ensures goes_on { has_ended self.new ≡ has_ended self.old }
         ensures here { IfOk result (λ more. OnTrue more ((A.here (left_of self.new) ≡ true) × (B.here (right_of self.new) ≡ true))) }
-        ensures steps { A.told (left_of self.old) (contents_of (F.state flash.old)) → B.told (right_of self.old) (contents_of (F.state flash.old)) →
-            StepsOver result (key_join (records_of (A.left (left_of self.old) (contents_of (F.state flash.old)))) (records_of (B.left (right_of self.old) (contents_of (F.state flash.old)))))
-            (pair_of (A.present (left_of self.new)) (B.present (right_of self.new)))
-            (key_join (records_of (A.left (left_of self.new) (contents_of (F.state flash.old)))) (records_of (B.left (right_of self.new) (contents_of (F.state flash.old))))) }
+        ensures keys { IfOk result (λ more. OnTrue more ((A.above (left_of self.new) ≡ Some (A.present (left_of self.new)).key) × (B.above (right_of self.new) ≡ Some (B.present (right_of self.new)).key))) }
+        ensures pairs { A.told (left_of self.old) (contents_of (F.state flash.old)) → B.told (right_of self.old) (contents_of (F.state flash.old)) → IfOk result (λ more. MatchBool more
+            (key_join (records_of (A.left (left_of self.old) (contents_of (F.state flash.old)))) (records_of (B.left (right_of self.old) (contents_of (F.state flash.old)))) ≡ pairs_from (A.present (left_of self.new)) (A.left (left_of self.new) (contents_of (F.state flash.old))) (B.present (right_of self.new)) (B.left (right_of self.new) (contents_of (F.state flash.old))))
+            (key_join (records_of (A.left (left_of self.old) (contents_of (F.state flash.old)))) (records_of (B.left (right_of self.old) (contents_of (F.state flash.old)))) ≡ [])) }
         ensures most { A.told (left_of self.old) (contents_of (F.state flash.old)) → B.told (right_of self.old) (contents_of (F.state flash.old)) →
             (F.state flash.new).work.reads + (A.most (left_of self.new) (contents_of (F.state flash.old)) + B.most (right_of self.new) (contents_of (F.state flash.old)))
             ≤ (F.state flash.old).work.reads + (A.most (left_of self.old) (contents_of (F.state flash.old)) + B.most (right_of self.old) (contents_of (F.state flash.old))) }
@@ -79,25 +79,42 @@ impl<A: RowHere, B: RowHere> KeyJoin<A, B> {
         if !self.left.step(flash)? {
             return Ok(false);
         }
-        if !self.right.step(flash)? {
-            return Ok(false);
+        self.right.step(flash)
+    }
+
+    // Passes the row with the lesser key.
+    fn step_lesser<F: Flash>(&mut self, flash: &mut F) -> Result<bool, ReadFault>
+    where
+        A: Rows<F>,
+        B: Rows<F>,
+        requires left { A.ready (left_of self.old) (contents_of (F.state flash.old)) }
+        requires right { B.ready (right_of self.old) (contents_of (F.state flash.old)) }
+        requires left_here { A.here (left_of self.old) ≡ true }
+        requires right_here { B.here (right_of self.old) ≡ true }
+        requires left_key { A.above (left_of self.old) ≡ Some (A.present (left_of self.old)).key }
+        requires right_key { B.above (right_of self.old) ≡ Some (B.present (right_of self.old)).key }
+        requires differ { (A.present (left_of self.old)).key ≢ (B.present (right_of self.old)).key }
+        ensures reads_only { OnlyReads (F.state flash.old) (F.state flash.new) }
+        ensures cause { IfErr result (λ fault. IsCaused (F.state flash.old) fault (F.state flash.new)) }
+        ensures bad_page { (bad : BadPage) → result ≡ Err (ReadFault.BadPage bad) → A.passes (left_of self.old) (contents_of (F.state flash.old)) bad ⊎ B.passes (right_of self.old) (contents_of (F.state flash.old)) bad }
+        ensures left { Continues A.names A.schema A.above A.ready A.told A.passes (contents_of (F.state flash.old)) (left_of self.old) (left_of self.new) }
+        ensures right { Continues B.names B.schema B.above B.ready B.told B.passes (contents_of (F.state flash.old)) (right_of self.old) (right_of self.new) }
+        ensures goes_on { has_ended self.new ≡ has_ended self.old }
+        ensures here { IfOk result (λ more. OnTrue more ((A.here (left_of self.new) ≡ true) × (B.here (right_of self.new) ≡ true))) }
+        ensures keys { IfOk result (λ more. OnTrue more ((A.above (left_of self.new) ≡ Some (A.present (left_of self.new)).key) × (B.above (right_of self.new) ≡ Some (B.present (right_of self.new)).key))) }
+        ensures fewer { IfOk result (λ more. OnTrue more (keys_above (A.above (left_of self.new)) + keys_above (B.above (right_of self.new)) < keys_above (A.above (left_of self.old)) + keys_above (B.above (right_of self.old)))) }
+        ensures pairs { A.told (left_of self.old) (contents_of (F.state flash.old)) → B.told (right_of self.old) (contents_of (F.state flash.old)) → IfOk result (λ more. MatchBool more
+            (pairs_from (A.present (left_of self.old)) (A.left (left_of self.old) (contents_of (F.state flash.old))) (B.present (right_of self.old)) (B.left (right_of self.old) (contents_of (F.state flash.old)))
+            ≡ pairs_from (A.present (left_of self.new)) (A.left (left_of self.new) (contents_of (F.state flash.old))) (B.present (right_of self.new)) (B.left (right_of self.new) (contents_of (F.state flash.old))))
+            (pairs_from (A.present (left_of self.old)) (A.left (left_of self.old) (contents_of (F.state flash.old))) (B.present (right_of self.old)) (B.left (right_of self.old) (contents_of (F.state flash.old))) ≡ [])) }
+        ensures most { A.told (left_of self.old) (contents_of (F.state flash.old)) → B.told (right_of self.old) (contents_of (F.state flash.old)) →
+            (F.state flash.new).work.reads + (A.most (left_of self.new) (contents_of (F.state flash.old)) + B.most (right_of self.new) (contents_of (F.state flash.old)))
+            ≤ (F.state flash.old).work.reads + (A.most (left_of self.old) (contents_of (F.state flash.old)) + B.most (right_of self.old) (contents_of (F.state flash.old))) }
+    {
+        if self.left.row().key() < self.right.row().key() {
+            return self.left.step(flash);
         }
-        loop {
-            let left = self.left.row().key();
-            let right = self.right.row().key();
-            if left == right {
-                return Ok(true);
-            }
-            if left < right {
-                if !self.left.step(flash)? {
-                    return Ok(false);
-                }
-                continue;
-            }
-            if !self.right.step(flash)? {
-                return Ok(false);
-            }
-        }
+        self.right.step(flash)
     }
 
     /// Goes to the next pair, and says whether there is one.
@@ -109,8 +126,7 @@ impl<A: RowHere, B: RowHere> KeyJoin<A, B> {
         requires right { B.ready (right_of self.old) (contents_of (F.state flash.old)) }
         ensures reads_only { OnlyReads (F.state flash.old) (F.state flash.new) }
         ensures cause { IfErr result (λ fault. IsCaused (F.state flash.old) fault (F.state flash.new)) }
-        ensures bad_page { (bad : BadPage) → result ≡ Err (ReadFault.BadPage bad) →
-            A.passes (left_of self.old) (contents_of (F.state flash.old)) bad ⊎ B.passes (right_of self.old) (contents_of (F.state flash.old)) bad }
+        ensures bad_page { (bad : BadPage) → result ≡ Err (ReadFault.BadPage bad) → A.passes (left_of self.old) (contents_of (F.state flash.old)) bad ⊎ B.passes (right_of self.old) (contents_of (F.state flash.old)) bad }
         ensures left { Continues A.names A.schema A.above A.ready A.told A.passes (contents_of (F.state flash.old)) (left_of self.old) (left_of self.new) }
         ensures right { Continues B.names B.schema B.above B.ready B.told B.passes (contents_of (F.state flash.old)) (right_of self.old) (right_of self.new) }
         ensures here { IfOk result (λ more. OnTrue more ((A.here (left_of self.new) ≡ true) × (B.here (right_of self.new) ≡ true))) }
@@ -127,8 +143,16 @@ impl<A: RowHere, B: RowHere> KeyJoin<A, B> {
         if self.ended {
             return Ok(false);
         }
-        let more = self.next_pair(flash)?;
-        self.ended = !more;
-        Ok(more)
+        if !self.step_both(flash)? {
+            self.ended = true;
+            return Ok(false);
+        }
+        while self.left.row().key() != self.right.row().key() {
+            if !self.step_lesser(flash)? {
+                self.ended = true;
+                return Ok(false);
+            }
+        }
+        Ok(true)
     }
 }

@@ -7,8 +7,8 @@ use Rattle.fl_ops.proofs.Room.{next_key, room}
 use Rattle.fl_ops.proofs.GroupLists.{take_group}
 use Rattle.fl_ops.proofs.aggregate.Aggregate.step.Given as goal
 
-abbrev pub invariant-loop-row : goal.invariant-loop-row
-invariant-loop-row g l =
+abbrev pub invariant-loop-self : goal.invariant-loop-self
+invariant-loop-self g l =
     let H = g.R.RowHere in
     let R = g.R.Rows in
     let contents = contents_of (g.F.Flash.state l.fn.flash) in
@@ -30,5 +30,5 @@ invariant-loop-row g l =
           (g.F.Flash.state l.fn.flash).work.reads + R.least l.fn.self.rows contents ≤ (g.F.Flash.state l.flash).work.reads + R.least l.self.rows contents;
     }
 
-abbrev pub decreases-loop-row : goal.decreases-loop-row
-decreases-loop-row g l = room (g.R.RowHere.above l.self.rows)
+abbrev pub decreases-loop-self : goal.decreases-loop-self
+decreases-loop-self g l = room (g.R.RowHere.above l.self.rows)
