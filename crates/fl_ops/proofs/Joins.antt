@@ -1,5 +1,5 @@
 -- The pairs of lists whose keys ascend, found from their fronts.
-use Rattle.std.proofs.Common.{ℕ, ◌≡◌, ◌∙◌, ◌<◌, ◌≤◌, Bool, true, false, List, [], ◌∷◌, eqb, refl, ap, arith, Option, Some, None, Result, Ok, Err, IfOk, MatchBool}
+use Rattle.std.proofs.Common.{ℕ, ◌≡◌, ◌∙◌, ◌<◌, ◌≤◌, Bool, true, false, List, [], ◌∷◌, eqb, refl, ap, arith, Option, Some, None, Result, Ok, Err}
 use Rattle.std.specs.Prelude.{◌==◌, option_map}
 use Rattle.std.specs.List.{find}
 use Rattle.std.proofs.lemmas.Grind.{common_steps}
@@ -8,8 +8,9 @@ use Rattle.fl_model.specs.Row.{Row}
 use Rattle.fl_model.specs.Operators.{key_join}
 use Rattle.fl_page.specs.Steps.{Steps, Ascends}
 use Rattle.fl_page.specs.declared.fault.ReadFault.{ReadFault}
+use Rattle.fl_page.specs.declared.fault.ReadFault.TheVariants.{Flash, BadPage}
 use Rattle.fl_ops.specs.Columns.{record_of, records_of}
-use Rattle.fl_ops.specs.Pairs.{pairs_from}
+use Rattle.fl_ops.specs.Pairs.{pairs_from, PairsGo}
 use Rattle.fl_ops.proofs.Climbing.{Climbs, Climbs-rows}
 
 -- no later record has this key or one below
@@ -48,34 +49,37 @@ join-equal a b left right same climbs =
 
 -- the first row of each
 pub begin-pairs : (result : Result Bool ReadFault) (a b : Row) (start left before after : List Row) → start ≡ a ∷ left → Steps result before b after
-    → IfOk result (λ more. MatchBool more (key_join (records_of start) (records_of before) ≡ pairs_from a left b after) (key_join (records_of start) (records_of before) ≡ []))
+    → PairsGo result (key_join (records_of start) (records_of before)) (pairs_from a left b after)
 begin-pairs (Ok true) a b start left before after first is =
     ap (λ rows. key_join (records_of rows) (records_of before)) first ∙ ap (λ rows. key_join (record_of a ∷ records_of left) (records_of rows)) is
 begin-pairs (Ok false) a b start left before after first is =
     ap (λ rows. key_join (records_of start) (records_of rows)) is.0 ∙ join-none (records_of start)
-begin-pairs (Err fault) a b start left before after first is = tt
+begin-pairs (Err (Flash fault)) a b start left before after first is = tt
+begin-pairs (Err (BadPage bad)) a b start left before after first is = is
 
 -- the left row has the lesser key, and so no pair
 pub pass-left : (result : Result Bool ReadFault) (a b next : Row) (before after right : List Row) → a.key < b.key → Ascends (Some b.key) right → Steps result before next after
-    → IfOk result (λ more. MatchBool more (pairs_from a before b right ≡ pairs_from next after b right) (pairs_from a before b right ≡ []))
+    → PairsGo result (pairs_from a before b right) (pairs_from next after b right)
 pass-left (Ok true) a b next before after right less ascends is =
     join-less (record_of a) (record_of b) (records_of before) (records_of right) less (Climbs-rows b.key right ascends)
     ∙ ap (λ rows. key_join (records_of rows) (record_of b ∷ records_of right)) is
 pass-left (Ok false) a b next before after right less ascends is =
     join-less (record_of a) (record_of b) (records_of before) (records_of right) less (Climbs-rows b.key right ascends)
     ∙ ap (λ rows. key_join (records_of rows) (record_of b ∷ records_of right)) is.0
-pass-left (Err fault) a b next before after right less ascends is = tt
+pass-left (Err (Flash fault)) a b next before after right less ascends is = tt
+pass-left (Err (BadPage bad)) a b next before after right less ascends is = is
 
 -- the right row has the lesser key
 pub pass-right : (result : Result Bool ReadFault) (a b next : Row) (left before after : List Row) → b.key < a.key → Ascends (Some a.key) left → Steps result before next after
-    → IfOk result (λ more. MatchBool more (pairs_from a left b before ≡ pairs_from a left next after) (pairs_from a left b before ≡ []))
+    → PairsGo result (pairs_from a left b before) (pairs_from a left next after)
 pass-right (Ok true) a b next left before after less ascends is =
     join-greater (record_of a) (record_of b) (records_of left) (records_of before) less (Climbs-rows a.key left ascends)
     ∙ ap (λ rows. key_join (record_of a ∷ records_of left) (records_of rows)) is
 pass-right (Ok false) a b next left before after less ascends is =
     join-greater (record_of a) (record_of b) (records_of left) (records_of before) less (Climbs-rows a.key left ascends)
     ∙ ap (λ rows. key_join (record_of a ∷ records_of left) (records_of rows)) is.0 ∙ join-none (record_of a ∷ records_of left)
-pass-right (Err fault) a b next left before after less ascends is = tt
+pass-right (Err (Flash fault)) a b next left before after less ascends is = tt
+pass-right (Err (BadPage bad)) a b next left before after less ascends is = is
 
 -- both rows have one key
 pub pair-equal : (a b : Row) (left right : List Row) → a.key ≡ b.key → Ascends (Some a.key) left

@@ -12,7 +12,7 @@ pub struct KeyJoin<A, B> {
 }
 
 impl<A: RowHere, B: RowHere> KeyJoin<A, B> {
-    ghost use Rattle.std.specs.Prelude.{◌≡◌, ◌≢◌, ◌⊎◌, ◌+◌, ◌<◌, ◌≤◌, true, false, Some, Ok, Err, IfOk, IfErr, MatchBool, []};
+    ghost use Rattle.std.specs.Prelude.{◌≡◌, ◌≢◌, ◌⊎◌, ◌+◌, ◌<◌, ◌≤◌, true, false, Some, Ok, Err, IfOk, IfErr};
     ghost use Rattle.std.specs.Bool.{OnTrue, OnFalse};
     ghost use Rattle.fl_model.specs.Operators.{key_join};
     ghost use Rattle.fl_flash.specs.Flash.{FlashState};
@@ -21,7 +21,7 @@ impl<A: RowHere, B: RowHere> KeyJoin<A, B> {
     ghost use Rattle.fl_page.specs.declared.fault.BadPage.{BadPage};
     ghost use Rattle.fl_ops.specs.Columns.{records_of};
     ghost use Rattle.fl_ops.specs.Inputs.{Continues, StepsOver};
-    ghost use Rattle.fl_ops.specs.Pairs.{pair_of, pairs_from, keys_above};
+    ghost use Rattle.fl_ops.specs.Pairs.{pair_of, pairs_from, keys_above, PairsGo};
     ghost use Rattle.fl_ops.specs.Join.{left_of, right_of, has_ended, pairs_left};
 
     pub fn new(left: A, right: B) -> KeyJoin<A, B>
@@ -69,9 +69,9 @@ impl<A: RowHere, B: RowHere> KeyJoin<A, B> {
         ensures goes_on { has_ended self.new ≡ has_ended self.old }
         ensures here { IfOk result (λ more. OnTrue more ((A.here (left_of self.new) ≡ true) × (B.here (right_of self.new) ≡ true))) }
         ensures keys { IfOk result (λ more. OnTrue more ((A.above (left_of self.new) ≡ Some (A.present (left_of self.new)).key) × (B.above (right_of self.new) ≡ Some (B.present (right_of self.new)).key))) }
-        ensures pairs { A.told (left_of self.old) (contents_of (F.state flash.old)) → B.told (right_of self.old) (contents_of (F.state flash.old)) → IfOk result (λ more. MatchBool more
-            (key_join (records_of (A.left (left_of self.old) (contents_of (F.state flash.old)))) (records_of (B.left (right_of self.old) (contents_of (F.state flash.old)))) ≡ pairs_from (A.present (left_of self.new)) (A.left (left_of self.new) (contents_of (F.state flash.old))) (B.present (right_of self.new)) (B.left (right_of self.new) (contents_of (F.state flash.old))))
-            (key_join (records_of (A.left (left_of self.old) (contents_of (F.state flash.old)))) (records_of (B.left (right_of self.old) (contents_of (F.state flash.old)))) ≡ [])) }
+        ensures pairs { A.told (left_of self.old) (contents_of (F.state flash.old)) → B.told (right_of self.old) (contents_of (F.state flash.old)) → PairsGo result
+            (key_join (records_of (A.left (left_of self.old) (contents_of (F.state flash.old)))) (records_of (B.left (right_of self.old) (contents_of (F.state flash.old)))))
+            (pairs_from (A.present (left_of self.new)) (A.left (left_of self.new) (contents_of (F.state flash.old))) (B.present (right_of self.new)) (B.left (right_of self.new) (contents_of (F.state flash.old)))) }
         ensures most { A.told (left_of self.old) (contents_of (F.state flash.old)) → B.told (right_of self.old) (contents_of (F.state flash.old)) →
             (F.state flash.new).work.reads + (A.most (left_of self.new) (contents_of (F.state flash.old)) + B.most (right_of self.new) (contents_of (F.state flash.old)))
             ≤ (F.state flash.old).work.reads + (A.most (left_of self.old) (contents_of (F.state flash.old)) + B.most (right_of self.old) (contents_of (F.state flash.old))) }
@@ -103,15 +103,16 @@ impl<A: RowHere, B: RowHere> KeyJoin<A, B> {
         ensures here { IfOk result (λ more. OnTrue more ((A.here (left_of self.new) ≡ true) × (B.here (right_of self.new) ≡ true))) }
         ensures keys { IfOk result (λ more. OnTrue more ((A.above (left_of self.new) ≡ Some (A.present (left_of self.new)).key) × (B.above (right_of self.new) ≡ Some (B.present (right_of self.new)).key))) }
         ensures fewer { IfOk result (λ more. OnTrue more (keys_above (A.above (left_of self.new)) + keys_above (B.above (right_of self.new)) < keys_above (A.above (left_of self.old)) + keys_above (B.above (right_of self.old)))) }
-        ensures pairs { A.told (left_of self.old) (contents_of (F.state flash.old)) → B.told (right_of self.old) (contents_of (F.state flash.old)) → IfOk result (λ more. MatchBool more
-            (pairs_from (A.present (left_of self.old)) (A.left (left_of self.old) (contents_of (F.state flash.old))) (B.present (right_of self.old)) (B.left (right_of self.old) (contents_of (F.state flash.old)))
-            ≡ pairs_from (A.present (left_of self.new)) (A.left (left_of self.new) (contents_of (F.state flash.old))) (B.present (right_of self.new)) (B.left (right_of self.new) (contents_of (F.state flash.old))))
-            (pairs_from (A.present (left_of self.old)) (A.left (left_of self.old) (contents_of (F.state flash.old))) (B.present (right_of self.old)) (B.left (right_of self.old) (contents_of (F.state flash.old))) ≡ [])) }
+        ensures pairs { A.told (left_of self.old) (contents_of (F.state flash.old)) → B.told (right_of self.old) (contents_of (F.state flash.old)) → PairsGo result
+            (pairs_from (A.present (left_of self.old)) (A.left (left_of self.old) (contents_of (F.state flash.old))) (B.present (right_of self.old)) (B.left (right_of self.old) (contents_of (F.state flash.old))))
+            (pairs_from (A.present (left_of self.new)) (A.left (left_of self.new) (contents_of (F.state flash.old))) (B.present (right_of self.new)) (B.left (right_of self.new) (contents_of (F.state flash.old)))) }
         ensures most { A.told (left_of self.old) (contents_of (F.state flash.old)) → B.told (right_of self.old) (contents_of (F.state flash.old)) →
             (F.state flash.new).work.reads + (A.most (left_of self.new) (contents_of (F.state flash.old)) + B.most (right_of self.new) (contents_of (F.state flash.old)))
             ≤ (F.state flash.old).work.reads + (A.most (left_of self.old) (contents_of (F.state flash.old)) + B.most (right_of self.old) (contents_of (F.state flash.old))) }
     {
-        if self.left.row().key() < self.right.row().key() {
+        let left = self.left.row().key();
+        let right = self.right.row().key();
+        if left < right {
             return self.left.step(flash);
         }
         self.right.step(flash)

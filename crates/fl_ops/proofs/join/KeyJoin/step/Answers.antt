@@ -44,5 +44,11 @@ returns-clause-steps g c = λ left right.
     let ascends : Ascends (Some (g.A.RowHere.present c.loop-self.self.left).key) (g.A.Rows.left c.loop-self.self.left (contents_of (g.F.Flash.state c.args.flash.now))) = rw key at raw in
     ap (λ (ended : Bool). if ended then [] else all) begun
     ∙ c.loop-self.invariant.pairs left right
-    ∙ pair-equal _ _ _ _ same ascends
+    ∙ pair-equal (g.A.RowHere.present c.loop-self.self.left) (g.B.RowHere.present c.loop-self.self.right) _ _ same ascends
     ∙ ap (λ (ended : Bool). pair ∷ (if ended then [] else later)) (sym c.loop-self.invariant.goes_on)
+
+pub returns-in_err-step_lesser-clause-reads_only : goal.returns-in_err-step_lesser-clause-reads_only
+returns-in_err-step_lesser-clause-reads_only g c = OnlyReads-then _ _ _ c.loop-self.invariant.reads_only c.step_lesser.ensures.reads_only
+
+pub returns-then-not-branch-2-clause-reads_only : goal.returns-then-not-branch-2-clause-reads_only
+returns-then-not-branch-2-clause-reads_only g c = OnlyReads-then _ _ _ c.loop-self.invariant.reads_only c.step_lesser.ensures.reads_only
