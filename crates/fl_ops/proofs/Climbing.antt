@@ -1,10 +1,10 @@
 -- Records whose keys ascend above one.
-use Rattle.std.proofs.Common.{ℕ, ◌≡◌, ◌<◌, List, [], ◌∷◌, Some, true}
+use Rattle.std.proofs.Common.{ℕ, ◌<◌, List, [], ◌∷◌, Some}
 use Rattle.std.proofs.lemmas.Bool.{ltb-true}
 use Rattle.fl_model.specs.Record.{Record}
 use Rattle.fl_model.specs.Row.{Row}
 use Rattle.fl_page.specs.Steps.{Ascends}
-use Rattle.fl_ops.specs.Columns.{record_of, records_of}
+use Rattle.fl_ops.specs.Columns.{records_of}
 
 abbrev pub Climbs : ℕ → List Record → Type 0
 Climbs key [] = Unit {0}

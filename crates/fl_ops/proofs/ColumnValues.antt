@@ -1,5 +1,5 @@
 -- The column of a row that has it.
-use Rattle.std.proofs.Common.{ℕ, zero, suc, ◌≡◌, ◌<◌, ◌-◌, ℤ, Some, arith, slice_get, rules, refl}
+use Rattle.std.proofs.Common.{ℕ, zero, suc, ◌≡◌, ◌<◌, ◌-◌, ℤ, Some, arith, slice_get}
 use Rattle.std.proofs.lemmas.Grind.{common_steps}
 use Rattle.fl_model.specs.Row.{Row}
 use Rattle.fl_model.specs.Operators.{column_of}

@@ -1,5 +1,5 @@
 -- Rows that continue, and continue again.
-use Rattle.std.proofs.Common.{◌≡◌, ◌∙◌, ◌↔◌, ℕ, List, Option}
+use Rattle.std.proofs.Common.{◌∙◌, ℕ, List, Option}
 use Rattle.std.specs.Borrow.{GName}
 use Rattle.fl_model.specs.Record.{RowLayout}
 use Rattle.fl_page.specs.Contents.{Contents}

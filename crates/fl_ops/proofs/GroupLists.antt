@@ -1,14 +1,14 @@
 -- The groups of records whose keys ascend, found from the front.
-use Rattle.std.proofs.Common.{ℕ, zero, suc, ◌≡◌, ◌<◌, ◌≤◌, ◌+◌, ◌*◌, ◌/◌, List, [], ◌∷◌, Bool, true, false, not, eqb, refl, ap, ◌∙◌, sym, subst, Some, arith, filter, map, fold, length, ℤ, pos, Option}
+use Rattle.std.proofs.Common.{ℕ, ◌≡◌, ◌<◌, ◌≤◌, ◌+◌, ◌/◌, List, [], ◌∷◌, Bool, true, false, not, eqb, refl, ap, ◌∙◌, sym, subst, Some, arith, filter, map, fold, length, ℤ, pos, Option}
 use Rattle.std.specs.Prelude.{◌==◌, ◌+ℤ◌, if◌then◌else◌}
 use Rattle.std.specs.List.{filter_map}
-use Rattle.std.specs.Int.{int_min, int_max, int_div_euclid}
+use Rattle.std.specs.Int.{int_min, int_max}
 use Rattle.std.proofs.lemmas.Grind.{common_steps}
 use Rattle.std.proofs.lemmas.Int.{ints}
 use Rattle.std.proofs.Math.Nat.{div-mul-le_self}
 use Rattle.std.proofs.lemmas.Nat.{le-div}
 use Rattle.fl_model.specs.Record.{Record}
-use Rattle.fl_model.specs.Operators.{Group, column_of, group_of, group_numbers, group_values, group_from, aggregate, total_of, least_of, greatest_of}
+use Rattle.fl_model.specs.Operators.{column_of, group_of, group_numbers, group_values, group_from, aggregate, total_of}
 use Rattle.fl_ops.specs.declared.tally.Tally.{Tally}
 use Rattle.fl_ops.specs.Tally.{tally_of, tally_more, tallied}
 use Rattle.fl_ops.proofs.Climbing.{Climbs}

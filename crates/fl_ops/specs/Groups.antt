@@ -1,5 +1,5 @@
 -- What clauses see of groups.
-use Rattle.std.specs.Prelude.{◌≡◌, ℕ, Bool, true, false, not, ◌&&◌, Result, Ok, Err, Option, Some, None, List, [], ◌∷◌}
+use Rattle.std.specs.Prelude.{◌≡◌, ℕ, Bool, true, false, Result, Ok, Err, Option, Some, None, List, [], ◌∷◌}
 use Rattle.fl_model.specs.Row.{Row}
 use Rattle.fl_model.specs.Operators as model
 use Rattle.fl_page.specs.declared.fault.ReadFault.{ReadFault}

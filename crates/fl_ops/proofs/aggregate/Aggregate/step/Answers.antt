@@ -1,5 +1,4 @@
-use Rattle.std.proofs.Common.{arith, rules, ℕ, ◌≡◌, ◌∙◌, ◌<◌, ◌≤◌, ◌+◌, ◌-◌, ◌*◌, ◌/◌, ◌^◌, true, Some, [], ◌∷◌, refl, sym, ap}
-use Rattle.fl_model.specs.Row.{Row}
+use Rattle.std.proofs.Common.{arith, rules, ℕ, ◌≡◌, ◌∙◌, ◌<◌, ◌≤◌, ◌+◌, ◌*◌, ◌/◌, ◌^◌, true, Some, [], ◌∷◌, refl, sym, ap}
 use Rattle.fl_model.specs.Query.{is_above}
 use Rattle.fl_model.specs.Operators.{Group, column_of, aggregate}
 use Rattle.fl_page.specs.Contents.{contents_of}
@@ -8,7 +7,7 @@ use Rattle.fl_page.proofs.Reading.{OnlyReads-then, OnlyReads-reads}
 use Rattle.fl_ops.specs.Columns.{record_of, records_of}
 use Rattle.fl_ops.specs.Groups.{ungrouped}
 use Rattle.fl_ops.specs.Tally.{tally_of, tally_more, tallied, HasBounds}
-use Rattle.fl_ops.proofs.Climbing.{Climbs, Climbs-rows}
+use Rattle.fl_ops.proofs.Climbing.{Climbs-rows}
 use Rattle.fl_ops.proofs.Continuing.{Continues-then}
 use Rattle.fl_ops.proofs.GroupLists.{take_group, take_group-more, take_group-stop, aggregate-taken}
 use Rattle.fl_ops.proofs.Room.{next_key, next_key-above}
@@ -106,12 +105,12 @@ loop-self-preserved g c =
           ∙ c.loop-self.invariant.rest told;
       most = λ told.
           let step : (g.F.Flash.state c.step.new.flash).work.reads + g.R.Rows.most c.step.new.self (contents_of (g.F.Flash.state c.args.flash.now))
-              ≤ (g.F.Flash.state c.loop-self.flash).work.reads + g.R.Rows.most c.loop-self.self.rows (contents_of (g.F.Flash.state c.args.flash.now)) = search rules in
+          ≤ (g.F.Flash.state c.loop-self.flash).work.reads + g.R.Rows.most c.loop-self.self.rows (contents_of (g.F.Flash.state c.args.flash.now)) = search rules in
           omega (arith, step, c.loop-self.invariant.most told);
       least = λ told below.
           let before : (g.F.Flash.state c.loop-self.flash).work.reads ≤ (g.F.Flash.state c.step.new.flash).work.reads = OnlyReads-reads _ _ c.step.ensures.reads_only below in
           let step : (g.F.Flash.state c.loop-self.flash).work.reads + g.R.Rows.least c.loop-self.self.rows (contents_of (g.F.Flash.state c.args.flash.now))
-              ≤ (g.F.Flash.state c.step.new.flash).work.reads + g.R.Rows.least c.step.new.self (contents_of (g.F.Flash.state c.args.flash.now)) = search rules in
+          ≤ (g.F.Flash.state c.step.new.flash).work.reads + g.R.Rows.least c.step.new.self (contents_of (g.F.Flash.state c.args.flash.now)) = search rules in
           omega (arith, step, c.loop-self.invariant.least told (omega (arith, before, below)));
     }
 
@@ -119,14 +118,14 @@ pub returns-then-group_number-group-clause-least : goal.returns-then-group_numbe
 returns-then-group_number-group-clause-least g c = λ told below.
     let before : (g.F.Flash.state c.loop-self.flash).work.reads ≤ (g.F.Flash.state c.step.new.flash).work.reads = OnlyReads-reads _ _ c.step.ensures.reads_only below in
     let step : (g.F.Flash.state c.loop-self.flash).work.reads + g.R.Rows.least c.loop-self.self.rows (contents_of (g.F.Flash.state c.args.flash.now))
-        ≤ (g.F.Flash.state c.step.new.flash).work.reads + g.R.Rows.least c.step.new.self (contents_of (g.F.Flash.state c.args.flash.now)) = search rules in
+    ≤ (g.F.Flash.state c.step.new.flash).work.reads + g.R.Rows.least c.step.new.self (contents_of (g.F.Flash.state c.args.flash.now)) = search rules in
     omega (arith, step, c.loop-self.invariant.least told (omega (arith, before, below)))
 
 pub returns-clause-least : goal.returns-clause-least
 returns-clause-least g c = λ told below.
     let before : (g.F.Flash.state c.loop-self.flash).work.reads ≤ (g.F.Flash.state c.step.new.flash).work.reads = OnlyReads-reads _ _ c.step.ensures.reads_only below in
     let step : (g.F.Flash.state c.loop-self.flash).work.reads + g.R.Rows.least c.loop-self.self.rows (contents_of (g.F.Flash.state c.args.flash.now))
-        ≤ (g.F.Flash.state c.step.new.flash).work.reads + g.R.Rows.least c.step.new.self (contents_of (g.F.Flash.state c.args.flash.now)) = search rules in
+    ≤ (g.F.Flash.state c.step.new.flash).work.reads + g.R.Rows.least c.step.new.self (contents_of (g.F.Flash.state c.args.flash.now)) = search rules in
     omega (arith, step, c.loop-self.invariant.least told (omega (arith, before, below)))
 
 -- the rows end in the group
@@ -139,10 +138,10 @@ returns-clause-steps g c = λ told.
     let rows = g.R.Rows.left c.begin.new.self.rows (contents_of (g.F.Flash.state c.args.flash.now)) in
     let above : g.R.RowHere.above c.begin.new.self.rows ≡ Some (g.R.RowHere.present c.begin.new.self.rows).key = search rules in
     let raw : Ascends (g.R.RowHere.above c.begin.new.self.rows) (g.R.Rows.left c.begin.new.self.rows (contents_of (g.F.Flash.state c.args.flash.now)))
-        = g.met.R.Rows.ascends c.begin.new.self.rows (contents_of (g.F.Flash.state c.args.flash.now)) (c.begin.ensures.input.stays_told told) in
+    = g.met.R.Rows.ascends c.begin.new.self.rows (contents_of (g.F.Flash.state c.args.flash.now)) (c.begin.ensures.input.stays_told told) in
     let ascends : Ascends (Some (g.R.RowHere.present c.begin.new.self.rows).key) (g.R.Rows.left c.begin.new.self.rows (contents_of (g.F.Flash.state c.args.flash.now))) = rw above at raw in
     let before : ungrouped c.args.self.now.waiting (g.R.RowHere.present c.args.self.now.rows) (g.R.Rows.left c.args.self.now.rows (contents_of (g.F.Flash.state c.args.flash.now)))
-        ≡ g.R.RowHere.present c.begin.new.self.rows ∷ g.R.Rows.left c.begin.new.self.rows (contents_of (g.F.Flash.state c.args.flash.now)) = search rules in
+    ≡ g.R.RowHere.present c.begin.new.self.rows ∷ g.R.Rows.left c.begin.new.self.rows (contents_of (g.F.Flash.state c.args.flash.now)) = search rules in
     let some : 0 < c.args.self.now.width = search rules in
     let number : c.group_number-group.result ≡ (g.R.RowHere.present c.begin.new.self.rows).key / c.args.self.now.width = search rules in
     let tally : c.of_row-tally.result ≡ tally_of (column_of (record_of (g.R.RowHere.present c.begin.new.self.rows)) c.args.self.now.column) = search rules in
@@ -162,10 +161,10 @@ returns-then-group_number-group-clause-steps g c = λ told.
     let rows = g.R.Rows.left c.begin.new.self.rows (contents_of (g.F.Flash.state c.args.flash.now)) in
     let above : g.R.RowHere.above c.begin.new.self.rows ≡ Some (g.R.RowHere.present c.begin.new.self.rows).key = search rules in
     let raw : Ascends (g.R.RowHere.above c.begin.new.self.rows) (g.R.Rows.left c.begin.new.self.rows (contents_of (g.F.Flash.state c.args.flash.now)))
-        = g.met.R.Rows.ascends c.begin.new.self.rows (contents_of (g.F.Flash.state c.args.flash.now)) (c.begin.ensures.input.stays_told told) in
+    = g.met.R.Rows.ascends c.begin.new.self.rows (contents_of (g.F.Flash.state c.args.flash.now)) (c.begin.ensures.input.stays_told told) in
     let ascends : Ascends (Some (g.R.RowHere.present c.begin.new.self.rows).key) (g.R.Rows.left c.begin.new.self.rows (contents_of (g.F.Flash.state c.args.flash.now))) = rw above at raw in
     let before : ungrouped c.args.self.now.waiting (g.R.RowHere.present c.args.self.now.rows) (g.R.Rows.left c.args.self.now.rows (contents_of (g.F.Flash.state c.args.flash.now)))
-        ≡ g.R.RowHere.present c.begin.new.self.rows ∷ g.R.Rows.left c.begin.new.self.rows (contents_of (g.F.Flash.state c.args.flash.now)) = search rules in
+    ≡ g.R.RowHere.present c.begin.new.self.rows ∷ g.R.Rows.left c.begin.new.self.rows (contents_of (g.F.Flash.state c.args.flash.now)) = search rules in
     let some : 0 < c.args.self.now.width = search rules in
     let number : c.group_number-group.result ≡ (g.R.RowHere.present c.begin.new.self.rows).key / c.args.self.now.width = search rules in
     let tally : c.of_row-tally.result ≡ tally_of (column_of (record_of (g.R.RowHere.present c.begin.new.self.rows)) c.args.self.now.column) = search rules in

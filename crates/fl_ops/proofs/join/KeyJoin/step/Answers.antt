@@ -1,4 +1,4 @@
-use Rattle.std.proofs.Common.{arith, rules, ◌≡◌, ◌∙◌, ◌≤◌, ◌+◌, Bool, true, false, Some, [], ◌∷◌, sym, ap}
+use Rattle.std.proofs.Common.{arith, rules, ◌≡◌, ◌∙◌, ◌≤◌, ◌+◌, Bool, false, Some, [], ◌∷◌, sym, ap}
 use Rattle.std.specs.Prelude.{if◌then◌else◌}
 use Rattle.fl_model.specs.Operators.{key_join}
 use Rattle.fl_page.specs.Contents.{contents_of}
@@ -22,11 +22,11 @@ loop-self-preserved g c = record {
   right_key = search rules;
   pairs = λ left right.
       let next : pairs_from (g.A.RowHere.present c.loop-self.self.left) (g.A.Rows.left c.loop-self.self.left (contents_of (g.F.Flash.state c.args.flash.now))) (g.B.RowHere.present c.loop-self.self.right) (g.B.Rows.left c.loop-self.self.right (contents_of (g.F.Flash.state c.args.flash.now)))
-          ≡ pairs_from (g.A.RowHere.present c.step_lesser.new.self.left) (g.A.Rows.left c.step_lesser.new.self.left (contents_of (g.F.Flash.state c.args.flash.now))) (g.B.RowHere.present c.step_lesser.new.self.right) (g.B.Rows.left c.step_lesser.new.self.right (contents_of (g.F.Flash.state c.args.flash.now))) = search rules in
+      ≡ pairs_from (g.A.RowHere.present c.step_lesser.new.self.left) (g.A.Rows.left c.step_lesser.new.self.left (contents_of (g.F.Flash.state c.args.flash.now))) (g.B.RowHere.present c.step_lesser.new.self.right) (g.B.Rows.left c.step_lesser.new.self.right (contents_of (g.F.Flash.state c.args.flash.now))) = search rules in
       c.loop-self.invariant.pairs left right ∙ next;
   most = λ left right.
       let next : (g.F.Flash.state c.step_lesser.new.flash).work.reads + (g.A.Rows.most c.step_lesser.new.self.left (contents_of (g.F.Flash.state c.args.flash.now)) + g.B.Rows.most c.step_lesser.new.self.right (contents_of (g.F.Flash.state c.args.flash.now)))
-          ≤ (g.F.Flash.state c.loop-self.flash).work.reads + (g.A.Rows.most c.loop-self.self.left (contents_of (g.F.Flash.state c.args.flash.now)) + g.B.Rows.most c.loop-self.self.right (contents_of (g.F.Flash.state c.args.flash.now))) = search rules in
+      ≤ (g.F.Flash.state c.loop-self.flash).work.reads + (g.A.Rows.most c.loop-self.self.left (contents_of (g.F.Flash.state c.args.flash.now)) + g.B.Rows.most c.loop-self.self.right (contents_of (g.F.Flash.state c.args.flash.now))) = search rules in
       omega (arith, next, c.loop-self.invariant.most left right);
 }
 
@@ -39,7 +39,7 @@ returns-clause-steps g c = λ left right.
     let begun : c.args.self.now.ended ≡ false = search rules in
     let same : (g.A.RowHere.present c.loop-self.self.left).key ≡ (g.B.RowHere.present c.loop-self.self.right).key = search rules in
     let raw : Ascends (g.A.RowHere.above c.loop-self.self.left) (g.A.Rows.left c.loop-self.self.left (contents_of (g.F.Flash.state c.args.flash.now)))
-        = g.met.A.Rows.ascends c.loop-self.self.left (contents_of (g.F.Flash.state c.args.flash.now)) (c.loop-self.invariant.left.stays_told left) in
+    = g.met.A.Rows.ascends c.loop-self.self.left (contents_of (g.F.Flash.state c.args.flash.now)) (c.loop-self.invariant.left.stays_told left) in
     let key : g.A.RowHere.above c.loop-self.self.left ≡ Some (g.A.RowHere.present c.loop-self.self.left).key = c.loop-self.invariant.left_key in
     let ascends : Ascends (Some (g.A.RowHere.present c.loop-self.self.left).key) (g.A.Rows.left c.loop-self.self.left (contents_of (g.F.Flash.state c.args.flash.now))) = rw key at raw in
     ap (λ (ended : Bool). if ended then [] else all) begun

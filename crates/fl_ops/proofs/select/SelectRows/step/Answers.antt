@@ -27,5 +27,5 @@ pub returns-then-compares-clause-least : goal.returns-then-compares-clause-least
 returns-then-compares-clause-least g c = λ told below.
     let before : (g.F.Flash.state c.loop-number.flash).work.reads ≤ (g.F.Flash.state c.step.new.flash).work.reads = OnlyReads-reads _ _ c.step.ensures.reads_only below in
     let step : (g.F.Flash.state c.loop-number.flash).work.reads + g.R.Rows.least c.loop-number.self.rows (contents_of (g.F.Flash.state c.args.flash.now))
-        ≤ (g.F.Flash.state c.step.new.flash).work.reads + g.R.Rows.least c.step.new.self (contents_of (g.F.Flash.state c.args.flash.now)) = search rules in
+    ≤ (g.F.Flash.state c.step.new.flash).work.reads + g.R.Rows.least c.step.new.self (contents_of (g.F.Flash.state c.args.flash.now)) = search rules in
     omega (arith, step, c.loop-number.invariant.least told (omega (arith, before, below)))
