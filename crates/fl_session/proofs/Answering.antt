@@ -1,13 +1,12 @@
 -- A command that was executed up to its reply, and the reply that was written.
-use Rattle.std.proofs.Common.{◌≡◌, ℕ, Bool, true, false, cond, if◌then◌else◌, IsTrue, Option, Some, None, Result, List, [], ◌∷◌, ◌++◌, refl, sym, ◌∙◌, ap, subst}
-use Rattle.fl_base.specs.Causes.{Rose}
+use Rattle.std.proofs.Common.{◌≡◌, ℕ, Bool, true, false, if◌then◌else◌, Option, Some, None, Result, List, [], ◌∷◌, refl, sym, ◌∙◌, ap, subst}
 use Rattle.fl_model.specs.Record.{Config, Plan, bytes_equal}
 use Rattle.fl_model.specs.Table as model
 use Rattle.fl_words.specs.Command.{Command}
 use Rattle.fl_words.specs.Reply as reply
 use Rattle.fl_words.specs.Reply.{Reply, text, texts}
 use Rattle.fl_machine.specs.Machine.{Machine}
-use Rattle.fl_machine.specs.Step.{Moment, Step, StepOf, Says, Located, located, located_from, WhenMounted, WithTable}
+use Rattle.fl_machine.specs.Step.{Moment, Step, StepOf, Says, Located, located, WhenMounted, WithTable}
 use Rattle.std.specs.Prelude.{MatchBool, MatchOption}
 use Rattle.fl_script.specs.Written.{Written}
 use Rattle.fl_config.proofs.Names.{bytes_equal-other}

@@ -192,11 +192,12 @@ source_failed : (knots : ℕ) (text : List ℕ) (now : Lines) (number : ℕ) (ol
     (h : Configured knots text now number old left) → TakesPart old (old.ahead ++ h.left_is) new left_now → EndsInConfig knots text (Some left_now)
 source_failed knots text now number old new left left_now h part =
     let g : Given most_bytes text h.before false old.most (old.ahead ++ h.left_is) = subst (λ b. Given most_bytes text h.before b old.most (old.ahead ++ h.left_is)) part.open_before h.reading in
-    let t = given-taken most_bytes text h.before old.most (old.ahead ++ h.left_is) new.ahead left_now g part.split part.one part.fits in
+    let t = given-taken most_bytes text h.before old.most (old.ahead ++ h.left_is) new.ahead left_now g part.split part.one part.fits part.short in
     record {
       taken = t.taken;
       within = t.within;
       few = t.few;
+      short = t.short;
       left = ap Some (sym t.left_is);
       unended = subst (λ ls. IsUnended (start_of knots ls)) (sym t.whole) (unended knots h.before now h.configures);
     }

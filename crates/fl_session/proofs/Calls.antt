@@ -1,5 +1,5 @@
 -- The calls of a session's table, each by the command that makes it.
-use Rattle.std.proofs.Common.{◌≡◌, ℕ, Bool, true, false, not, IfErr, Option, None, Result, List, refl, sym, ◌∙◌, ap, subst}
+use Rattle.std.proofs.Common.{◌≡◌, ℕ, Bool, true, false, not, IfErr, Option, None, Result, List, sym, ap, subst}
 use Rattle.std.proofs.Math.IntN.{ℤ}
 use Rattle.std.specs.Prelude.{is_ok}
 use Rattle.fl_flash.specs.Flash.{FlashState, Goes}

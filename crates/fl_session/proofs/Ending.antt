@@ -9,14 +9,14 @@ use Rattle.fl_words.specs.Command.{Command}
 use Rattle.fl_words.specs.Config.{Lines, whole}
 use Rattle.fl_machine.specs.Machine.{Machine}
 use Rattle.fl_machine.specs.Script.{Start, Ready, Unended, BadLine, BadConfig, start_with, start_of, ended, StandsFor, StandsAfter, Ran, RanInto, RoseBy}
-use Rattle.fl_session.specs.Texts.{most_bytes, whole_lines, lines_read, lines_within, is_long}
+use Rattle.fl_session.specs.Texts.{most_bytes, whole_lines, rest_of, lines_read, lines_within, is_long}
 use Rattle.fl_session.specs.Stream.{LinesState}
 use Rattle.fl_session.specs.Execute.{Around, IsReady, StandsAlike, RanAll, RanPart}
 use Rattle.fl_session.specs.Loop.{Tail, EndsCommands}
 use Rattle.fl_script.specs.declared.command.Command as code
 use Rattle.fl_session.specs.Run.{tail_of, RunsFrom, IsOfCommands}
 use Rattle.fl_session.specs.Begin.{AtCommand, AtEnd, EndsBegin, BeginsAt, IsUnended}
-use Rattle.fl_session.specs.Ends.{Told, IsUntouched, IsOwn, RunsAll, RunsInto, start_in, EndsEarly, EndsDone, EndsLine, EndsInto, EndsConfig, Ends, IsEarlyBy}
+use Rattle.fl_session.specs.Ends.{Told, IsUntouched, IsOwn, IsFormed, RunsAll, RunsInto, start_in, EndsEarly, EndsDone, EndsLine, EndsInto, EndsConfig, Ends, IsEarlyBy}
 use Rattle.fl_session.specs.declared.status.Status.{Status}
 use Rattle.fl_session.specs.declared.status.Status.TheVariants.{Done, Line, ScriptRead, OutWrite, Config as BadConfiguration, ScriptLong, NotYet}
 use Rattle.fl_session.proofs.Running.{ran-none, ran-seen, ran_into-seen}
@@ -36,6 +36,7 @@ ends-in_begin knots text left told ScriptRead h e u = record {
   taken = h.taken;
   within = h.within;
   most = h.few;
+  short = h.short;
   left = e ∙ h.left;
   ends = unended-untouched (start_of knots (whole_lines (take h.taken text))) told h.unended u;
 }
@@ -85,6 +86,7 @@ pub record Over (config : Config) (told : Told) (around : Around) (stands stands
   pub written : around.told ≡ told.written
   pub written_now : around.told_now ≡ told.written_now
   pub own : IsOwn config told.content
+  pub formed : IsFormed config told.content_now
   pub begins : (old : Machine) → StandsFor config told.content old → stands old × IsReady config old
   pub ends : (m : Machine) → stands_now m → StandsAfter config (Some told.content_now) m
 
@@ -124,6 +126,7 @@ ran_into-earlier config old commands stands before mid now told told_now e h = r
 pub runs-all : (config : Config) (told : Told) (around : Around) (stands stands_now : Machine → Type 0) (commands : List Command) → Over config told around stands stands_now → RanAll around stands stands_now commands → RunsAll config commands told
 runs-all config told around stands stands_now commands o h = record {
   own = o.own;
+  formed = o.formed;
   runs = λ old s.
       let b = o.begins old s in
       let ran = h old b.0 (subst (λ c. IsReady c old) (sym o.config_is) b.1) in
@@ -138,6 +141,7 @@ runs-all config told around stands stands_now commands o h = record {
 pub runs-into : (config : Config) (told : Told) (around : Around) (stands stands_now : Machine → Type 0) (commands : List Command) → Over config told around stands stands_now → RanPart around stands stands_now commands → RunsInto config commands told
 runs-into config told around stands stands_now commands o h = record {
   own = o.own;
+  formed = o.formed;
   runs = λ old s.
       let b = o.begins old s in
       let ran = h old b.0 (subst (λ c. IsReady c old) (sym o.config_is) b.1) in
@@ -182,6 +186,7 @@ ends-of_commands knots text now number state left_now config told around stands 
       taken = length a.given.front + h.taken;
       within = omega (arith, h.within);
       most = omega (arith, a.given.bytes h.is_open, h.few);
+      short = omega (arith, h.short, ap length (ap rest_of t.0 ∙ a.given.behind h.is_open (take h.taken (state.ahead ++ a.left))));
       left = h.left ∙ ap Some (sym t.1);
       ends =
           subst (λ s. EndsEarly s told)
@@ -214,14 +219,15 @@ ends-of_commands knots text now number state left_now config told around stands 
 
 -- a script without commands
 pub ends-empty : (knots : ℕ) (text : List ℕ) (now : Lines) (number : ℕ) (config : Config) (told : Told) → AtEnd knots text now number → whole knots now ≡ Some config →
-    IsOwn config told.content → ((old : Machine) → StandsFor config told.content old → StandsAfter config (Some told.content_now) old) → told.faults ≤ told.faults_now → told.written_now ≡ told.written →
+    IsOwn config told.content → IsFormed config told.content_now → ((old : Machine) → StandsFor config told.content old → StandsAfter config (Some told.content_now) old) → told.faults ≤ told.faults_now → told.written_now ≡ told.written →
     Ends knots text told Done
-ends-empty knots text now number config told a w own stands later written = (
+ends-empty knots text now number config told a w own formed stands later written = (
   a.short,
   subst (λ s. EndsDone s told) (sym (start-at_end knots text now number config a w)) (
     refl,
     record {
       own = own;
+      formed = formed;
       runs = λ old s.
           ran-earlier config old [] (StandsAfter config (Some told.content_now)) told.faults told.faults_now told.faults_now told.written told.written_now later
           (subst (λ t. Ran config old [] (StandsAfter config (Some told.content_now)) told.faults_now told.faults_now told.written t) (sym written)
@@ -240,7 +246,7 @@ commands-seen : (tail : Tail) (left : Option (List ℕ)) (around : Around) (s s'
 commands-seen tail left around s s' r r' Done f g h = (h.0, record { accepts = h.1.accepts; runs = all-seen around s s' r r' _ f g h.1.runs })
 commands-seen tail left around s s' r r' (Line n) f g h = record { refuses = h.refuses; runs = all-seen around s s' r r' _ f g h.runs }
 commands-seen tail left around s s' r r' ScriptRead f g h =
-    record { is_open = h.is_open; taken = h.taken; within = h.within; few = h.few; left = h.left; accepts = h.accepts; runs = all-seen around s s' r r' _ f g h.runs }
+    record { is_open = h.is_open; taken = h.taken; within = h.within; few = h.few; short = h.short; left = h.left; accepts = h.accepts; runs = all-seen around s s' r r' _ f g h.runs }
 commands-seen tail left around s s' r r' OutWrite f g h = record {
   commands = h.commands;
   others = h.others;
@@ -272,7 +278,7 @@ pub ends-of_run : (knots : ℕ) (text : List ℕ) (now : Lines) (first : Option 
     RunsFrom first number state left told.left_now around stands stands_now status → Ends knots text told status
 ends-of_run knots text now None number state left config told around stands stands_now status a w o later h =
     subst (λ s. Ends knots text told s) (sym h.done)
-    (ends-empty knots text now number config told a w o.own (λ old s. o.ends old (h.goes_on old (o.begins old s).0)) later (sym o.written_now ∙ (h.written ∙ o.written)))
+    (ends-empty knots text now number config told a w o.own o.formed (λ old s. o.ends old (h.goes_on old (o.begins old s).0)) later (sym o.written_now ∙ (h.written ∙ o.written)))
 ends-of_run knots text now (Some first) number state left config told around stands stands_now status a w o later h =
     ends-of_commands knots text now number state left config told around stands stands_now status a w o (h a.left a.left_is a.given.ended)
 

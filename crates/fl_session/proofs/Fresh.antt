@@ -1,17 +1,16 @@
 -- The pages of a medium that was just made.
-use Rattle.std.proofs.Common.{◌≡◌, ℕ, ◌+◌, ◌-◌, ◌*◌, ◌<◌, ◌≤◌, IsTrue, Some, true, ◌==◌, [], ◌∷◌, List, ◌++◌, length, take, drop, slice_range, sum_by, refl, sym, ◌∙◌, ap, subst, arith}
+use Rattle.std.proofs.Common.{◌≡◌, ℕ, ◌+◌, ◌-◌, ◌*◌, ◌≤◌, Some, true, ◌==◌, [], ◌∷◌, List, ◌++◌, length, take, drop, slice_range, sum_by, refl, sym, ◌∙◌, ap, arith}
 use Rattle.std.specs.Prelude.{replicate}
 use Rattle.std.proofs.lemmas.List.{drop-replicate, take-replicate}
 use Rattle.std.proofs.lemmas.Bool.{eqb-true}
 use Rattle.std.proofs.Math.Seq.{drop-append-add}
 use Rattle.std.proofs.Math.Nat.{mul-le-mul_right}
 use Rattle.fl_base.specs.declared.types.Geometry.{Geometry}
-use Rattle.fl_flash.specs.Flash.{FlashState, pages, page_at, blank}
 use Rattle.fl_flash.specs.Media.{MediaState}
 use Rattle.fl_model.specs.Image.{medium_len}
 use Rattle.fl_model.specs.Record.{Config, blocks_of}
 use Rattle.fl_words.specs.Medium.{header}
-use Rattle.fl_words.specs.Config.{Lines, whole}
+use Rattle.fl_words.specs.Config.{Lines}
 use Rattle.fl_session.specs.Ends.{new_content}
 use Rattle.fl_session.specs.Opening.{Opened, IsBlankBehind}
 use Rattle.fl_session.proofs.Over.{AreParts}

@@ -224,13 +224,14 @@ pub ends-taken : (tail : Tail) (config : Config) (stands stands_now : Machine �
     EndsTaken tail (Some left_now) (around_to config faults now told told_now) stands stands_now
 ends-taken tail config stands stands_now faults now told told_now number old new left left_now h part =
     let g : Given tail.most tail.text h.given false old.most (old.ahead ++ left) = subst (λ b. Given tail.most tail.text h.given b old.most (old.ahead ++ left)) part.open_before h.reading in
-    let t = given-taken tail.most tail.text h.given old.most (old.ahead ++ left) new.ahead left_now g part.split part.one part.fits in
+    let t = given-taken tail.most tail.text h.given old.most (old.ahead ++ left) new.ahead left_now g part.split part.one part.fits part.short in
     let lines : tail.first ∷ h.given ≡ tail.first ∷ whole_lines (take t.taken tail.text) = ap (λ ls. tail.first ∷ ls) (sym t.whole) in
     record {
       is_open = was_open tail.closed old.closed h.was_open part.open_before;
       taken = t.taken;
       within = t.within;
       few = t.few;
+      short = t.short;
       left = ap Some (sym t.left_is);
       accepts = ap (first_refused tail.number) (sym lines) ∙ all_run-all tail.number (tail.first ∷ h.given) h.all_run;
       runs = λ old s ready. subst (λ ls. Ran config old (accepted ls) stands_now faults now told told_now) lines (h.runs old s ready);

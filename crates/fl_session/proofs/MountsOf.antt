@@ -1,14 +1,13 @@
 -- The mount of a session.
-use Rattle.std.proofs.Common.{◌≡◌, ℕ, ◌⊎◌, Bool, true, false, IsTrue, Option, Some, None, Result, Ok, Err, inl, inr, List, [], ◌∷◌, ◌++◌, map, slice_get, refl, sym, ◌∙◌, ap, subst}
-use Rattle.fl_base.specs.Causes.{Rose}
+use Rattle.std.proofs.Common.{◌≡◌, ℕ, ◌⊎◌, Bool, true, false, Some, None, Result, Ok, Err, inl, inr, List, [], ◌∷◌, map, slice_get, refl, sym, ◌∙◌, ap, subst}
 use Rattle.fl_flash.specs.Flash.{FlashState, Goes}
 use Rattle.fl_flash.specs.declared.flash.FlashFault.{FlashFault}
-use Rattle.fl_flash.specs.declared.flash.FlashFault.TheVariants.{PowerLost, Media}
+use Rattle.fl_flash.specs.declared.flash.FlashFault.TheVariants.{Media}
 use Rattle.fl_ring.specs.Device.{SameDevice}
 use Rattle.fl_ring.specs.Step.{IsWatched}
 use Rattle.std.proofs.lemmas.Bool.{le-leb}
 use Rattle.std.specs.Prelude.{◌+◌, ◌-◌, ◌^◌, min, MatchBool, is_ok}
-use Rattle.fl_model.specs.Record.{Config, Plan}
+use Rattle.fl_model.specs.Record.{Config}
 use Rattle.fl_model.specs.Table as model
 use Rattle.fl_model.specs.Table.{lose}
 use Rattle.fl_model.specs.Work.{Device, Finished, PartEnd, Whole, CutIn, FailedIn, PartProgress}
@@ -19,7 +18,7 @@ use Rattle.fl_words.specs.Command as command
 use Rattle.fl_words.specs.Reply as reply
 use Rattle.fl_words.specs.Reply.{Reply, text}
 use Rattle.fl_machine.specs.Machine.{Machine, stopped, no_cursors}
-use Rattle.fl_machine.specs.Step.{Moment, Step, Says, Stops, EndsAs, EndsMount, MountStep, all_ready}
+use Rattle.fl_machine.specs.Step.{Moment, Step, Says, EndsAs, EndsMount, MountStep, all_ready}
 use Rattle.fl_table.specs.declared.table.Table.{Table}
 use Rattle.fl_table.specs.declared.counts.Mounted as found
 use Rattle.fl_table.specs.declared.faults.MountFault.{MountFault}
@@ -28,7 +27,7 @@ use Rattle.fl_table.specs.Memory.{IsSamePlan}
 use Rattle.fl_table.specs.Outcomes.{FaultEnds, MountsWell, MountsBadly, MountEnds}
 use Rattle.fl_table.specs.Pages.{Rests}
 use Rattle.fl_session.specs.Answer.{Answers, fault_reply, mount_reply}
-use Rattle.fl_session.specs.Standing.{SessionStands, IsOnMedium}
+use Rattle.fl_session.specs.Standing.{SessionStands}
 use Rattle.fl_session.proofs.Answering.{answers-saying, saying, says, step-is}
 use Rattle.fl_session.proofs.Executing.{one-text}
 use Rattle.fl_session.proofs.Working.{medium-goes, planned-same, has_risen, risen-rose, last_of}

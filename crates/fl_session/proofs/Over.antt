@@ -1,10 +1,10 @@
 -- A session that was begun over an opened image, and ended.
-use Rattle.std.proofs.Common.{◌≡◌, ℕ, ◌+◌, Bool, true, false, IsTrue, Option, Some, None, Result, Ok, Err, inl, inr, length, take, List, [], ◌∷◌, ◌++◌, ◌≤◌, sum_by, refl, sym, ◌∙◌, ap, subst, le_trans, arith}
+use Rattle.std.proofs.Common.{◌≡◌, ℕ, ◌+◌, Bool, true, false, IsTrue, Option, Some, None, Result, Ok, Err, inl, inr, length, take, List, [], ◌∷◌, ◌≤◌, sum_by, refl, sym, ◌∙◌, ap, subst, le_trans, arith}
 use Rattle.std.specs.Prelude.{if◌then◌else◌, ◌*◌, ◌^◌, ◌<◌, ◌||◌, nat_lt, is_some, IfSome}
 use Rattle.std.proofs.lemmas.Bool.{ltb-false}
 use base.Fml.{GName}
 use Rattle.fl_base.specs.declared.types.Geometry.{Geometry}
-use Rattle.fl_flash.specs.Flash.{FlashState, pages}
+use Rattle.fl_flash.specs.Flash.{FlashState, pages, Goes}
 use Rattle.fl_flash.specs.Buffer.{BufferState}
 use Rattle.fl_flash.specs.Media.{MediaState}
 use Rattle.fl_flash.specs.Sim.{on_medium}
@@ -20,7 +20,7 @@ use Rattle.fl_session.specs.declared.status.Status.{Status}
 use Rattle.fl_session.specs.Built.{are_built}
 use Rattle.fl_session.specs.Stream.{LinesState}
 use Rattle.fl_table.specs.declared.table.Table as code_table
-use Rattle.fl_table.specs.Memory.{IsPlanned, LiesOn, is_running}
+use Rattle.fl_table.specs.Memory.{IsPlanned, LiesOn}
 use Rattle.fl_session.specs.Standing.{SessionStands, IsSound, RestsOn, IsNewTable}
 use Rattle.fl_session.specs.Run.{RunsFrom, around_of, IsOfCommands, refused_status}
 use Rattle.fl_session.specs.declared.status.Status.TheVariants.{Usage, MediaMake, OtherConfig}
@@ -29,8 +29,8 @@ use Rattle.fl_config.specs.declared.image.ImageRefusal.TheVariants.{Media, Other
 use Rattle.fl_base.specs.Causes.{Rose}
 use Rattle.fl_session.specs.Texts.{is_long, lines_read}
 use Rattle.fl_session.specs.Begin.{BeginsAt}
-use Rattle.fl_session.specs.Opening.{Opened, HalfOpened, Foreign, OpensAs, MediaGoes}
-use Rattle.fl_session.specs.Ends.{Ends, told_of, start_in, EndsMaking, EndsOther, IsEarlyBy, Differs}
+use Rattle.fl_session.specs.Opening.{Opened, HalfOpened, Foreign, OpensAs, KeepsForm, MediaGoes}
+use Rattle.fl_session.specs.Ends.{Ends, IsFormed, told_of, start_in, EndsMaking, EndsOther, IsEarlyBy, Differs}
 use Rattle.fl_words.specs.Medium.{header}
 use Rattle.fl_config.specs.Opening as opening
 use Rattle.fl_config.specs.Opening.{Opens}
@@ -39,7 +39,7 @@ use Rattle.fl_session.proofs.Running.{nothing-added}
 use Rattle.fl_session.proofs.Ready.{ready-room, stands-ready}
 use Rattle.fl_session.proofs.Ending.{runs-seen, ends-of_run, begins-ready}
 use Rattle.fl_session.proofs.Rooms.{some-plan}
-use Rattle.fl_session.proofs.Rested.{IsOne, built-one, session-begins, session-ends, opened-rests}
+use Rattle.fl_session.proofs.Rested.{IsOne, built-one, session-begins, session-ends, opened-rests, opened-formed}
 
 -- the parts of a whole configuration
 pub record AreParts (knots : ℕ) (lines : Lines) (config : Config) : Type 0 where
@@ -135,12 +135,22 @@ start-room knots text = by_test (is_long text)
     by_test true = accepted-room knots (lines_read text)
     by_test false = accepted-room-ended knots (lines_read text)
 
+-- an image that was opened, and was run on, has the form of its configuration
+kept-formed : (config : Config) (mid new : MediaState) → IsFormed config mid.content → IsTrue mid.tells → KeepsForm mid new → IsFormed config new.content
+kept-formed config mid new formed tells kept = (kept.len ∙ formed.0, kept.head tells ∙ formed.1)
+
+pub session-keeps : (f f' : FlashState) (old new : MediaState) (geometry : Geometry) (blocks : ℕ) (origin : GName) →
+    f ≡ on_medium geometry blocks 1024 origin true None 0 (record { reads = 0; programs = 0; erases = 0 }) old → new ≡ f'.media → Goes f f' → KeepsForm old new
+session-keeps f f' old new geometry blocks origin is media goes =
+    let goes' = subst (λ x. Goes x f') is goes in
+    subst (λ m. KeepsForm old m) (sym media) (record { len = goes'.size; head = goes'.front })
+
 -- a run over an image that was opened
 pub ends-opened : (knots : ℕ) (text : List ℕ) (lines : Lines) (first : Option code.Command) (number : ℕ) (state : LinesState) (left left_now told told_now : Option (List ℕ)) (config : Config) (old mid new : MediaState) (origin : GName) (status : Status) →
-    BeginsAt knots text lines first number state left → whole knots lines ≡ Some config → are_built lines.plans ≡ true → IsTrue old.tells → Opened config old mid → old.faults ≤ mid.faults → mid.faults ≤ new.faults →
+    BeginsAt knots text lines first number state left → whole knots lines ≡ Some config → are_built lines.plans ≡ true → IsTrue old.tells → Opened config old mid → KeepsForm mid new → mid.tells ≡ old.tells → old.faults ≤ mid.faults → mid.faults ≤ new.faults →
     RunsFrom first number state left left_now (around_of config mid new told told_now) (RestsOn config mid.content) (StandsAfter config (Some new.content)) status →
     Ends knots text (told_of old new left_now told told_now) status
-ends-opened knots text lines first number state left left_now told told_now config old mid new origin status begins w built tells opened later later' h =
+ends-opened knots text lines first number state left left_now told told_now config old mid new origin status begins w built tells opened kept same_tells later later' h =
     let ready = begins-ready knots text lines first number state left config begins w in
     let room = ready-room config ready.0 ready.1 (start_in knots text) (start-room knots text) ready.2 in
     let one = one-of knots lines config built (whole-parts knots lines config w) in
@@ -153,6 +163,7 @@ ends-opened knots text lines first number state left left_now told told_now conf
       written = refl;
       written_now = refl;
       own = opened.own tells;
+      formed = kept-formed config mid new (opened-formed config old mid tells opened) (subst IsTrue (sym same_tells) tells) kept;
       begins = λ m s. (opened-rests config old mid f m refl refl refl room one tells opened s, stands-ready config old.content m room s);
       ends = λ m s. s;
     })

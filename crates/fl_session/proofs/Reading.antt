@@ -9,7 +9,7 @@ use Rattle.std.proofs.lemmas.List.Splits.{slice_split-cons_no}
 use Rattle.fl_words.specs.Grammar.{lines_of, no_empty_last}
 use Rattle.fl_session.specs.Given.{Given}
 use Rattle.fl_session.specs.Texts.{parts_of, all_but_last, whole_lines, rest_of, long_rest, lines_within}
-use Rattle.fl_session.proofs.Parts.{OneLine, within-line, whole-line, whole-rest, rest-rest, lines-rest, parts-some, same_test}
+use Rattle.fl_session.proofs.Parts.{OneLine, within-line, whole-line, whole-rest, rest-line, rest-rest, lines-rest, parts-some, same_test}
 
 pub given-none : (most : ℕ) (text : List ℕ) (closed : Bool) → (closed ≡ true → text ≡ []) → Given most text [] closed most text
 given-none most text closed ended = record {
@@ -20,6 +20,7 @@ given-none most text closed ended = record {
   split = λ _. refl;
   bytes = λ _. omega arith;
   whole = λ _ xs. refl;
+  behind = λ _ xs. refl;
 }
 
 -- a whole line is given
@@ -43,6 +44,7 @@ given-line most text given most_now rest line rest_now g e h short =
           ap whole_lines (joined xs)
           ∙ (g.whole c (line ++ 10 ∷ xs)
           ∙ (ap (λ r. given ++ r) (whole-line line xs h) ∙ sym (append_assoc given (line ∷ []) (whole_lines xs))));
+      behind = λ c xs. ap rest_of (joined xs) ∙ (g.behind c (line ++ 10 ∷ xs) ∙ rest-line line xs h);
     }
 
 all_within : (most : ℕ) (text : List ℕ) → length text ≤ most → lines_within most text ≡ lines_of text
@@ -65,6 +67,7 @@ given-last most text given most_now most_then rest line rest_now g e none h some
       split = λ c. cc;
       bytes = λ c. cc;
       whole = λ c. cc;
+      behind = λ c. cc;
     }
 
 -- all lines are given
@@ -80,20 +83,23 @@ pub record IsTaken (text : List ℕ) (most : ℕ) (given : List (List ℕ)) (lef
   pub taken : ℕ
   pub within : taken ≤ length text
   pub few : taken ≤ most
+  pub short : length (rest_of (take taken text)) ≤ 4096
   pub left_is : drop taken text ≡ left
   pub whole : whole_lines (take taken text) ≡ given
 
 pub given-taken : (most : ℕ) (text : List ℕ) (given : List (List ℕ)) (most_now : ℕ) (rest ahead left : List ℕ) →
-    Given most text given false most_now rest → rest ≡ ahead ++ left → OneLine ahead → length ahead ≤ most_now → IsTaken text most given left
-given-taken most text given most_now rest ahead left g e h short =
+    Given most text given false most_now rest → rest ≡ ahead ++ left → OneLine ahead → length ahead ≤ most_now → length ahead ≤ 4096 → IsTaken text most given left
+given-taken most text given most_now rest ahead left g e h fits short =
     let split : text ≡ g.front ++ (ahead ++ left) = g.split refl ∙ ap (λ r. g.front ++ r) e in
     let cut : take (length g.front + length ahead) text ≡ g.front ++ ahead =
     ap (take (length g.front + length ahead)) split
     ∙ (take-append-add g.front (ahead ++ left) (length ahead) ∙ ap (λ r. g.front ++ r) (take-append_seam ahead left)) in
+    let rest_is : rest_of (take (length g.front + length ahead) text) ≡ ahead = ap rest_of cut ∙ (g.behind refl ahead ∙ rest-rest ahead h) in
     record {
       taken = length g.front + length ahead;
       within = omega (arith, ap length split, length-append g.front (ahead ++ left), length-append ahead left);
       few = omega (arith, g.bytes refl);
+      short = omega (arith, ap length rest_is);
       left_is = ap (drop (length g.front + length ahead)) split ∙ (drop-append-add g.front (ahead ++ left) (length ahead) ∙ drop-append_seam ahead left);
       whole = ap whole_lines cut ∙ (g.whole refl ahead ∙ (ap (λ r. given ++ r) (whole-rest ahead h) ∙ append-nil given));
     }

@@ -1,6 +1,6 @@
 -- A session that isn't mounted, and the medium on which it stands.
 use Rattle.std.proofs.Common.{◌≡◌, ℕ, zero, suc, ◌+◌, ◌-◌, ◌*◌, ◌≤◌, Bool, true, false, ◌&&◌, nat_lt, nat_le, ◌==◌, inl, inr, IsTrue, Some, None, List, [], ◌∷◌, ◌++◌, map, length, take, drop, slice_range, refl, sym, ◌∙◌, ap, subst, length-append, arith}
-use Rattle.std.specs.Prelude.{MatchBool, replicate}
+use Rattle.std.specs.Prelude.{replicate}
 use Rattle.std.specs.List.{AllByRecursion, list_all}
 use Rattle.std.proofs.lemmas.List.{drop-replicate, length-replicate}
 use Rattle.std.proofs.Math.Seq.{drop-append-add, take-append_seam}
@@ -19,13 +19,13 @@ use Rattle.fl_machine.specs.Machine.{Machine, fresh_tables}
 use Rattle.fl_machine.specs.Found.{HasRoom}
 use Rattle.fl_machine.specs.Script.{StandsFor, StandsAfter}
 use Rattle.fl_session.specs.Built.{are_built, is_built_plan}
-use Rattle.fl_session.specs.Ends.{new_content}
+use Rattle.fl_session.specs.Ends.{IsOwn, IsFormed, new_content}
 use Rattle.fl_session.specs.Opening.{Opened}
 use Rattle.fl_table.specs.declared.table.Table as code
 use Rattle.fl_table.specs.Memory.{IsPlanned}
 use Rattle.fl_table.specs.Pages.{Rests, place_in}
 use Rattle.fl_session.proofs.StepsOf.{off-rests}
-use Rattle.fl_session.specs.Standing.{SessionStands, IsOnMedium, RestsOn}
+use Rattle.fl_session.specs.Standing.{SessionStands, RestsOn}
 use Rattle.fl_table.proofs.Images.{image-rests, rests-image, blank-rests}
 
 and-left : (a b : Bool) → (a && b) ≡ true → a ≡ true
@@ -98,6 +98,20 @@ new-rests config old new f start geometry content room one h e =
       head = ap (take 1024) e ∙ (ap (λ n. take n (new_content config)) (sym size) ∙ take-append_seam (header config) (replicate (medium_len config - 1024) 255));
       tables_are = subst (λ ps. AreTableImages config new.content 0 ps (map fresh_table ps)) (sym one.plans_are) images;
     }
+
+-- .. and has the form of its configuration
+pub opened-formed : (config : Config) (old new : MediaState) → IsTrue old.tells → Opened config old new → IsFormed config new.content
+opened-formed config old new told h = (h.len, by-own (h.own told))
+  where
+    some : medium_len config ≡ 0 → ⊥
+    some e = absurd (omega (arith, e))
+
+    by-own : IsOwn config old.content → take 1024 new.content ≡ header config
+    by-own (inl empty) =
+        let made = h.made told empty in
+        let size = new-header config old new h made in
+        ap (take 1024) made ∙ (ap (λ n. take n (new_content config)) (sym size) ∙ take-append_seam (header config) (replicate (medium_len config - 1024) 255))
+    by-own (inr formed) = ap (take 1024) (h.kept told (λ e. some (sym formed.0 ∙ ap length e))) ∙ formed.1
 
 pub opened-rests : (config : Config) (old new : MediaState) (f : FlashState) (m : Machine) → f.start ≡ 1024 → f.geometry ≡ config.geometry → f.media.content ≡ new.content →
     AllByRecursion HasRoom config.plans → IsOne config.plans → IsTrue old.tells → Opened config old new → StandsFor config old.content m → RestsOn config new.content m

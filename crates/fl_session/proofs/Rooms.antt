@@ -1,11 +1,11 @@
 -- What a session needs, made for a configuration.
-use Rattle.std.proofs.Common.{◌≡◌, ℕ, false, true, IsTrue, Option, Some, None, List, [], ◌∷◌, sum_by, take, refl, sym, ◌∙◌, ap, subst}
+use Rattle.std.proofs.Common.{◌≡◌, ℕ, false, true, IsTrue, Option, Some, None, List, [], ◌∷◌, sum_by, take, sym, ◌∙◌, ap, subst}
 use Rattle.std.specs.Prelude.{IfSome, slice_get}
 use Rattle.std.proofs.lemmas.Bool.{false≢true}
 use Rattle.fl_base.specs.declared.types.Geometry.{Geometry}
 use Rattle.fl_config.specs.Whole.{is_whole, is_whole_of}
 use Rattle.fl_model.specs.Record.{Plan, blocks_of}
-use Rattle.fl_plan.specs.Plan.{IsConfigOf, plan_of_table, label_of}
+use Rattle.fl_plan.specs.Plan.{IsConfigOf}
 use Rattle.fl_plan.specs.declared.table_config.TableConfig.{TableConfig}
 use Rattle.fl_table.specs.Memory.{IsPlanned, is_running, is_stopped}
 use Rattle.fl_table.specs.declared.table.Table.{Table}

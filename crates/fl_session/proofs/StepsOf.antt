@@ -1,8 +1,7 @@
 -- The commands of a session, each by its step.
-use Rattle.std.proofs.Common.{◌≡◌, ℕ, ◌≤◌, Bool, true, false, IsTrue, Option, Some, None, Result, Ok, Err, List, [], ◌∷◌, ◌++◌, map, refl, sym, ◌∙◌, ap, subst, arith}
-use Rattle.std.specs.Prelude.{MatchBool, nat_lt}
+use Rattle.std.proofs.Common.{◌≡◌, ℕ, ◌≤◌, Bool, true, false, Option, Some, None, Ok, List, [], ◌∷◌, map, refl, sym, ap, subst, arith}
+use Rattle.std.specs.Prelude.{MatchBool}
 use Rattle.std.proofs.lemmas.Bool.{le-ltb}
-use Rattle.fl_base.specs.Causes.{Rose}
 use Rattle.fl_base.specs.declared.types.CutKind.{CutKind}
 use Rattle.fl_flash.specs.declared.tear.Tear.TheVariants.{Kind}
 use Rattle.fl_flash.specs.Flash.{FlashState}
@@ -15,7 +14,6 @@ use Rattle.fl_words.specs.Command.{Command}
 use Rattle.fl_words.specs.Reply as reply
 use Rattle.fl_words.specs.Reply.{Reply, text, texts}
 use Rattle.fl_machine.specs.Machine.{Machine, stopped}
-use Rattle.fl_machine.specs.Step.{Moment}
 use Rattle.fl_script.specs.Written.{Written}
 use Rattle.fl_script.specs.declared.command.Command as code
 use Rattle.fl_script.specs.CommandView.{command_view}
@@ -25,9 +23,9 @@ use Rattle.fl_table.specs.Pages.{Rests}
 use Rattle.fl_table.specs.Standing.{Stands}
 use Rattle.fl_table.proofs.Holding.{lost-twice}
 use Rattle.fl_session.specs.Answer.{Answers}
-use Rattle.fl_session.specs.Built.{is_built, IsRunnable}
+use Rattle.fl_session.specs.Built.{IsRunnable}
 use Rattle.fl_session.specs.Execute.{Executes}
-use Rattle.fl_session.specs.Standing.{SessionStands, IsOnMedium}
+use Rattle.fl_session.specs.Standing.{SessionStands}
 use Rattle.fl_session.proofs.Answering.{answers-saying, saying, says}
 use Rattle.fl_session.proofs.Executing.{executes-by}
 use Rattle.fl_session.proofs.Running.{nothing-added}
@@ -110,24 +108,26 @@ answers-cut config old n kind stands faults faults_now s =
 
 -- a command that is run and isn't one of the others is nothing
 pub default-view : (c : code.Command) (room : List ℕ) → IsRunnable (command_view c room) → (c ≡ code.TheVariants.Mount → ⊥) → (c ≡ code.TheVariants.Off → ⊥) → ((n : ℕ) (kind : CutKind) → c ≡ code.TheVariants.Cut n kind → ⊥) →
-    ((name : _) (key : ℕ) (values : _) (blob : Bool) → c ≡ code.TheVariants.Put name key values blob → ⊥) → ((name : _) → c ≡ code.TheVariants.Flush name → ⊥) → ((name : _) → c ≡ code.TheVariants.Stat name → ⊥) → ((name : _) (range : _) (span : _) → c ≡ code.TheVariants.Scan name range span → ⊥) → command_view c room ≡ command.Nothing
-default-view code.TheVariants.Nothing room r m n k p f s l = refl
-default-view code.TheVariants.Mount room r m n k p f s l = absurd (m refl)
-default-view code.TheVariants.Off room r m n k p f s l = absurd (n refl)
-default-view (code.TheVariants.Cut i kind) room r m n k p f s l = absurd (k i kind refl)
-default-view (code.TheVariants.Put name key values blob) room r m n k p f s l = absurd (p name key values blob refl)
-default-view (code.TheVariants.Flush name) room r m n k p f s l = absurd (f name refl)
-default-view (code.TheVariants.Stat name) room r m n k p f s l = absurd (s name refl)
-default-view (code.TheVariants.Scan name range span) room r m n k p f s l = absurd (l name range span refl)
-default-view (code.TheVariants.Device page block) room r m n k p f s l = absurd (none r.runs)
+    ((name : _) (key : ℕ) (values : _) (blob : Bool) → c ≡ code.TheVariants.Put name key values blob → ⊥) → ((name : _) → c ≡ code.TheVariants.Flush name → ⊥) → ((name : _) → c ≡ code.TheVariants.Stat name → ⊥) → ((name : _) (range : _) (span : _) → c ≡ code.TheVariants.Scan name range span → ⊥) →
+    ((name : _) (count step seed : ℕ) → c ≡ code.TheVariants.Load name count step seed → ⊥) → command_view c room ≡ command.Nothing
+default-view code.TheVariants.Nothing room r m n k p f s l o = refl
+default-view code.TheVariants.Mount room r m n k p f s l o = absurd (m refl)
+default-view code.TheVariants.Off room r m n k p f s l o = absurd (n refl)
+default-view (code.TheVariants.Cut i kind) room r m n k p f s l o = absurd (k i kind refl)
+default-view (code.TheVariants.Put name key values blob) room r m n k p f s l o = absurd (p name key values blob refl)
+default-view (code.TheVariants.Flush name) room r m n k p f s l o = absurd (f name refl)
+default-view (code.TheVariants.Stat name) room r m n k p f s l o = absurd (s name refl)
+default-view (code.TheVariants.Scan name range span) room r m n k p f s l o = absurd (l name range span refl)
+default-view (code.TheVariants.Load name count step seed) room r m n k p f s l o = absurd (o name count step seed refl)
+default-view (code.TheVariants.Device page block) room r m n k p f s l o = absurd (none r.runs)
   where
     none : None ≡ Some (command.Device page block) → ⊥
     none e = cc
-default-view (code.TheVariants.Table name key rows index var bits base width error blob) room r m n k p f s l = absurd (none r.runs)
+default-view (code.TheVariants.Table name key rows index var bits base width error blob) room r m n k p f s l o = absurd (none r.runs)
   where
     none : None ≡ Some (command_view (code.TheVariants.Table name key rows index var bits base width error blob) room) → ⊥
     none e = cc
-default-view c room r m n k p f s l = absurd (unbuilt r.built)
+default-view c room r m n k p f s l o = absurd (unbuilt r.built)
   where
     unbuilt : false ≡ true → ⊥
     unbuilt e = cc

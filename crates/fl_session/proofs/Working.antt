@@ -1,25 +1,24 @@
 -- The puts and flushes of a session.
-use Rattle.std.proofs.Common.{◌≡◌, ℕ, ◌+◌, ◌-◌, ◌^◌, ◌≤◌, ◌<◌, min, Bool, true, false, not, nat_le, IsTrue, IfErr, Option, Some, None, Result, Ok, Err, List, [], ◌∷◌, ◌++◌, map, length, take, slice_get, refl, sym, ◌∙◌, ap, subst}
+use Rattle.std.proofs.Common.{◌≡◌, ℕ, ◌+◌, ◌-◌, ◌^◌, min, Bool, true, false, not, nat_le, IsTrue, IfErr, Option, Some, None, Result, Ok, Err, List, [], ◌∷◌, map, take, slice_get, refl, sym, ◌∙◌, ap, subst}
 use Rattle.std.proofs.lemmas.Bool.{leb-true, le-leb}
 use Rattle.std.proofs.Math.IntN.{ℤ}
 use Rattle.fl_base.specs.Causes.{Rose}
 use Rattle.fl_flash.specs.Flash.{FlashState, Goes}
 use Rattle.fl_flash.specs.declared.flash.FlashFault.{FlashFault}
-use Rattle.fl_flash.specs.declared.flash.FlashFault.TheVariants.{PowerLost, Media}
 use Rattle.fl_ring.specs.Device.{SameDevice}
 use Rattle.fl_ring.specs.Step.{IsWatched}
 use Rattle.fl_model.specs.Record.{Config, Plan, Record}
 use Rattle.fl_model.specs.Table as model
 use Rattle.fl_model.specs.Table.{RingName, lose, refusal_of, put_seals, put_record, table_seals, flushed, Refusal, BadKey, BadColumns, BadValue, BadBlob, Spent}
 use Rattle.fl_model.specs.Work.{Device, Progress, Performs, operations_of, changed_at, PartEnd, Whole, CutIn, FailedIn, PartProgress}
-use Rattle.fl_model.specs.Within.{TablePerforms, seals_within, with_table, progress_at, outcome_at, at_place}
+use Rattle.fl_model.specs.Within.{TablePerforms, seals_within, with_table, progress_at, outcome_at}
 use Rattle.fl_model.proofs.Among.{seals-at, performs-at}
 use Rattle.fl_words.specs.Command as command
 use Rattle.fl_words.specs.Command.{Command}
 use Rattle.fl_words.specs.Reply as reply
 use Rattle.fl_words.specs.Reply.{Reply, text, texts}
-use Rattle.fl_machine.specs.Machine.{Machine, stopped, no_cursors}
-use Rattle.fl_machine.specs.Step.{Moment, Step, Says, Stops, EndsAs, Located, refused, PutStep, FlushStep, WithTable}
+use Rattle.fl_machine.specs.Machine.{Machine, stopped}
+use Rattle.fl_machine.specs.Step.{Moment, Step, Says, EndsAs, Located, refused, PutStep, FlushStep}
 use Rattle.fl_table.specs.declared.table.Table.{Table}
 use Rattle.fl_table.specs.declared.faults.PutRefusal.{PutRefusal}
 use Rattle.fl_table.specs.declared.faults.PutRefusal.TheVariants as put
@@ -68,7 +67,7 @@ session-watched config t name f g m h =
     record { told = h.medium.told; on = h.power refl; risen = λ r. le-leb (min (f.media.faults + 1) (2 ^ 64 - 1)) g.media.faults r; counts = h.device }
 
 -- what the table performs, all tables perform
-performs-all : (config : Config) (old : Machine) (plan : Plan) (table : model.Table) (rose : Bool) (rings : List RingName) (now : PartProgress model.Table) → config.plans ≡ plan ∷ [] → old.tables ≡ table ∷ [] →
+pub performs-all : (config : Config) (old : Machine) (plan : Plan) (table : model.Table) (rose : Bool) (rings : List RingName) (now : PartProgress model.Table) → config.plans ≡ plan ∷ [] → old.tables ≡ table ∷ [] →
     TablePerforms plan rose (seals_within plan rings table) old.device table now → Performs config.plans rose (operations_of plan 0 rings table) old.device old.tables (progress_at 0 old.tables now)
 performs-all config old plan table rose rings now e k did =
     subst (λ ops. Performs config.plans rose ops old.device old.tables (progress_at 0 old.tables now)) (sym (seals-at plan 0 rings table))
@@ -110,7 +109,7 @@ ends-broken c rose old now fault f (FailedIn before) new k h = record { replies_
 
 -- A session before a call of its table and after it.
 module _ (config : Config) (old : Machine) (name : List ℕ) (t u : Table) (f g : FlashState) (h : SessionStands config t name f true old) (goes : Goes f g) (same : IsSamePlan t u) where
-  stands-done : (after : model.Table → model.Table) (device : Device) → SameDevice g device → g.is_on ≡ true → Stands u g 0 h.plan (after h.table) →
+  pub stands-done : (after : model.Table → model.Table) (device : Device) → SameDevice g device → g.is_on ≡ true → Stands u g 0 h.plan (after h.table) →
       SessionStands config u name g true (record old { device = device; tables = changed_at 0 after old.tables })
   stands-done after device counts power stands = record {
     medium = medium-goes config f g goes h.medium;

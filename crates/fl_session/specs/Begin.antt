@@ -5,7 +5,7 @@ use Rattle.fl_words.specs.Command.{Command}
 use Rattle.fl_words.specs.Config.{Lines, whole}
 use Rattle.fl_machine.specs.Script.{Start, Ready, Unended, BadLine, BadConfig, start_with, start_line, start_of}
 use Rattle.fl_session.specs.Built.{IsRunnable, is_built, is_built_config}
-use Rattle.fl_session.specs.Texts.{most_bytes, whole_lines, lines_read}
+use Rattle.fl_session.specs.Texts.{most_bytes, whole_lines, rest_of, lines_read}
 use Rattle.fl_session.specs.Ends.{start_in, IsUnbuiltConfig}
 use Rattle.fl_session.specs.Next.{IsToRun}
 use Rattle.fl_words.specs.Grammar.{command_of}
@@ -73,6 +73,7 @@ pub record EndsInConfig (knots : ℕ) (text : List ℕ) (left_now : Option (List
   pub taken : ℕ
   pub within : taken ≤ length text
   pub few : taken ≤ most_bytes
+  pub short : length (rest_of (take taken text)) ≤ 4096
   pub left : left_now ≡ Some (drop taken text)
   pub unended : IsUnended (start_of knots (whole_lines (take taken text)))
 

@@ -10,7 +10,7 @@ use Rattle.fl_words.specs.Medium.{header}
 use Rattle.fl_machine.specs.Machine.{Machine}
 use Rattle.fl_machine.specs.Script.{Start, Ready, Unended, BadLine, BadConfig, start_of, ended, accepted, first_refused, StandsFor, StandsAfter, Ran, RanInto}
 use Rattle.fl_session.specs.Built.{is_built, is_built_config}
-use Rattle.fl_session.specs.Texts.{most_bytes, whole_lines, is_long, lines_read}
+use Rattle.fl_session.specs.Texts.{most_bytes, whole_lines, rest_of, is_long, lines_read}
 use Rattle.fl_session.specs.declared.status.Status.{Status}
 use Rattle.fl_session.specs.declared.status.Status.TheVariants.{Done, Usage, Line, ScriptRead, OutWrite, MediaMake, Config as BadConfiguration, OtherConfig, ScriptLong, NoMemory, NotYet}
 
@@ -30,19 +30,26 @@ pub record IsUntouched (told : Told) : Type 0 where
   pub content : told.content_now ≡ told.content
   pub written : Appends told.written told.written_now []
 
--- a medium that is empty, or has the length and the header of the configuration
-abbrev pub IsOwn : Config → List ℕ → Type 0
-IsOwn config content = (content ≡ []) ⊎ ((length content ≡ medium_len config) × (take 1024 content ≡ header config))
+-- a medium has the length and the header of the configuration
+abbrev pub IsFormed : Config → List ℕ → Type 0
+IsFormed config content = (length content ≡ medium_len config) × (take 1024 content ≡ header config)
 
--- from each state for which the medium stands these commands were run, and it stands for the state after them
+-- .. or is empty
+abbrev pub IsOwn : Config → List ℕ → Type 0
+IsOwn config content = (content ≡ []) ⊎ IsFormed config content
+
+-- From each state for which the medium stands these commands were run, and it stands for the state after them. Its length
+-- and its header are those of the configuration, whatever stands behind them.
 pub record RunsAll (config : Config) (commands : List Command) (told : Told) : Type 0 where
   pub own : IsOwn config told.content
+  pub formed : IsFormed config told.content_now
   pub runs : (old : Machine) → StandsFor config told.content old →
       Ran config old commands (StandsAfter config (Some told.content_now)) told.faults told.faults_now told.written told.written_now
 
 -- .. and in the reply of the last of them the sink failed
 pub record RunsInto (config : Config) (commands : List Command) (told : Told) : Type 0 where
   pub own : IsOwn config told.content
+  pub formed : IsFormed config told.content_now
   pub runs : (old : Machine) → StandsFor config told.content old →
       RanInto config old commands (StandsAfter config (Some told.content_now)) told.faults told.faults_now told.written told.written_now
 
@@ -143,11 +150,12 @@ pub record EndsAt (knots : ℕ) (lines : List (List ℕ)) (told : Told) (number 
   pub unbuilt : (is_built command ≡ false) ⊎ IsUnbuiltConfig (start_of knots (before ++ line ∷ []))
   pub ends : EndsEarly (start_of knots before) told
 
--- a source that was read up to so many bytes: the whole lines of these were run
+-- a source that was read up to so many bytes: the whole lines of these were run, and no line behind them is too long yet
 pub record EndsRead (knots : ℕ) (text : List ℕ) (told : Told) : Type 0 where
   pub taken : ℕ
   pub within : taken ≤ length text
   pub most : taken ≤ most_bytes
+  pub short : length (rest_of (take taken text)) ≤ 4096
   pub left : told.left_now ≡ Some (drop taken text)
   pub ends : EndsEarly (start_of knots (whole_lines (take taken text))) told
 

@@ -1,6 +1,6 @@
 -- A text of which lines are read one after another.
 use Rattle.std.specs.Prelude.{◌≡◌, ℕ, ◌+◌, Bool, true, false, nat_lt, List, [], ◌++◌, length}
-use Rattle.fl_session.specs.Texts.{whole_lines, lines_within}
+use Rattle.fl_session.specs.Texts.{whole_lines, rest_of, lines_within}
 
 -- The lines that were given of a text, of which at most so many bytes are read, and what is left of both. Where the last
 -- line was given that has no newline, the text is closed.
@@ -12,3 +12,4 @@ pub record Given (most : ℕ) (text : List ℕ) (given : List (List ℕ)) (close
   pub split : closed ≡ false → text ≡ front ++ rest
   pub bytes : closed ≡ false → most ≡ length front + most_now
   pub whole : closed ≡ false → (xs : List ℕ) → whole_lines (front ++ xs) ≡ given ++ whole_lines xs
+  pub behind : closed ≡ false → (xs : List ℕ) → rest_of (front ++ xs) ≡ rest_of xs

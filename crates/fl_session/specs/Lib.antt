@@ -12,6 +12,7 @@ pub mod Begin
 pub mod Opening
 pub mod Answer
 pub mod Standing
+pub mod Load
 pub mod Run
 pub mod Rows
 pub mod Listed

@@ -1,5 +1,5 @@
 -- Rows that are listed in a sink, up to a fault.
-use Rattle.std.specs.Prelude.{◌≡◌, ℕ, ◌≤◌, IsTrue, Bool, IfErr, Option, Result, Ok, Err, List, length, take}
+use Rattle.std.specs.Prelude.{◌≡◌, ℕ, ◌+◌, ◌<◌, ◌≤◌, IsTrue, Bool, IfErr, Option, Some, Result, Ok, Err, List, length, take, sum, slice_get}
 use Rattle.fl_base.specs.Causes.{Rose, Appends, AppendsFront}
 use Rattle.fl_base.specs.declared.types.KeyRange.{KeyRange}
 use Rattle.fl_base.specs.declared.types.Span.{Span}
@@ -12,6 +12,7 @@ use Rattle.fl_words.specs.Reply.{texts}
 use Rattle.fl_machine.specs.Step.{Lists, rows_of}
 use Rattle.fl_script.specs.Written.{Written}
 use Rattle.fl_session.specs.declared.listing.ListFault.{ListFault}
+use Rattle.fl_session.specs.declared.listing.PageListed.{PageListed}
 use Rattle.fl_session.specs.declared.listing.ListFault.TheVariants.{Sink, Read}
 
 -- These lines were written and counted. Or the sink failed in one of them, or the medium behind some of them; no page
@@ -22,6 +23,16 @@ ListsAll lines told told_now faults faults_now (Err (Sink failed)) = AppendsFron
 ListsAll lines told told_now faults faults_now (Err (Read (Flash fault))) =
     Rose faults faults_now × ((n : ℕ) × (n ≤ length lines) × Appends told told_now (texts (take n lines)))
 ListsAll lines told told_now faults faults_now (Err (Read (BadPage bad))) = ⊥
+
+-- how many of a page's rows were listed
+abbrev pub counted : Result PageListed ListFault → Result ℕ ListFault
+counted (Ok page) = Ok page.count
+counted (Err fault) = Err fault
+
+-- the keys of the rows behind the i-th kept page are above the range
+abbrev pub EndsIn : KeyRange → model.Table → ℕ → Type 0
+EndsIn range table i =
+    (k : ℕ) (entry : model.Entry) → sum (take (i + 1) table.rows.counts) ≤ k → slice_get table.entries k ≡ Some entry → range.high < entry.kept.key
 
 -- a fault of the sink has this cause
 abbrev pub IfSink : ListFault → Type 0 → Type 0

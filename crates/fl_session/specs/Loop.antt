@@ -3,7 +3,7 @@ use Rattle.std.specs.Prelude.{◌≡◌, ℕ, ◌+◌, ◌<◌, ◌≤◌, Bool,
 use Rattle.fl_words.specs.Command.{Command}
 use Rattle.fl_machine.specs.Machine.{Machine}
 use Rattle.fl_machine.specs.Script.{accepted, first_refused}
-use Rattle.fl_session.specs.Texts.{whole_lines, lines_within}
+use Rattle.fl_session.specs.Texts.{whole_lines, rest_of, lines_within}
 use Rattle.fl_session.specs.Execute.{Around, RanAll, RanPart}
 use Rattle.fl_session.specs.Next.{IsUnbuilt}
 use Rattle.fl_session.specs.declared.status.Status.{Status}
@@ -55,6 +55,7 @@ pub record EndsTaken (tail : Tail) (left_now : Option (List ℕ)) (around : Arou
   pub taken : ℕ
   pub within : taken ≤ length tail.text
   pub few : taken ≤ tail.most
+  pub short : length (rest_of (take taken tail.text)) ≤ 4096
   pub left : left_now ≡ Some (drop taken tail.text)
   pub accepts : first_refused tail.number (tail.first ∷ whole_lines (take taken tail.text)) ≡ None
   pub runs : RanAll around stands stands_now (accepted (tail.first ∷ whole_lines (take taken tail.text)))

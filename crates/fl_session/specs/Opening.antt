@@ -1,5 +1,5 @@
 -- What the opening of an image does to its medium.
-use Rattle.std.specs.Prelude.{◌≡◌, ℕ, ◌*◌, ◌<◌, ◌≤◌, IsTrue, Result, Ok, Err, List, [], length}
+use Rattle.std.specs.Prelude.{◌≡◌, ℕ, ◌*◌, ◌<◌, ◌≤◌, IsTrue, Result, Ok, Err, List, [], length, take}
 use Rattle.fl_config.specs.declared.image.ImageRefusal.{ImageRefusal}
 use Rattle.fl_config.specs.declared.image.ImageRefusal.TheVariants.{Media, Other}
 use Rattle.fl_base.specs.Causes.{Rose}
@@ -34,6 +34,11 @@ abbrev pub OpensAs : Config → MediaState → Result (Unit {0}) ImageRefusal �
 OpensAs config old (Ok done) new = Opened config old new
 OpensAs config old (Err Media) new = HalfOpened config old new
 OpensAs config old (Err (Other wanted found at)) new = Foreign config old new wanted found at
+
+-- what an opened image keeps, whatever stands behind its header
+pub record KeepsForm (old new : MediaState) : Type 0 where
+  pub len : length new.content ≡ length old.content
+  pub head : IsTrue old.tells → take 1024 new.content ≡ take 1024 old.content
 
 -- what no call changes of a medium
 pub record MediaGoes (old new : MediaState) : Type 0 where

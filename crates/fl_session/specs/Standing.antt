@@ -1,6 +1,6 @@
 -- A session, and the states of the machine for which it stands.
-use Rattle.std.specs.Prelude.{◌≡◌, ℕ, ◌^◌, ◌<◌, Bool, true, false, IsTrue, MatchBool, List, [], ◌∷◌, length, take, Some}
-use Rattle.fl_flash.specs.Flash.{FlashState, pages}
+use Rattle.std.specs.Prelude.{◌≡◌, ℕ, Bool, true, false, IsTrue, MatchBool, List, [], ◌∷◌, length, take, Some}
+use Rattle.fl_flash.specs.Flash.{FlashState}
 use Rattle.fl_flash.specs.Buffer.{BufferState}
 use Rattle.fl_ring.specs.Device.{SameDevice}
 use Rattle.fl_model.specs.Record.{Config, Plan}

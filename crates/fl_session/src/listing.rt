@@ -12,7 +12,7 @@ ghost use Rattle.fl_table.specs.Look.{oldest_in, rows_noted, kept_counts};
 ghost use Rattle.fl_table.specs.Memory.{next_in, LiesOn};
 ghost use Rattle.fl_table.specs.Standing.{Stands};
 ghost use Rattle.fl_session.specs.Rows.{lines_of, Shows};
-ghost use Rattle.fl_session.specs.Listed.{ListsAll, HasSinkCause, Scans};
+ghost use Rattle.fl_session.specs.Listed.{ListsAll, counted, EndsIn, HasSinkCause, Scans};
 
 use crate::rows::{Wanted, show_row};
 use fl_base::{Sink, SinkFailed};
@@ -48,8 +48,33 @@ impl From<ReadFault> for ListFault {
     }
 }
 
+/// What was listed of a page.
+#[derive(Clone, Copy, Debug)]
+struct PageListed {
+    /// How many of its rows.
+    count: u64,
+    /// The range ends in it: no row behind it is asked for.
+    is_last: bool,
+}
+
 impl Wanted {
-    /// Lists the rows of the kept page with this number, and counts them. A void page isn't read.
+    /// Whether no row of the pages is asked for, by the keys that are in memory.
+    fn passes_pages(&self, table: &Table) -> bool
+        ensures { (f : FlashState) → (first : ℕ) → (plan : Plan) → (t : model.Table) → Stands table.now f first plan t → IsTrue result → lines_of self.now.range self.now.span (written t) ≡ [] }
+    {
+        if self.range.high < self.range.low {
+            return true;
+        }
+        if table.pending_rows() > 0 {
+            return table.pending_row(0).key() <= self.range.low;
+        }
+        match table.last_key() {
+            Some(last) => last < self.range.low,
+            None => true,
+        }
+    }
+
+    /// Lists the rows of the kept page with this number. A void page isn't read.
     fn list_page<F: Flash, K: Sink>(
         &self,
         table: &Table,
@@ -57,30 +82,42 @@ impl Wanted {
         flash: &mut F,
         buf: &mut PageBuf,
         out: &mut K,
-    ) -> Result<u64, ListFault>
+    ) -> Result<PageListed, ListFault>
         requires lies { LiesOn table.now (F.state flash.old) }
         requires kept { (oldest_in table.now ≤ number) × (number < next_in table.now) }
         requires room { length buf.old.bytes ≡ (F.state flash.old).geometry.page }
         ensures reads { OnlyReads (F.state flash.old) (full_pages (rows_noted table.now number ∷ [])) (F.state flash.new) }
         ensures room { length buf.new.bytes ≡ length buf.old.bytes }
-        ensures few { IfOk result (λ count. count < 65536) }
-        ensures cause { HasSinkCause (K.faults out.old) (K.faults out.new) result }
+        ensures few { IfOk result (λ page. page.count < 65536) }
+        ensures cause { HasSinkCause (K.faults out.old) (K.faults out.new) (counted result) }
         ensures lists { (first : ℕ) → (plan : Plan) → (t : model.Table) → (count : ℕ) → IsTrue (F.state flash.old).media.tells → (F.state flash.old).is_on ≡ true →
             Stands table.now (F.state flash.old) first plan t → slice_get t.rows.counts (number - oldest t.rows) ≡ Some count →
-            ListsAll (lines_of self.now.range self.now.span (rows_at t (number - oldest t.rows) count)) (K.written out.old) (K.written out.new) (F.state flash.old).media.faults (F.state flash.new).media.faults result }
+            ListsAll (lines_of self.now.range self.now.span (rows_at t (number - oldest t.rows) count)) (K.written out.old) (K.written out.new) (F.state flash.old).media.faults (F.state flash.new).media.faults (counted result) }
+        ensures last { (first : ℕ) → (plan : Plan) → (t : model.Table) → (count : ℕ) → IsTrue (F.state flash.old).media.tells →
+            Stands table.now (F.state flash.old) first plan t → slice_get t.rows.counts (number - oldest t.rows) ≡ Some count →
+            IfOk result (λ page. IsTrue page.is_last → EndsIn self.now.range t (number - oldest t.rows)) }
     {
+        let none = PageListed {
+            count: 0,
+            is_last: false,
+        };
         if table.rows_of(number) == 0 {
-            return Ok(0);
+            return Ok(none);
         }
         if !table.read_page(flash, number, buf)? {
-            return Ok(0);
+            return Ok(none);
         }
         let view = table.view(buf, number);
         let count = self.show_page(&view, table.columns(), out)?;
-        Ok(count)
+        let last = view.row(view.rows() - 1).key();
+        Ok(PageListed {
+            count,
+            is_last: self.range.high <= last,
+        })
     }
 
-    /// Lists the rows of the kept pages, the oldest first, and counts them. Each page that isn't void is read once.
+    /// Lists the rows of the kept pages, the oldest first, and counts them. Each page that isn't void is read once, up
+    /// to the one in which the range ends.
     fn list_pages<F: Flash, K: Sink>(
         &self,
         table: &Table,
@@ -98,8 +135,15 @@ impl Wanted {
             ListsAll (lines_of self.now.range self.now.span (written t)) (K.written out.old) (K.written out.new) (F.state flash.old).media.faults (F.state flash.new).media.faults result }
     {
         let mut count = 0;
+        if self.passes_pages(table) {
+            return Ok(count);
+        }
         for number in table.oldest()..table.next_number() {
-            count += self.list_page(table, number, flash, buf, out)?;
+            let page = self.list_page(table, number, flash, buf, out)?;
+            count += page.count;
+            if page.is_last {
+                return Ok(count);
+            }
         }
         Ok(count)
     }

@@ -23,6 +23,7 @@ fn is_built(command: &Command) -> bool
         | Command::Scan { .. }
         | Command::Stat { .. } => true,
         Command::Cut { n, .. } => 1 <= *n,
+        Command::Load { step, .. } => 1 <= *step,
         _ => false,
     }
 }

@@ -1,3 +1,6 @@
+mod loads;
+mod scans;
+
 use super::*;
 use fl_base::{MemSink, MemSource};
 use fl_flash::MemMedia;

@@ -12,7 +12,7 @@ ghost use Rattle.fl_session.specs.Built.{are_built};
 ghost use Rattle.fl_session.specs.Begin.{HoldsFirst};
 ghost use Rattle.fl_session.specs.Words.{image_named};
 ghost use Rattle.fl_session.specs.Ends.{Ends, told_of, IsEarlyBy, IsWhole, RunsToEnd, start_in};
-ghost use Rattle.fl_session.specs.Opening.{MediaGoes, IsBlankBehind};
+ghost use Rattle.fl_session.specs.Opening.{MediaGoes, KeepsForm, IsBlankBehind};
 ghost use Rattle.fl_session.specs.Run.{RunsFrom, HasRoom, around_of, IsOfCommands, refused_status};
 ghost use Rattle.fl_session.specs.Standing.{RestsOn, IsNewTable};
 ghost use Rattle.fl_machine.specs.Script.{StandsAfter};
@@ -133,6 +133,7 @@ fn run_session<M: Media, S: Source, K: Sink>(
     ensures runs { (configured : Configuration) → whole configured.knots config.now ≡ Some configured → IsTrue (M.state media.old).tells →
         RunsFrom begun.first begun.number lines.old (S.left script.old) (S.left script.new) (around_of configured (M.state media.old) (M.state media.new) (K.written out.old) (K.written out.new))
         (RestsOn configured (M.state media.old).content) (StandsAfter configured (Some (M.state media.new).content)) result }
+    ensures form { KeepsForm (M.state media.old) (M.state media.new) }
     ensures goes { MediaGoes (M.state media.old) (M.state media.new) }
     ensures read { result ≡ Status.ScriptRead → Rose (S.faults script.old) (S.faults script.new) }
     ensures write { result ≡ Status.OutWrite → Rose (K.faults out.old) (K.faults out.new) }

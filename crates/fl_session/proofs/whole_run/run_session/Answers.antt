@@ -1,7 +1,7 @@
-use Rattle.std.proofs.Common.{◌≡◌, ℕ, Some, rules, refl, sym, ◌∙◌, ap, subst}
+use Rattle.std.proofs.Common.{◌≡◌, rules, ◌∙◌, subst}
 use Rattle.std.specs.Prelude.{IfSome, slice_get}
-use Rattle.fl_model.specs.Record.{Config, Plan}
-use Rattle.fl_session.proofs.Over.{whole-parts, one-of, session-runs, new-sound}
+use Rattle.fl_model.specs.Record.{Plan}
+use Rattle.fl_session.proofs.Over.{whole-parts, one-of, session-runs, new-sound, session-keeps}
 use Rattle.fl_session.proofs.Rooms.{named-one}
 use Rattle.fl_session.proofs.whole_run.run_session.Goals as goal
 
@@ -23,3 +23,8 @@ pub run_first-status-requires-clause-sound : goal.run_first-status-requires-clau
 run_first-status-requires-clause-sound g c =
     new-sound c.args.rooms.table _ c.args.config.now _ _ c.args.rooms.buf _ c.new-session.ensures.rooms.0 (c.new-session.ensures.flash ∙ c.flash_on-flash.ensures) c.new-session.ensures.rooms.2
     c.requires.table c.requires.whole c.requires.built c.geometry.ensures.device c.blocks-2.ensures.exact c.blocks-2.ensures.fits c.requires.page
+
+pub returns-clause-form : goal.returns-clause-form
+returns-clause-form g c =
+    let e : g.M.Media.state c.media-1.given.0 ≡ g.M.Media.state c.end-media.result.now = search rules in
+    session-keeps _ _ _ _ c.geometry.result c.blocks-2.result _ (c.new-session.ensures.flash ∙ c.flash_on-flash.ensures) (e ∙ c.end-media.ensures.state) c.run_first-status.ensures.goes

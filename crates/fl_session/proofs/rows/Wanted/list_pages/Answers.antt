@@ -1,4 +1,4 @@
-use Rattle.std.proofs.Common.{◌≡◌, ℕ, suc, ◌+◌, ◌-◌, ◌*◌, ◌<◌, ◌≤◌, true, IsTrue, Ok, Err, List, [], ◌∷◌, length, map, refl, sym, ◌∙◌, ap, subst, arith}
+use Rattle.std.proofs.Common.{◌≡◌, suc, ◌+◌, ◌-◌, Ok, [], ◌∷◌, map, refl, sym, ◌∙◌, ap, subst, arith}
 use Rattle.std.proofs.lemmas.Result.{err_from_is_err_and}
 use Rattle.std.specs.List.{range_with_len}
 use Rattle.fl_model.specs.Image.{rows_at}
@@ -10,11 +10,11 @@ use Rattle.fl_ring.proofs.Readings.{no_reads, more_reads, told_still}
 use Rattle.fl_table.specs.Look.{oldest_in, rows_noted, kept_counts}
 use Rattle.fl_table.specs.Memory.{next_in}
 use Rattle.fl_table.proofs.Looks.{oldest-is, next-is}
-use Rattle.fl_table.proofs.StillStands.{stands-still, lies-still}
+use Rattle.fl_table.proofs.StillStands.{stands-still}
 use Rattle.fl_session.specs.Listed.{ListsAll}
 use Rattle.fl_session.specs.Rows.{lines_of}
-use Rattle.fl_session.proofs.RowLines.{appends-none}
-use Rattle.fl_session.proofs.PagesListed.{lines_before, lists-then, lists-stop, page-lines, written-lines, none-before, all-before, reads-most, full-next, full-most, none-listed}
+use Rattle.fl_session.proofs.PagesListed.{lines_before, lists-then, lists-stop, page-lines, written-lines, all-before, reads-most, full-next, full-most, none-listed}
+use Rattle.fl_session.proofs.RangeEnds.{ends-lines}
 use Rattle.fl_session.proofs.rows.Wanted.list_pages.Goals as goal
 
 pub loop-number-init : goal.loop-number-init
@@ -30,8 +30,8 @@ loop-number-init g c =
       lists = λ first plan table told on stands. none-listed c.args.self.now.range c.args.self.now.span table (g.K.Sink.written c.args.out.now) (g.F.Flash.state c.args.flash.now).media.faults;
     })
 
-pub returns-in_err-count-clause-reads : goal.returns-in_err-count-clause-reads
-returns-in_err-count-clause-reads g c =
+pub returns-in_err-page-clause-reads : goal.returns-in_err-page-clause-reads
+returns-in_err-page-clause-reads g c =
     let t = c.args.table.now in
     let old = g.F.Flash.state c.args.flash.now in
     let flash = g.F.Flash.state c.loop-number.flash in
@@ -39,13 +39,13 @@ returns-in_err-count-clause-reads g c =
     let number = c.loop-number.number in
     let n = number - oldest_in t in
     let inv = c.loop-number.invariant in
-    let both = more_reads old flash new (full_pages (map (rows_noted t) (range_with_len (oldest_in t) n))) (full_pages (rows_noted t number ∷ [])) inv.reads c.in_err-count.ensures.reads in
+    let both = more_reads old flash new (full_pages (map (rows_noted t) (range_with_len (oldest_in t) n))) (full_pages (rows_noted t number ∷ [])) inv.reads c.in_err-page.ensures.reads in
     let next = full-next (rows_noted t) (oldest_in t) n number (omega (arith, inv.from)) in
     let most = full-most (rows_noted t) (oldest_in t) (n + 1) (next_in t - oldest_in t) (omega (arith, inv.from, c.loop-number-test.true, c.next_number-number-end.ensures.exact)) in
     reads-most old new _ (full_pages (kept_counts t)) (omega (arith, next, most)) both
 
-pub returns-in_err-count-clause-lists : goal.returns-in_err-count-clause-lists
-returns-in_err-count-clause-lists g c = λ first plan table told on stands.
+pub returns-in_err-page-clause-lists : goal.returns-in_err-page-clause-lists
+returns-in_err-page-clause-lists g c = λ first plan table told on stands.
     let t = c.args.table.now in
     let old = g.F.Flash.state c.args.flash.now in
     let flash = g.F.Flash.state c.loop-number.flash in
@@ -60,7 +60,7 @@ returns-in_err-count-clause-lists g c = λ first plan table told on stands.
     let page = slice_get-some table.rows.counts i (omega (arith, c.loop-number-test.true, c.next_number-number-end.ensures.exact, next-is t old first plan table stands, oldest-is t old first plan table stands, inv.from, stands.facts.rows.not_negative)) in
     let before : ListsAll (lines_before range span table i) (g.K.Sink.written c.args.out.now) (g.K.Sink.written c.loop-number.out) old.media.faults flash.media.faults (Ok c.loop-number.count) =
     subst (λ k. ListsAll (lines_before range span table k) (g.K.Sink.written c.args.out.now) (g.K.Sink.written c.loop-number.out) old.media.faults flash.media.faults (Ok c.loop-number.count)) same (inv.lists first plan table told on stands) in
-    let here = c.in_err-count.ensures.lists first plan table page.0 (told_still old flash _ inv.reads told) (inv.reads.power ∙ on) (stands-still t old flash _ first plan table inv.reads stands) page.1 in
+    let here = c.in_err-page.ensures.lists first plan table page.0 (told_still old flash _ inv.reads told) (inv.reads.power ∙ on) (stands-still t old flash _ first plan table inv.reads stands) page.1 in
     let p = err_from_is_err_and c.from_residual.result c.from_residual.ensures.1 in
     rw (p.1, p.2) (lists-stop (lines_before range span table i) (lines_of range span (rows_at table i page.0)) _ (lines_of range span (written table)) _ _ _ old.media.faults flash.media.faults new.media.faults c.loop-number.count _
     (written-lines range span table i page.0 page.1 stands.facts.counted) inv.reads.goes.faults before here)
@@ -77,26 +77,63 @@ loop-number-preserved g c =
     let n = number - oldest_in t in
     let inv = c.loop-number.invariant in
     let more : number + 1 - oldest_in t ≡ n + 1 = omega (arith, inv.from) in
-    let both = more_reads old flash new (full_pages (map (rows_noted t) (range_with_len (oldest_in t) n))) (full_pages (rows_noted t number ∷ [])) inv.reads c.in_ok-count.ensures.reads in
+    let both = more_reads old flash new (full_pages (map (rows_noted t) (range_with_len (oldest_in t) n))) (full_pages (rows_noted t number ∷ [])) inv.reads c.in_ok-page.ensures.reads in
     let next = full-next (rows_noted t) (oldest_in t) n number (omega (arith, inv.from)) in
     record {
       from = omega (arith, inv.from);
       reads = subst (λ k. OnlyReads old k new) (sym (ap (λ k. full_pages (map (rows_noted t) (range_with_len (oldest_in t) k))) more ∙ next)) both;
-      room = c.in_ok-count.ensures.room ∙ inv.room;
-      few = omega (arith, inv.few, c.in_ok-count.ensures.few, more);
-      later = omega (arith, inv.later, c.in_ok-count.ensures.cause.later);
+      room = c.in_ok-page.ensures.room ∙ inv.room;
+      few = omega (arith, inv.few, c.in_ok-page.ensures.few, more);
+      later = omega (arith, inv.later, c.in_ok-page.ensures.cause.later);
       lists = λ first plan table told on stands.
           let i = number - oldest table.rows in
           let same : number - oldest_in t ≡ i = ap (λ k. number - k) (oldest-is t old first plan table stands) in
           let page = slice_get-some table.rows.counts i (omega (arith, inv.from, c.loop-number-test.true, c.next_number-number-end.ensures.exact, next-is t old first plan table stands, oldest-is t old first plan table stands, inv.from, stands.facts.rows.not_negative)) in
           let before : ListsAll (lines_before range span table i) (g.K.Sink.written c.args.out.now) (g.K.Sink.written c.loop-number.out) old.media.faults flash.media.faults (Ok c.loop-number.count) =
           subst (λ k. ListsAll (lines_before range span table k) (g.K.Sink.written c.args.out.now) (g.K.Sink.written c.loop-number.out) old.media.faults flash.media.faults (Ok c.loop-number.count)) same (inv.lists first plan table told on stands) in
-          let here = c.in_ok-count.ensures.lists first plan table page.0 (told_still old flash _ inv.reads told) (inv.reads.power ∙ on) (stands-still t old flash _ first plan table inv.reads stands) page.1 in
-          let after = lists-then (lines_before range span table i) (lines_of range span (rows_at table i page.0)) (lines_before range span table (suc i)) _ _ _ old.media.faults flash.media.faults new.media.faults c.loop-number.count c.in_ok-count.field-0 (c.loop-number.count + c.in_ok-count.field-0)
+          let here = c.in_ok-page.ensures.lists first plan table page.0 (told_still old flash _ inv.reads told) (inv.reads.power ∙ on) (stands-still t old flash _ first plan table inv.reads stands) page.1 in
+          let after = lists-then (lines_before range span table i) (lines_of range span (rows_at table i page.0)) (lines_before range span table (suc i)) _ _ _ old.media.faults flash.media.faults new.media.faults c.loop-number.count c.in_ok-page.page.count (c.loop-number.count + c.in_ok-page.page.count)
           (page-lines range span table i page.0 page.1 stands.facts.counted) refl before here in
           let at : number + 1 - oldest_in t ≡ suc i = omega (arith, more, same) in
           rw at after;
     }
+
+pub returns-then-page-clause-reads : goal.returns-then-page-clause-reads
+returns-then-page-clause-reads g c =
+    let t = c.args.table.now in
+    let old = g.F.Flash.state c.args.flash.now in
+    let flash = g.F.Flash.state c.loop-number.flash in
+    let new = g.F.Flash.state c.list_page.new.flash in
+    let number = c.loop-number.number in
+    let n = number - oldest_in t in
+    let inv = c.loop-number.invariant in
+    let both = more_reads old flash new (full_pages (map (rows_noted t) (range_with_len (oldest_in t) n))) (full_pages (rows_noted t number ∷ [])) inv.reads c.in_ok-page.ensures.reads in
+    let next = full-next (rows_noted t) (oldest_in t) n number (omega (arith, inv.from)) in
+    let most = full-most (rows_noted t) (oldest_in t) (n + 1) (next_in t - oldest_in t) (omega (arith, inv.from, c.loop-number-test.true, c.next_number-number-end.ensures.exact)) in
+    reads-most old new _ (full_pages (kept_counts t)) (omega (arith, next, most)) both
+
+pub returns-then-page-clause-lists : goal.returns-then-page-clause-lists
+returns-then-page-clause-lists g c = λ first plan table told on stands.
+    let t = c.args.table.now in
+    let old = g.F.Flash.state c.args.flash.now in
+    let flash = g.F.Flash.state c.loop-number.flash in
+    let new = g.F.Flash.state c.list_page.new.flash in
+    let range = c.args.self.now.range in
+    let span = c.args.self.now.span in
+    let number = c.loop-number.number in
+    let inv = c.loop-number.invariant in
+    let i = number - oldest table.rows in
+    let same : number - oldest_in t ≡ i = ap (λ k. number - k) (oldest-is t old first plan table stands) in
+    let page = slice_get-some table.rows.counts i (omega (arith, c.loop-number-test.true, c.next_number-number-end.ensures.exact, next-is t old first plan table stands, oldest-is t old first plan table stands, inv.from, stands.facts.rows.not_negative)) in
+    let before : ListsAll (lines_before range span table i) (g.K.Sink.written c.args.out.now) (g.K.Sink.written c.loop-number.out) old.media.faults flash.media.faults (Ok c.loop-number.count) =
+    subst (λ k. ListsAll (lines_before range span table k) (g.K.Sink.written c.args.out.now) (g.K.Sink.written c.loop-number.out) old.media.faults flash.media.faults (Ok c.loop-number.count)) same (inv.lists first plan table told on stands) in
+    let told_there = told_still old flash _ inv.reads told in
+    let stands_there = stands-still t old flash _ first plan table inv.reads stands in
+    let here = c.in_ok-page.ensures.lists first plan table page.0 told_there (inv.reads.power ∙ on) stands_there page.1 in
+    let ends = c.in_ok-page.ensures.last first plan table page.0 told_there stands_there page.1 c.if-page.true in
+    let all = page-lines range span table i page.0 page.1 stands.facts.counted ∙ ends-lines range span table i page.0 page.1 stands.facts.counted ends in
+    lists-then (lines_before range span table i) (lines_of range span (rows_at table i page.0)) (lines_of range span (written table)) _ _ _ old.media.faults flash.media.faults new.media.faults c.loop-number.count c.in_ok-page.page.count (c.loop-number.count + c.in_ok-page.page.count)
+    all refl before here
 
 pub returns-clause-lists : goal.returns-clause-lists
 returns-clause-lists g c = λ first plan table told on stands.

@@ -1,4 +1,4 @@
-use Rattle.std.proofs.Common.{◌≡◌, sym, subst}
+use Rattle.std.proofs.Common.{sym, subst}
 use Rattle.fl_session.specs.Standing.{SessionStands}
 use Rattle.fl_session.proofs.StepsOf.{cut_to_come, stands-cut, answers-cut}
 use Rattle.fl_session.proofs.session.Session.cut.Goals as goal

@@ -1,4 +1,3 @@
-use Rattle.std.proofs.Common.{sym}
 use Rattle.fl_session.proofs.Calls.{mount-call, already-call}
 use Rattle.fl_session.proofs.session.Session.mount.Goals as goal
 

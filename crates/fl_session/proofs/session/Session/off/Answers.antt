@@ -1,4 +1,4 @@
-use Rattle.std.proofs.Common.{◌≡◌, false, sym, subst}
+use Rattle.std.proofs.Common.{false, sym, subst}
 use Rattle.fl_session.specs.Standing.{SessionStands}
 use Rattle.fl_machine.specs.Machine.{stopped}
 use Rattle.fl_session.proofs.StepsOf.{stands-off, answers-off}
