@@ -31,8 +31,7 @@ fn page(rows: &[(u64, i64)]) -> [u8; 128]
 #[test]
 fn selects(rt: HostRuntime) -> Result<(), Fail> {
     let alloc = rt.alloc();
-    let schema =
-        Schema::<8>::new(KeyWidth::Eight, &COLUMN, false, 104).expect(&rt, "the rows fit");
+    let schema = Schema::<8>::new(KeyWidth::Eight, &COLUMN, false, 104).expect(&rt, "the rows fit");
     let bytes = page(&[(1, 10), (3, 30), (5, 50)]);
     let mut media = MemMedia::new(alloc, vec![in alloc; 255; 400]?, 400)?;
     let mut flash = SimFlash::new(alloc, &mut media, GEOMETRY, 3, 16)?;
@@ -64,8 +63,7 @@ fn selects(rt: HostRuntime) -> Result<(), Fail> {
 #[test]
 fn projects(rt: HostRuntime) -> Result<(), Fail> {
     let alloc = rt.alloc();
-    let schema =
-        Schema::<8>::new(KeyWidth::Eight, &COLUMN, false, 104).expect(&rt, "the rows fit");
+    let schema = Schema::<8>::new(KeyWidth::Eight, &COLUMN, false, 104).expect(&rt, "the rows fit");
     let bytes = page(&[(1, 10), (3, -30), (5, 50)]);
     let mut media = MemMedia::new(alloc, vec![in alloc; 255; 400]?, 400)?;
     let mut flash = SimFlash::new(alloc, &mut media, GEOMETRY, 3, 16)?;
@@ -83,8 +81,7 @@ fn projects(rt: HostRuntime) -> Result<(), Fail> {
 #[test]
 fn groups(rt: HostRuntime) -> Result<(), Fail> {
     let alloc = rt.alloc();
-    let schema =
-        Schema::<8>::new(KeyWidth::Eight, &COLUMN, false, 104).expect(&rt, "the rows fit");
+    let schema = Schema::<8>::new(KeyWidth::Eight, &COLUMN, false, 104).expect(&rt, "the rows fit");
     let bytes = page(&[(10, -1), (11, -2), (1700000000, -52), (1700000009, -50)]);
     let mut media = MemMedia::new(alloc, vec![in alloc; 255; 400]?, 400)?;
     let mut flash = SimFlash::new(alloc, &mut media, GEOMETRY, 3, 16)?;
@@ -116,8 +113,7 @@ fn groups(rt: HostRuntime) -> Result<(), Fail> {
 #[test]
 fn joins(rt: HostRuntime) -> Result<(), Fail> {
     let alloc = rt.alloc();
-    let schema =
-        Schema::<8>::new(KeyWidth::Eight, &COLUMN, false, 104).expect(&rt, "the rows fit");
+    let schema = Schema::<8>::new(KeyWidth::Eight, &COLUMN, false, 104).expect(&rt, "the rows fit");
     let left = page(&[(1, 10), (3, 30), (5, 50)]);
     let right = page(&[(3, 300), (4, 400), (5, 500), (6, 600)]);
     let mut media = MemMedia::new(alloc, vec![in alloc; 255; 400]?, 400)?;

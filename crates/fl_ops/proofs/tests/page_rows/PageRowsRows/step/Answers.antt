@@ -15,7 +15,7 @@ pub returns-then-self-rows-clause-steps : goal.returns-then-self-rows-clause-ste
 returns-then-self-rows-clause-steps g c = λ told.
     let view = c.args.self.now.view in
     let none : drop c.args.self.now.next (rows_of c.args.self.now.view) ≡ []
-        = rows_from-end (count_of view) (layout_of_page view) (drop 16 (page_of view)) c.args.self.now.next (omega (arith, c.if-self-rows.true, c.rows.ensures)) in
+    = rows_from-end (count_of view) (layout_of_page view) (drop 16 (page_of view)) c.args.self.now.next (omega (arith, c.if-self-rows.true, c.rows.ensures)) in
     (none, none)
 
 -- the keys don't ascend
@@ -23,14 +23,14 @@ pub returns-then-key-above-clause-stays_told : goal.returns-then-key-above-claus
 returns-then-key-above-clause-stays_told g c = λ told.
     let view = c.args.self.now.view in
     let none : drop c.rows-self.result (rows_of c.args.self.now.view) ≡ []
-        = rows_from-end (count_of view) (layout_of_page view) (drop 16 (page_of view)) c.rows-self.result (omega (arith, c.rows-self.ensures)) in
+    = rows_from-end (count_of view) (layout_of_page view) (drop 16 (page_of view)) c.rows-self.result (omega (arith, c.rows-self.ensures)) in
     let P : List Row → Type 0 = λ left. Ascends c.args.self.now.above left in
     subst P (sym none) tt
 
 pub returns-then-key-above-clause-steps : goal.returns-then-key-above-clause-steps
 returns-then-key-above-clause-steps g c = λ told.
     let later : is_above c.args.self.now.above (row_of c.row.result).key ≡ true
-        = (Ascends-first c.args.self.now.above (rows_of c.args.self.now.view) c.args.self.now.next (row_of c.row.result) c.row.ensures.row told).0 in
+    = (Ascends-first c.args.self.now.above (rows_of c.args.self.now.view) c.args.self.now.next (row_of c.row.result) c.row.ensures.row told).0 in
     let far : is_above (Some c.in-Some.above) (row_of c.row.result).key ≡ true = rw c.in-Some.is at later in
     absurd (omega (arith, ltb-true c.in-Some.above (row_of c.row.result).key far, c.if-key-above.true, c.key-key.ensures))
 
@@ -45,8 +45,8 @@ returns-clause-steps g c = λ told.
     let view = c.args.self.now.view in
     let back : c.args.self.now.next + 1 - 1 ≡ c.args.self.now.next = omega arith in
     let same : row_of c.row.result ≡ row_in (layout_of_page c.args.self.now.view) (row_at (layout_of_page c.args.self.now.view) (page_of c.args.self.now.view) (c.args.self.now.next + 1 - 1))
-        = ap (λ (layout : RowLayout). row_in layout (bytes_of c.row.result)) c.row.ensures.layout
-        ∙ ap (λ (bytes : List ℕ). row_in (layout_of_page view) bytes) c.row.ensures.bytes
-        ∙ ap (λ (i : ℕ). row_in (layout_of_page view) (row_at (layout_of_page view) (page_of view) i)) (sym back) in
+    = ap (λ (layout : RowLayout). row_in layout (bytes_of c.row.result)) c.row.ensures.layout
+    ∙ ap (λ (bytes : List ℕ). row_in (layout_of_page view) bytes) c.row.ensures.bytes
+    ∙ ap (λ (i : ℕ). row_in (layout_of_page view) (row_at (layout_of_page view) (page_of view) i)) (sym back) in
     drop-first (rows_of view) c.args.self.now.next (row_of c.row.result) c.row.ensures.row
     ∙ ap (λ (row : Row). row ∷ drop (c.args.self.now.next + 1) (rows_of view)) same
