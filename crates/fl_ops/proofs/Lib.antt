@@ -5,5 +5,6 @@ pub mod Continuing
 pub mod GroupLists
 pub mod Joins
 pub mod Room
+pub mod RowsLeft
 pub mod Selections
 pub mod Sums

@@ -16,3 +16,6 @@ pub use join::KeyJoin;
 pub use project::Project;
 pub use select::Select;
 pub use selection::selection_is_the_models;
+
+#[cfg(test)]
+mod tests;
