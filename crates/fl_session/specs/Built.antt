@@ -19,6 +19,7 @@ is_built (command.Put name key values blob) = true
 is_built (command.Flush name) = true
 is_built (command.Scan name range span) = true
 is_built (command.Stat name) = true
+is_built command.Cost = true
 is_built c = false
 
 -- the configurations: one table, without an index ring and without variable data
