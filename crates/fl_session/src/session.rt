@@ -208,7 +208,7 @@ impl<'m, M: Media> Session<'m, M> {
         }
         let before = self.flash.work().reads;
         let written = wanted.scan(&self.table, &mut self.flash, &mut self.buf, out);
-        let reads = self.flash.work().reads - before;
+        let reads = self.flash.work().reads.saturating_sub(before);
         self.cost = Cost::OfScan { reads };
         written
     }
