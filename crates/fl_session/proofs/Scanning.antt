@@ -1,5 +1,5 @@
 -- The scan of a session.
-use Rattle.std.proofs.Common.{◌≡◌, ℕ, Bool, true, IsTrue, Option, Some, None, Result, List, [], ◌∷◌, refl, sym, ◌∙◌, ap, subst}
+use Rattle.std.proofs.Common.{◌≡◌, ℕ, Bool, true, IsTrue, Option, Some, None, Result, List, refl, sym, ◌∙◌, subst}
 use Rattle.fl_base.specs.declared.types.KeyRange.{KeyRange}
 use Rattle.fl_base.specs.declared.types.Span.{Span}
 use Rattle.fl_flash.specs.Flash.{FlashState}
@@ -8,7 +8,6 @@ use Rattle.fl_model.specs.Record.{Config, Plan}
 use Rattle.fl_model.specs.Table as model
 use Rattle.fl_words.specs.Command as command
 use Rattle.fl_machine.specs.Machine.{Machine, OfScan}
-use Rattle.fl_machine.specs.Reads.{none_read}
 use Rattle.fl_machine.specs.Step.{Moment, Located, ScanStep}
 use Rattle.fl_ring.specs.Device.{ArmsAs}
 use Rattle.fl_ring.specs.Looking.{OnlyReads}
