@@ -26,8 +26,12 @@ pub mod Over
 pub mod Fresh
 pub mod Completing
 pub mod BuiltOne
+pub mod Untouched
+pub mod Generating
+pub mod Loading
 pub mod RowLines
 pub mod PagesListed
 pub mod Scanned
 pub mod Scanning
+pub mod LoadLines
 pub mod RangeEnds

@@ -68,7 +68,7 @@ session-watched config t name cost f g m h =
     record { told = h.medium.told; on = h.power refl; risen = λ r. le-leb (min (f.media.faults + 1) (2 ^ 64 - 1)) g.media.faults r; counts = h.device }
 
 -- what the table performs, all tables perform
-performs-all : (config : Config) (old : Machine) (plan : Plan) (table : model.Table) (rose : Bool) (rings : List RingName) (now : PartProgress model.Table) → config.plans ≡ plan ∷ [] → old.tables ≡ table ∷ [] →
+pub performs-all : (config : Config) (old : Machine) (plan : Plan) (table : model.Table) (rose : Bool) (rings : List RingName) (now : PartProgress model.Table) → config.plans ≡ plan ∷ [] → old.tables ≡ table ∷ [] →
     TablePerforms plan rose (seals_within plan rings table) old.device table now → Performs config.plans rose (operations_of plan 0 rings table) old.device old.tables (progress_at 0 old.tables now)
 performs-all config old plan table rose rings now e k did =
     subst (λ ops. Performs config.plans rose ops old.device old.tables (progress_at 0 old.tables now)) (sym (seals-at plan 0 rings table))
@@ -110,7 +110,7 @@ ends-broken c rose old now fault f (FailedIn before) new k h = record { replies_
 
 -- A session before a call of its table and after it.
 module _ (config : Config) (old : Machine) (name : List ℕ) (cost : Cost) (t u : Table) (f g : FlashState) (h : SessionStands config t name f true cost old) (goes : Goes f g) (same : IsSamePlan t u) where
-  stands-done : (after : model.Table → model.Table) (device : Device) → SameDevice g device → g.is_on ≡ true → Stands u g 0 h.plan (after h.table) →
+  pub stands-done : (after : model.Table → model.Table) (device : Device) → SameDevice g device → g.is_on ≡ true → Stands u g 0 h.plan (after h.table) →
       SessionStands config u name g true cost (record old { device = device; tables = changed_at 0 after old.tables })
   stands-done after device counts power stands = record {
     medium = medium-goes config f g goes h.medium;

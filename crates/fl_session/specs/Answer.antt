@@ -1,5 +1,5 @@
 -- One command of a session, up to its reply.
-use Rattle.std.specs.Prelude.{◌≡◌, ℕ, Bool, true, false, IsTrue, Option, Some, None, Result, Ok, Err, List}
+use Rattle.std.specs.Prelude.{◌≡◌, ℕ, Bool, true, false, IsTrue, Option, Some, None, Result, Ok, Err, List, [], ◌∷◌}
 use Rattle.fl_base.specs.Causes.{Rose}
 use Rattle.fl_flash.specs.declared.flash.FlashFault.{FlashFault}
 use Rattle.fl_flash.specs.declared.flash.FlashFault.TheVariants.{PowerLost, Media}
@@ -45,6 +45,11 @@ put_reply (Err (put.Blob limit)) = reply.RefusedBlob limit
 put_reply (Err put.Spent) = reply.RefusedSpent
 put_reply (Err put.Stopped) = reply.NotMounted
 put_reply (Err (put.Flash fault)) = fault_reply fault
+
+-- .. and to a load: how many records were put, and why the next one wasn't
+abbrev pub load_replies : ℕ → Result (Unit {0}) PutRefusal → List Reply
+load_replies count (Ok done) = reply.Loaded count ∷ []
+load_replies count (Err refusal) = reply.Loaded count ∷ put_reply (Err refusal) ∷ []
 
 abbrev pub flush_reply : Result (Unit {0}) FlushFault → Reply
 flush_reply (Ok done) = reply.Done

@@ -20,6 +20,8 @@ is_built (command.Flush name) = true
 is_built (command.Scan name range span) = true
 is_built (command.Stat name) = true
 is_built command.Cost = true
+-- the keys of a load grow
+is_built (command.Load name count step seed) = nat_le 1 step
 is_built c = false
 
 -- the configurations: one table, without an index ring and without variable data

@@ -13,6 +13,7 @@ pub mod Opening
 pub mod Answer
 pub mod Cost
 pub mod Standing
+pub mod Load
 pub mod Run
 pub mod Rows
 pub mod Listed

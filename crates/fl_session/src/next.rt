@@ -24,6 +24,7 @@ fn is_built(command: &Command) -> bool
         | Command::Stat { .. }
         | Command::Cost => true,
         Command::Cut { n, .. } => 1 <= *n,
+        Command::Load { step, .. } => 1 <= *step,
         _ => false,
     }
 }

@@ -16,6 +16,7 @@ ghost use Rattle.fl_session.specs.Standing.{SessionStands, IsSound};
 
 use crate::cost::Cost;
 use crate::executor::Executor;
+use crate::load::load;
 use crate::replies::{cost_reply, flush_breaks, flush_reply, mount_reply, put_breaks, put_reply};
 use crate::rows::Wanted;
 use fl_base::{CutKind, Name, Sink, SinkFailed};
@@ -212,6 +213,32 @@ impl<'m, M: Media> Session<'m, M> {
         self.cost = Cost::OfScan { reads };
         written
     }
+
+    /// Puts generated records, up to the first one that is refused, and tells how many.
+    fn load<K: Sink>(
+        &mut self,
+        name: Name,
+        count: u64,
+        step: u64,
+        seed: u64,
+        out: &mut K,
+    ) -> Result<(), SinkFailed>
+        requires sound { IsSound self.old.table (⟦<SimFlash<'m, M> as Flash>⟧.state self.old.flash) self.old.buf }
+        requires steps { 1 ≤ step }
+        ensures sound { IsSound self.new.table (⟦<SimFlash<'m, M> as Flash>⟧.state self.new.flash) self.new.buf }
+        ensures goes { Goes (⟦<SimFlash<'m, M> as Flash>⟧.state self.old.flash) (⟦<SimFlash<'m, M> as Flash>⟧.state self.new.flash) }
+        ensures sink { HasCause (K.faults out.old) (K.faults out.new) result }
+        ensures step { (config : Config) (old : Machine) → SessionStands config self.old.table self.old.name (⟦<SimFlash<'m, M> as Flash>⟧.state self.old.flash) self.old.mounted self.old.cost old →
+            Executes config old (words.Load name count step seed) (SessionStands config self.new.table self.new.name (⟦<SimFlash<'m, M> as Flash>⟧.state self.new.flash) self.new.mounted self.new.cost)
+            (⟦<SimFlash<'m, M> as Flash>⟧.state self.old.flash) (⟦<SimFlash<'m, M> as Flash>⟧.state self.new.flash) (K.written out.old) (K.written out.new) result }
+    {
+        if let Some(refusal) = self.refusal(name) {
+            return write_reply(&refusal, out);
+        }
+        let loaded = load(&mut self.table, &mut self.flash, count, step, seed);
+        self.mounted = !put_breaks(&loaded.outcome);
+        loaded.write(out)
+    }
 }
 
 /// The blob of a put, which stands in the room of its line.
@@ -256,6 +283,12 @@ impl<'m, M: Media> Executor for Session<'m, M> {
                 };
                 return self.scan(*name, wanted, out);
             }
+            Command::Load {
+                name,
+                count,
+                step,
+                seed,
+            } => return self.load(*name, *count, *step, *seed, out),
             _ => return Ok(()),
         };
         write_reply(&reply, out)

@@ -79,7 +79,7 @@ impl PlainStore {
     fn pass_page(&mut self) {
         self.next = self.next.wrapping_add(1);
         if self.erases(self.next) {
-            self.oldest = self.next - (BLOCKS - 1) * PAGES + 1;
+            self.oldest = self.next.saturating_sub((BLOCKS - 1) * PAGES - 1);
         }
     }
 

@@ -1,0 +1,10 @@
+pub mod Calls
+pub mod Climbing
+pub mod ColumnValues
+pub mod Continuing
+pub mod GroupLists
+pub mod Joins
+pub mod Room
+pub mod RowsLeft
+pub mod Selections
+pub mod Sums

@@ -1,0 +1,159 @@
+// Pairs of rows with one key.
+use fl_flash::Flash;
+use fl_page::{ReadFault, RowHere, Rows};
+use fl_schema::RowRef;
+
+/// The pairs of rows with one key, in the order of their keys.
+#[derive(Drop)]
+pub struct KeyJoin<A, B> {
+    left: A,
+    right: B,
+    ended: bool,
+}
+
+impl<A: RowHere, B: RowHere> KeyJoin<A, B> {
+    ghost use Rattle.std.specs.Prelude.{◌≡◌, ◌≢◌, ◌⊎◌, ◌+◌, ◌<◌, ◌≤◌, true, false, Some, Ok, Err, IfOk, IfErr};
+    ghost use Rattle.std.specs.Bool.{OnTrue, OnFalse};
+    ghost use Rattle.fl_model.specs.Operators.{key_join};
+    ghost use Rattle.fl_flash.specs.Flash.{FlashState};
+    ghost use Rattle.fl_schema.specs.Schema.{layout_of_row, row_of};
+    ghost use Rattle.fl_page.specs.Contents.{contents_of, OnlyReads, IsCaused};
+    ghost use Rattle.fl_page.specs.declared.fault.BadPage.{BadPage};
+    ghost use Rattle.fl_ops.specs.Columns.{records_of};
+    ghost use Rattle.fl_ops.specs.Inputs.{Continues, StepsOver};
+    ghost use Rattle.fl_ops.specs.Pairs.{pair_of, pairs_from, keys_above, PairsGo};
+    ghost use Rattle.fl_ops.specs.Join.{left_of, right_of, has_ended, pairs_left};
+
+    pub fn new(left: A, right: B) -> KeyJoin<A, B>
+        ensures left { left_of result ≡ left }
+        ensures right { right_of result ≡ right }
+        ensures begins { has_ended result ≡ false }
+    {
+        KeyJoin {
+            left,
+            right,
+            ended: false,
+        }
+    }
+
+    /// The left row of the present pair, after a step that answered true.
+    pub fn left(&self) -> RowRef<'_>
+        requires { A.here (left_of self.now) ≡ true }
+        ensures row { row_of result ≡ A.present (left_of self.now) }
+        ensures schema { layout_of_row result ≡ A.schema (left_of self.now) }
+    {
+        self.left.row()
+    }
+
+    /// The right row of the present pair, after a step that answered true.
+    pub fn right(&self) -> RowRef<'_>
+        requires { B.here (right_of self.now) ≡ true }
+        ensures row { row_of result ≡ B.present (right_of self.now) }
+        ensures schema { layout_of_row result ≡ B.schema (right_of self.now) }
+    {
+        self.right.row()
+    }
+
+    // Goes to the next row of each.
+    fn step_both<F: Flash>(&mut self, flash: &mut F) -> Result<bool, ReadFault>
+    where
+        A: Rows<F>,
+        B: Rows<F>,
+        requires left { A.ready (left_of self.old) (contents_of (F.state flash.old)) }
+        requires right { B.ready (right_of self.old) (contents_of (F.state flash.old)) }
+        ensures reads_only { OnlyReads (F.state flash.old) (F.state flash.new) }
+        ensures cause { IfErr result (λ fault. IsCaused (F.state flash.old) fault (F.state flash.new)) }
+        ensures bad_page { (bad : BadPage) → result ≡ Err (ReadFault.BadPage bad) → A.passes (left_of self.old) (contents_of (F.state flash.old)) bad ⊎ B.passes (right_of self.old) (contents_of (F.state flash.old)) bad }
+        ensures left { Continues A.names A.schema A.above A.ready A.told A.passes (contents_of (F.state flash.old)) (left_of self.old) (left_of self.new) }
+        ensures right { Continues B.names B.schema B.above B.ready B.told B.passes (contents_of (F.state flash.old)) (right_of self.old) (right_of self.new) }
+        ensures goes_on { has_ended self.new ≡ has_ended self.old }
+        ensures here { IfOk result (λ more. OnTrue more ((A.here (left_of self.new) ≡ true) × (B.here (right_of self.new) ≡ true))) }
+        ensures keys { IfOk result (λ more. OnTrue more ((A.above (left_of self.new) ≡ Some (A.present (left_of self.new)).key) × (B.above (right_of self.new) ≡ Some (B.present (right_of self.new)).key))) }
+        ensures pairs { A.told (left_of self.old) (contents_of (F.state flash.old)) → B.told (right_of self.old) (contents_of (F.state flash.old)) → PairsGo result
+            (key_join (records_of (A.left (left_of self.old) (contents_of (F.state flash.old)))) (records_of (B.left (right_of self.old) (contents_of (F.state flash.old)))))
+            (pairs_from (A.present (left_of self.new)) (A.left (left_of self.new) (contents_of (F.state flash.old))) (B.present (right_of self.new)) (B.left (right_of self.new) (contents_of (F.state flash.old)))) }
+        ensures most { A.told (left_of self.old) (contents_of (F.state flash.old)) → B.told (right_of self.old) (contents_of (F.state flash.old)) →
+            (F.state flash.new).work.reads + (A.most (left_of self.new) (contents_of (F.state flash.old)) + B.most (right_of self.new) (contents_of (F.state flash.old)))
+            ≤ (F.state flash.old).work.reads + (A.most (left_of self.old) (contents_of (F.state flash.old)) + B.most (right_of self.old) (contents_of (F.state flash.old))) }
+    {
+        if !self.left.step(flash)? {
+            return Ok(false);
+        }
+        self.right.step(flash)
+    }
+
+    // Passes the row with the lesser key.
+    fn step_lesser<F: Flash>(&mut self, flash: &mut F) -> Result<bool, ReadFault>
+    where
+        A: Rows<F>,
+        B: Rows<F>,
+        requires left { A.ready (left_of self.old) (contents_of (F.state flash.old)) }
+        requires right { B.ready (right_of self.old) (contents_of (F.state flash.old)) }
+        requires left_here { A.here (left_of self.old) ≡ true }
+        requires right_here { B.here (right_of self.old) ≡ true }
+        requires left_key { A.above (left_of self.old) ≡ Some (A.present (left_of self.old)).key }
+        requires right_key { B.above (right_of self.old) ≡ Some (B.present (right_of self.old)).key }
+        requires differ { (A.present (left_of self.old)).key ≢ (B.present (right_of self.old)).key }
+        ensures reads_only { OnlyReads (F.state flash.old) (F.state flash.new) }
+        ensures cause { IfErr result (λ fault. IsCaused (F.state flash.old) fault (F.state flash.new)) }
+        ensures bad_page { (bad : BadPage) → result ≡ Err (ReadFault.BadPage bad) → A.passes (left_of self.old) (contents_of (F.state flash.old)) bad ⊎ B.passes (right_of self.old) (contents_of (F.state flash.old)) bad }
+        ensures left { Continues A.names A.schema A.above A.ready A.told A.passes (contents_of (F.state flash.old)) (left_of self.old) (left_of self.new) }
+        ensures right { Continues B.names B.schema B.above B.ready B.told B.passes (contents_of (F.state flash.old)) (right_of self.old) (right_of self.new) }
+        ensures goes_on { has_ended self.new ≡ has_ended self.old }
+        ensures here { IfOk result (λ more. OnTrue more ((A.here (left_of self.new) ≡ true) × (B.here (right_of self.new) ≡ true))) }
+        ensures keys { IfOk result (λ more. OnTrue more ((A.above (left_of self.new) ≡ Some (A.present (left_of self.new)).key) × (B.above (right_of self.new) ≡ Some (B.present (right_of self.new)).key))) }
+        ensures fewer { IfOk result (λ more. OnTrue more (keys_above (A.above (left_of self.new)) + keys_above (B.above (right_of self.new)) < keys_above (A.above (left_of self.old)) + keys_above (B.above (right_of self.old)))) }
+        ensures pairs { A.told (left_of self.old) (contents_of (F.state flash.old)) → B.told (right_of self.old) (contents_of (F.state flash.old)) → PairsGo result
+            (pairs_from (A.present (left_of self.old)) (A.left (left_of self.old) (contents_of (F.state flash.old))) (B.present (right_of self.old)) (B.left (right_of self.old) (contents_of (F.state flash.old))))
+            (pairs_from (A.present (left_of self.new)) (A.left (left_of self.new) (contents_of (F.state flash.old))) (B.present (right_of self.new)) (B.left (right_of self.new) (contents_of (F.state flash.old)))) }
+        ensures most { A.told (left_of self.old) (contents_of (F.state flash.old)) → B.told (right_of self.old) (contents_of (F.state flash.old)) →
+            (F.state flash.new).work.reads + (A.most (left_of self.new) (contents_of (F.state flash.old)) + B.most (right_of self.new) (contents_of (F.state flash.old)))
+            ≤ (F.state flash.old).work.reads + (A.most (left_of self.old) (contents_of (F.state flash.old)) + B.most (right_of self.old) (contents_of (F.state flash.old))) }
+    {
+        let left = self.left.row().key();
+        let right = self.right.row().key();
+        if left < right {
+            return self.left.step(flash);
+        }
+        self.right.step(flash)
+    }
+
+    /// Goes to the next pair, and says whether there is one.
+    pub fn step<F: Flash>(&mut self, flash: &mut F) -> Result<bool, ReadFault>
+    where
+        A: Rows<F>,
+        B: Rows<F>,
+        requires left { A.ready (left_of self.old) (contents_of (F.state flash.old)) }
+        requires right { B.ready (right_of self.old) (contents_of (F.state flash.old)) }
+        ensures reads_only { OnlyReads (F.state flash.old) (F.state flash.new) }
+        ensures cause { IfErr result (λ fault. IsCaused (F.state flash.old) fault (F.state flash.new)) }
+        ensures bad_page { (bad : BadPage) → result ≡ Err (ReadFault.BadPage bad) → A.passes (left_of self.old) (contents_of (F.state flash.old)) bad ⊎ B.passes (right_of self.old) (contents_of (F.state flash.old)) bad }
+        ensures left { Continues A.names A.schema A.above A.ready A.told A.passes (contents_of (F.state flash.old)) (left_of self.old) (left_of self.new) }
+        ensures right { Continues B.names B.schema B.above B.ready B.told B.passes (contents_of (F.state flash.old)) (right_of self.old) (right_of self.new) }
+        ensures here { IfOk result (λ more. OnTrue more ((A.here (left_of self.new) ≡ true) × (B.here (right_of self.new) ≡ true))) }
+        ensures end { IfOk result (λ more. OnFalse more (has_ended self.new ≡ true)) }
+        ensures stays_ended { has_ended self.old ≡ true → (result ≡ Ok false) × (F.state flash.new ≡ F.state flash.old) }
+        ensures steps { A.told (left_of self.old) (contents_of (F.state flash.old)) → B.told (right_of self.old) (contents_of (F.state flash.old)) →
+            StepsOver result (pairs_left self.old (A.left (left_of self.old) (contents_of (F.state flash.old))) (B.left (right_of self.old) (contents_of (F.state flash.old))))
+            (pair_of (A.present (left_of self.new)) (B.present (right_of self.new)))
+            (pairs_left self.new (A.left (left_of self.new) (contents_of (F.state flash.old))) (B.left (right_of self.new) (contents_of (F.state flash.old)))) }
+        ensures most { A.told (left_of self.old) (contents_of (F.state flash.old)) → B.told (right_of self.old) (contents_of (F.state flash.old)) →
+            (F.state flash.new).work.reads + (A.most (left_of self.new) (contents_of (F.state flash.old)) + B.most (right_of self.new) (contents_of (F.state flash.old)))
+            ≤ (F.state flash.old).work.reads + (A.most (left_of self.old) (contents_of (F.state flash.old)) + B.most (right_of self.old) (contents_of (F.state flash.old))) }
+    {
+        if self.ended {
+            return Ok(false);
+        }
+        if !self.step_both(flash)? {
+            self.ended = true;
+            return Ok(false);
+        }
+        while self.left.row().key() != self.right.row().key() {
+            if !self.step_lesser(flash)? {
+                self.ended = true;
+                return Ok(false);
+            }
+        }
+        Ok(true)
+    }
+}

@@ -1,0 +1,69 @@
+-- The lines of a load, which are written one after another.
+use Rattle.std.proofs.Common.{◌≡◌, ℕ, Bool, true, false, Option, Some, None, Result, Ok, Err, List, [], ◌∷◌, ◌++◌, append_assoc, append-nil, sym, ◌∙◌, ap, subst}
+use Rattle.std.specs.Prelude.{is_err, not}
+use Rattle.fl_base.specs.Causes.{Appends, AppendsFront}
+use Rattle.fl_flash.specs.Flash.{FlashState}
+use Rattle.fl_model.specs.Record.{Config}
+use Rattle.fl_words.specs.Command as command
+use Rattle.fl_words.specs.Reply as reply
+use Rattle.fl_words.specs.Reply.{Reply, text, texts}
+use Rattle.fl_machine.specs.Machine.{Machine}
+use Rattle.fl_machine.specs.Step.{LoadStep}
+use Rattle.fl_script.proofs.Sending.{appends-append}
+use Rattle.fl_script.specs.ReplyView.{reply_text}
+use Rattle.fl_script.specs.Written.{Written}
+use Rattle.fl_script.specs.declared.reply.Reply as code
+use Rattle.fl_table.specs.Causes.{put_breaks}
+use Rattle.fl_table.specs.declared.faults.PutRefusal.{PutRefusal}
+use Rattle.fl_table.specs.declared.table.Table.{Table}
+use Rattle.fl_session.specs.Answer.{Answers, Refusal, put_reply, load_replies}
+use Rattle.fl_session.specs.Execute.{Executes}
+use Rattle.fl_session.specs.declared.cost.Cost.{Cost}
+use Rattle.fl_session.specs.Standing.{SessionStands}
+use Rattle.fl_session.proofs.Answering.{executes-answered, step-is}
+use Rattle.fl_session.proofs.Refusing.{answers-refused}
+
+-- a front of a line is one of all lines
+front-of_more : (told now : Option (List ℕ)) (line others : List ℕ) → AppendsFront told now line → AppendsFront told now (line ++ others)
+front-of_more told now line others h =
+    let parts : h.0 ++ (h.1.0 ++ others) ≡ line ++ others = sym (append_assoc h.0 h.1.0 others) ∙ ap (λ l. l ++ others) h.1.1 in
+    (h.0, (h.1.0 ++ others, parts), h.2)
+
+pub front-first : (told now : Option (List ℕ)) (count : ℕ) (outcome : Result (Unit {0}) PutRefusal) → AppendsFront told now (text (reply.Loaded count)) → AppendsFront told now (texts (load_replies count outcome))
+front-first told now count (Ok done) h = front-of_more told now (text (reply.Loaded count)) [] h
+front-first told now count (Err refusal) h = front-of_more told now (text (reply.Loaded count)) (texts (put_reply (Err refusal) ∷ [])) h
+
+-- .. and a front of the second behind the first
+pub front-second : (told mid now : Option (List ℕ)) (count : ℕ) (outcome : Result (Unit {0}) PutRefusal) (line : List ℕ) → is_err outcome ≡ true → line ≡ text (put_reply outcome) →
+    Appends told mid (text (reply.Loaded count)) → AppendsFront mid now line → AppendsFront told now (texts (load_replies count outcome))
+front-second told mid now count (Ok done) line e is first h = absurd (ok e)
+  where
+    ok : false ≡ true → ⊥
+    ok k = cc
+front-second told mid now count (Err refusal) line e is first h =
+    let a = text (reply.Loaded count) in
+    let parts : (a ++ h.0) ++ (h.1.0 ++ []) ≡ a ++ (text (put_reply (Err refusal)) ++ []) =
+    append_assoc a h.0 (h.1.0 ++ []) ∙ ap (λ l. a ++ l) (sym (append_assoc h.0 h.1.0 []) ∙ ap (λ l. l ++ []) (h.1.1 ∙ is)) in
+    (a ++ h.0, (h.1.0 ++ [], parts), appends-append told mid now a h.0 first h.2)
+
+-- a load that is executed
+pub load-executes : (E : Type 0) (config : Config) (old : Machine) (t u : Table) (name asked : List ℕ) (cost : Cost) (f g : FlashState) (mounted breaks : Bool) (count step seed loaded : ℕ) (outcome : Result (Unit {0}) PutRefusal) (told told_now : Option (List ℕ)) (result : Result (Unit {0}) E) →
+    SessionStands config t name f mounted cost old → Refusal name mounted asked None →
+    ((config : Config) (name : List ℕ) (cost : Cost) (old : Machine) → SessionStands config t name f true cost old →
+    Answers config old (command.Load name count step seed) (SessionStands config u name g (not (put_breaks outcome)) cost) f.media.faults g.media.faults (texts (load_replies loaded outcome))) →
+    breaks ≡ put_breaks outcome → Written told told_now result (texts (load_replies loaded outcome)) →
+    Executes config old (command.Load asked count step seed) (SessionStands config u name g (not breaks) cost) f g told told_now result
+load-executes E config old t u name asked cost f g mounted breaks count step seed loaded outcome told told_now result h r answers b wrote =
+    let h' = subst (λ m. SessionStands config t name f m cost old) r.0 h in
+    subst (λ asked. Executes config old (command.Load asked count step seed) (SessionStands config u name g (not breaks) cost) f g told told_now result) (sym r.1)
+    (subst (λ broken. Executes config old (command.Load name count step seed) (SessionStands config u name g (not broken) cost) f g told told_now result) (sym b)
+    (executes-answered E config old (command.Load name count step seed) (SessionStands config u name g (not (put_breaks outcome)) cost) f g (texts (load_replies loaded outcome)) told told_now result
+    (answers config name cost old h') (λ moment none. none) wrote))
+
+-- .. and one that isn't
+pub load-refused : (E : Type 0) (config : Config) (old : Machine) (t : Table) (name : List ℕ) (cost : Cost) (f : FlashState) (mounted : Bool) (asked : List ℕ) (count step seed : ℕ) (said : code.Reply) (told told_now : Option (List ℕ)) (result : Result (Unit {0}) E) →
+    SessionStands config t name f mounted cost old → Refusal name mounted asked (Some said) → Written told told_now result (reply_text said) →
+    Executes config old (command.Load asked count step seed) (SessionStands config t name f mounted cost) f f told told_now result
+load-refused E config old t name cost f mounted asked count step seed said told told_now result h r wrote =
+    executes-answered E config old (command.Load asked count step seed) (SessionStands config t name f mounted cost) f f (reply_text said) told told_now result
+    (answers-refused config old t name cost f mounted (command.Load asked count step seed) asked (λ moment. LoadStep config old moment count step seed) said f.media.faults h r (λ moment is w. step-is config old moment (command.Load asked count step seed) is w)) (λ moment none. none) wrote

@@ -1,0 +1,77 @@
+// The puts of a load.
+ghost use Rattle.std.specs.Prelude.{◌≤◌, ℕ, List, not, true};
+ghost use Rattle.fl_base.specs.Causes.{HasCause};
+ghost use Rattle.fl_flash.specs.Flash.{Goes};
+ghost use Rattle.fl_model.specs.Record.{Config};
+ghost use Rattle.fl_words.specs.Command as words;
+ghost use Rattle.fl_words.specs.Reply.{texts};
+ghost use Rattle.fl_machine.specs.Machine.{Machine};
+ghost use Rattle.fl_script.specs.Written.{Written};
+ghost use Rattle.fl_table.specs.Causes.{put_breaks};
+ghost use Rattle.fl_table.specs.Memory.{LiesOn};
+ghost use Rattle.fl_session.specs.Answer.{Answers, load_replies};
+ghost use Rattle.fl_session.specs.Standing.{SessionStands};
+ghost use Rattle.fl_session.specs.declared.cost.Cost.{Cost};
+
+use crate::generator::Generator;
+use crate::replies::put_reply;
+use fl_base::{Sink, SinkFailed};
+use fl_flash::Flash;
+use fl_script::{Reply, write_reply};
+use fl_table::{PutRefusal, Table};
+
+/// How a load ended.
+#[derive(Clone, Copy, Debug)]
+pub(crate) struct Loaded {
+    /// How many records were put.
+    pub(crate) count: u64,
+    /// Whether the next one was refused, and the load stopped there.
+    pub(crate) outcome: Result<(), PutRefusal>,
+}
+
+impl Loaded {
+    /// Writes how many records were put, and why the next one wasn't.
+    pub(crate) fn write<K: Sink>(&self, out: &mut K) -> Result<(), SinkFailed>
+        ensures text { Written (K.written out.old) (K.written out.new) result (texts (load_replies self.now.count self.now.outcome)) }
+        ensures cause { HasCause (K.faults out.old) (K.faults out.new) result }
+    {
+        write_reply(&Reply::Loaded { count: self.count }, out)?;
+        if self.outcome.is_err() {
+            write_reply(&put_reply(self.outcome), out)?;
+        }
+        Ok(())
+    }
+}
+
+/// Puts as many generated records, up to the first one that is refused.
+pub(crate) fn load<F: Flash>(
+    table: &mut Table,
+    flash: &mut F,
+    count: u64,
+    step: u64,
+    seed: u64,
+) -> Loaded
+    requires lies { LiesOn table.old (F.state flash.old) }
+    requires steps { 1 ≤ step }
+    ensures lies { LiesOn table.new (F.state flash.new) }
+    ensures goes { Goes (F.state flash.old) (F.state flash.new) }
+    ensures answers { (config : Config) → (name : List ℕ) → (cost : Cost) → (old : Machine) → SessionStands config table.old name (F.state flash.old) true cost old →
+        Answers config old (words.Load name count step seed) (SessionStands config table.new name (F.state flash.new) (not (put_breaks result.outcome)) cost)
+        (F.state flash.old).media.faults (F.state flash.new).media.faults (texts (load_replies result.count result.outcome)) }
+{
+    let mut records = Generator::new(table, step, seed);
+    for loaded in 0..count {
+        let record = records.next(table.last_key());
+        let outcome = table.put(flash, record.key, record.values.as_slice(), None);
+        if outcome.is_err() {
+            return Loaded {
+                count: loaded,
+                outcome,
+            };
+        }
+    }
+    Loaded {
+        count,
+        outcome: Ok(()),
+    }
+}
