@@ -1,25 +1,29 @@
 -- A command that was executed up to its reply, and the reply that was written.
 use Rattle.std.proofs.Common.{◌≡◌, ℕ, Bool, true, false, if◌then◌else◌, Option, Some, None, Result, List, [], ◌∷◌, refl, sym, ◌∙◌, ap, subst}
+use Rattle.fl_flash.specs.Flash.{FlashState}
 use Rattle.fl_model.specs.Record.{Config, Plan, bytes_equal}
 use Rattle.fl_model.specs.Table as model
 use Rattle.fl_words.specs.Command.{Command}
 use Rattle.fl_words.specs.Reply as reply
 use Rattle.fl_words.specs.Reply.{Reply, text, texts}
 use Rattle.fl_machine.specs.Machine.{Machine}
+use Rattle.fl_machine.specs.Reads.{none_read}
 use Rattle.fl_machine.specs.Step.{Moment, Step, StepOf, Says, Located, located, WhenMounted, WithTable}
 use Rattle.std.specs.Prelude.{MatchBool, MatchOption}
 use Rattle.fl_script.specs.Written.{Written}
 use Rattle.fl_config.proofs.Names.{bytes_equal-other}
 use Rattle.std.proofs.lemmas.Bool.{eq-eqb}
 use Rattle.fl_session.specs.Answer.{Answers}
+use Rattle.fl_session.specs.Cost.{CountsReads}
 use Rattle.fl_session.specs.Execute.{Executes}
 use Rattle.fl_session.proofs.Executing.{executes-by, one-text}
 
 -- the replies were written
-pub executes-answered : (E : Type 0) (config : Config) (old : Machine) (command : Command) (stands : Machine → Type 0) (faults faults_now : ℕ) (said : List ℕ) (told told_now : Option (List ℕ)) (result : Result (Unit {0}) E) →
-    Answers config old command stands faults faults_now said → Written {E = E} told told_now result said → Executes config old command stands faults faults_now told told_now result
-executes-answered E config old command stands faults faults_now said told told_now result a w =
-    executes-by E config old command stands faults faults_now told told_now result a.moment a.command_is a.step a.stands_after a.rose (subst (λ t. Written {E = E} told told_now result t) (sym a.said_is) w)
+pub executes-answered : (E : Type 0) (config : Config) (old : Machine) (command : Command) (stands : Machine → Type 0) (f g : FlashState) (said : List ℕ) (told told_now : Option (List ℕ)) (result : Result (Unit {0}) E) →
+    Answers config old command stands f.media.faults g.media.faults said → ((moment : Moment) → none_read moment → CountsReads f moment g command) → Written {E = E} told told_now result said →
+    Executes config old command stands f g told told_now result
+executes-answered E config old command stands f g said told told_now result a reads w =
+    executes-by E config old command stands f g told told_now result a.moment a.command_is a.step a.stands_after (reads a.moment a.none) a.rose (subst (λ t. Written {E = E} told told_now result t) (sym a.said_is) w)
 
 -- a moment that says one thing and reads nothing
 abbrev pub saying : Command → List Reply → Machine → Moment
@@ -31,7 +35,7 @@ says c replies after = record { replies_are = refl; after_is = refl; last_is = r
 -- a command that says one thing and changes nothing but the state
 pub answers-saying : (config : Config) (old : Machine) (c : Command) (r : Reply) (after : Machine) (stands : Machine → Type 0) (faults faults_now : ℕ) → Step config old (saying c (r ∷ []) after) → stands after → Answers config old c stands faults faults_now (text r)
 answers-saying config old c r after stands faults faults_now step s =
-    record { moment = saying c (r ∷ []) after; command_is = refl; step = step; stands_after = s; rose = λ t. cc; said_is = one-text r }
+    record { moment = saying c (r ∷ []) after; command_is = refl; step = step; stands_after = s; none = refl; rose = λ t. cc; said_is = one-text r }
 
 -- a step of a moment whose command is known
 pub step-is : (config : Config) (old : Machine) (moment : Moment) (c : Command) → moment.command ≡ c → StepOf config old moment c → Step config old moment

@@ -1,22 +1,24 @@
 -- A command that was executed.
 use Rattle.std.proofs.Common.{◌≡◌, ℕ, IsTrue, Option, Result, Ok, Err, List, [], ◌∷◌, refl, append-nil}
 use Rattle.fl_base.specs.Causes.{Rose}
+use Rattle.fl_flash.specs.Flash.{FlashState}
 use Rattle.fl_model.specs.Record.{Config}
 use Rattle.fl_words.specs.Command.{Command}
 use Rattle.fl_words.specs.Reply.{Reply, text, texts}
 use Rattle.fl_machine.specs.Machine.{Machine}
 use Rattle.fl_machine.specs.Step.{Moment, Step}
 use Rattle.fl_script.specs.Written.{Written}
+use Rattle.fl_session.specs.Cost.{CountsReads}
 use Rattle.fl_session.specs.Execute.{Executes, IsAlike}
 
 pub alike-same : (m : Machine) → IsAlike m m
 alike-same m = record { tables = refl; mounted = refl; device = refl }
 
 -- a step whose replies were written
-pub executes-by : (E : Type 0) (config : Config) (old : Machine) (command : Command) (stands : Machine → Type 0) (faults faults_now : ℕ) (told told_now : Option (List ℕ)) (result : Result (Unit {0}) E) (moment : Moment) →
-    moment.command ≡ command → Step config old moment → stands moment.after → (IsTrue moment.rose → Rose faults faults_now) → Written {E = E} told told_now result (texts moment.replies) →
-    Executes config old command stands faults faults_now told told_now result
-executes-by E config old command stands faults faults_now told told_now (Ok done) moment is step s rose w = record {
+pub executes-by : (E : Type 0) (config : Config) (old : Machine) (command : Command) (stands : Machine → Type 0) (f g : FlashState) (told told_now : Option (List ℕ)) (result : Result (Unit {0}) E) (moment : Moment) →
+    moment.command ≡ command → Step config old moment → stands moment.after → CountsReads f moment g command → (IsTrue moment.rose → Rose f.media.faults g.media.faults) → Written {E = E} told told_now result (texts moment.replies) →
+    Executes config old command stands f g told told_now result
+executes-by E config old command stands f g told told_now (Ok done) moment is step s reads rose w = record {
   moment = moment;
   command_is = is;
   step = step;
@@ -24,11 +26,12 @@ executes-by E config old command stands faults faults_now told told_now (Ok done
   stands_after = s;
   alike = alike-same moment.after;
   same = refl;
+  reads = reads;
   rose = rose;
   told_all = w;
   told_front = tt;
 }
-executes-by E config old command stands faults faults_now told told_now (Err e) moment is step s rose w = record {
+executes-by E config old command stands f g told told_now (Err e) moment is step s reads rose w = record {
   moment = moment;
   command_is = is;
   step = step;
@@ -36,6 +39,7 @@ executes-by E config old command stands faults faults_now told told_now (Err e) 
   stands_after = s;
   alike = alike-same moment.after;
   same = tt;
+  reads = reads;
   rose = rose;
   told_all = tt;
   told_front = w;

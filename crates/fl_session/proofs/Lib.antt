@@ -13,6 +13,7 @@ pub mod Pieces
 pub mod Going
 pub mod Executing
 pub mod Answering
+pub mod Costing
 pub mod Refusing
 pub mod StepsOf
 pub mod Working

@@ -1,6 +1,7 @@
 -- The loop over the commands of a script, step by step.
 use Rattle.std.proofs.Common.{◌≡◌, ℕ, ◌+◌, ◌<◌, ◌≤◌, Bool, true, false, inl, inr, Option, Some, None, Result, Ok, Err, List, [], ◌∷◌, ◌++◌, length, take, refl, sym, ◌∙◌, ap, subst, append_assoc, length-append, arith}
 use Rattle.std.proofs.lemmas.Bool.{ltb-false}
+use Rattle.fl_flash.specs.Flash.{FlashState}
 use Rattle.fl_model.specs.Record.{Config}
 use Rattle.fl_words.specs.Command.{Command}
 use Rattle.fl_words.specs.Grammar as grammar
@@ -67,10 +68,10 @@ pub record AllDone (tail : Tail) (config : Config) (stands stands_now : Machine 
   pub runs : RanAll (around_to config faults now told told_now) stands stands_now (accepted (tail.first ∷ given))
   pub was_open : tail.closed ≡ true → state.closed ≡ true
 
-pub all_done-next : {E : Type 0} (tail : Tail) (config : Config) (stands stands_mid stands_now : Machine → Type 0) (faults mid now : ℕ) (told told_mid told_now : Option (List ℕ)) (number : ℕ) (state : LinesState) (left : Option (List ℕ)) (c : Command) →
-    InHand tail config stands stands_mid faults mid told told_mid number state left → runs state.line ≡ Some c → mid ≤ now →
+pub all_done-next : {E : Type 0} (tail : Tail) (config : Config) (stands stands_mid stands_now : Machine → Type 0) (faults : ℕ) (mid now : FlashState) (told told_mid told_now : Option (List ℕ)) (number : ℕ) (state : LinesState) (left : Option (List ℕ)) (c : Command) →
+    InHand tail config stands stands_mid faults mid.media.faults told told_mid number state left → runs state.line ≡ Some c → mid.media.faults ≤ now.media.faults →
     ((m : Machine) → stands_mid m → Executes {E = E} config m c stands_now mid now told_mid told_now (Ok tt)) →
-    (left_is : List ℕ) × (left ≡ Some left_is) × AllDone tail config stands stands_now faults now told told_now (number + 1) state left_is
+    (left_is : List ℕ) × (left ≡ Some left_is) × AllDone tail config stands stands_now faults now.media.faults told told_now (number + 1) state left_is
 all_done-next tail config stands stands_mid stands_now faults mid now told told_mid told_now number state left c h e later executes = (
   h.left_is,
   h.left_told,
@@ -80,17 +81,17 @@ all_done-next tail config stands stands_mid stands_now faults mid now told told_
     all_run = subst AllRun h.order (all_run-more h.ran state.line c h.all_run e);
     numbered = omega (arith, h.numbered, ap length h.order, length-append h.ran (state.line ∷ []));
     runs = λ old s ready.
-        subst (λ cs. Ran config old cs stands_now faults now told told_now)
+        subst (λ cs. Ran config old cs stands_now faults now.media.faults told told_now)
         (sym (accepted-more h.ran state.line c h.all_run e) ∙ ap accepted h.order)
         (ran-more config old (accepted h.ran) c stands_mid stands_now faults mid now told told_mid told_now ready (h.runs old s ready) later executes);
     was_open = h.was_open;
   },
 )
 
-pub ends-in_reply : {E : Type 0} (tail : Tail) (config : Config) (stands stands_mid stands_now : Machine → Type 0) (faults mid now : ℕ) (told told_mid told_now : Option (List ℕ)) (number : ℕ) (state : LinesState) (left : Option (List ℕ)) (c : Command) (error : E) →
-    InHand tail config stands stands_mid faults mid told told_mid number state left → runs state.line ≡ Some c → mid ≤ now →
+pub ends-in_reply : {E : Type 0} (tail : Tail) (config : Config) (stands stands_mid stands_now : Machine → Type 0) (faults : ℕ) (mid now : FlashState) (told told_mid told_now : Option (List ℕ)) (number : ℕ) (state : LinesState) (left : Option (List ℕ)) (c : Command) (error : E) →
+    InHand tail config stands stands_mid faults mid.media.faults told told_mid number state left → runs state.line ≡ Some c → mid.media.faults ≤ now.media.faults →
     ((m : Machine) → stands_mid m → Executes {E = E} config m c stands_now mid now told_mid told_now (Err error)) →
-    EndsInReply tail (around_to config faults now told told_now) stands stands_now
+    EndsInReply tail (around_to config faults now.media.faults told told_now) stands stands_now
 ends-in_reply tail config stands stands_mid stands_now faults mid now told told_mid told_now number state left c error h e later executes =
     let more = all_run-more h.ran state.line c h.all_run e in
     let others = lines_within state.most (state.ahead ++ h.left_is) in
@@ -271,7 +272,7 @@ ends-there_run tail config stands stands_now faults now told told_now number old
 ends-there_run tail config stands stands_now faults now told told_now number old new left left_now (Err Long) status h gives e = absurd e
 
 -- a step whose result is known
-pub step-result : {E : Type 0} (config : Config) (c : Command) (stands stands_now : Machine → Type 0) (mid now : ℕ) (told_mid told_now : Option (List ℕ)) (result result_is : Result (Unit {0}) E) → result ≡ result_is →
+pub step-result : {E : Type 0} (config : Config) (c : Command) (stands stands_now : Machine → Type 0) (mid now : FlashState) (told_mid told_now : Option (List ℕ)) (result result_is : Result (Unit {0}) E) → result ≡ result_is →
     ((m : Machine) → stands m → Executes config m c stands_now mid now told_mid told_now result) → (m : Machine) → stands m → Executes config m c stands_now mid now told_mid told_now result_is
 step-result config c stands stands_now mid now told_mid told_now result result_is r h m s =
     subst (λ x. Executes config m c stands_now mid now told_mid told_now x) r (h m s)

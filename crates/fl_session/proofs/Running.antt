@@ -4,6 +4,7 @@ use Rattle.std.proofs.lemmas.List.{map-append}
 use Rattle.std.proofs.lemmas.Grind.{flat_map-append}
 use Rattle.std.proofs.lemmas.Bool.{cases_lt}
 use Rattle.fl_base.specs.Causes.{Rose, Appends}
+use Rattle.fl_flash.specs.Flash.{FlashState}
 use Rattle.fl_model.specs.Record.{Config}
 use Rattle.fl_words.specs.Command.{Command}
 use Rattle.fl_words.specs.Reply.{texts}
@@ -68,10 +69,10 @@ ran-none config old stands faults told h = record {
 }
 
 -- the commands before, and one more
-pub ran-more : {E : Type 0} (config : Config) (old : Machine) (commands : List Command) (command : Command) (stands stands_now : Machine → Type 0) (faults mid now : ℕ) (told told_mid told_now : Option (List ℕ)) →
-    IsReady config old → Ran config old commands stands faults mid told told_mid → mid ≤ now →
+pub ran-more : {E : Type 0} (config : Config) (old : Machine) (commands : List Command) (command : Command) (stands stands_now : Machine → Type 0) (faults : ℕ) (mid now : FlashState) (told told_mid told_now : Option (List ℕ)) →
+    IsReady config old → Ran config old commands stands faults mid.media.faults told told_mid → mid.media.faults ≤ now.media.faults →
     ((m : Machine) → stands m → Executes {E = E} config m command stands_now mid now told_mid told_now (Ok tt)) →
-    Ran config old (commands ++ command ∷ []) stands_now faults now told told_now
+    Ran config old (commands ++ command ∷ []) stands_now faults now.media.faults told told_now
 ran-more config old commands command stands stands_now faults mid now told told_mid told_now ready h later executes =
     let e = executes (end_of old h.moments) h.stands_after in
     let run = run-more config old h.moments e.moment h.run e.step in
@@ -80,16 +81,16 @@ ran-more config old commands command stands stands_now faults mid now told told_
       commands_are = map-append (λ (m : Moment). m.command) h.moments (e.moment ∷ []) ∙ (ap (λ cs. cs ++ e.moment.command ∷ []) h.commands_are ∙ ap (λ c. commands ++ c ∷ []) e.command_is);
       run = run;
       stands_after = subst stands_now (e.same ∙ sym (end_of-more old h.moments e.moment)) e.stands_after;
-      rose = rw risen-more (rose-more (risen_in h.moments) faults mid now e.moment.rose h.rose later e.rose);
+      rose = rw risen-more (rose-more (risen_in h.moments) faults mid.media.faults now.media.faults e.moment.rose h.rose later e.rose);
       found = λ place. finds config old (h.moments ++ e.moment ∷ []) place ready.room ready.off ready.rest run;
       told_all = rw written-more (appends-more told told_mid told_now (written_by h.moments) (texts e.moment.replies) h.told_all e.told_all);
     }
 
 -- .. and into the reply of one more
-pub ran-into : {E : Type 0} (config : Config) (old : Machine) (commands : List Command) (command : Command) (stands stands_now : Machine → Type 0) (faults mid now : ℕ) (told told_mid told_now : Option (List ℕ)) (error : E) →
-    IsReady config old → Ran config old commands stands faults mid told told_mid → mid ≤ now →
+pub ran-into : {E : Type 0} (config : Config) (old : Machine) (commands : List Command) (command : Command) (stands stands_now : Machine → Type 0) (faults : ℕ) (mid now : FlashState) (told told_mid told_now : Option (List ℕ)) (error : E) →
+    IsReady config old → Ran config old commands stands faults mid.media.faults told told_mid → mid.media.faults ≤ now.media.faults →
     ((m : Machine) → stands m → Executes {E = E} config m command stands_now mid now told_mid told_now (Err error)) →
-    RanInto config old (commands ++ command ∷ []) (StandsAlike stands_now) faults now told told_now
+    RanInto config old (commands ++ command ∷ []) (StandsAlike stands_now) faults now.media.faults told told_now
 ran-into config old commands command stands stands_now faults mid now told told_mid told_now error ready h later executes =
     let e = executes (end_of old h.moments) h.stands_after in
     let run = run-more config old h.moments e.moment h.run e.step in
@@ -98,7 +99,7 @@ ran-into config old commands command stands stands_now faults mid now told told_
       commands_are = map-append (λ (m : Moment). m.command) h.moments (e.moment ∷ []) ∙ (ap (λ cs. cs ++ e.moment.command ∷ []) h.commands_are ∙ ap (λ c. commands ++ c ∷ []) e.command_is);
       run = run;
       stands_after = (e.after, e.stands_after, subst (λ m. IsAlike m e.after) (sym (end_of-more old h.moments e.moment)) e.alike);
-      rose = rw risen-more (rose-more (risen_in h.moments) faults mid now e.moment.rose h.rose later e.rose);
+      rose = rw risen-more (rose-more (risen_in h.moments) faults mid.media.faults now.media.faults e.moment.rose h.rose later e.rose);
       found = λ place. finds config old (h.moments ++ e.moment ∷ []) place ready.room ready.off ready.rest run;
       before = h.moments;
       last = e.moment;

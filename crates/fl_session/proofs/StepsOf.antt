@@ -25,18 +25,19 @@ use Rattle.fl_table.proofs.Holding.{lost-twice}
 use Rattle.fl_session.specs.Answer.{Answers}
 use Rattle.fl_session.specs.Built.{IsRunnable}
 use Rattle.fl_session.specs.Execute.{Executes}
+use Rattle.fl_session.specs.declared.cost.Cost.{Cost}
 use Rattle.fl_session.specs.Standing.{SessionStands}
 use Rattle.fl_session.proofs.Answering.{answers-saying, saying, says}
 use Rattle.fl_session.proofs.Executing.{executes-by}
 use Rattle.fl_session.proofs.Running.{nothing-added}
 
 -- nothing is done
-pub executes-nothing : (E : Type 0) (config : Config) (old : Machine) (c : Command) (stands : Machine → Type 0) (faults : ℕ) (told : Option (List ℕ)) → c ≡ command.Nothing → stands old →
-    Executes {E = E} config old c stands faults faults told told (Ok tt)
-executes-nothing E config old c stands faults told e s =
+pub executes-nothing : (E : Type 0) (config : Config) (old : Machine) (c : Command) (stands : Machine → Type 0) (f : FlashState) (told : Option (List ℕ)) → c ≡ command.Nothing → stands old →
+    Executes {E = E} config old c stands f f told told (Ok tt)
+executes-nothing E config old c stands f told e s =
     let w : Written {E = E} told told (Ok tt) [] = nothing-added told in
-    subst (λ x. Executes {E = E} config old x stands faults faults told told (Ok tt)) (sym e)
-    (executes-by E config old command.Nothing stands faults faults told told (Ok tt) (saying command.Nothing [] old) refl (record { replies_are = refl; after_is = refl; last_is = refl }) s (λ t. cc) w)
+    subst (λ x. Executes {E = E} config old x stands f f told told (Ok tt)) (sym e)
+    (executes-by E config old command.Nothing stands f f told told (Ok tt) (saying command.Nothing [] old) refl (record { replies_are = refl; after_is = refl; last_is = refl }) s refl (λ t. cc) w)
 
 -- a table rests where what it has in memory is lost
 planned-plain : (t : Table) (plan : Plan) → IsPlanned t 0 plan → IsPlain plan
@@ -54,8 +55,8 @@ pub off-rests : (t : Table) (f : FlashState) (plan : Plan) (table : model.Table)
 off-rests t f plan table true h = stands-rests t f plan table h
 off-rests t f plan table false h = subst (λ x. Rests f 0 plan x) h.settled.lost h
 
-pub stands-off : (config : Config) (old : Machine) (t : Table) (name : List ℕ) (f : FlashState) (mounted : Bool) → SessionStands config t name f mounted old → SessionStands config t name (record f { is_on = false }) false (stopped old)
-stands-off config old t name f mounted h =
+pub stands-off : (config : Config) (old : Machine) (t : Table) (name : List ℕ) (cost : Cost) (f : FlashState) (mounted : Bool) → SessionStands config t name f mounted cost old → SessionStands config t name (record f { is_on = false }) false cost (stopped old)
+stands-off config old t name cost f mounted h =
     let r = off-rests t f h.plan h.table mounted h.on_flash in
     record {
       medium = record { told = h.medium.told; len = h.medium.len; head = h.medium.head; start = h.medium.start; geometry = h.medium.geometry };
@@ -68,6 +69,7 @@ stands-off config old t name f mounted h =
       is_mounted = refl;
       cursors = refl;
       device = record { armed = h.device.armed; programs = h.device.programs; erases = h.device.erases };
+      cost_is = h.cost_is;
       on_flash = record { settled = r.settled; pages = r.pages };
       power = λ t. cc;
     }
@@ -85,9 +87,9 @@ cut-flash t f plan table false n kind h = record { settled = h.settled; pages = 
 abbrev pub cut_to_come : Machine → ℕ → CutKind → Machine
 cut_to_come old n kind = record old { device = record old.device { armed = Some (n, kind) } }
 
-pub stands-cut : (config : Config) (old : Machine) (t : Table) (name : List ℕ) (f : FlashState) (mounted : Bool) (n : ℕ) (kind : CutKind) → 1 ≤ n →
-    SessionStands config t name f mounted old → SessionStands config t name (record f { armed = Some (record { left = n; tear = Kind kind }) }) mounted (cut_to_come old n kind)
-stands-cut config old t name f mounted n kind counted h = record {
+pub stands-cut : (config : Config) (old : Machine) (t : Table) (name : List ℕ) (cost : Cost) (f : FlashState) (mounted : Bool) (n : ℕ) (kind : CutKind) → 1 ≤ n →
+    SessionStands config t name f mounted cost old → SessionStands config t name (record f { armed = Some (record { left = n; tear = Kind kind }) }) mounted cost (cut_to_come old n kind)
+stands-cut config old t name cost f mounted n kind counted h = record {
   medium = record { told = h.medium.told; len = h.medium.len; head = h.medium.head; start = h.medium.start; geometry = h.medium.geometry };
   plan = h.plan;
   plans = h.plans;
@@ -98,6 +100,7 @@ stands-cut config old t name f mounted n kind counted h = record {
   is_mounted = h.is_mounted;
   cursors = h.cursors;
   device = record { armed = (kind, refl, counted, refl); programs = h.device.programs; erases = h.device.erases };
+  cost_is = h.cost_is;
   on_flash = cut-flash t f h.plan h.table mounted n kind h.on_flash;
   power = h.power;
 }
@@ -109,25 +112,26 @@ answers-cut config old n kind stands faults faults_now s =
 -- a command that is run and isn't one of the others is nothing
 pub default-view : (c : code.Command) (room : List ℕ) → IsRunnable (command_view c room) → (c ≡ code.TheVariants.Mount → ⊥) → (c ≡ code.TheVariants.Off → ⊥) → ((n : ℕ) (kind : CutKind) → c ≡ code.TheVariants.Cut n kind → ⊥) →
     ((name : _) (key : ℕ) (values : _) (blob : Bool) → c ≡ code.TheVariants.Put name key values blob → ⊥) → ((name : _) → c ≡ code.TheVariants.Flush name → ⊥) → ((name : _) → c ≡ code.TheVariants.Stat name → ⊥) → ((name : _) (range : _) (span : _) → c ≡ code.TheVariants.Scan name range span → ⊥) →
-    ((name : _) (count step seed : ℕ) → c ≡ code.TheVariants.Load name count step seed → ⊥) → command_view c room ≡ command.Nothing
-default-view code.TheVariants.Nothing room r m n k p f s l o = refl
-default-view code.TheVariants.Mount room r m n k p f s l o = absurd (m refl)
-default-view code.TheVariants.Off room r m n k p f s l o = absurd (n refl)
-default-view (code.TheVariants.Cut i kind) room r m n k p f s l o = absurd (k i kind refl)
-default-view (code.TheVariants.Put name key values blob) room r m n k p f s l o = absurd (p name key values blob refl)
-default-view (code.TheVariants.Flush name) room r m n k p f s l o = absurd (f name refl)
-default-view (code.TheVariants.Stat name) room r m n k p f s l o = absurd (s name refl)
-default-view (code.TheVariants.Scan name range span) room r m n k p f s l o = absurd (l name range span refl)
-default-view (code.TheVariants.Load name count step seed) room r m n k p f s l o = absurd (o name count step seed refl)
-default-view (code.TheVariants.Device page block) room r m n k p f s l o = absurd (none r.runs)
+    ((name : _) (count step seed : ℕ) → c ≡ code.TheVariants.Load name count step seed → ⊥) → (c ≡ code.TheVariants.Cost → ⊥) → command_view c room ≡ command.Nothing
+default-view code.TheVariants.Nothing room r m n k p f s l o q = refl
+default-view code.TheVariants.Mount room r m n k p f s l o q = absurd (m refl)
+default-view code.TheVariants.Off room r m n k p f s l o q = absurd (n refl)
+default-view (code.TheVariants.Cut i kind) room r m n k p f s l o q = absurd (k i kind refl)
+default-view (code.TheVariants.Put name key values blob) room r m n k p f s l o q = absurd (p name key values blob refl)
+default-view (code.TheVariants.Flush name) room r m n k p f s l o q = absurd (f name refl)
+default-view (code.TheVariants.Stat name) room r m n k p f s l o q = absurd (s name refl)
+default-view (code.TheVariants.Scan name range span) room r m n k p f s l o q = absurd (l name range span refl)
+default-view code.TheVariants.Cost room r m n k p f s l o q = absurd (q refl)
+default-view (code.TheVariants.Load name count step seed) room r m n k p f s l o q = absurd (o name count step seed refl)
+default-view (code.TheVariants.Device page block) room r m n k p f s l o q = absurd (none r.runs)
   where
     none : None ≡ Some (command.Device page block) → ⊥
     none e = cc
-default-view (code.TheVariants.Table name key rows index var bits base width error blob) room r m n k p f s l o = absurd (none r.runs)
+default-view (code.TheVariants.Table name key rows index var bits base width error blob) room r m n k p f s l o q = absurd (none r.runs)
   where
     none : None ≡ Some (command_view (code.TheVariants.Table name key rows index var bits base width error blob) room) → ⊥
     none e = cc
-default-view c room r m n k p f s l o = absurd (unbuilt r.built)
+default-view c room r m n k p f s l o q = absurd (unbuilt r.built)
   where
     unbuilt : false ≡ true → ⊥
     unbuilt e = cc

@@ -8,6 +8,7 @@ use Rattle.fl_words.specs.Command.{Command}
 use Rattle.fl_words.specs.Reply as reply
 use Rattle.fl_words.specs.Reply.{Reply, text, texts}
 use Rattle.fl_machine.specs.Machine.{Machine}
+use Rattle.fl_machine.specs.Reads.{none_read}
 use Rattle.fl_machine.specs.Step.{Moment, Step}
 use Rattle.fl_script.specs.declared.reply.Reply as code
 use Rattle.fl_table.specs.declared.faults.PutRefusal.{PutRefusal}
@@ -18,12 +19,14 @@ use Rattle.fl_table.specs.declared.faults.MountFault.TheVariants as mount
 use Rattle.fl_table.specs.declared.faults.FlushFault.{FlushFault}
 use Rattle.fl_table.specs.declared.faults.FlushFault.TheVariants as flush
 
--- From a state of the machine a command went on to another one, for which the session stands; this is the text of its replies.
+-- From a state of the machine a command that reads no rows went on to another one, for which the session stands; this is
+-- the text of its replies.
 pub record Answers (config : Config) (old : Machine) (command : Command) (stands : Machine → Type 0) (faults faults_now : ℕ) (said : List ℕ) : Type 0 where
   pub moment : Moment
   pub command_is : moment.command ≡ command
   pub step : Step config old moment
   pub stands_after : stands moment.after
+  pub none : none_read moment
   pub rose : IsTrue moment.rose → Rose faults faults_now
   pub said_is : texts moment.replies ≡ said
 

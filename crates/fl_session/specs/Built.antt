@@ -19,6 +19,7 @@ is_built (command.Put name key values blob) = true
 is_built (command.Flush name) = true
 is_built (command.Scan name range span) = true
 is_built (command.Stat name) = true
+is_built command.Cost = true
 -- the keys of a load grow
 is_built (command.Load name count step seed) = nat_le 1 step
 is_built c = false

@@ -2,6 +2,7 @@
 use Rattle.std.specs.Prelude.{◌≡◌, ℕ, false, IsTrue, Option, Result, OnOk, OnErr, List}
 use Rattle.std.specs.List.{AllByRecursion}
 use Rattle.fl_base.specs.Causes.{Rose, Appends, AppendsFront}
+use Rattle.fl_flash.specs.Flash.{FlashState}
 use Rattle.fl_model.specs.Record.{Config}
 use Rattle.fl_words.specs.Command.{Command}
 use Rattle.fl_words.specs.Reply.{texts}
@@ -9,6 +10,7 @@ use Rattle.fl_machine.specs.Machine.{Machine}
 use Rattle.fl_machine.specs.Step.{Moment, Step}
 use Rattle.fl_machine.specs.Found.{HasRoom, IsAtRest}
 use Rattle.fl_machine.specs.Script.{Ran, RanInto}
+use Rattle.fl_session.specs.Cost.{CountsReads}
 
 -- all but the cursors and the cost is the same
 pub record IsAlike (a b : Machine) : Type 0 where
@@ -18,7 +20,7 @@ pub record IsAlike (a b : Machine) : Type 0 where
 
 -- One command from a state of the machine: it goes on by a step and writes the texts of its replies. Where the
 -- sink fails it writes a front of them, and only cursors and cost may be others than after the command.
-pub record Executes {E : Type 0} (config : Config) (old : Machine) (command : Command) (stands : Machine → Type 0) (faults faults_now : ℕ) (told told_now : Option (List ℕ)) (result : Result (Unit {0}) E) : Type 0 where
+pub record Executes {E : Type 0} (config : Config) (old : Machine) (command : Command) (stands : Machine → Type 0) (flash flash_now : FlashState) (told told_now : Option (List ℕ)) (result : Result (Unit {0}) E) : Type 0 where
   pub moment : Moment
   pub command_is : moment.command ≡ command
   pub step : Step config old moment
@@ -26,7 +28,8 @@ pub record Executes {E : Type 0} (config : Config) (old : Machine) (command : Co
   pub stands_after : stands after
   pub alike : IsAlike moment.after after
   pub same : OnOk result (after ≡ moment.after)
-  pub rose : IsTrue moment.rose → Rose faults faults_now
+  pub reads : CountsReads flash moment flash_now command
+  pub rose : IsTrue moment.rose → Rose flash.media.faults flash_now.media.faults
   pub told_all : OnOk result (Appends told told_now (texts moment.replies))
   pub told_front : OnErr result (AppendsFront told told_now (texts moment.replies))
 

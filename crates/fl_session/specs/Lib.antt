@@ -11,6 +11,7 @@ pub mod Given
 pub mod Begin
 pub mod Opening
 pub mod Answer
+pub mod Cost
 pub mod Standing
 pub mod Load
 pub mod Run

@@ -13,6 +13,8 @@ use Rattle.fl_table.specs.declared.table.Table.{Table}
 use Rattle.fl_table.specs.Memory.{IsPlanned, LiesOn, is_running}
 use Rattle.fl_table.specs.Pages.{Rests}
 use Rattle.fl_table.specs.Standing.{Stands}
+use Rattle.fl_session.specs.Cost.{cost_of}
+use Rattle.fl_session.specs.declared.cost.Cost.{Cost}
 
 -- the header and the length of the medium are those of the configuration
 pub record IsOnMedium (config : Config) (f : FlashState) : Type 0 where
@@ -22,8 +24,8 @@ pub record IsOnMedium (config : Config) (f : FlashState) : Type 0 where
   pub start : f.start ≡ 1024
   pub geometry : f.geometry ≡ config.geometry
 
--- a session over one table, which has this name
-pub record SessionStands (config : Config) (t : Table) (name : List ℕ) (f : FlashState) (mounted : Bool) (m : Machine) : Type 0 where
+-- a session over one table, which has this name; the cost is that of the last get or scan
+pub record SessionStands (config : Config) (t : Table) (name : List ℕ) (f : FlashState) (mounted : Bool) (cost : Cost) (m : Machine) : Type 0 where
   pub medium : IsOnMedium config f
   pub plan : Plan
   pub plans : config.plans ≡ plan ∷ []
@@ -34,6 +36,7 @@ pub record SessionStands (config : Config) (t : Table) (name : List ℕ) (f : Fl
   pub is_mounted : m.mounted ≡ mounted
   pub cursors : m.cursors ≡ no_cursors
   pub device : SameDevice f m.device
+  pub cost_is : m.cost ≡ cost_of cost
   pub on_flash : MatchBool mounted (Stands t f 0 plan table) (Rests f 0 plan table)
   pub power : IsTrue mounted → f.is_on ≡ true
 

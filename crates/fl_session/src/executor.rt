@@ -36,5 +36,5 @@ pub trait Executor {
         ensures goes { Goes (flash self.old) (flash self.new) }
         ensures sink { HasCause (K.faults out.old) (K.faults out.new) result }
         ensures step { (config : Config) (old : Machine) → stands self.old config old →
-            Executes config old (command_view command.now room.now) (stands self.new config) (flash self.old).media.faults (flash self.new).media.faults (K.written out.old) (K.written out.new) result };
+            Executes config old (command_view command.now room.now) (stands self.new config) (flash self.old) (flash self.new) (K.written out.old) (K.written out.new) result };
 }

@@ -4,6 +4,7 @@
 mod begin;
 mod built;
 mod commands;
+mod cost;
 mod executor;
 mod generator;
 mod lines;

@@ -7,6 +7,7 @@ ghost use Rattle.fl_model.specs.Record.{Plan};
 ghost use Rattle.fl_model.specs.Ring.{oldest};
 ghost use Rattle.fl_model.specs.Table as model;
 ghost use Rattle.fl_model.specs.Table.{written, pending_entries, full_pages};
+ghost use Rattle.fl_page.specs.Contents as contents;
 ghost use Rattle.fl_ring.specs.Looking.{OnlyReads};
 ghost use Rattle.fl_table.specs.Look.{oldest_in, rows_noted, kept_counts};
 ghost use Rattle.fl_table.specs.Memory.{next_in, LiesOn};
@@ -87,6 +88,7 @@ impl Wanted {
         requires kept { (oldest_in table.now ≤ number) × (number < next_in table.now) }
         requires room { length buf.old.bytes ≡ (F.state flash.old).geometry.page }
         ensures reads { OnlyReads (F.state flash.old) (full_pages (rows_noted table.now number ∷ [])) (F.state flash.new) }
+        ensures counts { contents.OnlyReads (F.state flash.old) (F.state flash.new) }
         ensures room { length buf.new.bytes ≡ length buf.old.bytes }
         ensures few { IfOk result (λ page. page.count < 65536) }
         ensures cause { HasSinkCause (K.faults out.old) (K.faults out.new) (counted result) }
@@ -128,6 +130,7 @@ impl Wanted {
         requires lies { LiesOn table.now (F.state flash.old) }
         requires room { length buf.old.bytes ≡ (F.state flash.old).geometry.page }
         ensures reads { OnlyReads (F.state flash.old) (full_pages (kept_counts table.now)) (F.state flash.new) }
+        ensures counts { contents.OnlyReads (F.state flash.old) (F.state flash.new) }
         ensures room { length buf.new.bytes ≡ length buf.old.bytes }
         ensures few { IfOk result (λ count. count < 2 ^ 48) }
         ensures cause { HasSinkCause (K.faults out.old) (K.faults out.new) result }
@@ -178,6 +181,7 @@ impl Wanted {
         requires lies { LiesOn table.now (F.state flash.old) }
         requires room { length buf.old.bytes ≡ (F.state flash.old).geometry.page }
         ensures reads { OnlyReads (F.state flash.old) (full_pages (kept_counts table.now)) (F.state flash.new) }
+        ensures counts { contents.OnlyReads (F.state flash.old) (F.state flash.new) }
         ensures room { length buf.new.bytes ≡ length buf.old.bytes }
         ensures cause { HasSinkCause (K.faults out.old) (K.faults out.new) result }
         ensures lists { (first : ℕ) → (plan : Plan) → (t : model.Table) → IsTrue (F.state flash.old).media.tells → (F.state flash.old).is_on ≡ true → Stands table.now (F.state flash.old) first plan t →
@@ -199,6 +203,7 @@ impl Wanted {
         requires lies { LiesOn table.now (F.state flash.old) }
         requires room { length buf.old.bytes ≡ (F.state flash.old).geometry.page }
         ensures reads { OnlyReads (F.state flash.old) (full_pages (kept_counts table.now)) (F.state flash.new) }
+        ensures counts { contents.OnlyReads (F.state flash.old) (F.state flash.new) }
         ensures room { length buf.new.bytes ≡ length buf.old.bytes }
         ensures cause { HasCause (K.faults out.old) (K.faults out.new) result }
         ensures scans { (first : ℕ) → (plan : Plan) → (t : model.Table) → IsTrue (F.state flash.old).media.tells → (F.state flash.old).is_on ≡ true → Stands table.now (F.state flash.old) first plan t →

@@ -21,7 +21,8 @@ fn is_built(command: &Command) -> bool
         | Command::Put { .. }
         | Command::Flush { .. }
         | Command::Scan { .. }
-        | Command::Stat { .. } => true,
+        | Command::Stat { .. }
+        | Command::Cost => true,
         Command::Cut { n, .. } => 1 <= *n,
         Command::Load { step, .. } => 1 <= *step,
         _ => false,

@@ -2,9 +2,12 @@
 ghost use Rattle.std.specs.Prelude.{◌≡◌};
 ghost use Rattle.fl_words.specs.Reply.{text};
 ghost use Rattle.fl_script.specs.ReplyView.{reply_text};
+ghost use Rattle.fl_machine.specs.Step as step;
 ghost use Rattle.fl_session.specs.Answer as said;
+ghost use Rattle.fl_session.specs.Cost.{cost_of};
 ghost use Rattle.fl_table.specs.Causes as causes;
 
+use crate::cost::Cost;
 use fl_base::Name;
 use fl_flash::FlashFault;
 use fl_script::Reply;
@@ -64,5 +67,15 @@ pub(crate) fn mount_reply(name: Name, outcome: Result<Mounted, MountFault>) -> R
         Ok(_) => Reply::Done,
         Err(MountFault::Flash(fault)) => fault_reply(fault),
         Err(_) => Reply::BadImage { name },
+    }
+}
+
+pub(crate) fn cost_reply(cost: Cost) -> Reply
+    ensures { reply_text result ≡ text (step.cost_reply (cost_of cost)) }
+{
+    match cost {
+        Cost::NothingYet => Reply::NoCost,
+        Cost::OfGet { reads, limit } => Reply::CostGet { reads, limit },
+        Cost::OfScan { reads } => Reply::CostScan { reads },
     }
 }

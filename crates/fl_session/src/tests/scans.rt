@@ -61,12 +61,45 @@ const VOID: Talk = &[
     ("put t 3 0", "ok"),
     ("flush t", "ok"),
     ("scan t 0 100", "row 1 0\nrow 3 0\nend 2"),
+    ("cost", "cost 2"),
+];
+
+// The cost stands until a scan is executed.
+const COSTS: Talk = &[
+    ("cost", "no cost"),
+    ("scan t 0 1", "not mounted"),
+    ("mount", "ok"),
+    ("scan x 0 1", "no table"),
+    ("cost", "no cost"),
+    ("scan t 0 9", "end 0"),
+    ("cost", "cost 0"),
+    ("put t 1 0", "ok"),
+    ("flush t", "ok"),
+    ("put t 2 0", "ok"),
+    ("flush t", "ok"),
+    ("put t 3 0", "ok"),
+    ("scan t 0 1", "row 1 0\nend 1"),
+    ("cost", "cost 1"),
+    ("scan t 3 9", "row 3 0\nend 1"),
+    ("cost", "cost 0"),
+    ("scan t 0 9", "row 1 0\nrow 2 0\nrow 3 0\nend 3"),
+    ("cost", "cost 2"),
+    ("off", "ok"),
+    ("scan t 0 9", "not mounted"),
+    ("cost", "cost 2"),
+    ("mount", "ok"),
+    ("scan x 0 9", "no table"),
+    ("cost", "cost 2"),
+    ("put t 4 0", "ok"),
+    ("cut 1 half", "ok"),
+    ("flush t", "power lost"),
+    ("cost", "cost 2"),
 ];
 
 #[test]
 fn scans(rt: HostRuntime) -> Result<(), Fail> {
     let alloc = rt.alloc();
-    for (i, talk) in [RANGES, SPANS, VOID].iter().enumerate() {
+    for (i, talk) in [RANGES, SPANS, VOID, COSTS].iter().enumerate() {
         let mut media = empty_medium(alloc)?;
         assert!(rt; is_answered(alloc, &mut media, *talk, 0, &[])?, "{i}");
     }
@@ -134,10 +167,12 @@ fn read_faults(rt: HostRuntime) -> Result<(), Fail> {
         ("scan t 3 9", "row 3 0\nend 1"),
         ("scan t 5 4", "end 0"),
         ("scan t 0 9", "read fault"),
+        ("cost", "cost 1"),
         ("scan t 0 9", "row 1 0\nrow 2 0\nrow 3 0\nend 3"),
     ];
     let second: Talk = &[
         ("scan t 0 9", "row 1 0\nread fault"),
+        ("cost", "cost 2"),
         ("put t 4 0", "ok"),
         ("scan t 2 9", "row 2 0\nrow 3 0\nrow 4 0\nend 3"),
     ];

@@ -13,21 +13,21 @@ loop-loaded-init g c = record {
   goes = goes-same _;
   makes = c.new-records.ensures.stands;
   step_is = c.new-records.ensures.step;
-  so_far = λ config name old rose h risen. loaded-none config name old _ _ rose _ _ _ _ c.new-records.ensures.random h;
+  so_far = λ config name cost old rose h risen. loaded-none config name cost old _ _ rose _ _ _ _ c.new-records.ensures.random h;
 }
 
 pub returns-then-is_err-clause-answers : goal.returns-then-is_err-clause-answers
-returns-then-is_err-clause-answers g c = λ config name old h.
+returns-then-is_err-clause-answers g c = λ config name cost old h.
     let f = g.F.Flash.state c.args.flash.now in
     let m = g.F.Flash.state c.loop-loaded.flash in
     let n = g.F.Flash.state c.put-outcome.new.flash in
     let i = c.loop-loaded.invariant in
     let p = c.put-outcome.ensures in
-    let so_far = i.so_far config name old (has_risen f n) h (λ r. rose-risen f n (rose-front f.media.faults m.media.faults n.media.faults p.goes.faults r)) in
+    let so_far = i.so_far config name cost old (has_risen f n) h (λ r. rose-risen f n (rose-front f.media.faults m.media.faults n.media.faults p.goes.faults r)) in
     let key = c.next-record.ensures.key ∙ ap (λ s. load_key (unwrap_or c.last_key.result 0) s (random_of c.loop-loaded.records)) i.step_is in
-    let ends = ends-next config name old _ _ m n (has_risen f n) _ _ _ _ _ so_far c.loop-loaded-test.true p.goes p.same c.put-outcome.result _ _ c.last_key.result
+    let ends = ends-next config name cost old _ _ m n (has_risen f n) _ _ _ _ _ so_far c.loop-loaded-test.true p.goes p.same c.put-outcome.result _ _ c.last_key.result
     (λ r. rose-risen f n (rose-back f.media.faults m.media.faults n.media.faults i.goes.faults r)) c.last_key.ensures.stands key (c.as_slice.ensures.value ∙ c.next-record.ensures.values _ _ _ i.makes) p.ends in
-    load-stopped config name old _ _ m n (has_risen f n) _ _ _ _ _ so_far c.loop-loaded-test.true p.goes p.same _ f c.put-outcome.result h refl (sym c.is_err.ensures.value ∙ c.if-is_err.true) ends p.refused
+    load-stopped config name cost old _ _ m n (has_risen f n) _ _ _ _ _ so_far c.loop-loaded-test.true p.goes p.same _ f c.put-outcome.result h refl (sym c.is_err.ensures.value ∙ c.if-is_err.true) ends p.refused
 
 pub loop-loaded-preserved : goal.loop-loaded-preserved
 loop-loaded-preserved g c =
@@ -42,18 +42,18 @@ loop-loaded-preserved g c =
       goes = goes-on _ _ _ i.goes p.goes;
       makes = subst (λ (l : RowLayout). StandsBefore l.columns c.args.seed (c.loop-loaded.loaded + 1 + 1) c.next-record.new.self) (sym p.same.layout) (c.next-record.ensures.stands _ _ _ i.makes);
       step_is = c.next-record.ensures.step ∙ i.step_is;
-      so_far = λ config name old rose h risen.
-          let so_far = i.so_far config name old rose h (λ r. risen (rose-front f.media.faults m.media.faults n.media.faults p.goes.faults r)) in
-          let ends = ends-next config name old _ _ m n rose _ _ _ _ _ so_far c.loop-loaded-test.true p.goes p.same c.put-outcome.result _ _ c.last_key.result
+      so_far = λ config name cost old rose h risen.
+          let so_far = i.so_far config name cost old rose h (λ r. risen (rose-front f.media.faults m.media.faults n.media.faults p.goes.faults r)) in
+          let ends = ends-next config name cost old _ _ m n rose _ _ _ _ _ so_far c.loop-loaded-test.true p.goes p.same c.put-outcome.result _ _ c.last_key.result
           (λ r. risen (rose-back f.media.faults m.media.faults n.media.faults i.goes.faults r)) c.last_key.ensures.stands key (c.as_slice.ensures.value ∙ c.next-record.ensures.values _ _ _ i.makes) p.ends in
-          let done = ends-done config name old _ _ m n rose _ _ _ _ _ so_far c.loop-loaded-test.true p.goes p.same c.put-outcome.result (sym c.is_err.ensures.value ∙ c.if-is_err.false) ends in
-          subst (λ s. LoadedSoFar config name old c.put-outcome.new.self n rose c.args.count c.args.step c.args.seed (c.loop-loaded.loaded + 1) s) (sym c.next-record.ensures.random)
-          (loaded-more config name old _ _ m n rose _ _ _ _ _ so_far c.loop-loaded-test.true p.goes p.same done);
+          let done = ends-done config name cost old _ _ m n rose _ _ _ _ _ so_far c.loop-loaded-test.true p.goes p.same c.put-outcome.result (sym c.is_err.ensures.value ∙ c.if-is_err.false) ends in
+          subst (λ s. LoadedSoFar config name cost old c.put-outcome.new.self n rose c.args.count c.args.step c.args.seed (c.loop-loaded.loaded + 1) s) (sym c.next-record.ensures.random)
+          (loaded-more config name cost old _ _ m n rose _ _ _ _ _ so_far c.loop-loaded-test.true p.goes p.same done);
     }
 
 pub returns-clause-answers : goal.returns-clause-answers
-returns-clause-answers g c = λ config name old h.
+returns-clause-answers g c = λ config name cost old h.
     let f = g.F.Flash.state c.args.flash.now in
     let m = g.F.Flash.state c.loop-loaded.flash in
     let all : c.loop-loaded.loaded ≡ c.args.count = omega arith in
-    load-finished config name old _ _ f m _ _ _ _ _ h all (c.loop-loaded.invariant.so_far config name old (has_risen f m) h (λ r. rose-risen f m r))
+    load-finished config name cost old _ _ f m _ _ _ _ _ h all (c.loop-loaded.invariant.so_far config name cost old (has_risen f m) h (λ r. rose-risen f m r))

@@ -12,10 +12,10 @@ returns-clause-runs g c = λ configured w told.
     let one = one-of configured.knots lines configured c.requires.built parts in
     let same : c.geometry.result ≡ configured.geometry = cc (c.geometry.ensures.device, parts.device) in
     let e : g.M.Media.state c.media-1.given.0 ≡ g.M.Media.state c.end-media.result.now = search rules in
-    session-runs configured _ _ _ _ _ _ _ _ _ _ c.geometry.result c.blocks-2.result _ (c.new-session.ensures.flash ∙ c.flash_on-flash.ensures) same (e ∙ c.end-media.ensures.state) told one
+    session-runs configured _ _ _ _ _ _ _ _ _ _ _ _ c.geometry.result c.blocks-2.result _ (c.new-session.ensures.flash ∙ c.flash_on-flash.ensures) same (e ∙ c.end-media.ensures.state) told one
     (named-one configured.plans _ one (subst (λ ps. IfSome (slice_get ps 0) (λ (plan : Plan). c.new-session.result.name ≡ plan.name)) parts.plans (rw c.new-session.ensures.rooms.1 c.name.ensures)))
     (rw c.new-session.ensures.rooms.0 (c.requires.table.planned one.plan (parts.plans ∙ one.plans_are)))
-    c.new-session.ensures.off
+    c.new-session.ensures.off c.new-session.ensures.fresh
     _ _ _ _ _ _ _ _
     (c.run_first-status.ensures.runs configured)
 

@@ -5,6 +5,7 @@ use Rattle.fl_model.specs.Image.{rows_at}
 use Rattle.fl_model.specs.Ring.{oldest}
 use Rattle.fl_model.specs.Table.{full_pages, written}
 use Rattle.fl_model.proofs.Lists.{slice_get-some}
+use Rattle.fl_page.proofs.Reading.{OnlyReads-same, OnlyReads-then}
 use Rattle.fl_ring.specs.Looking.{OnlyReads}
 use Rattle.fl_ring.proofs.Readings.{no_reads, more_reads, told_still}
 use Rattle.fl_table.specs.Look.{oldest_in, rows_noted, kept_counts}
@@ -24,6 +25,7 @@ loop-number-init g c =
     rw none (record {
       from = omega (arith, c.oldest-number.ensures.exact);
       reads = no_reads (g.F.Flash.state c.args.flash.now);
+      counts = OnlyReads-same (g.F.Flash.state c.args.flash.now);
       room = refl;
       few = omega arith;
       later = omega arith;
@@ -82,6 +84,7 @@ loop-number-preserved g c =
     record {
       from = omega (arith, inv.from);
       reads = subst (λ k. OnlyReads old k new) (sym (ap (λ k. full_pages (map (rows_noted t) (range_with_len (oldest_in t) k))) more ∙ next)) both;
+      counts = OnlyReads-then old flash new inv.counts c.in_ok-page.ensures.counts;
       room = c.in_ok-page.ensures.room ∙ inv.room;
       few = omega (arith, inv.few, c.in_ok-page.ensures.few, more);
       later = omega (arith, inv.later, c.in_ok-page.ensures.cause.later);
@@ -143,3 +146,9 @@ returns-clause-lists g c = λ first plan table told on stands.
     let lines = all-before c.args.self.now.range c.args.self.now.span table (c.loop-number.number - oldest_in t)
     (omega (arith, c.loop-number-test.false, c.next_number-number-end.ensures.exact, next-is t old first plan table stands, oldest-is t old first plan table stands, stands.facts.rows.not_negative)) stands.facts.counted in
     rw (← lines) (inv.lists first plan table told on stands)
+
+pub returns-then-page-clause-counts : goal.returns-then-page-clause-counts
+returns-then-page-clause-counts g c = OnlyReads-then _ _ _ c.loop-number.invariant.counts c.in_ok-page.ensures.counts
+
+pub returns-in_err-page-clause-counts : goal.returns-in_err-page-clause-counts
+returns-in_err-page-clause-counts g c = OnlyReads-then _ _ _ c.loop-number.invariant.counts c.in_err-page.ensures.counts

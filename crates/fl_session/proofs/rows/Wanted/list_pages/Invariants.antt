@@ -3,6 +3,7 @@ use Rattle.std.specs.List.{range_with_len}
 use Rattle.fl_model.specs.Record.{Plan}
 use Rattle.fl_model.specs.Table as model
 use Rattle.fl_model.specs.Table.{full_pages}
+use Rattle.fl_page.specs.Contents as contents
 use Rattle.fl_ring.specs.Looking.{OnlyReads}
 use Rattle.fl_table.specs.Look.{oldest_in, rows_noted}
 use Rattle.fl_table.specs.Standing.{Stands}
@@ -14,6 +15,7 @@ abbrev pub invariant-loop-number : goal.invariant-loop-number
 invariant-loop-number g l = record {
   from : oldest_in l.table ≤ l.number;
   reads : OnlyReads (g.F.Flash.state l.fn.flash) (full_pages (map (rows_noted l.table) (range_with_len (oldest_in l.table) (l.number - oldest_in l.table)))) (g.F.Flash.state l.flash);
+  counts : contents.OnlyReads (g.F.Flash.state l.fn.flash) (g.F.Flash.state l.flash);
   room : length l.buf.bytes ≡ length l.fn.buf.bytes;
   few : l.count ≤ (l.number - oldest_in l.table) * 65536;
   later : g.K.Sink.faults l.fn.out ≤ g.K.Sink.faults l.out;

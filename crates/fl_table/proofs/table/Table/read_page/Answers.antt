@@ -2,6 +2,7 @@ use Rattle.std.proofs.Common.{rules, ◌≡◌, ◌≤◌, true, false, Ok, Err,
 use Rattle.fl_flash.specs.Flash.{page_at}
 use Rattle.fl_model.specs.Ring as rings
 use Rattle.fl_page.specs.declared.fault.ReadFault.TheVariants.{BadPage}
+use Rattle.fl_page.proofs.Reading.{OnlyReads-read}
 use Rattle.fl_table.specs.Kept.{place_of, IsFound}
 use Rattle.fl_table.specs.Look.{layout_in}
 use Rattle.fl_table.proofs.KeptRead.{ring-place, shows-rows}
@@ -37,3 +38,15 @@ returns-in-Err-of-clause-stands g c = λ first plan table count told stands e.
     let bytes : c.read.new.into.bytes ≡ page_at f (place_of t c.args.number) = search rules in
     let found : IsFound (layout_in t) c.args.number c.read.new.into.bytes (Err (BadPage c.in-Err-of.bad)) = search rules in
     shows-rows t f first plan table stands c.requires.lies (g.met.F.Flash.reaches c.args.flash.now) c.args.number count low e c.read.new.into.bytes bytes (Err (BadPage c.in-Err-of.bad)) found
+
+pub returns-in-Err-clause-counts : goal.returns-in-Err-clause-counts
+returns-in-Err-clause-counts g c = OnlyReads-read _ _ _ _ _ _ c.read.ensures
+
+pub returns-in_default-state_of-clause-counts : goal.returns-in_default-state_of-clause-counts
+returns-in_default-state_of-clause-counts g c = OnlyReads-read _ _ _ _ _ _ c.read.ensures
+
+pub returns-in-Ok-clause-counts : goal.returns-in-Ok-clause-counts
+returns-in-Ok-clause-counts g c = OnlyReads-read _ _ _ _ _ _ c.read.ensures
+
+pub returns-in-Err-of-clause-counts : goal.returns-in-Err-of-clause-counts
+returns-in-Err-of-clause-counts g c = OnlyReads-read _ _ _ _ _ _ c.read.ensures

@@ -1,0 +1,35 @@
+-- The cost of a command: the pages that it reads.
+use Rattle.std.specs.Prelude.{◌≡◌, ℕ, ◌+◌, ◌-◌, ◌^◌, ◌<◌}
+use Rattle.fl_flash.specs.Flash.{FlashState}
+use Rattle.fl_words.specs.Command as command
+use Rattle.fl_words.specs.Command.{Command}
+use Rattle.fl_machine.specs.Machine as machine
+use Rattle.fl_machine.specs.Reads.{none_read}
+use Rattle.fl_machine.specs.Step.{Moment}
+use Rattle.fl_session.specs.declared.cost.Cost.{Cost}
+use Rattle.fl_session.specs.declared.cost.Cost.TheVariants.{NothingYet, OfGet, OfScan}
+
+-- the cost that a session keeps, as the machine has it
+abbrev pub cost_of : Cost → machine.Cost
+cost_of NothingYet = machine.NothingYet
+cost_of (OfGet reads limit) = machine.OfGet reads limit
+cost_of (OfScan reads) = machine.OfScan reads
+
+-- The flash counts so many more reads, where its count isn't at its end, and the medium as many, where neither count is.
+pub record HasRead (old : FlashState) (reads : ℕ) (new : FlashState) : Type 0 where
+  pub flash : new.work.reads < 2 ^ 64 - 1 → new.work.reads ≡ old.work.reads + reads
+  pub medium : new.work.reads < 2 ^ 64 - 1 → new.media.reads < 2 ^ 64 - 1 → new.media.reads ≡ old.media.reads + reads
+
+-- The machine's reads are those of the flash and its medium in a command that reads rows. Of a mount they aren't told, and
+-- another command has none.
+abbrev pub CountsReads : FlashState → Moment → FlashState → Command → Type 0
+CountsReads old moment new command.Mount = Unit {0}
+CountsReads old moment new (command.Get name key) = HasRead old moment.reads new
+CountsReads old moment new (command.Blob name key) = HasRead old moment.reads new
+CountsReads old moment new (command.Scan name range span) = HasRead old moment.reads new
+CountsReads old moment new (command.Next cursor count) = HasRead old moment.reads new
+CountsReads old moment new (command.Select name range column op value) = HasRead old moment.reads new
+CountsReads old moment new (command.Project name range columns) = HasRead old moment.reads new
+CountsReads old moment new (command.Agg name range column width) = HasRead old moment.reads new
+CountsReads old moment new (command.Join left right range) = HasRead old moment.reads new
+CountsReads old moment new _ = none_read moment
