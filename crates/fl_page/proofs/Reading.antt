@@ -1,6 +1,5 @@
 -- Calls that only read, one after another.
-use Rattle.std.proofs.Common.{◌≡◌, ℕ, zero, suc, ◌+◌, ◌-◌, ◌^◌, ◌<◌, ◌≤◌, Bool, true, false, IsTrue, List, take, drop, length, refl, sym, ap, subst, ◌∙◌, arith, Result, Ok, OnOk}
-use Rattle.fl_base.specs.Causes.{Rose}
+use Rattle.std.proofs.Common.{◌≡◌, ℕ, zero, suc, ◌+◌, ◌-◌, ◌^◌, ◌<◌, ◌≤◌, Bool, true, false, List, take, drop, length, refl, sym, ap, subst, ◌∙◌, arith, Result}
 use Rattle.fl_base.specs.declared.types.Geometry.{Geometry}
 use Rattle.fl_flash.specs.Buffer.{BufferState}
 use Rattle.fl_flash.specs.Media.{next_count}
