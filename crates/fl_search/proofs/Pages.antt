@@ -1,9 +1,9 @@
 -- Ranges of pages whose first keys are told.
-use Rattle.std.proofs.Common.{ℕ, zero, suc, ◌≡◌, ◌<◌, ◌≤◌, ◌+◌, ◌-◌, ◌*◌, ◌/◌, ◌^◌, max, Bool, true, false, leb, refl, ap, ◌∙◌, sym, arith, add-zero, Option, Some, None, ⊎_elim, ◌⊎◌, inl, inr}
-use Rattle.std.specs.Prelude.{is_none, if◌then◌else◌}
+use Rattle.std.proofs.Common.{ℕ, zero, suc, ◌≡◌, ◌<◌, ◌≤◌, ◌+◌, ◌-◌, ◌*◌, ◌^◌, max, true, false, refl, ap, ◌∙◌, arith, add-zero, Option, Some, None, ⊎_elim}
+use Rattle.std.specs.Prelude.{IfSome}
 use Rattle.std.proofs.lemmas.Bool.{cases_lt, le-leb, lt-leb}
 use Rattle.fl_model.specs.Spline.{bits}
-use Rattle.fl_search.specs.Search.{starts_by, IsGreatest, IsPageOf, looked_at, Ascends, voids_from, voids_in, IsLastAt, IsLastFull}
+use Rattle.fl_search.specs.Search.{RoseSome, starts_by, IsPageOf, looked_at, Ascends, voids_from, voids_in, IsLastAt}
 use Rattle.fl_search.proofs.Bits.{bits-le, bits-half, has-digit}
 
 -- no page of a range starts by the key; all pages of a range are void
@@ -162,3 +162,30 @@ found-end first oldest low high end key (Some page) met le is none = record {
       (λ above. none n (omega arith) before)
       (cases_lt n low);
 }
+
+-- counts that never fall
+pub grows-then : (a b c : ℕ) → (b < 2 ^ 64 - 1 → a ≤ b) → (c < 2 ^ 64 - 1 → b ≤ c) → c < 2 ^ 64 - 1 → a ≤ c
+grows-then a b c first second small =
+    let up = second small in
+    let less : b < 2 ^ 64 - 1 = omega (arith, small, up) in
+    omega (arith, up, first less)
+
+pub rose-after : (a b c : ℕ) → (b < 2 ^ 64 - 1 → a ≤ b) → RoseSome b c → RoseSome a c
+rose-after a b c first second small =
+    let up = second small in
+    let less : b < 2 ^ 64 - 1 = omega (arith, small, up) in
+    omega (arith, up, first less)
+
+pub rose-before : (a b c : ℕ) → RoseSome a b → (c < 2 ^ 64 - 1 → b ≤ c) → RoseSome a c
+rose-before a b c first second small =
+    let up = second small in
+    let less : b < 2 ^ 64 - 1 = omega (arith, small, up) in
+    omega (arith, up, first less)
+
+pub some-later : (a b c : ℕ) (found : Option ℕ) → IfSome found (λ page. RoseSome a b) → (c < 2 ^ 64 - 1 → b ≤ c) → IfSome found (λ page. RoseSome a c)
+some-later a b c None first second = tt
+some-later a b c (Some page) first second = rose-before a b c first second
+
+pub found-starts : (first : ℕ → Option ℕ) (oldest low key : ℕ) (page : Option ℕ) → IsPageOf first oldest low key page → IfSome page (λ n. starts_by first key n ≡ true)
+found-starts first oldest low key None is = tt
+found-starts first oldest low key (Some page) is = is.here

@@ -5,6 +5,10 @@ use Rattle.std.specs.Prelude.{ℕ, zero, suc, ◌+◌, ◌-◌, ◌^◌, ◌<◌
 abbrev pub RoseBy : ℕ → ℕ → ℕ → Type 0
 RoseBy n before now = now < 2 ^ 64 - 1 → now ≡ before + n
 
+-- a count rose, or stands at the number at which it stays
+abbrev pub RoseSome : ℕ → ℕ → Type 0
+RoseSome before now = now < 2 ^ 64 - 1 → before + 1 ≤ now
+
 -- a page isn't void, and its first key is at most the key
 abbrev pub starts_by : (ℕ → Option ℕ) → ℕ → ℕ → Bool
 starts_by first key n = unwrap_or (option_map (λ x. nat_le x key) (first n)) false

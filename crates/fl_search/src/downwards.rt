@@ -1,5 +1,5 @@
 // A search downwards.
-ghost use Rattle.std.specs.Prelude.{◌≡◌, ◌+◌, ◌-◌, ◌≤◌, ◌<◌, ℕ, Option, IfOk};
+ghost use Rattle.std.specs.Prelude.{◌≡◌, ◌+◌, ◌-◌, ◌≤◌, ◌<◌, ℕ, Option, IfSome, IfOk, IfErr};
 ghost use Rattle.fl_base.specs.Causes.{HasCause};
 ghost use Rattle.fl_search.specs.Search.{IsPageOf, looked_at, RoseBy};
 
@@ -8,7 +8,7 @@ use fl_page::ReadFault;
 
 /// The greatest page from `oldest` to `top` that isn't void and whose first key is at most `key`.
 ///
-/// It asks for the first key of `top` and of each page below, down to the one that it answers.
+/// It asks for the first key of `top` and of each page below, down to the one that it answers, which it asked for last.
 pub fn near<K: FirstKeys>(
     keys: &mut K,
     oldest: u32,
@@ -24,6 +24,11 @@ pub fn near<K: FirstKeys>(
     ensures cause { HasCause (K.faults keys.old) (K.faults keys.new) result }
     ensures tells { (first : ℕ → Option ℕ) → K.tells keys.old first → K.tells keys.new first }
     ensures has { (n : ℕ) → K.has keys.old n → K.has keys.new n }
+    ensures names { K.names keys.new ≡ K.names keys.old }
+    ensures since { (first : K) → K.since first keys.old → K.since first keys.new }
+    ensures fails { (first : K) → K.since first keys.old → IfErr result (λ fault. K.fails first fault keys.new) }
+    ensures here { IfOk result (λ page. IfSome page (λ number. K.here keys.new number)) }
+    ensures within { IfOk result (λ page. IfSome page (λ number. (oldest ≤ number) × (number ≤ top))) }
 {
     // In 64 bits, since the page after `top` may have no number.
     let mut end = u64::from(top) + 1;

@@ -1,8 +1,8 @@
 // A search by halves.
-ghost use Rattle.std.specs.Prelude.{◌≡◌, ◌+◌, ◌-◌, ◌≤◌, ◌<◌, ℕ, Option, IfSome, IfOk, OnErr, MatchResult};
+ghost use Rattle.std.specs.Prelude.{◌≡◌, ◌+◌, ◌-◌, ◌^◌, ◌≤◌, ◌<◌, ℕ, Option, IfSome, IfOk, IfErr, OnErr, MatchResult, true};
 ghost use Rattle.fl_base.specs.Causes.{HasCause};
 ghost use Rattle.fl_model.specs.Spline.{bits};
-ghost use Rattle.fl_search.specs.Search.{IsPageOf, IsLastFull, Ascends, voids_in, probed};
+ghost use Rattle.fl_search.specs.Search.{IsPageOf, IsLastFull, Ascends, RoseSome, starts_by, voids_in, probed};
 
 use crate::keys::FirstKeys;
 use fl_page::ReadFault;
@@ -21,6 +21,11 @@ fn last_full<K: FirstKeys>(
     ensures cause { HasCause (K.faults keys.old) (K.faults keys.new) result }
     ensures tells { (first : ℕ → Option ℕ) → K.tells keys.old first → K.tells keys.new first }
     ensures has { (n : ℕ) → K.has keys.old n → K.has keys.new n }
+    ensures some { IfOk result (λ last. IfSome last (λ last. RoseSome (K.calls keys.old) (K.calls keys.new))) }
+    ensures grows { IfOk result (λ last. K.calls keys.new < 2 ^ 64 - 1 → K.calls keys.old ≤ K.calls keys.new) }
+    ensures names { K.names keys.new ≡ K.names keys.old }
+    ensures since { (first : K) → K.since first keys.old → K.since first keys.new }
+    ensures fails { (first : K) → K.since first keys.old → IfErr result (λ fault. K.fails first fault keys.new) }
 {
     let mut number = end;
     while number > oldest {
@@ -50,6 +55,12 @@ pub fn bisect<K: FirstKeys>(
     ensures cause { HasCause (K.faults keys.old) (K.faults keys.new) result }
     ensures tells { (first : ℕ → Option ℕ) → K.tells keys.old first → K.tells keys.new first }
     ensures has { (n : ℕ) → K.has keys.old n → K.has keys.new n }
+    ensures some { IfOk result (λ page. IfSome page (λ number. RoseSome (K.calls keys.old) (K.calls keys.new))) }
+    ensures within { IfOk result (λ page. IfSome page (λ number. (oldest ≤ number) × (number < end))) }
+    ensures starts { (first : ℕ → Option ℕ) → K.tells keys.old first → IfOk result (λ page. IfSome page (λ number. starts_by first key number ≡ true)) }
+    ensures names { K.names keys.new ≡ K.names keys.old }
+    ensures since { (first : K) → K.since first keys.old → K.since first keys.new }
+    ensures fails { (first : K) → K.since first keys.old → IfErr result (λ fault. K.fails first fault keys.new) }
 {
     let mut found = None;
     let mut low = oldest;

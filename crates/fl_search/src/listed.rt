@@ -29,7 +29,9 @@ impl Listed {
 }
 
 impl FirstKeys for Listed {
-    ghost use Rattle.std.specs.Prelude.{◌≡◌, ◌<◌, ℕ, Option, None, slice_index_or};
+    ghost use Rattle.std.specs.Prelude.{◌≡◌, ◌<◌, ℕ, [], Option, None, slice_index_or};
+
+    ghost names = { λ s. [] };
 
     ghost has = { λ s n. n < 8 };
 
@@ -38,6 +40,12 @@ impl FirstKeys for Listed {
     ghost calls = { λ s. s.calls };
 
     ghost faults = { λ s. s.faults };
+
+    ghost since = { λ first s. Unit {0} };
+
+    ghost fails = { λ first fault s. Unit {0} };
+
+    ghost here = { λ s n. Unit {0} };
 
     fn first_key(&mut self, number: u32) -> Result<Option<u64>, ReadFault> {
         self.calls = self.calls.saturating_add(1);

@@ -25,6 +25,7 @@ pub mod Over
 pub mod Fresh
 pub mod Completing
 pub mod BuiltOne
+pub mod Untouched
 pub mod Generating
 pub mod Loading
 pub mod RowLines

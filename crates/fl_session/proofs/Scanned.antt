@@ -1,7 +1,7 @@
 -- The replies to a whole scan.
-use Rattle.std.proofs.Common.{◌≡◌, ℕ, ◌+◌, ◌-◌, ◌<◌, ◌≤◌, ◌⊎◌, Bool, true, false, Option, Some, None, Result, Ok, Err, IsTrue, List, [], ◌∷◌, ◌++◌, length, take, drop, map, refl, sym, ◌∙◌, ap, subst, inl, inr, append-nil, append_assoc, arith}
+use Rattle.std.proofs.Common.{◌≡◌, ℕ, ◌-◌, Bool, true, false, Option, Some, None, Result, Ok, Err, List, [], ◌∷◌, ◌++◌, length, take, refl, sym, ◌∙◌, ap, subst, inl, inr, append-nil, append_assoc, arith}
 use Rattle.std.proofs.lemmas.List.{take-append-drop}
-use Rattle.fl_base.specs.Causes.{Rose, Appends, AppendsFront}
+use Rattle.fl_base.specs.Causes.{Appends, AppendsFront}
 use Rattle.fl_base.specs.declared.stream.SinkFailed.{SinkFailed}
 use Rattle.fl_base.specs.declared.types.KeyRange.{KeyRange}
 use Rattle.fl_base.specs.declared.types.Span.{Span}
@@ -11,15 +11,14 @@ use Rattle.fl_model.specs.Record.{Plan, has_var}
 use Rattle.fl_model.specs.Row.{stored_row}
 use Rattle.fl_model.specs.Table as model
 use Rattle.fl_model.specs.Table.{Entry, pending_entries, written}
-use Rattle.fl_page.specs.declared.fault.ReadFault.{ReadFault}
-use Rattle.fl_page.specs.declared.fault.ReadFault.TheVariants.{Flash, BadPage}
-use Rattle.fl_machine.specs.Step.{Lists, rows_of, row_of, row_note}
+use Rattle.fl_page.specs.declared.fault.ReadFault.TheVariants.{Flash}
+use Rattle.fl_machine.specs.Step.{rows_of, row_of, row_note}
 use Rattle.fl_script.specs.Written.{Written}
 use Rattle.fl_script.proofs.Sending.{appends-append, sent-failed}
 use Rattle.fl_words.specs.Reply as reply
 use Rattle.fl_words.specs.Reply.{Reply, text, texts}
 use Rattle.fl_session.specs.Listed.{ListsAll, Scans}
-use Rattle.fl_session.specs.Rows.{wants, row_reply, row_replies, lines_of}
+use Rattle.fl_session.specs.Rows.{row_reply, lines_of}
 use Rattle.fl_session.specs.declared.listing.ListFault.{ListFault}
 use Rattle.fl_session.specs.declared.listing.ListFault.TheVariants.{Sink, Read}
 use Rattle.fl_session.proofs.PagesListed.{lines-append, lists-stop}

@@ -70,6 +70,10 @@ Gives old rest (Err Failed) new left = TakesPart old rest new left
 -- as many bytes were taken as are at most, and one more came
 Gives old rest (Err Long) new left = (more : List ℕ) × TakesPart old rest new more × (length new.ahead ≡ old.most) × (0 < length more)
 
+-- What is ahead decides what is given: a whole line, more bytes than a line has, or that no line is left.
+abbrev pub NeedsNoMore : LinesState → Type 0
+NeedsNoMore s = (s.closed ≡ true) ⊎ ((IsOneLine s.ahead → ⊥) ⊎ (4096 < length s.ahead))
+
 -- a line is asked for
 pub record Advances (old : LinesState) (left : Option (List ℕ)) (faults : ℕ) (result : Result Bool LinesFault) (new : LinesState) (left_now : Option (List ℕ)) (faults_now : ℕ) : Type 0 where
   pub later : faults ≤ faults_now

@@ -2,9 +2,10 @@
 ghost use Rattle.std.specs.Prelude.{◌≡◌, ℕ, ◌+◌, ◌-◌, ◌^◌, ◌<◌, ◌≤◌, Bool, true, false, ◌==◌, List, [], ◌∷◌, ◌++◌, length, take, drop, Option, Some, All, MatchOption, IfOk, slice_get};
 ghost use Rattle.std.specs.Bool.{OnTrue, OnFalse};
 ghost use Rattle.fl_base.specs.Causes.{HasCause};
-ghost use Rattle.fl_session.specs.Stream.{LinesState, IsOneLine, Advances, Fills, after_line, after_rest};
+ghost use Rattle.fl_session.specs.Stream.{LinesState, IsOneLine, NeedsNoMore, Advances, Fills, after_line, after_rest};
 
 use fl_base::{NoMemory, Source, SourceFailed};
+use memchr::memchr;
 use std::alloc::Global;
 use std::marker::Model;
 
@@ -51,12 +52,7 @@ impl Model for Lines {
 fn newline_in(bytes: &[u8]) -> Option<usize>
     ensures { MatchOption result (IsOneLine bytes.now) (λ i. (i < length bytes.now) × (slice_get bytes.now i ≡ Some 10) × IsOneLine (take i bytes.now)) }
 {
-    for (i, byte) in bytes.iter().enumerate() {
-        if *byte == b'\n' {
-            return Some(i);
-        }
-    }
-    None
+    memchr(b'\n', bytes)
 }
 
 impl Lines {
@@ -117,6 +113,7 @@ impl Lines {
         ensures most { self.new.most ≡ self.old.most }
         ensures closed { self.new.closed ≡ self.old.closed }
         ensures longer { IfOk result (λ n. length self.new.ahead ≡ length self.old.ahead + n) }
+        ensures few { length self.new.ahead ≤ 4097 }
         ensures taken { Fills self.old.ahead (S.left script.old) result self.new.ahead (S.left script.new) }
         ensures cause { HasCause (S.faults script.old) (S.faults script.new) result }
     {
@@ -136,6 +133,7 @@ impl Lines {
     fn close(&mut self) -> bool
         ensures some { OnTrue result ((0 < length self.old.ahead) × (self.new ≡ record (after_rest self.old) { closed = true })) }
         ensures none { OnFalse result (self.old.ahead ≡ []) }
+        ensures nothing { self.new.ahead ≡ [] }
     {
         if self.from == self.to {
             return false;
@@ -151,7 +149,8 @@ impl Lines {
         requires one { IsOneLine self.old.ahead }
         requires short { length self.old.ahead ≤ 4096 }
         requires is_open { self.old.closed ≡ false }
-        ensures { Advances self.old (S.left script.old) (S.faults script.old) result self.new (S.left script.new) (S.faults script.new) }
+        ensures few { length self.new.ahead ≤ 4097 }
+        ensures advances { Advances self.old (S.left script.old) (S.faults script.old) result self.new (S.left script.new) (S.faults script.new) }
     {
         let mut byte = [0; 1];
         match script.read(&mut byte) {
@@ -161,9 +160,12 @@ impl Lines {
         }
     }
 
-    /// Goes on to the next line. False says that there is none.
+    /// Goes on to the next line. False says that there is none. At most 4,097 bytes are then taken from the source
+    /// that weren't given, and none is taken where those decide the answer.
     pub fn advance<S: Source>(&mut self, script: &mut S) -> Result<bool, LinesFault>
-        ensures { Advances self.old (S.left script.old) (S.faults script.old) result self.new (S.left script.new) (S.faults script.new) }
+        ensures advances { Advances self.old (S.left script.old) (S.faults script.old) result self.new (S.left script.new) (S.faults script.new) }
+        ensures few { length self.new.ahead ≤ 4097 }
+        ensures alone { NeedsNoMore self.old → script.new ≡ script.old }
     {
         if self.closed {
             return Ok(false);

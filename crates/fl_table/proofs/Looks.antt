@@ -11,8 +11,8 @@ use Rattle.fl_model.specs.Table as model
 use Rattle.fl_model.proofs.Lists.{slice_get-some}
 use Rattle.fl_ring.specs.Place.{next_of, oldest_of}
 use Rattle.fl_ring.specs.declared.ring.Ring.{Ring}
-use Rattle.fl_table.specs.Look.{oldest_in, pending_in, rows_noted, kept_counts, counts_in, counts_of}
-use Rattle.fl_table.specs.Memory.{next_in}
+use Rattle.fl_table.specs.Look.{oldest_in, rows_noted, kept_counts, counts_in, counts_of}
+use Rattle.fl_table.specs.Memory.{next_in, pending_in}
 use Rattle.fl_table.specs.Standing.{Stands}
 use Rattle.fl_table.specs.declared.table.Table.{Table}
 use Rattle.fl_table.proofs.SealAnswers.{counts-room, writer-count}

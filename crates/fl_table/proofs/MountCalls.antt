@@ -1,13 +1,16 @@
 -- What the calls of a mount say of its table.
-use Rattle.std.proofs.Common.{◌≡◌, ℕ, ◌-◌, Bool, true, List, Some, sym, ◌∙◌, ap, subst, arith, IsTrue}
+use Rattle.std.proofs.Common.{◌≡◌, ℕ, ◌-◌, Bool, true, false, List, Some, sym, ◌∙◌, ap, subst, arith, IsTrue, inl, inr}
 use Rattle.fl_base.specs.Causes.{Rose}
 use Rattle.fl_base.specs.declared.types.Geometry.{Geometry}
 use Rattle.fl_base.specs.declared.types.RingPlace.{RingPlace}
 use Rattle.fl_flash.specs.Flash.{FlashState, Goes, page_at}
+use Rattle.fl_flash.specs.declared.flash.FlashFault.TheVariants.{PowerLost, Media}
 use Rattle.fl_model.specs.Record.{RowLayout}
 use Rattle.fl_model.specs.Work.{Device}
+use Rattle.fl_ring.specs.Causes as ring_causes
+use Rattle.fl_ring.specs.Causes.{CausedBy}
 use Rattle.fl_ring.specs.Finding.{FoundFault}
-use Rattle.fl_ring.specs.Looking.{OnlyReads}
+use Rattle.fl_ring.specs.Looking.{OnlyReads, ReadFails}
 use Rattle.fl_ring.specs.Mounting.{shape_at, HasNumbers, FailsAs}
 use Rattle.fl_ring.specs.Place.{next_of, oldest_of, shape_of}
 use Rattle.fl_ring.specs.Ring.{Shape, OutsideStands, place}
@@ -18,7 +21,7 @@ use Rattle.fl_ring.specs.declared.ring.Ring.{Ring}
 use Rattle.fl_ring.proofs.Founds.{same_pages}
 use Rattle.fl_ring.proofs.Readings.{same_page}
 use Rattle.fl_schema.specs.Schema.{layout_of}
-use Rattle.fl_table.specs.Causes.{IfPage, is_of_pages, of_ring}
+use Rattle.fl_table.specs.Causes.{IfFlash, IfPage, MountCausedBy, is_of_pages, of_ring}
 use Rattle.fl_table.specs.Memory.{IsSamePlan}
 use Rattle.fl_table.specs.Mounting.{ReadsRing, FindsPages, HasBadPage, RefusesPages}
 use Rattle.fl_table.specs.Reading.{AreRead, AreRefused, last_after, rows_after, voids_after, pages_of}
@@ -67,13 +70,14 @@ module _ (old new : Table) (f mid g : FlashState) (n : ℕ) (same : IsSamePlan o
           (now_read (λ page. AreRefused (layout_of new.schema) page (oldest_of ring) (next_of ring - oldest_of ring) fault) h);
     }
 
-    pub refuses-page : (e : MountFault) → is_of_pages e ≡ true → IsTrue mid.media.tells → IfPage (λ fault. IsTrue mid.media.tells → AreRefused (layout_of new.schema) (pages_of ring mid) (oldest_of ring) (next_of ring - oldest_of ring) fault) e → RefusesPages old f e g
-    refuses-page (Flash fault) only told h = tt
-    refuses-page (OfRing fault) only told h = absurd (cc only)
-    refuses-page (BadPage bad) only told h = refused-page (BadPage bad) (h told)
-    refuses-page (BadKeys number last first) only told h = refused-page (BadKeys number last first) (h told)
-    refuses-page (BadIndex end next) only told h = absurd (cc only)
-    refuses-page (BadBlob number next) only told h = absurd (cc only)
+    pub refuses-page : (e : MountFault) → is_of_pages e ≡ true → IsTrue mid.media.tells → IfFlash (λ fault. ReadFails mid fault g) e → IfPage (λ fault. IsTrue mid.media.tells → AreRefused (layout_of new.schema) (pages_of ring mid) (oldest_of ring) (next_of ring - oldest_of ring) fault) e → RefusesPages old f e g
+    unfolding reads-ring
+    refuses-page (Flash fault) only told fails h = inr (record { ring = ring; ring_reads = reads-ring; fails = fails })
+    refuses-page (OfRing fault) only told fails h = absurd (cc only)
+    refuses-page (BadPage bad) only told fails h = refused-page (BadPage bad) (h told)
+    refuses-page (BadKeys number last first) only told fails h = refused-page (BadKeys number last first) (h told)
+    refuses-page (BadIndex end next) only told fails h = absurd (cc only)
+    refuses-page (BadBlob number next) only told fails h = absurd (cc only)
 
     pub finds-pages : (mounted : Mounted) (now : Table) → now.ring ≡ Some ring → AreRead (layout_of new.schema) (pages_of ring mid) (oldest_of ring) (next_of ring - oldest_of ring) →
         mounted ≡ record {
@@ -101,8 +105,29 @@ refuses-ring old new f g e same geometry found fails =
     by_fault e (subst (λ (r : Shape). FoundFault f r 0 e) (same-shape old new f same geometry) found) (subst (λ (r : Shape). FailsAs f r 0 e g) (same-shape old new f same geometry) fails)
   where
     by_fault : (e : RingFault) → FoundFault f (shape_at old.place old.geometry) 0 e → FailsAs f (shape_at old.place old.geometry) 0 e g → RefusesPages old f (of_ring e) g
-    by_fault (ring.Flash fault) found fails = tt
+    by_fault (ring.Flash fault) found fails = inl fails
     by_fault (ring.BadHead heads) found fails = record { found = found; reads = fails }
     by_fault (ring.BadGap page) found fails = record { found = found; reads = fails }
     by_fault (ring.BadPage page wanted there) found fails = record { found = found; reads = fails }
     by_fault (ring.NoNumber least) found fails = record { found = found; reads = fails }
+
+-- why the ring's mount failed
+pub ring-cause : (old new : FlashState) (e : RingFault) → ring_causes.IfFlash (λ fault. CausedBy old fault new) e → MountCausedBy old (of_ring e) new
+ring-cause old new (ring.Flash fault) cause = cause
+ring-cause old new (ring.BadHead heads) cause = tt
+ring-cause old new (ring.BadGap page) cause = tt
+ring-cause old new (ring.BadPage page wanted there) cause = tt
+ring-cause old new (ring.NoNumber least) cause = tt
+
+-- why a kept page wasn't read, or refused
+pub pages-cause : (old mid new : FlashState) → Goes old mid → mid.is_on ≡ true → (e : MountFault) → is_of_pages e ≡ true → IfFlash (λ fault. ReadFails mid fault new) e → MountCausedBy old e new
+pages-cause old mid new goes on (Flash PowerLost) only off = absurd (not_both on off)
+  where
+    not_both : mid.is_on ≡ true → mid.is_on ≡ false → ⊥
+    not_both e k = cc
+pages-cause old mid new goes on (Flash Media) only rises = omega (arith, rises, goes.faults)
+pages-cause old mid new goes on (OfRing fault) only fails = absurd (cc only)
+pages-cause old mid new goes on (BadPage bad) only fails = tt
+pages-cause old mid new goes on (BadKeys number last first) only fails = tt
+pages-cause old mid new goes on (BadIndex end next) only fails = tt
+pages-cause old mid new goes on (BadBlob number next) only fails = tt

@@ -21,8 +21,10 @@ abbrev pub FlushCausedBy : FlashState → FlushFault → FlashState → Type 0
 FlushCausedBy old (flush.Flash fault) new = CausedBy old fault new
 FlushCausedBy old flush.Stopped new = new ≡ old
 
+-- a fault of the flash inside the ring comes as one of the flash
 abbrev pub MountCausedBy : FlashState → MountFault → FlashState → Type 0
 MountCausedBy old (mount.Flash fault) new = CausedBy old fault new
+MountCausedBy old (mount.Ring (ring.Flash fault)) new = ⊥
 MountCausedBy old _ new = Unit {0}
 
 -- the fault of a ring

@@ -8,7 +8,7 @@ use Rattle.fl_ring.specs.Place.{oldest_of}
 use Rattle.fl_schema.specs.Schema.{layout_of}
 use Rattle.fl_table.specs.declared.table.Table.{Table}
 use Rattle.fl_table.specs.declared.counts.TableCounts.{TableCounts}
-use Rattle.fl_table.specs.Memory.{next_in}
+use Rattle.fl_table.specs.Memory.{next_in, pending_in}
 
 -- the form of its rows
 abbrev pub layout_in : Table → RowLayout
@@ -21,10 +21,6 @@ last_key_in t = t.last_key
 -- the number of the oldest kept page of a running table
 abbrev pub oldest_in : Table → ℕ
 oldest_in t = unwrap_or (option_map (λ ring. oldest_of ring) t.ring) 0
-
--- how many rows are pending
-abbrev pub pending_in : Table → ℕ
-pending_in t = t.writer.count
 
 -- how many rows the kept page with this number has
 abbrev pub rows_noted : Table → ℕ → ℕ

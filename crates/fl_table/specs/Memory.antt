@@ -1,10 +1,10 @@
 -- What clauses see of a table in memory.
-use Rattle.std.specs.Prelude.{◌≡◌, ℕ, ◌+◌, ◌*◌, ◌%◌, ◌^◌, ◌<◌, ◌≤◌, Bool, ◌||◌, Option, Some, None, ℤ, is_some, option_map, unwrap_or, map, slice_get, slice_index}
+use Rattle.std.specs.Prelude.{◌≡◌, ℕ, ◌+◌, ◌*◌, ◌%◌, ◌^◌, ◌<◌, ◌≤◌, Bool, ◌||◌, Option, Some, None, ℤ, is_some, option_map, unwrap_or, map, length, slice_get, slice_index}
 use Rattle.std.specs.Option.{ForSome}
 use Rattle.fl_bitmap.specs.Bucket.{AreBucketsOf, with_value}
 use Rattle.fl_bitmap.specs.declared.buckets.Buckets.{Buckets}
 use Rattle.fl_flash.specs.Flash.{FlashState, pages}
-use Rattle.fl_model.specs.Record.{Plan, row_layout}
+use Rattle.fl_model.specs.Record.{Plan, row_layout, layout_len}
 use Rattle.fl_model.specs.Ring as rings
 use Rattle.fl_model.specs.Row.{stored_row}
 use Rattle.fl_model.specs.Layout.{bitmap_of}
@@ -44,6 +44,14 @@ bitmap_with (Some buckets) bitmap value = with_value buckets bitmap value
 -- the next number of a running table
 abbrev pub next_in : Table → ℕ
 next_in t = unwrap_or (option_map (λ ring. next_of ring) t.ring) 0
+
+-- how many rows are pending
+abbrev pub pending_in : Table → ℕ
+pending_in t = t.writer.count
+
+-- the page buffer has room for one row more
+abbrev pub HasRoom : Table → Type 0
+HasRoom t = t.writer.end + layout_len (layout_of t.schema) ≤ length t.writer.body
 
 -- where the data ring of a table stands
 abbrev pub ring_shape : Table → Shape

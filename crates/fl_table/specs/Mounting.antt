@@ -1,11 +1,13 @@
 -- What a mount found on a flash, over any bytes.
-use Rattle.std.specs.Prelude.{◌≡◌, ℕ, ◌+◌, ◌-◌, ◌≤◌, Some}
+use Rattle.std.specs.Prelude.{◌≡◌, ◌⊎◌, ℕ, ◌+◌, ◌-◌, ◌≤◌, Some}
 use Rattle.fl_flash.specs.Flash.{FlashState}
+use Rattle.fl_flash.specs.declared.flash.FlashFault.{FlashFault}
 use Rattle.fl_ring.specs.declared.fault.RingFault.{RingFault}
+use Rattle.fl_ring.specs.declared.fault.RingFault.TheVariants as ring
 use Rattle.fl_ring.specs.declared.ring.Ring.{Ring}
 use Rattle.fl_ring.specs.Finding.{FoundFault}
-use Rattle.fl_ring.specs.Looking.{OnlyReads}
-use Rattle.fl_ring.specs.Mounting.{search_reads, HasNumbers}
+use Rattle.fl_ring.specs.Looking.{OnlyReads, ReadFails}
+use Rattle.fl_ring.specs.Mounting.{search_reads, HasNumbers, FailsAs}
 use Rattle.fl_ring.specs.Place.{next_of, oldest_of}
 use Rattle.fl_schema.specs.Schema.{layout_of}
 use Rattle.fl_table.specs.Memory.{ring_shape}
@@ -50,14 +52,20 @@ pub record HasBadPage (t : Table) (old : FlashState) (fault : MountFault) (new :
   pub ring_reads : ReadsRing t old ring new
   pub refused : AreRefused (layout_of t.schema) (pages_of ring new) (oldest_of ring) (next_of ring - oldest_of ring) fault
 
+-- the ring was found and repaired, and then a read of a kept page failed
+pub record PagesUnread (t : Table) (old : FlashState) (fault : FlashFault) (new : FlashState) : Type 0 where
+  pub ring : Ring
+  pub ring_reads : ReadsRing t old ring new
+  pub fails : ReadFails ring_reads.repaired fault new
+
 -- a ring that is refused is left as it is
 pub record HasBadRing (t : Table) (old : FlashState) (fault : RingFault) (new : FlashState) : Type 0 where
   pub found : FoundFault old (ring_shape t) 0 fault
   pub reads : OnlyReads old (search_reads (ring_shape t)) new
 
--- why a table is refused; a table without an index and without variable data isn't refused for theirs
+-- why a mount fails, and what it has done; a table without an index and without variable data isn't refused for theirs
 abbrev pub RefusesPages : Table → FlashState → MountFault → FlashState → Type 0
-RefusesPages t old (mount.Flash fault) new = Unit {0}
+RefusesPages t old (mount.Flash fault) new = FailsAs old (ring_shape t) 0 (ring.Flash fault) new ⊎ PagesUnread t old fault new
 RefusesPages t old (mount.Ring fault) new = HasBadRing t old fault new
 RefusesPages t old (mount.BadPage bad) new = HasBadPage t old (mount.BadPage bad) new
 RefusesPages t old (mount.BadKeys page last first) new = HasBadPage t old (mount.BadKeys page last first) new

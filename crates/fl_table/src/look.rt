@@ -13,8 +13,8 @@ impl Table {
     ghost use Rattle.fl_model.specs.Table as model;
     ghost use Rattle.fl_model.specs.Table.{last_entry, pending_entries};
     ghost use Rattle.fl_schema.specs.Schema.{layout_of, layout_of_row, row_of};
-    ghost use Rattle.fl_table.specs.Look.{layout_in, last_key_in, oldest_in, pending_in, rows_noted};
-    ghost use Rattle.fl_table.specs.Memory.{next_in, IsPlanned};
+    ghost use Rattle.fl_table.specs.Look.{layout_in, last_key_in, oldest_in, rows_noted};
+    ghost use Rattle.fl_table.specs.Memory.{next_in, pending_in, IsPlanned};
     ghost use Rattle.fl_table.specs.Standing.{Stands};
 
     /// The form of its rows.

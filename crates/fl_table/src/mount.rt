@@ -1,5 +1,5 @@
 // The mount of a table: its ring is mounted, and its pages are read.
-ghost use Rattle.std.specs.Prelude.{◌≡◌, ◌+◌, ◌-◌, ◌*◌, false, true, is_ok, length, [], IsTrue, IfOk, IfErr, OnOk, OnErr};
+ghost use Rattle.std.specs.Prelude.{◌≡◌, ◌+◌, ◌-◌, ◌*◌, None, false, true, is_ok, length, [], IsTrue, IfOk, IfErr, OnOk, OnErr};
 ghost use Rattle.fl_flash.specs.Flash.{Goes, page_at};
 ghost use Rattle.fl_table.specs.Causes.{MountCausedBy};
 
@@ -38,6 +38,7 @@ impl Table {
     }
 
     /// Mounts the table: the ring is repaired, and each kept page is read once. After an error it isn't mounted.
+    /// The buffer holds no page afterwards.
     pub fn mount<F: Flash>(
         &mut self,
         flash: &mut F,
@@ -49,6 +50,7 @@ impl Table {
         ensures same { IsSamePlan self.old self.new }
         ensures lies { LiesOn self.new (F.state flash.new) }
         ensures room { length buf.new.bytes ≡ length buf.old.bytes }
+        ensures holds { buf.new.holds ≡ None }
         ensures ends { (first : ℕ) → (plan : Plan) → (table : model.Table) → (rose : Bool) → (device : Device) → IsWatched (F.state flash.old) (F.state flash.new) rose device
             → IsPlanned self.old first plan → Rests (F.state flash.old) first plan table → MountEnds first plan table rose device result self.new (F.state flash.new) }
         ensures mounted { is_running self.new ≡ is_ok result }

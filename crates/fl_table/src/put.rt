@@ -19,7 +19,7 @@ fn with_value(buckets: Option<Buckets>, bitmap: u64, value: i64) -> u64
 }
 
 impl Table {
-    ghost use Rattle.std.specs.Prelude.{ℕ, Bool, None, is_some, ◌||◌, ◌↔◌, Err};
+    ghost use Rattle.std.specs.Prelude.{ℕ, Bool, None, is_some, ◌||◌, ◌&&◌, not, ◌↔◌, Ok, Err};
     ghost use Rattle.fl_model.specs.Record.{Plan, layout_len, rows_per_page};
     ghost use Rattle.fl_model.specs.Row.{FitsRow};
     ghost use Rattle.fl_model.specs.Table as model;
@@ -31,7 +31,7 @@ impl Table {
     ghost use Rattle.fl_schema.specs.Schema.{layout_of};
     ghost use Rattle.fl_flash.specs.Flash.{FlashState};
     ghost use Rattle.fl_table.specs.Causes.{PutCausedBy, FlushCausedBy, RefusedSame, put_breaks, flush_breaks};
-    ghost use Rattle.fl_table.specs.Memory.{is_running, is_stopped, ring_shape, next_in, IsSamePlan, LiesOn};
+    ghost use Rattle.fl_table.specs.Memory.{is_running, is_stopped, ring_shape, next_in, pending_in, HasRoom, IsSamePlan, LiesOn};
     ghost use Rattle.fl_table.specs.Refusal.{put_refusal, RefusesAs};
     ghost use Rattle.fl_table.specs.Standing.{Stands};
     ghost use Rattle.fl_table.specs.Outcomes.{MakesRoom, PutEnds, FlushEnds};
@@ -46,12 +46,15 @@ impl Table {
         ensures lies { LiesOn self.new (F.state flash.new) }
         ensures ends { (first : ℕ) → (plan : Plan) → (table : model.Table) → (rose : Bool) → (device : Device) → IsWatched (F.state flash.old) (F.state flash.new) rose device
             → Stands self.old (F.state flash.old) first plan table → MakesRoom first plan table rose device result self.new (F.state flash.new) }
-        ensures room { OnOk result (self.new.writer.end + layout_len (layout_of self.new.schema) ≤ length self.new.writer.body) }
+        ensures room { OnOk result (HasRoom self.new) }
+        ensures quiet { HasRoom self.old → (result ≡ Ok tt) × (self.new ≡ self.old) × (F.state flash.new ≡ F.state flash.old) }
         ensures running { OnOk result (is_running self.new ≡ true) }
         ensures next { OnOk result (next_in self.new ≤ next_in self.old + 1) }
         ensures calm { OnOk result (is_stopped self.new ≡ is_stopped self.old) }
         ensures stopped { OnErr result ((is_running self.new ≡ false) × (is_stopped self.new ≡ true)) }
         ensures outside { IsTrue (F.state flash.old).media.tells → OutsideStands (ring_shape self.old) (page_at (F.state flash.old)) (page_at (F.state flash.new)) }
+        ensures reads { (F.state flash.new).work.reads ≡ (F.state flash.old).work.reads }
+        ensures media_reads { (F.state flash.new).media.reads ≤ (F.state flash.old).media.reads + 1 }
         ensures cause { IfErr result (λ e. CausedBy (F.state flash.old) e (F.state flash.new)) }
     {
         if !self.writer.is_full(&self.schema) {
@@ -63,7 +66,7 @@ impl Table {
     /// The record becomes the last one, and its row is pending.
     fn add(&mut self, key: u64, values: &[i64])
         requires fits { FitsRow (layout_of self.old.schema) (record { key = key; values = values.now; blob = None }) }
-        requires room { self.old.writer.end + layout_len (layout_of self.old.schema) ≤ length self.old.writer.body }
+        requires room { HasRoom self.old }
         requires left { next_in self.old ≤ spent_from }
         ensures same { IsSamePlan self.old self.new }
         ensures ring { self.new.ring ≡ self.old.ring }
@@ -95,6 +98,10 @@ impl Table {
         ensures exact { RefusesAs (put_refusal self.old key values.now (is_some blob.entry)) result }
         ensures refused { IfErr result (λ e. RefusedSame self.old (F.state flash.old) e self.new (F.state flash.new)) }
         ensures stopped { is_stopped self.new ≡ (put_breaks result || is_stopped self.old) }
+        ensures running { is_running self.new ≡ (is_running self.old && not (put_breaks result)) }
+        ensures quiet { put_refusal self.old key values.now (is_some blob.entry) ≡ None → HasRoom self.old → (result ≡ Ok tt) × (F.state flash.new ≡ F.state flash.old) }
+        ensures reads { (F.state flash.new).work.reads ≡ (F.state flash.old).work.reads }
+        ensures media_reads { (F.state flash.new).media.reads ≤ (F.state flash.old).media.reads + 1 }
         ensures outside { IsTrue (F.state flash.old).media.tells → OutsideStands (ring_shape self.old) (page_at (F.state flash.old)) (page_at (F.state flash.new)) }
         ensures cause { IfErr result (λ e. PutCausedBy (F.state flash.old) e (F.state flash.new)) }
     {
@@ -116,6 +123,11 @@ impl Table {
             → Stands self.old (F.state flash.old) first plan table → FlushEnds first plan table rose device result self.new (F.state flash.new) }
         ensures exact { (result ≡ Err FlushFault.Stopped) ↔ (is_running self.old ≡ false) }
         ensures stopped { is_stopped self.new ≡ (flush_breaks result || is_stopped self.old) }
+        ensures running { is_running self.new ≡ (is_running self.old && not (flush_breaks result)) }
+        ensures refused { result ≡ Err FlushFault.Stopped → self.new ≡ self.old }
+        ensures quiet { is_running self.old ≡ true → pending_in self.old ≡ 0 → (result ≡ Ok tt) × (self.new ≡ self.old) × (F.state flash.new ≡ F.state flash.old) }
+        ensures reads { (F.state flash.new).work.reads ≡ (F.state flash.old).work.reads }
+        ensures media_reads { (F.state flash.new).media.reads ≤ (F.state flash.old).media.reads + 1 }
         ensures outside { IsTrue (F.state flash.old).media.tells → OutsideStands (ring_shape self.old) (page_at (F.state flash.old)) (page_at (F.state flash.new)) }
         ensures cause { IfErr result (λ e. FlushCausedBy (F.state flash.old) e (F.state flash.new)) }
     {

@@ -79,7 +79,7 @@ fn rows_in(
     }
 }
 
-/// Reads the page with this number.
+/// Reads the page with this number. The buffer holds no page afterwards.
 fn read_page<F: Flash>(
     schema: &Schema<8>,
     flash: &mut F,
@@ -93,6 +93,7 @@ fn read_page<F: Flash>(
     requires room { length buf.old.bytes ≡ (F.state flash.old).geometry.page }
     ensures reads { OnlyReads (F.state flash.old) 1 (F.state flash.new) }
     ensures room { length buf.new.bytes ≡ length buf.old.bytes }
+    ensures none { buf.new.holds ≡ None }
     ensures read { IfOk result (λ page. IsTrue (F.state flash.old).media.tells → IsRead (layout_of schema.now) number (page_at (F.state flash.old) at) last) }
     ensures rows { IfOk result (λ page. IsTrue (F.state flash.old).media.tells → page.rows ≡ length (page_rows (layout_of schema.now) (page_at (F.state flash.old) at))) }
     ensures last { IfOk result (λ page. IsTrue (F.state flash.old).media.tells → page.last ≡ last_in last (page_rows (layout_of schema.now) (page_at (F.state flash.old) at))) }
@@ -103,7 +104,9 @@ fn read_page<F: Flash>(
     ensures power { OnOk result ((F.state flash.new).is_on ≡ true) }
 {
     flash.read(at, buf)?;
-    rows_in(schema, buf.bytes(), number, last)
+    let page = rows_in(schema, buf.bytes(), number, last);
+    buf.forget();
+    page
 }
 
 /// Reads the kept pages of a ring, from the oldest on, and notes how many rows each has.
@@ -117,9 +120,11 @@ pub(crate) fn read_pages<F: Flash>(
     requires row { 1 ≤ layout_len (layout_of schema.now) }
     requires lies { LiesOn ring.now (F.state flash.old) }
     requires room { length buf.old.bytes ≡ (F.state flash.old).geometry.page }
+    requires none { buf.old.holds ≡ None }
     requires counts { length counts.old ≡ room (shape_of ring.now) }
     ensures reads { OnlyReads (F.state flash.old) (next_of ring.now - oldest_of ring.now) (F.state flash.new) }
     ensures room { length buf.new.bytes ≡ length buf.old.bytes }
+    ensures none { buf.new.holds ≡ None }
     ensures counts { length counts.new ≡ length counts.old }
     ensures read { OnOk result (IsTrue (F.state flash.old).media.tells →
         AreRead (layout_of schema.now) (pages_of ring.now (F.state flash.old)) (oldest_of ring.now) (next_of ring.now - oldest_of ring.now)) }

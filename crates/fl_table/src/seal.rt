@@ -33,6 +33,8 @@ impl Table {
         ensures calm { OnOk result (is_stopped self.new ≡ is_stopped self.old) }
         ensures stopped { OnErr result ((is_running self.new ≡ false) × (is_stopped self.new ≡ true)) }
         ensures outside { IsTrue (F.state flash.old).media.tells → OutsideStands (ring_shape self.old) (page_at (F.state flash.old)) (page_at (F.state flash.new)) }
+        ensures reads { (F.state flash.new).work.reads ≡ (F.state flash.old).work.reads }
+        ensures media_reads { (F.state flash.new).media.reads ≤ (F.state flash.old).media.reads + 1 }
         ensures cause { IfErr result (λ e. CausedBy (F.state flash.old) e (F.state flash.new)) }
     {
         let Some(mut ring) = self.ring.take() else {

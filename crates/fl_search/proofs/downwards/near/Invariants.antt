@@ -1,4 +1,4 @@
-use Rattle.std.proofs.Common.{◌+◌, ◌-◌, ◌≤◌, ℕ, Option}
+use Rattle.std.proofs.Common.{◌≡◌, ◌+◌, ◌-◌, ◌≤◌, ℕ, Option}
 use Rattle.fl_search.specs.Search.{RoseBy}
 use Rattle.fl_search.proofs.Pages.{NoneStarts}
 use Rattle.fl_search.proofs.downwards.near.Given as goal
@@ -12,6 +12,8 @@ invariant-loop-end g l = record {
   looked : (first : ℕ → Option ℕ) → g.K.FirstKeys.tells l.initial.keys first → NoneStarts first l.key l.end (l.top + 1);
   rose : RoseBy (l.top + 1 - l.end) (g.K.FirstKeys.calls l.initial.keys) (g.K.FirstKeys.calls l.keys);
   few : g.K.FirstKeys.calls l.keys ≤ g.K.FirstKeys.calls l.initial.keys + (l.top + 1 - l.end);
+  names : g.K.FirstKeys.names l.keys ≡ g.K.FirstKeys.names l.initial.keys;
+  since : (first : _) → g.K.FirstKeys.since first l.initial.keys → g.K.FirstKeys.since first l.keys;
   later : g.K.FirstKeys.faults l.initial.keys ≤ g.K.FirstKeys.faults l.keys;
 }
 

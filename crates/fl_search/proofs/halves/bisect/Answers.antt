@@ -1,7 +1,5 @@
-use Rattle.std.proofs.Common.{arith, ◌≡◌, ◌+◌, ◌-◌, ◌*◌, ◌/◌, ◌≤◌, ℕ, Some, None}
-use Rattle.std.specs.Prelude.{IfSome}
-use Rattle.fl_search.specs.Search.{IsLastFull, IsLastAt, probed}
-use Rattle.fl_search.proofs.Pages.{AreVoid, step-none, step-low, step-high, step-fault, found-none, found-some, none-from}
+use Rattle.std.proofs.Common.{arith, ◌∙◌, ◌+◌, ◌-◌, ◌/◌, ◌≤◌}
+use Rattle.fl_search.proofs.Pages.{step-none, step-low, step-high, step-fault, found-none, found-some, none-from, grows-then, rose-after, some-later, found-starts}
 use Rattle.fl_search.proofs.halves.bisect.Goals as goal
 
 pub returns-in_err-last_full-clause-few : goal.returns-in_err-last_full-clause-few
@@ -37,6 +35,11 @@ loop-low-preserved-in-None g c =
             calls,
             step-none first low m high (omega arith) (omega arith) (omega arith) (rw c.in-None.is at (after.last first (inv.tells first told))),
           );
+      within = inv.within;
+      some = some-later _ _ _ c.loop-low.found inv.some after.grows;
+      grows = grows-then _ _ _ inv.grows after.grows;
+      names = after.names ∙ inv.names;
+      since = λ first from. after.since first (inv.since first from);
       later = omega (arith, inv.later, after.cause.later);
     }
 
@@ -68,6 +71,11 @@ loop-low-preserved-then-first-key g c =
             calls,
             step-low first low page c.in-Some.first m high (omega arith) (omega arith) (omega arith) (omega arith) (rw c.in-Some.is at (after.last first (inv.tells first told))),
           );
+      within = (omega (arith, within, inv.from), omega (arith, within, inv.to));
+      some = rose-after _ _ _ inv.grows (rw c.in-Some.is at after.some);
+      grows = grows-then _ _ _ inv.grows after.grows;
+      names = after.names ∙ inv.names;
+      since = λ first from. after.since first (inv.since first from);
       later = omega (arith, inv.later, after.cause.later);
     }
 
@@ -99,5 +107,13 @@ loop-low-preserved g c =
             calls,
             step-high first low page c.in-Some.first m high (omega arith) (omega arith) (omega arith) (omega (arith, within)) (rw c.in-Some.is at (after.last first (inv.tells first told))),
           );
+      within = inv.within;
+      some = some-later _ _ _ c.loop-low.found inv.some after.grows;
+      grows = grows-then _ _ _ inv.grows after.grows;
+      names = after.names ∙ inv.names;
+      since = λ first from. after.since first (inv.since first from);
       later = omega (arith, inv.later, after.cause.later);
     }
+
+pub returns-clause-starts : goal.returns-clause-starts
+returns-clause-starts g c = λ first told. found-starts first c.args.oldest c.loop-low.low c.args.key c.loop-low.found (c.loop-low.invariant.found first told)

@@ -1,7 +1,7 @@
-use Rattle.std.proofs.Common.{arith, ◌≡◌, ◌+◌, ◌-◌, ◌≤◌, ◌∙◌, sym, Some, None, Ok, Err}
+use Rattle.std.proofs.Common.{arith, ◌+◌, ◌-◌, ◌≤◌, ◌∙◌, sym, Ok, Err}
 use Rattle.std.specs.Prelude.{OnErr}
 use Rattle.fl_search.specs.Search.{voids_in}
-use Rattle.fl_search.proofs.Pages.{void-more, voids-end}
+use Rattle.fl_search.proofs.Pages.{void-more, voids-end, grows-then, rose-after}
 use Rattle.fl_search.proofs.halves.last_full.Goals as goal
 
 pub returns-in_err-first-clause-few : goal.returns-in_err-first-clause-few
@@ -31,8 +31,17 @@ loop-number-preserved g c = record {
       let key = c.in_ok-first.ensures.key first (c.loop-number.invariant.tells first told) in
       void-more first (c.loop-number.number - 1) c.args.end (λ n from before. c.loop-number.invariant.voids first told n (omega arith) before) (sym key ∙ c.in_default.is);
   few = omega (arith, c.loop-number.invariant.few, c.in_ok-first.ensures.one);
+  grows = grows-then _ _ _ c.loop-number.invariant.grows (λ small. omega (arith, c.in_ok-first.ensures.calls small));
+  names = c.in_ok-first.ensures.names ∙ c.loop-number.invariant.names;
+  since = λ first from. c.in_ok-first.ensures.since first (c.loop-number.invariant.since first from);
   later = omega (arith, c.loop-number.invariant.later, c.in_ok-first.ensures.cause.later);
 }
 
 pub returns-clause-last : goal.returns-clause-last
 returns-clause-last g c = λ first told n from before. c.loop-number.invariant.voids first told n (omega arith) before
+
+pub returns-in-Some-clause-some : goal.returns-in-Some-clause-some
+returns-in-Some-clause-some g c = rose-after _ _ _ c.loop-number.invariant.grows (λ small. omega (arith, c.in_ok-first.ensures.calls small))
+
+pub returns-in-Some-clause-grows : goal.returns-in-Some-clause-grows
+returns-in-Some-clause-grows g c = grows-then _ _ _ c.loop-number.invariant.grows (λ small. omega (arith, c.in_ok-first.ensures.calls small))

@@ -1,4 +1,4 @@
-use Rattle.std.proofs.Common.{◌+◌, ◌-◌, ◌≤◌, ℕ, Option}
+use Rattle.std.proofs.Common.{◌≡◌, ◌+◌, ◌-◌, ◌^◌, ◌<◌, ◌≤◌, ℕ, Option}
 use Rattle.fl_search.proofs.Pages.{AreVoid}
 use Rattle.fl_search.proofs.halves.last_full.Given as goal
 
@@ -10,6 +10,9 @@ invariant-loop-number g l = record {
   tells : (first : ℕ → Option ℕ) → g.K.FirstKeys.tells l.initial.keys first → g.K.FirstKeys.tells l.keys first;
   voids : (first : ℕ → Option ℕ) → g.K.FirstKeys.tells l.initial.keys first → AreVoid first l.number l.end;
   few : g.K.FirstKeys.calls l.keys ≤ g.K.FirstKeys.calls l.initial.keys + (l.end - l.number);
+  grows : g.K.FirstKeys.calls l.keys < 2 ^ 64 - 1 → g.K.FirstKeys.calls l.initial.keys ≤ g.K.FirstKeys.calls l.keys;
+  names : g.K.FirstKeys.names l.keys ≡ g.K.FirstKeys.names l.initial.keys;
+  since : (first : _) → g.K.FirstKeys.since first l.initial.keys → g.K.FirstKeys.since first l.keys;
   later : g.K.FirstKeys.faults l.initial.keys ≤ g.K.FirstKeys.faults l.keys;
 }
 

@@ -68,6 +68,7 @@ loop-number-preserved g c =
       from = omega (arith, inv.from);
       reads = subst (λ k. OnlyReads old k new) (let e : n + 1 ≡ m = omega (arith, inv.from) in e) (more_reads old flash new n 1 inv.reads c.in_ok-page.ensures.reads);
       room = c.in_ok-page.ensures.room ∙ inv.room;
+      none = c.in_ok-page.ensures.none;
       counts = counts_len;
       read = λ told. read-more layout pages first n number m here more bytes same c.loop-number.last (inv.last told) (inv.read told) (c.in_ok-page.ensures.read (told_still old flash n inv.reads told));
       noted = λ fits told. subst (AreNoted layout pages first m) (sym c.note.ensures)

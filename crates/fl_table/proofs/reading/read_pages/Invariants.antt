@@ -1,4 +1,4 @@
-use Rattle.std.proofs.Common.{◌≡◌, ◌≤◌, ◌-◌, ◌*◌, length, IsTrue}
+use Rattle.std.proofs.Common.{◌≡◌, ◌≤◌, ◌-◌, ◌*◌, None, length, IsTrue}
 use Rattle.fl_ring.specs.Looking.{OnlyReads}
 use Rattle.fl_ring.specs.Place.{oldest_of, next_of}
 use Rattle.fl_schema.specs.Schema.{layout_of}
@@ -10,6 +10,7 @@ invariant-loop-number g l = record {
   from : oldest_of l.ring ≤ l.number;
   reads : OnlyReads (g.F.Flash.state l.initial.flash) (l.number - oldest_of l.ring) (g.F.Flash.state l.flash);
   room : length l.buf.bytes ≡ length l.initial.buf.bytes;
+  none : l.buf.holds ≡ None;
   counts : length l.counts ≡ length l.initial.counts;
   read : IsTrue (g.F.Flash.state l.initial.flash).media.tells → AreRead (layout_of l.schema) (pages_of l.ring (g.F.Flash.state l.initial.flash)) (oldest_of l.ring) (l.number - oldest_of l.ring);
   noted : l.number - oldest_of l.ring ≤ length l.initial.counts → IsTrue (g.F.Flash.state l.initial.flash).media.tells → AreNoted (layout_of l.schema) (pages_of l.ring (g.F.Flash.state l.initial.flash)) (oldest_of l.ring) (l.number - oldest_of l.ring) l.counts;

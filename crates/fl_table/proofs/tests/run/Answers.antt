@@ -1,4 +1,4 @@
-use Rattle.std.proofs.Common.{◌≡◌, ap}
+use Rattle.std.proofs.Common.{ap}
 use Rattle.fl_flash.specs.Flash.{FlashState}
 use Rattle.fl_table.proofs.tests.run.Goals as goal
 

@@ -1,7 +1,6 @@
-use Rattle.std.proofs.Common.{◌≡◌, ◌+◌, ◌*◌, ◌^◌, ◌<◌, ◌≤◌, ap, ◌∙◌, arith}
+use Rattle.std.proofs.Common.{◌≡◌, ◌*◌, ap, ◌∙◌, arith}
 use Rattle.std.proofs.lemmas.Result.{IfOk-weaker}
-use Rattle.fl_flash.specs.Flash.{FlashState, pages}
-use Rattle.fl_table.specs.Memory.{LiesOn}
+use Rattle.fl_flash.specs.Flash.{pages}
 use Rattle.fl_table.proofs.tests.table.Goals as goal
 
 pub returns : goal.returns

@@ -1,7 +1,6 @@
-use Rattle.std.proofs.Common.{◌≡◌, ℕ, ◌+◌, ◌-◌, ◌≤◌, true, Ok, Err, List, [], ◌∷◌, ◌++◌, length, refl, sym, ◌∙◌, ap, subst, append-nil, arith}
+use Rattle.std.proofs.Common.{◌≡◌, ◌+◌, [], ◌++◌, refl, ◌∙◌, ap, append-nil}
 use Rattle.std.proofs.lemmas.Result.{err_from_is_err_and}
 use Rattle.fl_model.specs.Table.{written, pending_entries}
-use Rattle.fl_session.specs.Listed.{ListsAll}
 use Rattle.fl_session.specs.Rows.{lines_of}
 use Rattle.fl_session.specs.declared.listing.ListFault.TheVariants.{Sink}
 use Rattle.fl_session.proofs.PagesListed.{lists-then, lists-stop}

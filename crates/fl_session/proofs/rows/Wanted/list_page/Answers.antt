@@ -1,4 +1,4 @@
-use Rattle.std.proofs.Common.{◌≡◌, ℕ, ◌≤◌, ◌<◌, ◌-◌, true, false, not, Some, Err, List, length, sym, ◌∙◌, ap, subst, arith}
+use Rattle.std.proofs.Common.{◌≡◌, ◌≤◌, ◌<◌, ◌-◌, Some, List, sym, ◌∙◌, ap, subst, arith}
 use Rattle.std.proofs.lemmas.Result.{err_from_is_err_and}
 use Rattle.std.specs.List.{slice_get}
 use Rattle.fl_model.specs.Image.{rows_at}
@@ -12,7 +12,6 @@ use Rattle.fl_page.specs.View.{rows_of}
 use Rattle.fl_words.specs.Reply.{Reply, texts}
 use Rattle.fl_base.specs.Causes.{AppendsFront}
 use Rattle.fl_table.proofs.Looks.{oldest-is, next-is}
-use Rattle.fl_session.specs.Listed.{ListsAll}
 use Rattle.fl_session.specs.Rows.{lines_of}
 use Rattle.fl_session.proofs.PagesListed.{unread, shown-lists, not-void, found-rows, found-lines}
 use Rattle.fl_session.proofs.RangeEnds.{page-ends}

@@ -1,4 +1,4 @@
-use Rattle.std.proofs.Common.{◌≡◌, ℕ, suc, ◌+◌, ◌-◌, ◌*◌, ◌<◌, ◌≤◌, true, IsTrue, Ok, Err, List, [], ◌∷◌, length, map, refl, sym, ◌∙◌, ap, subst, arith}
+use Rattle.std.proofs.Common.{◌≡◌, suc, ◌+◌, ◌-◌, Ok, [], ◌∷◌, map, refl, sym, ◌∙◌, ap, subst, arith}
 use Rattle.std.proofs.lemmas.Result.{err_from_is_err_and}
 use Rattle.std.specs.List.{range_with_len}
 use Rattle.fl_model.specs.Image.{rows_at}
@@ -10,11 +10,10 @@ use Rattle.fl_ring.proofs.Readings.{no_reads, more_reads, told_still}
 use Rattle.fl_table.specs.Look.{oldest_in, rows_noted, kept_counts}
 use Rattle.fl_table.specs.Memory.{next_in}
 use Rattle.fl_table.proofs.Looks.{oldest-is, next-is}
-use Rattle.fl_table.proofs.StillStands.{stands-still, lies-still}
+use Rattle.fl_table.proofs.StillStands.{stands-still}
 use Rattle.fl_session.specs.Listed.{ListsAll}
 use Rattle.fl_session.specs.Rows.{lines_of}
-use Rattle.fl_session.proofs.RowLines.{appends-none}
-use Rattle.fl_session.proofs.PagesListed.{lines_before, lists-then, lists-stop, page-lines, written-lines, none-before, all-before, reads-most, full-next, full-most, none-listed}
+use Rattle.fl_session.proofs.PagesListed.{lines_before, lists-then, lists-stop, page-lines, written-lines, all-before, reads-most, full-next, full-most, none-listed}
 use Rattle.fl_session.proofs.RangeEnds.{ends-lines}
 use Rattle.fl_session.proofs.rows.Wanted.list_pages.Goals as goal
 

@@ -1,4 +1,4 @@
-use Rattle.std.proofs.Common.{◌≡◌, ◌≤◌, ◌+◌, true, false, length, map, sym, ◌∙◌, arith}
+use Rattle.std.proofs.Common.{◌≡◌, ◌≤◌, true, false, length, map, sym, ◌∙◌, arith}
 use Rattle.fl_model.specs.Row.{stored_row}
 use Rattle.fl_model.specs.Table.{pending_entries}
 use Rattle.fl_schema.specs.Schema.{row_of}

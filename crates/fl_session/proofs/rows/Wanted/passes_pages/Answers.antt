@@ -1,4 +1,4 @@
-use Rattle.std.proofs.Common.{◌≡◌, ◌<◌, ◌≤◌, sym, arith}
+use Rattle.std.proofs.Common.{arith}
 use Rattle.std.proofs.lemmas.Bool.{leb-true, ltb-true}
 use Rattle.fl_schema.specs.Schema.{row_of}
 use Rattle.fl_session.proofs.RangeEnds.{empty-passes, pending-passes, last-passes, none-passes}

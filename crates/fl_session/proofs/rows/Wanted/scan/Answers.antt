@@ -1,11 +1,8 @@
-use Rattle.std.proofs.Common.{◌≡◌, false, Err, ◌∙◌, ap}
+use Rattle.std.proofs.Common.{◌≡◌, false, ◌∙◌, ap}
 use Rattle.fl_model.specs.Record.{has_var}
 use Rattle.fl_table.proofs.SealAnswers.{planned-plain}
-use Rattle.fl_session.specs.Listed.{ListsAll}
-use Rattle.fl_session.specs.Rows.{lines_of}
-use Rattle.fl_session.specs.declared.listing.ListFault.TheVariants.{Sink, Read}
+use Rattle.fl_session.specs.declared.listing.ListFault.TheVariants.{Read}
 use Rattle.fl_page.specs.declared.fault.ReadFault.{ReadFault}
-use Rattle.fl_page.specs.declared.fault.ReadFault.TheVariants.{Flash}
 use Rattle.fl_session.proofs.Scanned.{scans-all, scans-unread, scans-failed}
 use Rattle.fl_session.proofs.rows.Wanted.scan.Goals as goal
 

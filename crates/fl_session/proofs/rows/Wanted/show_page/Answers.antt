@@ -1,4 +1,4 @@
-use Rattle.std.proofs.Common.{◌≡◌, ◌≤◌, ◌+◌, true, false, length, drop, sym, ◌∙◌, arith}
+use Rattle.std.proofs.Common.{◌≡◌, ◌≤◌, true, false, length, drop, sym, ◌∙◌, arith}
 use Rattle.fl_schema.specs.Schema.{row_of}
 use Rattle.fl_page.specs.View.{rows_of, count_of, layout_of_page, page_of}
 use Rattle.fl_session.specs.Rows.{wants}

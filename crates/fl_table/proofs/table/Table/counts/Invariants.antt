@@ -1,7 +1,7 @@
 use Rattle.std.proofs.Common.{◌≡◌, ◌+◌, ◌-◌, ◌*◌, ◌≤◌, ◌==◌, map}
 use Rattle.std.specs.List.{range_with_len, sum, count_by}
-use Rattle.fl_table.specs.Look.{oldest_in, pending_in, rows_noted}
-use Rattle.fl_table.specs.Memory.{next_in}
+use Rattle.fl_table.specs.Look.{oldest_in, rows_noted}
+use Rattle.fl_table.specs.Memory.{next_in, pending_in}
 use Rattle.fl_table.proofs.table.Table.counts.Given as goal
 
 abbrev pub invariant-loop-number : goal.invariant-loop-number

@@ -4,7 +4,7 @@ use Rattle.fl_ring.specs.Mounting.{shape_at}
 use Rattle.fl_ring.specs.Place.{next_of, oldest_of}
 use Rattle.fl_schema.specs.Schema.{layout_of}
 use Rattle.fl_table.specs.Reading.{AreNoted, pages_of}
-use Rattle.fl_table.proofs.MountCalls.{same-shape, watched-front, risen-later, outside-stands, refuses-ring, refuses-page, finds-pages}
+use Rattle.fl_table.proofs.MountCalls.{same-shape, watched-front, risen-later, outside-stands, refuses-ring, refuses-page, finds-pages, ring-cause, pages-cause}
 use Rattle.fl_table.proofs.MountEnded.{mounting-of, ring-fails, ring-ends, ring-mounts, reads-end, same_device, started-stands, mount-answer}
 use Rattle.fl_table.proofs.MountReads.{few-first, few-all}
 use Rattle.fl_table.proofs.SealAnswers.{planned-same, planned-ring, lies-size, written-back}
@@ -57,7 +57,7 @@ returns-in_err-mounted-clause-refused g c =
     let first_goes = c.in_ok-ring.ensures.beside.goes in
     let p = err_from_is_err_and c.from_residual-in_err-mounted.result c.from_residual-in_err-mounted.ensures.1 in
     rw (p.1, p.2) (λ told. refuses-page t t1 old mid new (next_of ring - oldest_of ring) c.forget.ensures.same c.requires.lies.geometry c.in_err-mounted.ensures.reads ring c.in_ok-ring.ensures.found refl c.in_err-mounted.field-0.0
-    c.in_err-mounted.ensures.only (subst IsTrue (sym first_goes.tells) told) c.in_err-mounted.ensures.fault)
+    c.in_err-mounted.ensures.only (subst IsTrue (sym first_goes.tells) told) c.in_err-mounted.ensures.fails c.in_err-mounted.ensures.fault)
 
 pub returns-in_err-mounted-clause-outside : goal.returns-in_err-mounted-clause-outside
 returns-in_err-mounted-clause-outside g c = λ told.
@@ -145,3 +145,14 @@ pub returns-clause-reads : goal.returns-clause-reads
 returns-clause-reads g c = λ told.
     few-all c.args.self.now c.forget.new.self (g.F.Flash.state c.args.flash.now) (g.F.Flash.state c.mount.new.flash) c.forget.ensures.same c.requires.lies.geometry c.in_ok-ring.ensures.beside
     c.in_ok-ring.ring (next_of c.in_ok-ring.ring - oldest_of c.in_ok-ring.ring) (g.F.Flash.state c.read_pages.new.flash) refl c.in_ok-ring.ensures.found c.in_ok-mounted.ensures.reads told
+
+pub returns-in_err-ring-clause-cause : goal.returns-in_err-ring-clause-cause
+returns-in_err-ring-clause-cause g c =
+    let p = err_from_is_err_and c.from_residual.result c.from_residual.ensures.1 in
+    rw (p.1, p.2) (ring-cause (g.F.Flash.state c.args.flash.now) (g.F.Flash.state c.mount.new.flash) c.in_err-ring.field-0.0 c.in_err-ring.ensures.cause)
+
+pub returns-in_err-mounted-clause-cause : goal.returns-in_err-mounted-clause-cause
+returns-in_err-mounted-clause-cause g c =
+    let p = err_from_is_err_and c.from_residual-in_err-mounted.result c.from_residual-in_err-mounted.ensures.1 in
+    rw (p.1, p.2) (pages-cause (g.F.Flash.state c.args.flash.now) (g.F.Flash.state c.mount.new.flash) (g.F.Flash.state c.read_pages.new.flash) c.in_ok-ring.ensures.beside.goes c.in_ok-ring.ensures.power
+    c.in_err-mounted.field-0.0 c.in_err-mounted.ensures.only c.in_err-mounted.ensures.fails)

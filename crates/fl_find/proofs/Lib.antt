@@ -1,0 +1,10 @@
+pub mod Looks
+pub mod Moves
+pub mod Firsts
+pub mod Windows
+pub mod Modelled
+pub mod Indexed
+pub mod Seeking
+pub mod Entries
+pub mod Lookups
+pub mod Points

@@ -1,0 +1,15 @@
+use Rattle.fl_ring.proofs.Exists.{lies_exists}
+use Rattle.fl_find.proofs.Looks.{looks-read}
+use Rattle.fl_find.proofs.first.read_first.Goals as goal
+
+pub read-requires-clause-exists : goal.read-requires-clause-exists
+read-requires-clause-exists g c = lies_exists c.args.ring.now (g.F.Flash.state c.args.flash.now) c.place_of.result c.requires.lies c.place_of.ensures.within
+
+pub returns-in-Err-clause-looks : goal.returns-in-Err-clause-looks
+returns-in-Err-clause-looks g c = looks-read _ _ _ _ _ _ c.read.ensures
+
+pub returns-in-Ok-clause-looks : goal.returns-in-Ok-clause-looks
+returns-in-Ok-clause-looks g c = looks-read _ _ _ _ _ _ c.read.ensures
+
+pub returns-in-Err-first_in-clause-looks : goal.returns-in-Err-first_in-clause-looks
+returns-in-Err-first_in-clause-looks g c = looks-read _ _ _ _ _ _ c.read.ensures

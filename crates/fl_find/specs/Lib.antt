@@ -1,0 +1,7 @@
+pub mod Pages
+pub mod Looking
+pub mod Index
+pub mod Standing
+pub mod Finding
+pub mod Rows
+pub mod Laws

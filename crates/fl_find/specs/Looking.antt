@@ -1,0 +1,45 @@
+-- Calls that look at pages of a ring, and why they fail.
+use Rattle.std.specs.Prelude.{◌≡◌, ℕ, ◌≤◌, ◌<◌, Option, IsTrue}
+use Rattle.fl_flash.specs.Flash.{FlashState}
+use Rattle.fl_model.specs.Record.{RowLayout}
+use Rattle.fl_page.specs.Contents.{OnlyReads}
+use Rattle.fl_page.specs.declared.fault.BadPage.{BadPage}
+use Rattle.fl_page.specs.declared.fault.ReadFault.{ReadFault}
+use Rattle.fl_page.specs.declared.fault.ReadFault.TheVariants as fault
+use Rattle.fl_ring.specs.Looking.{ReadFails}
+use Rattle.fl_ring.specs.Place.{shape_of, next_of, oldest_of}
+use Rattle.fl_ring.specs.declared.ring.Ring.{Ring}
+use Rattle.fl_find.specs.Pages.{bytes_at, first_on, IsBadPage}
+
+-- pages were read, and the power is as it was
+pub record OnlyLooks (old new : FlashState) : Type 0 where
+  pub reads : OnlyReads old new
+  pub power : new.is_on ≡ old.is_on
+  pub cuts : new.cuts ≡ old.cuts
+
+-- a page that is kept
+pub record IsKept (ring : Ring) (number : ℕ) : Type 0 where
+  pub from : oldest_of ring ≤ number
+  pub before : number < next_of ring
+
+-- a kept page is bad
+pub record HasBadPage (layout : RowLayout) (ring : Ring) (f : FlashState) (bad : BadPage) : Type 0 where
+  pub number : ℕ
+  pub kept : IsKept ring number
+  pub is_bad : IsBadPage layout number (bytes_at (shape_of ring) f number) bad
+
+-- why a look fails: the flash failed, or a kept page is bad, which is told where the flash tells its bytes
+abbrev pub LookFails : RowLayout → Ring → FlashState → ReadFault → FlashState → Type 0
+LookFails layout ring old (fault.Flash e) new = ReadFails old e new
+LookFails layout ring old (fault.BadPage bad) new = IsTrue old.media.tells → HasBadPage layout ring old bad
+
+-- a function that tells the first keys of the kept pages
+pub record Tells (layout : RowLayout) (ring : Ring) (f : FlashState) (first : ℕ → Option ℕ) : Type 0 where
+  pub told : IsTrue f.media.tells
+  pub each : (n : ℕ) → IsKept ring n → first n ≡ first_on layout (shape_of ring) f n
+
+-- the same pages were looked at since
+pub record Since (ring : Ring) (layout : RowLayout) (f : FlashState) (ring_now : Ring) (layout_now : RowLayout) (now : FlashState) : Type 0 where
+  pub ring_is : ring_now ≡ ring
+  pub layout_is : layout_now ≡ layout
+  pub looks : OnlyLooks f now
