@@ -148,7 +148,7 @@ fn read_faults(rt: HostRuntime) -> Result<(), Fail> {
     ];
     for (i, (call, after)) in [(1, first), (2, second), (2, one_page)].iter().enumerate() {
         let mut media = empty_medium(alloc)?;
-        media.fail_call(calls + *call);
+        media.fail_call(calls.saturating_add(*call));
         assert!(rt; is_answered(alloc, &mut media, good, 0, *after)?, "{i}");
     }
     Ok(())
