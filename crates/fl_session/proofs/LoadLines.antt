@@ -1,5 +1,5 @@
 -- The lines of a load, which are written one after another.
-use Rattle.std.proofs.Common.{◌≡◌, ℕ, Bool, true, false, Option, Some, None, Result, Ok, Err, List, [], ◌∷◌, ◌++◌, append_assoc, append-nil, sym, ◌∙◌, ap, subst}
+use Rattle.std.proofs.Common.{◌≡◌, ℕ, Bool, true, false, Option, Some, None, Result, Ok, Err, List, [], ◌∷◌, ◌++◌, append_assoc, sym, ◌∙◌, ap, subst}
 use Rattle.std.specs.Prelude.{is_err, not}
 use Rattle.fl_base.specs.Causes.{Appends, AppendsFront}
 use Rattle.fl_flash.specs.Flash.{FlashState}

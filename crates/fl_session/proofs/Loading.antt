@@ -1,33 +1,33 @@
 -- The puts of a load, one after another.
-use Rattle.std.proofs.Common.{◌≡◌, ℕ, zero, suc, ◌+◌, ◌-◌, ◌*◌, ◌/◌, ◌%◌, ◌^◌, ◌≤◌, ◌<◌, min, Bool, true, false, not, nat_le, IsTrue, IfErr, Option, Some, None, Result, Ok, Err, List, [], ◌∷◌, slice_get, refl, sym, ◌∙◌, ap, subst, arith, le_trans}
+use Rattle.std.proofs.Common.{◌≡◌, ℕ, suc, ◌+◌, ◌-◌, ◌^◌, ◌≤◌, ◌<◌, min, Bool, true, false, not, IsTrue, IfErr, Option, Some, None, Result, Ok, Err, List, [], ◌∷◌, slice_get, refl, sym, ◌∙◌, ap, subst, arith, le_trans}
 use Rattle.std.specs.Prelude.{MatchOption, option_map, unwrap_or, is_err}
-use Rattle.std.proofs.lemmas.Bool.{leb-true, le-leb}
+use Rattle.std.proofs.lemmas.Bool.{le-leb}
 use Rattle.std.proofs.Math.IntN.{ℤ}
 use Rattle.fl_base.specs.Causes.{Rose}
 use Rattle.fl_flash.specs.Flash.{FlashState, Goes}
 use Rattle.fl_flash.specs.declared.flash.FlashFault.{FlashFault}
 use Rattle.fl_ring.specs.Step.{IsWatched}
-use Rattle.fl_model.specs.Record.{Config, Plan, Record, Column}
+use Rattle.fl_model.specs.Record.{Config, Plan, Record}
 use Rattle.fl_model.specs.Table as model
 use Rattle.fl_model.specs.Table.{refusal_of, put_seals, put_record, last_entry, Refusal, BadKey, BadColumns, BadValue, BadBlob, Spent}
-use Rattle.fl_model.specs.Work.{Device, Progress, Outcome, Finished, CutShort, Failed, Performs, operations_of, changed_at, PartEnd, Whole, CutIn, FailedIn, PartProgress}
-use Rattle.fl_model.specs.Within.{seals_within, with_table, progress_at, outcome_at}
+use Rattle.fl_model.specs.Work.{Device, Progress, Performs, operations_of, changed_at, PartEnd, Whole, CutIn, FailedIn, PartProgress}
+use Rattle.fl_model.specs.Within.{with_table, progress_at, outcome_at}
 use Rattle.fl_words.specs.Command as command
 use Rattle.fl_words.specs.Command.{Command}
 use Rattle.fl_words.specs.Reply as reply
 use Rattle.fl_words.specs.Reply.{Reply, texts}
 use Rattle.fl_machine.specs.Machine.{Machine, stopped}
 use Rattle.fl_machine.specs.Reads.{none_read}
-use Rattle.fl_machine.specs.Step.{Moment, Says, Stops, Located, refused, LoadStep, LoadsFrom, LoadsOn, load_record, load_values, next_random}
+use Rattle.fl_machine.specs.Step.{Moment, Says, Located, refused, LoadStep, LoadsFrom, LoadsOn, load_record, load_values, next_random}
 use Rattle.fl_table.specs.declared.table.Table.{Table}
 use Rattle.fl_table.specs.declared.faults.PutRefusal.{PutRefusal}
 use Rattle.fl_table.specs.declared.faults.PutRefusal.TheVariants as put
 use Rattle.fl_table.specs.Causes.{RefusedSame, put_breaks}
 use Rattle.fl_table.specs.Look.{layout_in}
 use Rattle.fl_table.specs.Memory.{IsSamePlan}
-use Rattle.fl_table.specs.Outcomes.{Finishes, FaultEnds, Breaks, PutEnds}
+use Rattle.fl_table.specs.Outcomes.{FaultEnds, PutEnds}
 use Rattle.fl_table.specs.Standing.{Stands}
-use Rattle.fl_session.specs.Answer.{Answers, fault_reply, put_reply, load_replies}
+use Rattle.fl_session.specs.Answer.{Answers, fault_reply, load_replies}
 use Rattle.fl_session.specs.Load.{load_key}
 use Rattle.fl_session.specs.declared.cost.Cost.{Cost}
 use Rattle.fl_session.specs.Standing.{SessionStands}

@@ -1,4 +1,4 @@
--- The records of a load, one after another, and the replies to it.
+-- The records of a load, one after another.
 use Rattle.std.specs.Prelude.{◌≡◌, ℕ, ◌+◌, ◌*◌, ◌-◌, ◌/◌, ◌%◌, ◌^◌, min, List, map}
 use Rattle.fl_model.specs.Record.{Column}
 use Rattle.fl_session.specs.declared.generator.Generator.{Generator}
