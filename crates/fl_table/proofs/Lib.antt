@@ -26,3 +26,4 @@ pub mod MountRead
 pub mod MountEnded
 pub mod MountCalls
 pub mod MountReads
+pub mod Pointed

@@ -119,7 +119,7 @@ returns-clause-ends g c = λ first plan table rose device watched planned rests.
       counts = same_device first plan table rose device old is ring mid new n l reads sizes;
       power = reads.power ∙ l.power;
       stands = started-stands first plan table rose device old is ring mid new n l reads sizes _
-          (record { geometry = planned1.geometry; layout = planned1.layout; begins = planned1.begins; blocks = planned1.blocks; index = planned1.index; var = planned1.var; buckets = planned1.buckets }) here refl
+          (record { geometry = planned1.geometry; layout = planned1.layout; begins = planned1.begins; blocks = planned1.blocks; index = planned1.index; var = planned1.var; buckets = planned1.buckets; error = planned1.error }) here refl
           c.forget.ensures.empty c.forget.ensures.bits (ensures.last still)
           (λ fits. subst (λ (cs : List ℕ). AreNoted (layout_of t1.schema) (pages_of ring mid) (oldest_of ring) (next_of ring - oldest_of ring) cs) (sym back)
           (ensures.noted (subst (λ k. next_of ring - oldest_of ring ≤ k) (ap length back ∙ ensures.counts) fits) still));
