@@ -91,9 +91,10 @@ impl<const KNOTS: usize, const SLOTS: usize> LearnedIndex<KNOTS, SLOTS> {
         ensures error { error_in self.new ≡ error_in self.old }
         ensures points { (error : ℕ) (points : List (ℕ × ℕ)) → IndexOf error points self.old → IsFurther points (first_key, number) → IndexOf error (points ++ (first_key, number) ∷ []) self.new }
     {
-        if self.is_further(first_key, number) {
-            self.add(first_key, number);
+        if !self.is_further(first_key, number) {
+            return;
         }
+        self.add(first_key, number);
     }
 
     /// Whether the line of a segment tells where a key's page is.

@@ -15,9 +15,11 @@ pub mod Putting
 pub mod PutAnswers
 pub mod KeyRows
 pub mod Refused
+pub mod PointsRead
 pub mod PagesRead
 pub mod KeyOrder
 pub mod KeptPages
+pub mod PointsHeld
 pub mod Looks
 pub mod KeptRead
 pub mod StillStands

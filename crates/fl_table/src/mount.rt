@@ -67,7 +67,14 @@ impl Table {
     {
         self.forget();
         let ring = Ring::mount(flash, self.place, 0, buf)?;
-        let (mounted, last) = read_pages(&self.schema, &ring, &mut self.counts, flash, buf)?;
+        let (mounted, last) = read_pages(
+            &self.schema,
+            &ring,
+            &mut self.counts,
+            &mut self.index,
+            flash,
+            buf,
+        )?;
         self.last_key = last;
         self.ring = Some(ring);
         Ok(mounted)

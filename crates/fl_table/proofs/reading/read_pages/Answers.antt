@@ -7,7 +7,7 @@ use Rattle.fl_schema.specs.Schema.{layout_of}
 use Rattle.fl_table.specs.Reading.{pages_of, IsRefused, AreRefused, AreNoted}
 use Rattle.fl_ring.proofs.Exists.{page_exists}
 use Rattle.fl_ring.proofs.Readings.{more_reads, told_still, same_page}
-use Rattle.fl_table.proofs.PagesRead.{if-page, read-more, last-more, rows-more, voids-more, noted-more, refused-at, is-void, not-void, voids_few}
+use Rattle.fl_table.proofs.PagesRead.{if-page, read-more, last-more, rows-more, voids-more, noted-more, points-more, refused-at, is-void, not-void, voids_few}
 use Rattle.fl_table.specs.declared.counts.Mounted.{Mounted}
 use Rattle.fl_table.proofs.reading.read_pages.Goals as goal
 use Rattle.fl_table.proofs.reading.read_pages.Goals.{then-page-eq0, else-page-eq0}
@@ -70,6 +70,9 @@ loop-number-preserved g c =
       room = c.in_ok-page.ensures.room ∙ inv.room;
       none = c.in_ok-page.ensures.none;
       counts = counts_len;
+      error = c.add_page.ensures.error ∙ inv.error;
+      index = λ told error empty. points-more layout pages first n number m here more bytes same c.loop-number.last page.first error c.loop-number.index c.add_page.new.index (inv.last told) (inv.read told)
+          (c.in_ok-page.ensures.read (told_still old flash n inv.reads told)) (c.in_ok-page.ensures.first (told_still old flash n inv.reads told)) (inv.index told error empty) c.add_page.ensures.points;
       read = λ told. read-more layout pages first n number m here more bytes same c.loop-number.last (inv.last told) (inv.read told) (c.in_ok-page.ensures.read (told_still old flash n inv.reads told));
       noted = λ fits told. subst (AreNoted layout pages first m) (sym c.note.ensures)
           (noted-more layout pages first n number m here more bytes same c.loop-number.counts page.rows (omega (arith, fits, inv.counts))
