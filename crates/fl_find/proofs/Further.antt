@@ -1,7 +1,7 @@
 -- A point after the last of a list, told by a test.
-use Rattle.std.proofs.Common.{◌≡◌, ℕ, Bool, true, false, ◌&&◌, nat_lt, Option, Some, None, List, sym, ◌∙◌, ap, refl}
+use Rattle.std.proofs.Common.{◌≡◌, ℕ, Bool, true, ◌&&◌, nat_lt, Option, Some, None, List, sym, ◌∙◌, ap, refl}
 use Rattle.std.specs.Prelude.{IfSome, option_map, unwrap_or}
-use Rattle.std.proofs.lemmas.Bool.{lt-ltb, ltb-true}
+use Rattle.std.proofs.lemmas.Bool.{lt-ltb}
 use Rattle.fl_spline.specs.Points.{IsPast, IsFurther, last_of}
 use Rattle.fl_find.specs.Index.{is_further}
 
@@ -14,18 +14,3 @@ further-told points knots p same past = ap (λ (o : Option (ℕ × ℕ)). unwrap
         let first = lt-ltb end.0 p.0 h.0 in
         let second = lt-ltb end.1 p.1 h.1 in
         ap (λ b. b && nat_lt end.1 p.1) first ∙ second
-
-both-left : (a b : Bool) → (a && b) ≡ true → a ≡ true
-both-left true b h = refl
-both-left false b h = cc
-
-both-right : (a b : Bool) → (a && b) ≡ true → b ≡ true
-both-right true b h = h
-both-right false b h = cc
-
-pub further-is : (points : List (ℕ × ℕ)) (p : ℕ × ℕ) → is_further points p ≡ true → IsFurther points p
-further-is points p = by_last (last_of points)
-  where
-    by_last : (o : Option (ℕ × ℕ)) → unwrap_or (option_map (λ end. nat_lt end.0 p.0 && nat_lt end.1 p.1) o) true ≡ true → IfSome o (λ end. IsPast end p)
-    by_last None h = tt
-    by_last (Some end) h = (ltb-true end.0 p.0 (both-left (nat_lt end.0 p.0) (nat_lt end.1 p.1) h), ltb-true end.1 p.1 (both-right (nat_lt end.0 p.0) (nat_lt end.1 p.1) h))

@@ -1,10 +1,7 @@
 use Rattle.std.proofs.Common.{◌≡◌, true, false, sym, ◌∙◌}
 use Rattle.fl_find.specs.Index.{knots_in}
-use Rattle.fl_find.proofs.Further.{further-told, further-is}
+use Rattle.fl_find.proofs.Further.{further-told}
 use Rattle.fl_find.proofs.index.LearnedIndex.add_further.Goals as goal
-
-pub add-requires : goal.add-requires
-add-requires g c = further-is (knots_in c.args.self.now) (c.args.first_key, c.args.number) (sym c.is_further.ensures ∙ c.if-not-is_further.false)
 
 pub returns-then-not-is_further-clause-points : goal.returns-then-not-is_further-clause-points
 returns-then-not-is_further-clause-points g c = λ error points of past.
