@@ -56,5 +56,5 @@ returns-clause-stands c = λ f first plan table stands ok.
         no_fill = memory.no_fill;
         idle = memory.idle;
       };
-      points = points-added plan row table (omega (arith, stands.facts.counted)) stands.points;
+      points = points-added plan (record { key = c.args.key; values = c.args.values.now; blob = None }) table (omega (arith, stands.facts.counted)) stands.points;
     }

@@ -99,8 +99,8 @@ returns-clause-ends g c = λ first plan table rose device watched stands.
     let back = written-back t.counts.items c.note.new.counts t.counts.len size t.counts.ok.0 in
     let sealed = seal-finishes first plan table body rose device new is sizes_now u after t.counts.items both.0 both.1 room stands.memory.counts in
     let memory = stands.memory in
-    let first_key : model.first_pending table ≡ Some c.key.result =
-    first-key table (row_of c.row.result) (c.row.ensures.row (map stored_row (model.pending_entries table)) memory.gathers) ∙ ap (λ k. Some k) (sym c.key.ensures) in
+    let first_key : model.first_pending table ≡ Some c.key-first_key.result =
+    first-key table (row_of c.row.result) (c.row.ensures.row (map stored_row (model.pending_entries table)) memory.gathers) ∙ ap (λ k. Some k) (sym c.key-first_key.ensures) in
     record {
       now = sealed.now;
       did = sealed.did;
@@ -132,7 +132,7 @@ returns-clause-ends g c = λ first plan table rose device watched stands.
           bitmap = sealed.no_bits;
           last = memory.last ∙ ap (option_map (λ (entry : model.Entry). entry.kept.key)) sealed.last;
           counts = λ i count e. ap (λ (cs : List ℕ). get_or cs ((rings.oldest (after_seal plan DataRing table).rows + i) % (plan.data_blocks * plan.geometry.block)) 0) (back ∙ noted) ∙ sealed.counts_are i count e;
-          index = index-sealed plan table t.index c.add_further.new.self c.key.result c.next_number-number.result stands.facts stands.points memory.index first_key number c.add_further.ensures.points;
+          index = index-sealed plan table t.index c.add_further.new.self c.key-first_key.result c.next_number-number.result stands.facts stands.points memory.index first_key number c.add_further.ensures.points;
           no_fill = memory.no_fill;
           idle = sealed.idle;
         };
