@@ -28,12 +28,12 @@ rises-on number last row rows h = by_test (rises last row.key) refl
 
 -- the last of rising keys is at least the first
 last-up : (number k : ℕ) (rows : List Row) → keys_fault number (Some k) rows ≡ None → (l : ℕ) × ((last_in (Some k) rows ≡ Some l) × (k ≤ l))
-last-up number k [] h = (k, refl, omega arith)
+last-up number k [] h = (k, (refl, omega arith))
 last-up number k (row ∷ rows) h =
     let on = rises-on number (Some k) row rows h in
     let more = last-up number row.key rows on.others in
     let lt = ltb-true k row.key on.up in
-    (more.0, more.1.0, omega (arith, more.1.1, lt))
+    (more.0, (more.1.0, omega (arith, more.1.1, lt)))
 
 -- the last point comes before a number, and its key is at most the last key
 abbrev IsBelow : Option (ℕ × ℕ) → ℕ → Option ℕ → Type 0
@@ -46,20 +46,18 @@ below-next (Some end) number last h = (omega (arith, h.0), h.1)
 module _ (layout : RowLayout) (page : ℕ → List ℕ) (number : ℕ) where
   below-read : (n : ℕ) → AreRead layout page number n → IsBelow (last_of (points_after layout page number n)) (number + n) (last_after layout page number n)
   below-read zero h = tt
-  below-read (suc n) h = by_rows (page_rows layout (page (number + n))) h.1.keys
+  below-read (suc n) h =
+      by_rows (below-next (last_of (points_after layout page number n)) (number + n) (last_after layout page number n) (below-read n h.0)) (page_rows layout (page (number + n))) h.1.keys
     where
-      before : IsBelow (last_of (points_after layout page number n)) (suc (number + n)) (last_after layout page number n)
-      before = below-next (last_of (points_after layout page number n)) (number + n) (last_after layout page number n) (below-read n h.0)
-
       at : suc (number + n) ≡ number + suc n
       at = omega arith
 
-      by_rows : (rows : List Row) → keys_fault (number + n) (last_after layout page number n) rows ≡ None →
+      by_rows : IsBelow (last_of (points_after layout page number n)) (suc (number + n)) (last_after layout page number n) → (rows : List Row) → keys_fault (number + n) (last_after layout page number n) rows ≡ None →
           IsBelow (last_of (points_after layout page number n ++ point_of (number + n) rows)) (number + suc n) (last_in (last_after layout page number n) rows)
-      by_rows [] k =
+      by_rows before [] k =
           subst (λ (l : List (ℕ × ℕ)). IsBelow (last_of l) (number + suc n) (last_after layout page number n)) (sym (append-nil (points_after layout page number n)))
           (subst (λ m. IsBelow (last_of (points_after layout page number n)) m (last_after layout page number n)) at before)
-      by_rows (row ∷ rows) k =
+      by_rows before (row ∷ rows) k =
           let on = rises-on (number + n) (last_after layout page number n) row rows k in
           let up = last-up (number + n) row.key rows on.others in
           subst (λ (o : Option (ℕ × ℕ)). IsBelow o (number + suc n) (last_in (Some row.key) rows)) (sym (last_of-push (points_after layout page number n) (row.key, number + n)))
