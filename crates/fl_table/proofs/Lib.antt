@@ -29,3 +29,4 @@ pub mod MountEnded
 pub mod MountCalls
 pub mod MountReads
 pub mod Pointed
+pub mod PendingKey
