@@ -5,7 +5,13 @@ use Rattle.std.proofs.lemmas.Bool.{cases_lt, eqb-true}
 use Rattle.fl_model.specs.Record.{RowLayout}
 use Rattle.fl_ring.proofs.Modulo.{apart}
 use Rattle.fl_table.specs.Causes.{IfPage}
-use Rattle.fl_table.specs.Reading.{page_rows, last_in, IsRead, IsRefused, AreRead, AreRefused, last_after, rows_after, voids_after, AreNoted}
+use Rattle.fl_table.specs.Reading.{page_rows, last_in, IsRead, IsRefused, AreRead, AreRefused, last_after, rows_after, voids_after, point_of, points_after, AreNoted}
+use Rattle.fl_table.proofs.PointsRead.{further-read}
+use Rattle.fl_find.specs.Index.{IndexOf}
+use Rattle.fl_find.specs.Pages.{first_key}
+use Rattle.fl_find.specs.declared.index.LearnedIndex.{LearnedIndex}
+use Rattle.fl_spline.specs.Points.{IsFurther}
+use Rattle.std.specs.Prelude.{IfSome, option_map, unwrap_or, [], ◌∷◌, ◌++◌}
 use Rattle.fl_table.specs.declared.faults.MountFault.{MountFault}
 use Rattle.fl_table.specs.declared.faults.MountFault.TheVariants.{Flash, Ring, BadPage, BadKeys, BadIndex, BadBlob}
 
@@ -51,6 +57,21 @@ module _ (layout : RowLayout) (page : ℕ → List ℕ) (number n at m : ℕ) (h
   pub last-more : (last after : Option ℕ) → last ≡ last_after layout page number n → after ≡ last_in last (page_rows layout bytes) → after ≡ last_after layout page number m
   last-more last after e is =
       is ∙ (ap (λ (l : Option ℕ). last_in l (page_rows layout bytes)) e ∙ (ap (λ (b : List ℕ). last_in (last_after layout page number n) (page_rows layout b)) at_here ∙ ap (last_after layout page number) (sym more)))
+
+  pub points-more : (last first : Option ℕ) (error : ℕ) (index new : LearnedIndex 64 64) → last ≡ last_after layout page number n → AreRead layout page number n → IsRead layout at bytes last → first ≡ first_key (page_rows layout bytes) →
+      IndexOf error (points_after layout page number n) index →
+      ((error : ℕ) (points : List (ℕ × ℕ)) → IndexOf error points index → IfSome first (λ key. IsFurther points (key, at)) → IndexOf error (points ++ unwrap_or (option_map (λ key. (key, at) ∷ []) first) []) new) →
+      IndexOf error (points_after layout page number m) new
+  points-more last first error index new e h one is of add =
+      let key : first ≡ first_key (page_rows layout (page (number + n))) = is ∙ ap (λ (b : List ℕ). first_key (page_rows layout b)) at_here in
+      let past = further-read layout page number n h (is_here last e one) in
+      let past_at : IfSome first (λ key. IsFurther (points_after layout page number n) (key, at)) =
+      subst (λ (o : Option ℕ). IfSome o (λ key. IsFurther (points_after layout page number n) (key, at))) (sym key)
+      (subst (λ k. IfSome (first_key (page_rows layout (page (number + n)))) (λ key. IsFurther (points_after layout page number n) (key, k))) (sym here) past) in
+      let joined : points_after layout page number n ++ unwrap_or (option_map (λ key. (key, at) ∷ []) first) [] ≡ points_after layout page number m =
+      ap (λ (o : Option ℕ). points_after layout page number n ++ unwrap_or (option_map (λ key. (key, at) ∷ []) o) []) key
+      ∙ (ap (λ k. points_after layout page number n ++ point_of k (page_rows layout (page (number + n)))) here ∙ ap (points_after layout page number) (sym more)) in
+      subst (λ (l : List (ℕ × ℕ)). IndexOf error l new) joined (add error (points_after layout page number n) of past_at)
 
   rows_here : (rows : ℕ) → rows ≡ length (page_rows layout bytes) → rows ≡ length (page_rows layout (page (number + n)))
   rows_here rows is = is ∙ ap (λ (b : List ℕ). length (page_rows layout b)) at_here

@@ -1,5 +1,6 @@
 -- What a mount reads in the kept pages, over any bytes.
-use Rattle.std.specs.Prelude.{◌≡◌, ◌⊎◌, ℕ, zero, suc, ◌+◌, ◌%◌, ◌<◌, Bool, true, nat_lt, ◌==◌, Option, Some, None, unwrap_or, List, [], ◌∷◌, length, slice_index, if◌then◌else◌}
+use Rattle.std.specs.Prelude.{◌≡◌, ◌⊎◌, ℕ, zero, suc, ◌+◌, ◌%◌, ◌<◌, Bool, true, nat_lt, ◌==◌, Option, Some, None, option_map, unwrap_or, List, [], ◌∷◌, ◌++◌, length, slice_index, if◌then◌else◌}
+use Rattle.fl_find.specs.Pages.{first_key}
 use Rattle.fl_flash.specs.Flash.{FlashState, page_at}
 use Rattle.fl_mark.specs.Mark.{state_of_page}
 use Rattle.fl_mark.specs.declared.page_state.PageState.{PageState}
@@ -81,6 +82,15 @@ abbrev pub voids_after : RowLayout → (ℕ → List ℕ) → ℕ → ℕ → �
 voids_after layout page number zero = 0
 voids_after layout page number (suc n) =
     voids_after layout page number n + (if length (page_rows layout (page (number + n))) == 0 then 1 else 0)
+
+-- the point of a page with rows: its first key and its number
+abbrev pub point_of : ℕ → List Row → List (ℕ × ℕ)
+point_of number rows = unwrap_or (option_map (λ key. (key, number) ∷ []) (first_key rows)) []
+
+-- the points of so many pages
+abbrev pub points_after : RowLayout → (ℕ → List ℕ) → ℕ → ℕ → List (ℕ × ℕ)
+points_after layout page number zero = []
+points_after layout page number (suc n) = points_after layout page number n ++ point_of (number + n) (page_rows layout (page (number + n)))
 
 -- how many rows each page has is noted at its place
 abbrev pub AreNoted : RowLayout → (ℕ → List ℕ) → ℕ → ℕ → List ℕ → Type 0

@@ -3,6 +3,7 @@
 
 mod counts;
 mod faults;
+mod find;
 mod kept;
 mod look;
 mod misfit;
@@ -18,5 +19,6 @@ mod table;
 mod tests;
 
 pub use counts::{Mounted, TableCounts};
+pub use find::Found;
 pub use faults::{FlushFault, MountFault, PutRefusal};
 pub use table::Table;
