@@ -12,13 +12,14 @@ use Rattle.fl_ring.specs.Ring.{OnRing, place}
 use Rattle.fl_schema.specs.Form.{layout_with}
 use Rattle.fl_schema.specs.declared.column.ColumnType.{ColumnType}
 use Rattle.fl_schema.specs.declared.schema.KeyWidth.{KeyWidth}
-use Rattle.fl_table.specs.Reading.{page_rows, rows_where, keys_fault, IsRead, IsRefused, AreRead, AreRefused, last_after, rows_after, voids_after, points_after}
+use Rattle.fl_table.specs.Reading.{keys_fault, IsRead, IsRefused, AreRead, AreRefused, last_after, rows_after, voids_after, points_after}
 use Rattle.fl_table.specs.declared.faults.MountFault.{MountFault}
 use Rattle.fl_find.proofs.Firsts.{points_from}
 use Rattle.fl_table.proofs.KeptPages.{kept, kept-read, length-kept}
 use Rattle.fl_table.proofs.PointsHeld.{points-held}
 use Rattle.fl_table.proofs.KeyOrder.{key_before, key-last}
 use Rattle.fl_table.proofs.States.{shape_in, state_of, HaveSize}
+use Rattle.fl_find.specs.Pages.{rows_on, rows_where}
 
 -- all of them are read, and have the rows of the table
 pub record HoldRows (table : Table) (layout : RowLayout) (page : ℕ → List ℕ) (number n : ℕ) : Type 0 where
@@ -27,7 +28,7 @@ pub record HoldRows (table : Table) (layout : RowLayout) (page : ℕ → List �
   pub rows : rows_after layout page number n ≡ length table.entries
   pub voids : voids_after layout page number n ≡ voids_of table
   pub points : points_after layout page number n ≡ points_of table
-  pub each : (i c : ℕ) → slice_get table.rows.counts i ≡ Some c → length (page_rows layout (page (number + i))) ≡ c
+  pub each : (i c : ℕ) → slice_get table.rows.counts i ≡ Some c → length (rows_on layout (page (number + i))) ≡ c
 
 pub hold-rows : (page : ℕ → List ℕ) (first : ℕ) (plan : Plan) (table : Table) (key : KeyWidth) (types : List ColumnType) (blobs : Bool) → layout_with key types blobs ≡ row_layout plan →
     IsPlain plan → IsPlainTable plan table → table.pending ≡ 0 → 64 ≤ plan.geometry.page → row_len plan + 24 ≤ plan.geometry.page → 1 ≤ row_len plan → plan.geometry.page ≤ 4096 →

@@ -11,7 +11,8 @@ use Rattle.fl_model.specs.Row.{Row, stored_row}
 use Rattle.fl_model.specs.Spline.{pages_from, page_key}
 use Rattle.fl_model.specs.Table.{Entry}
 use Rattle.fl_model.proofs.Lists.{slice_get-some}
-use Rattle.fl_table.specs.Reading.{page_rows, point_of, points_after}
+use Rattle.fl_table.specs.Reading.{point_of, points_after}
+use Rattle.fl_find.specs.Pages.{rows_on}
 
 -- the point of one page
 one-point : (m c : ℕ) (entries : List Entry) → length (take c entries) ≡ c → points_from m (c ∷ []) entries ≡ point_of m (map stored_row (take c entries))
@@ -34,8 +35,8 @@ take-next (y ∷ ys) zero x e = let same : y ≡ x = cc in ap (λ (l : List ℕ)
 take-next (y ∷ ys) (suc n) x e = ap (λ (l : List ℕ). y ∷ l) (take-next ys n x e)
 
 pub points-held : (layout : RowLayout) (page : ℕ → List ℕ) (number : ℕ) (counts : List ℕ) (entries : List Entry) →
-    ((i c : ℕ) → slice_get counts i ≡ Some c → page_rows layout (page (number + i)) ≡ map stored_row (take c (drop (sum (take i counts)) entries))) →
-    ((i c : ℕ) → slice_get counts i ≡ Some c → length (page_rows layout (page (number + i))) ≡ c) →
+    ((i c : ℕ) → slice_get counts i ≡ Some c → rows_on layout (page (number + i)) ≡ map stored_row (take c (drop (sum (take i counts)) entries))) →
+    ((i c : ℕ) → slice_get counts i ≡ Some c → length (rows_on layout (page (number + i))) ≡ c) →
     (n : ℕ) → n ≤ length counts → points_after layout page number n ≡ points_from number (take n counts) entries
 points-held layout page number counts entries rows many zero le = none counts
   where
@@ -49,7 +50,7 @@ points-held layout page number counts entries rows many (suc n) le =
     let here = rows n c is in
     let long : length (take c (drop (sum (take n counts)) entries)) ≡ c = sym (length-map (take c (drop (sum (take n counts)) entries)) stored_row) ∙ (ap length (sym here) ∙ many n c is) in
     let len : length (take n counts) ≡ n = length-take-le n counts (omega (arith, le)) in
-    ap (λ (l : List (ℕ × ℕ)). l ++ point_of (number + n) (page_rows layout (page (number + n)))) (points-held layout page number counts entries rows many n (omega (arith, le)))
+    ap (λ (l : List (ℕ × ℕ)). l ++ point_of (number + n) (rows_on layout (page (number + n)))) (points-held layout page number counts entries rows many n (omega (arith, le)))
     ∙ (ap (λ (rs : List Row). points_from number (take n counts) entries ++ point_of (number + n) rs) here
     ∙ (ap (λ (l : List (ℕ × ℕ)). points_from number (take n counts) entries ++ l) (sym (one-point (number + n) c (drop (sum (take n counts)) entries) long))
     ∙ (ap (λ k. points_from number (take n counts) entries ++ points_from (number + k) (c ∷ []) (drop (sum (take n counts)) entries)) (sym len)

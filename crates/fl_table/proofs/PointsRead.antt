@@ -2,12 +2,12 @@
 use Rattle.std.proofs.Common.{◌≡◌, ℕ, zero, suc, ◌+◌, ◌<◌, ◌≤◌, Bool, true, false, cond, nat_lt, Option, Some, None, unwrap_or, List, [], ◌∷◌, ◌++◌, append-nil, refl, sym, ◌∙◌, ap, subst, arith}
 use Rattle.std.specs.Prelude.{IfSome}
 use Rattle.std.proofs.lemmas.Bool.{ltb-true}
-use Rattle.fl_find.specs.Pages.{first_key}
+use Rattle.fl_find.specs.Pages.{first_key, rows_on}
 use Rattle.fl_model.specs.Record.{RowLayout}
 use Rattle.fl_model.specs.Row.{Row}
 use Rattle.fl_spline.specs.Points.{IsPast, IsFurther, last_of}
 use Rattle.fl_spline.proofs.Lists.{last_of-push}
-use Rattle.fl_table.specs.Reading.{page_rows, rises, last_in, keys_fault, IsRead, AreRead, last_after, point_of, points_after}
+use Rattle.fl_table.specs.Reading.{rises, last_in, keys_fault, IsRead, AreRead, last_after, point_of, points_after}
 use Rattle.fl_table.specs.declared.faults.MountFault.{MountFault}
 use Rattle.fl_table.specs.declared.faults.MountFault.TheVariants.{BadKeys}
 
@@ -47,7 +47,7 @@ module _ (layout : RowLayout) (page : ℕ → List ℕ) (number : ℕ) where
   below-read : (n : ℕ) → AreRead layout page number n → IsBelow (last_of (points_after layout page number n)) (number + n) (last_after layout page number n)
   below-read zero h = tt
   below-read (suc n) h =
-      by_rows (below-next (last_of (points_after layout page number n)) (number + n) (last_after layout page number n) (below-read n h.0)) (page_rows layout (page (number + n))) h.1.keys
+      by_rows (below-next (last_of (points_after layout page number n)) (number + n) (last_after layout page number n) (below-read n h.0)) (rows_on layout (page (number + n))) h.1.keys
     where
       at : suc (number + n) ≡ number + suc n
       at = omega arith
@@ -65,8 +65,8 @@ module _ (layout : RowLayout) (page : ℕ → List ℕ) (number : ℕ) where
 
   -- a page that may stand behind them is further
   pub further-read : (n : ℕ) → AreRead layout page number n → IsRead layout (number + n) (page (number + n)) (last_after layout page number n) →
-      IfSome (first_key (page_rows layout (page (number + n)))) (λ key. IsFurther (points_after layout page number n) (key, number + n))
-  further-read n h one = by_rows (page_rows layout (page (number + n))) one.keys
+      IfSome (first_key (rows_on layout (page (number + n)))) (λ key. IsFurther (points_after layout page number n) (key, number + n))
+  further-read n h one = by_rows (rows_on layout (page (number + n))) one.keys
     where
       by_last : (o : Option (ℕ × ℕ)) (last : Option ℕ) (key : ℕ) → IsBelow o (number + n) last → rises last key ≡ true → IfSome o (λ end. IsPast end (key, number + n))
       by_last None last key b up = tt

@@ -1,7 +1,7 @@
 // What a mount reads: the kept pages, each once.
 ghost use Rattle.std.specs.Prelude.{◌≡◌, ◌+◌, ◌-◌, ◌*◌, ◌<◌, ◌≤◌, ◌≢◌, ℕ, true, false, Some, None, List, [], ◌∷◌, ◌++◌, length, option_map, unwrap_or, IsTrue, IfSome, IfOk, IfErr, OnOk};
 ghost use Rattle.fl_find.specs.Index.{error_in, IndexOf};
-ghost use Rattle.fl_find.specs.Pages.{first_key};
+ghost use Rattle.fl_find.specs.Pages.{first_key, rows_on};
 ghost use Rattle.fl_flash.specs.Flash.{pages, page_at};
 ghost use Rattle.fl_model.specs.Record.{layout_len};
 ghost use Rattle.fl_ring.specs.Looking.{OnlyReads, ReadFails};
@@ -11,7 +11,7 @@ ghost use Rattle.fl_page.specs.View.{page_of, layout_of_page, count_of, rows_of}
 ghost use Rattle.fl_schema.specs.Schema.{layout_of};
 ghost use Rattle.fl_spline.specs.Points.{IsFurther};
 ghost use Rattle.fl_table.specs.Causes.{IfFlash, IfPage, is_of_pages};
-ghost use Rattle.fl_table.specs.Reading.{page_rows, last_in, keys_fault, IsRead, IsRefused, AreRead, AreRefused, last_after, rows_after, voids_after, points_after, AreNoted, pages_of};
+ghost use Rattle.fl_table.specs.Reading.{last_in, keys_fault, IsRead, IsRefused, AreRead, AreRefused, last_after, rows_after, voids_after, points_after, AreNoted, pages_of};
 
 use crate::seal::note;
 use crate::{MountFault, Mounted};
@@ -73,9 +73,9 @@ fn rows_in(
     requires most { length bytes.now ≤ 4096 }
     requires row { 1 ≤ layout_len (layout_of schema.now) }
     ensures read { IfOk result (λ page. IsRead (layout_of schema.now) number bytes.now last) }
-    ensures rows { IfOk result (λ page. (page.rows ≡ length (page_rows (layout_of schema.now) bytes.now)) × (page.rows < 65536)) }
-    ensures last { IfOk result (λ page. page.last ≡ last_in last (page_rows (layout_of schema.now) bytes.now)) }
-    ensures first { IfOk result (λ page. page.first ≡ first_key (page_rows (layout_of schema.now) bytes.now)) }
+    ensures rows { IfOk result (λ page. (page.rows ≡ length (rows_on (layout_of schema.now) bytes.now)) × (page.rows < 65536)) }
+    ensures last { IfOk result (λ page. page.last ≡ last_in last (rows_on (layout_of schema.now) bytes.now)) }
+    ensures first { IfOk result (λ page. page.first ≡ first_key (rows_on (layout_of schema.now) bytes.now)) }
     ensures fault { IfErr result (λ e. IsRefused (layout_of schema.now) number bytes.now last e) }
 {
     let PageState::Committed = state_of(bytes) else {
@@ -107,9 +107,9 @@ fn read_page<F: Flash>(
     ensures room { length buf.new.bytes ≡ length buf.old.bytes }
     ensures none { buf.new.holds ≡ None }
     ensures read { IfOk result (λ page. IsTrue (F.state flash.old).media.tells → IsRead (layout_of schema.now) number (page_at (F.state flash.old) at) last) }
-    ensures rows { IfOk result (λ page. IsTrue (F.state flash.old).media.tells → page.rows ≡ length (page_rows (layout_of schema.now) (page_at (F.state flash.old) at))) }
-    ensures last { IfOk result (λ page. IsTrue (F.state flash.old).media.tells → page.last ≡ last_in last (page_rows (layout_of schema.now) (page_at (F.state flash.old) at))) }
-    ensures first { IfOk result (λ page. IsTrue (F.state flash.old).media.tells → page.first ≡ first_key (page_rows (layout_of schema.now) (page_at (F.state flash.old) at))) }
+    ensures rows { IfOk result (λ page. IsTrue (F.state flash.old).media.tells → page.rows ≡ length (rows_on (layout_of schema.now) (page_at (F.state flash.old) at))) }
+    ensures last { IfOk result (λ page. IsTrue (F.state flash.old).media.tells → page.last ≡ last_in last (rows_on (layout_of schema.now) (page_at (F.state flash.old) at))) }
+    ensures first { IfOk result (λ page. IsTrue (F.state flash.old).media.tells → page.first ≡ first_key (rows_on (layout_of schema.now) (page_at (F.state flash.old) at))) }
     ensures few { IfOk result (λ page. page.rows < 65536) }
     ensures fault { IfErr result (IfPage (λ e. IsTrue (F.state flash.old).media.tells → IsRefused (layout_of schema.now) number (page_at (F.state flash.old) at) last e)) }
     ensures fails { IfErr result (IfFlash (λ e. ReadFails (F.state flash.old) e (F.state flash.new))) }
