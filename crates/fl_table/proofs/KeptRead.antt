@@ -79,12 +79,12 @@ module _ (t : Table) (f : FlashState) (first : ℕ) (plan : Plan) (table : model
   size-is : plan.geometry.page ≡ t.geometry.page
   size-is = ap (λ g. g.page) stands.planned.geometry
 
-  record IsShown : Type 0 where
-    good : state_of_page page ≡ Committed → IsGoodPage (row_layout plan) (rings.oldest table.rows + i) page
-    rows : rows_on (row_layout plan) page ≡ map stored_row (rows_at (lose table) i c)
-    many : length (rows_on (row_layout plan) page) ≡ c
+  pub record IsShown : Type 0 where
+    pub good : state_of_page page ≡ Committed → IsGoodPage (row_layout plan) (rings.oldest table.rows + i) page
+    pub rows : rows_on (row_layout plan) page ≡ map stored_row (rows_at (lose table) i c)
+    pub many : length (rows_on (row_layout plan) page) ≡ c
 
-  shown : IsShown
+  pub shown : IsShown
   shown =
       let sizes = lies-size t f first plan stands.planned lies.geometry lies.within reaches in
       let large = planned-large t first plan stands.planned in

@@ -30,3 +30,5 @@ pub mod MountCalls
 pub mod MountReads
 pub mod Pointed
 pub mod PendingKey
+pub mod PendingRows
+pub mod Finds

@@ -8,6 +8,7 @@ mod kept;
 mod look;
 mod misfit;
 mod mount;
+mod pending;
 mod plan;
 mod put;
 mod reading;
@@ -19,6 +20,6 @@ mod table;
 mod tests;
 
 pub use counts::{Mounted, TableCounts};
-pub use find::Found;
+pub use find::RowAt;
 pub use faults::{FlushFault, MountFault, PutRefusal};
 pub use table::Table;
