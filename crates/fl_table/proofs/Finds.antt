@@ -13,7 +13,7 @@ use Rattle.fl_flash.specs.Flash.{FlashState, page_at}
 use Rattle.fl_flash.specs.Places.{extent}
 use Rattle.fl_model.specs.Image.{rows_at}
 use Rattle.fl_model.specs.Query.{entry_at}
-use Rattle.fl_model.specs.Record.{Plan, RowLayout}
+use Rattle.fl_model.specs.Record.{Plan, RowLayout, row_layout}
 use Rattle.fl_model.specs.Ring as rings
 use Rattle.fl_model.specs.Row.{Row, stored_row}
 use Rattle.fl_model.specs.Spline.{is_pending_key}
@@ -56,7 +56,7 @@ holds-pages t f first plan table ring stands lies reaches is tells =
       pages = λ i count e.
           let s = shown t f first plan table stands lies reaches i count e in
           subst (λ (l : RowLayout). HoldsEntries l (rings.oldest table.rows + i) (rows_at (lose table) i count) (bytes_at (shape_of ring) f (rings.oldest table.rows + i))) stands.planned.layout
-          (subst (λ (p : Shape). HoldsEntries _ (rings.oldest table.rows + i) (rows_at (lose table) i count) (page_at f (place p (rings.oldest table.rows + i)))) shape
+          (subst (λ (p : Shape). HoldsEntries (row_layout plan) (rings.oldest table.rows + i) (rows_at (lose table) i count) (page_at f (place p (rings.oldest table.rows + i)))) shape
           (record { good = s.good; rows = s.rows }));
     }
 

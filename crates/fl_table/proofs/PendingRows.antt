@@ -1,8 +1,9 @@
 -- The pending records of a table, and the key of the first.
-use Rattle.std.proofs.Common.{◌≡◌, ℕ, zero, suc, ◌+◌, ◌-◌, ◌<◌, ◌≤◌, Bool, true, false, Option, Some, None, option_map, List, [], ◌∷◌, length, map, take, drop, refl, sym, ◌∙◌, ap, arith, ⊎_elim}
-use Rattle.std.specs.Prelude.{◌==◌, nat_le, unwrap_or}
+use Rattle.std.proofs.Common.{◌≡◌, ℕ, zero, suc, ◌+◌, ◌-◌, ◌<◌, ◌≤◌, Bool, true, false, Option, Some, None, option_map, List, [], ◌∷◌, length, map, take, drop, refl, sym, ◌∙◌, ap, arith, ⊎_elim, length-drop}
+use Rattle.std.specs.Prelude.{◌==◌, nat_le, unwrap_or, if◌then◌else◌}
 use Rattle.std.specs.List.{slice_get}
 use Rattle.std.proofs.lemmas.Bool.{cases_lt, le-leb, lt-leb, leb-false}
+use Rattle.std.proofs.lemmas.List.{length-map}
 use Rattle.fl_find.proofs.Entries.{found-at, found-none, row-entry, rows-rise}
 use Rattle.fl_find.proofs.Firsts.{Ascending}
 use Rattle.fl_find.specs.Rows.{RowsRise, HasKey, LacksKey}
@@ -28,14 +29,14 @@ entry-front key zero entries entry e = absurd (none (take_none entries ∙ e))
     take_none [] = refl
     take_none (x ∷ xs) = refl
 entry-front key (suc n) [] entry e = e
-entry-front key (suc n) (x ∷ entries) entry e = by_key (x.kept.key == key) refl
+entry-front key (suc n) (x ∷ entries) entry e = by_key (x.kept.key == key) refl (entry-front key n entries entry)
   where
-    by_key : (b : Bool) → (x.kept.key == key) ≡ b → entry_at key (x ∷ entries) ≡ Some entry
-    by_key true t = rw t (let h : (if x.kept.key == key then Some x else entry_at key (take n entries)) ≡ Some entry = e in rw t at h)
-    by_key false t = rw t (entry-front key n entries entry (let h : (if x.kept.key == key then Some x else entry_at key (take n entries)) ≡ Some entry = e in rw t at h))
+    by_key : (b : Bool) → (x.kept.key == key) ≡ b → (entry_at key (take n entries) ≡ Some entry → entry_at key entries ≡ Some entry) → entry_at key (x ∷ entries) ≡ Some entry
+    by_key true t later = rw t (rw t at e)
+    by_key false t later = rw t (later (rw t at e))
 
 module _ (plan : Plan) (table : Table) (facts : IsTable plan table) where
-  n : ℕ
+  abbrev n : ℕ
   n = length table.entries - table.pending
 
   pending-up : Ascending (pending_entries table)
@@ -123,6 +124,10 @@ module _ (plan : Plan) (table : Table) (facts : IsTable plan table) where
           none e = cc
       map-get (x ∷ es) zero entry e = let same : x ≡ entry = cc in ap (λ (y : Entry). Some (stored_row y)) same
       map-get (x ∷ es) (suc i) entry e = map-get es i entry e
+
+  -- how many pending rows there are
+  pub pending-many : length (map stored_row (pending_entries table)) ≡ table.pending
+  pending-many = length-map (pending_entries table) stored_row ∙ (length-drop n table.entries ∙ omega (arith, facts.counted))
 
 -- rows that rise, at a middle one
 pub below-middle : (rows : List Row) (middle key : ℕ) (row : Row) → RowsRise rows → slice_get rows middle ≡ Some row → row.key < key →

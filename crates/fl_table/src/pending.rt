@@ -49,9 +49,12 @@ impl Table {
             MatchOption result (LacksKey (map stored_row (pending_entries table)) key) (λ i. HasKey (map stored_row (pending_entries table)) key i) }
     {
         let place = self.pending_below(key);
-        if place < self.pending_rows() as usize && self.pending_row(place).key() == key {
-            return Some(place);
+        if place >= self.pending_rows() as usize {
+            return None;
         }
-        None
+        if self.pending_row(place).key() != key {
+            return None;
+        }
+        Some(place)
     }
 }
