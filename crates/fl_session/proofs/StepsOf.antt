@@ -80,7 +80,7 @@ answers-off config old stands faults faults_now s = answers-saying config old co
 cut-flash : (t : Table) (f : FlashState) (plan : Plan) (table : model.Table) (mounted : Bool) (n : ℕ) (kind : CutKind) →
     MatchBool mounted (Stands t f 0 plan table) (Rests f 0 plan table) →
     MatchBool mounted (Stands t (record f { armed = Some (record { left = n; tear = Kind kind }) }) 0 plan table) (Rests (record f { armed = Some (record { left = n; tear = Kind kind }) }) 0 plan table)
-cut-flash t f plan table true n kind h = record { planned = h.planned; facts = h.facts; whole = h.whole; clean = h.clean; pages = h.pages; memory = h.memory }
+cut-flash t f plan table true n kind h = record { planned = h.planned; facts = h.facts; whole = h.whole; clean = h.clean; pages = h.pages; memory = h.memory; points = h.points }
 cut-flash t f plan table false n kind h = record { settled = h.settled; pages = h.pages }
 
 -- a cut is armed

@@ -54,6 +54,7 @@ planned-same t u first plan same h = record {
   index = h.index;
   var = h.var;
   buckets = subst (HasBuckets plan) (sym same.buckets) h.buckets;
+  error = h.error ∙ sym same.error;
 }
 
 -- whether the medium's faults rose

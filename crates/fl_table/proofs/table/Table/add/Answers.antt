@@ -52,7 +52,8 @@ returns-clause-stands c = λ f first plan table stands ok.
         bitmap = bits ∙ a.bits;
         last = sym (ap (option_map (λ (entry : model.Entry). entry.kept.key)) a.last);
         counts = memory.counts;
-        index = memory.index;
+        voids = memory.voids;
+          index = memory.index;
         no_fill = memory.no_fill;
         idle = memory.idle;
       };
