@@ -1,6 +1,7 @@
-use Rattle.std.proofs.Common.{◌≡◌, rules, ◌∙◌, subst}
+use Rattle.std.proofs.Common.{◌≡◌, rules, sym, ◌∙◌, subst}
 use Rattle.std.specs.Prelude.{IfSome, slice_get}
 use Rattle.fl_model.specs.Record.{Plan}
+use Rattle.fl_session.specs.Opening.{IsBlankBehind}
 use Rattle.fl_session.proofs.Over.{whole-parts, one-of, session-runs, new-sound, session-keeps}
 use Rattle.fl_session.proofs.Rooms.{named-one}
 use Rattle.fl_session.proofs.whole_run.run_session.Goals as goal
@@ -28,3 +29,7 @@ pub returns-clause-form : goal.returns-clause-form
 returns-clause-form g c =
     let e : g.M.Media.state c.media-1.given.0 ≡ g.M.Media.state c.end-media.result.now = search rules in
     session-keeps _ _ _ _ c.geometry.result c.blocks-2.result _ (c.new-session.ensures.flash ∙ c.flash_on-flash.ensures) (e ∙ c.end-media.ensures.state) c.run_first-status.ensures.goes
+
+pub flash_on-flash-requires-clause-blank : goal.flash_on-flash-requires-clause-blank
+flash_on-flash-requires-clause-blank g c = λ is told.
+    subst (λ n. IsBlankBehind c.geometry.result n (g.M.Media.state c.args.media.now).content) (sym c.blocks-2.ensures.exact) (c.requires.blank is told c.geometry.result c.geometry.ensures.device)
