@@ -435,41 +435,31 @@ fn looked_up<F: Flash>(
     lookups.len()
 }
 
-// Two rows and one on two pages, a void page, one row on a page, and two pending rows.
+// Two pages of two rows and one, a void page, and a page of one row.
+fn pages_with_a_void_one(alloc: Global) -> Result<Vec<u8>, NoMemory>
+    ensures { IfOk result (λ v. vec_len v ≡ 512) }
+{
+    let mut bytes = image(alloc, (0, 2, [10, 20]), Some((1, 1, [40, 0])))?;
+    bytes[256..320].fill(0);
+    bytes[312..316].fill(255);
+    write_page((3, 1, [60, 0]), &mut bytes[320..384]);
+    Ok(bytes)
+}
+
+fn look_all_up(alloc: Global, lookups: &[(u64, Lookup)]) -> Result<[usize; 2], ConfigRefusal> {
+    let mut media = MemMedia::new(alloc, pages_with_a_void_one(alloc)?, 512)?;
+    let mut buf = PageBuf::new(alloc, 64)?;
+    let mut table = table(alloc)?;
+    let mut flash = SimFlash::new(alloc, &mut media, GEOMETRY, 4, 0)?;
+    let steps = [(Mount, found(4, 4, 1)), (Put(70), TAKEN), (Put(80), TAKEN)];
+    let done = answered(&steps, &mut table, &mut flash, &mut buf);
+    let found = looked_up(lookups, &table, &mut flash, &mut buf);
+    let _media = flash.into_media();
+    Ok([done, found])
+}
+
 #[test]
 fn keys_are_looked_up(rt: HostRuntime) -> Result<(), Fail> {
-    let bytes = blank(rt.alloc())?;
-    let mut media = MemMedia::new(rt.alloc(), bytes, 512)?;
-    let mut buf = PageBuf::new(rt.alloc(), 64)?;
-    let mut table = table(rt.alloc())?;
-    let mut flash = SimFlash::new(rt.alloc(), &mut media, GEOMETRY, 4, 0)?;
-    let first = [
-        (Mount, found(0, 0, 0)),
-        (Put(10), TAKEN),
-        (Put(20), TAKEN),
-        (Flush, Flushed(Ok(()))),
-        (Put(40), TAKEN),
-        (Flush, Flushed(Ok(()))),
-        (Put(50), TAKEN),
-    ];
-    assert_eq!(rt;
-        answered(&first, &mut table, &mut flash, &mut buf),
-        first.len()
-    );
-    flash.arm(1, CutKind::Half);
-    let _cut = take(Flush, &mut table, &mut flash, &mut buf);
-    flash.power_on();
-    let second = [
-        (Mount, found(3, 3, 1)),
-        (Put(60), TAKEN),
-        (Flush, Flushed(Ok(()))),
-        (Put(70), TAKEN),
-        (Put(80), TAKEN),
-    ];
-    assert_eq!(rt;
-        answered(&second, &mut table, &mut flash, &mut buf),
-        second.len()
-    );
     let lookups = [
         // Not covered: by halves.
         (5, (None, 3, 5, None)),
@@ -486,10 +476,6 @@ fn keys_are_looked_up(rt: HostRuntime) -> Result<(), Fail> {
         (80, (Some(80), 0, 0, Some(3))),
         (90, (None, 0, 0, Some(3))),
     ];
-    assert_eq!(rt;
-        looked_up(&lookups, &table, &mut flash, &mut buf),
-        lookups.len()
-    );
-    let _media = flash.into_media();
+    assert_eq!(rt; look_all_up(rt.alloc(), &lookups)?, [3, lookups.len()]);
     Ok(())
 }
