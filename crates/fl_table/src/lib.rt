@@ -3,10 +3,12 @@
 
 mod counts;
 mod faults;
+mod find;
 mod kept;
 mod look;
 mod misfit;
 mod mount;
+mod pending;
 mod plan;
 mod put;
 mod reading;
@@ -18,5 +20,6 @@ mod table;
 mod tests;
 
 pub use counts::{Mounted, TableCounts};
+pub use find::RowAt;
 pub use faults::{FlushFault, MountFault, PutRefusal};
 pub use table::Table;
