@@ -1,20 +1,15 @@
 -- The replies to a lookup.
 use Rattle.std.proofs.Common.{◌≡◌, ℕ, ◌<◌, true, false, Option, Some, None, Ok, Err, List, length, refl, sym, ◌∙◌, ap, subst, inl, inr, map}
 use Rattle.std.specs.List.{slice_get}
-use Rattle.fl_find.specs.Pages.{rows_on, rows_where}
 use Rattle.fl_flash.specs.Buffer.{BufferState}
 use Rattle.fl_flash.specs.Flash.{FlashState}
 use Rattle.fl_flash.specs.declared.flash.FlashFault.{FlashFault}
 use Rattle.fl_flash.specs.declared.flash.FlashFault.TheVariants.{PowerLost, Media}
-use Rattle.fl_mark.specs.Mark.{state_of_page}
-use Rattle.fl_mark.specs.declared.page_state.PageState.{PageState}
-use Rattle.fl_mark.specs.declared.page_state.PageState.TheVariants.{Committed}
 use Rattle.fl_model.specs.Query.{entry_at}
 use Rattle.fl_model.specs.Record.{Plan, RowLayout, row_layout, has_var}
 use Rattle.fl_model.specs.Row.{Row, stored_row}
 use Rattle.fl_model.specs.Table as model
 use Rattle.fl_model.specs.Table.{Entry, pending_entries}
-use Rattle.fl_page.specs.Page.{rows_in}
 use Rattle.fl_ring.specs.Looking.{ReadFails}
 use Rattle.fl_words.specs.Reply as reply
 use Rattle.fl_words.specs.Reply.{Reply, text}
@@ -53,7 +48,3 @@ looks-found plan table key faults faults_now buf place row said none shows at is
 pub looks-unread : (plan : Plan) (table : model.Table) (key : ℕ) (old new : FlashState) (fault : FlashFault) (said : List ℕ) → old.is_on ≡ true → ReadFails old fault new → said ≡ text reply.ReadFault → Looks plan table key old.media.faults new.media.faults said
 looks-unread plan table key old new PowerLost said on fails is = never (sym fails ∙ on)
 looks-unread plan table key old new Media said on fails is = record { rose = true; risen = λ t. fails; reply = reply.ReadFault; reply_is = inr (refl, refl); said_is = is }
-
--- the rows of a committed page
-pub rows-committed : (layout : RowLayout) (page : List ℕ) → state_of_page page ≡ Committed → rows_on layout page ≡ rows_in layout page
-rows-committed layout page is = ap (λ (s : PageState). rows_where s layout page) is

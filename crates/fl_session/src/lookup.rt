@@ -14,7 +14,7 @@ use fl_base::Steps;
 use fl_flash::{Flash, PageBuf};
 use fl_page::ReadFault;
 use fl_script::Reply;
-use fl_table::{RowAt, Table};
+use fl_table::Table;
 
 /// The reply to a get: the row with the key, that there is none, or why a page isn't read.
 pub(crate) fn look_up<F: Flash>(table: &Table, key: u64, flash: &mut F, buf: &mut PageBuf) -> Reply
@@ -31,11 +31,7 @@ pub(crate) fn look_up<F: Flash>(table: &Table, key: u64, flash: &mut F, buf: &mu
     let mut steps = Steps::new();
     match table.find(flash, key, buf, &mut steps) {
         Ok(None) => Reply::Absent,
-        Ok(Some(RowAt::Pending(i))) => line_of(&table.pending_row(i), columns),
-        Ok(Some(RowAt::InPage(place))) => {
-            let row = table.view(buf, place.number).row(place.row);
-            line_of(&row, columns)
-        }
+        Ok(Some(place)) => line_of(&table.row_at(buf, place), columns),
         Err(ReadFault::Flash(_)) => Reply::ReadFault,
         Err(ReadFault::BadPage(bad)) => {
             let number = bad.wanted;

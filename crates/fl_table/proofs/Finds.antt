@@ -1,40 +1,44 @@
 -- What a lookup ends with, in the words of the table.
-use Rattle.std.proofs.Common.{◌≡◌, ℕ, ◌+◌, ◌-◌, ◌<◌, ◌≤◌, true, false, Option, Some, None, option_map, Result, Ok, Err, List, map, length, refl, sym, ◌∙◌, ap, subst, arith, IsTrue}
-use Rattle.std.specs.Prelude.{IfSome, MatchOption}
+use Rattle.std.proofs.Common.{◌≡◌, ℕ, ◌+◌, ◌*◌, ◌<◌, ◌≤◌, Bool, true, false, Option, Some, None, option_map, Ok, Err, List, map, length, drop, refl, sym, ◌∙◌, ap, subst, arith, IsTrue}
+use Rattle.std.specs.Prelude.{IfSome, MatchOption, if◌then◌else◌}
 use Rattle.std.specs.List.{slice_get}
-use Rattle.fl_find.specs.Index.{IndexOf}
+use Rattle.fl_find.specs.Index.{error_in, most_reads}
 use Rattle.fl_find.specs.Looking.{LookFails}
-use Rattle.fl_find.specs.Pages.{rows_on, Holds, IsBadPage, bytes_at}
+use Rattle.fl_find.specs.Pages.{rows_on, rows_where, Holds, IsBadPage, bytes_at}
 use Rattle.fl_find.specs.Rows.{HasKey, LacksKey, LooksUp}
 use Rattle.fl_find.specs.Standing.{HoldsPages, HoldsEntries}
 use Rattle.fl_find.specs.declared.row.PageRow.{PageRow}
 use Rattle.fl_flash.specs.Buffer.{BufferState}
 use Rattle.fl_flash.specs.Flash.{FlashState, page_at}
 use Rattle.fl_flash.specs.Places.{extent}
+use Rattle.fl_mark.specs.Mark.{state_of_page}
+use Rattle.fl_mark.specs.declared.page_state.PageState.{PageState}
+use Rattle.fl_mark.specs.declared.page_state.PageState.TheVariants.{Blank, Torn, Committed, Void}
 use Rattle.fl_model.specs.Image.{rows_at}
-use Rattle.fl_model.specs.Query.{entry_at}
 use Rattle.fl_model.specs.Record.{Plan, RowLayout, row_layout}
 use Rattle.fl_model.specs.Ring as rings
 use Rattle.fl_model.specs.Row.{Row, stored_row}
-use Rattle.fl_model.specs.Spline.{is_pending_key}
+use Rattle.fl_model.specs.Spline.{bits, is_covered, is_pending_key, lookup_limit, retained, voids_of}
 use Rattle.fl_model.specs.Table as model
 use Rattle.fl_model.specs.Table.{lose, pending_entries}
 use Rattle.fl_model.proofs.Lists.{slice_get-short}
+use Rattle.fl_page.specs.Page.{rows_in}
+use Rattle.fl_page.specs.View.{page_of, layout_of_page, count_of, rows_of}
+use Rattle.fl_page.specs.declared.view.PageView.{PageView}
 use Rattle.fl_page.specs.declared.fault.ReadFault.{ReadFault}
 use Rattle.fl_page.specs.declared.fault.ReadFault.TheVariants as fault
 use Rattle.fl_ring.specs.Place.{shape_of, next_of, oldest_of}
 use Rattle.fl_ring.specs.Ring.{Shape, place}
 use Rattle.fl_ring.specs.declared.ring.Ring.{Ring}
 use Rattle.fl_schema.specs.Schema.{layout_of}
-use Rattle.fl_table.specs.Finding.{Finds, ShowsEntry, IsHere, HoldsKept, LookupFails}
-use Rattle.fl_table.specs.Kept.{place_of}
-use Rattle.fl_table.specs.Look.{layout_in, oldest_in}
-use Rattle.fl_table.specs.Memory.{next_in, LiesOn}
+use Rattle.fl_table.specs.Finding.{Finds, IsRowAt, HoldsIts, HoldsKept, LookupFails}
+use Rattle.fl_table.specs.Look.{oldest_in}
+use Rattle.fl_table.specs.Memory.{next_in, IsPlanned, LiesOn}
 use Rattle.fl_table.specs.Standing.{Stands}
-use Rattle.fl_table.specs.declared.find.RowAt.{RowAt}
 use Rattle.fl_table.specs.declared.find.RowAt.TheVariants as at
 use Rattle.fl_table.specs.declared.table.Table.{Table}
 use Rattle.fl_table.proofs.KeptRead.{ring-place, shown}
+use Rattle.fl_table.proofs.KeyRows.{length-rows_from}
 use Rattle.fl_table.proofs.PendingRows.{written-found, written-none, pending-found, pending-none}
 use Rattle.fl_table.proofs.SealAnswers.{planned-ring}
 use Rattle.fl_table.proofs.States.{shape_in}
@@ -115,13 +119,23 @@ holds-kept t f ring number buf is kept h = record {
   bytes = λ told. h.bytes told ∙ ap (page_at f) (sym (ring-place t ring number is));
 }
 
-pub here-page : (t : Table) (f : FlashState) (ring : Ring) (key : ℕ) (buf : BufferState) (place : Option PageRow) → t.ring ≡ Some ring →
+pub here-page : (t : Table) (f : FlashState) (ring : Ring) (key : ℕ) (buf : BufferState) (place : Option PageRow) → length buf.bytes ≤ 4096 →
+    IfSome place (λ p. Holds (layout_of t.schema) (shape_of ring) f p.number buf) → IfSome place (λ p. HasKey (rows_on (layout_of t.schema) buf.bytes) key p.row) →
+    IfSome (option_map at.InPage place) (IsRowAt t buf)
+here-page t f ring key buf None few holds has = tt
+here-page t f ring key buf (Some place) few holds has = (few, holds.good, slice_get-short (rows_on (layout_of t.schema) buf.bytes) place.row has.row has.here)
+
+pub holds-page : (t : Table) (f : FlashState) (ring : Ring) (buf : BufferState) (place : Option PageRow) → t.ring ≡ Some ring →
     IfSome place (λ p. (oldest_of ring ≤ p.number) × (p.number < next_of ring)) → IfSome place (λ p. Holds (layout_of t.schema) (shape_of ring) f p.number buf) →
-    IfSome place (λ p. HasKey (rows_on (layout_of t.schema) buf.bytes) key p.row) →
-    IfSome (option_map at.InPage place) (IsHere t f buf)
-here-page t f ring key buf None is kept holds has = tt
-here-page t f ring key buf (Some place) is kept holds has =
-    (holds-kept t f ring place.number buf is kept holds, slice_get-short (rows_on (layout_of t.schema) buf.bytes) place.row has.row has.here)
+    IfSome (option_map at.InPage place) (HoldsIts t f buf)
+holds-page t f ring buf None is kept holds = tt
+holds-page t f ring buf (Some place) is kept holds = holds-kept t f ring place.number buf is kept holds
+
+pub holds-found : (t : Table) (f : FlashState) (ring : Ring) (buf : BufferState) (page : Option ℕ) → t.ring ≡ Some ring →
+    IfSome page (λ n. (oldest_of ring ≤ n) × (n < next_of ring)) → IfSome page (λ n. Holds (layout_of t.schema) (shape_of ring) f n buf) →
+    IfSome page (λ n. HoldsKept t f n buf)
+holds-found t f ring buf None is kept holds = tt
+holds-found t f ring buf (Some number) is kept holds = holds-kept t f ring number buf is kept holds
 
 pub lookup-fails : (t : Table) (ring : Ring) (old : FlashState) (e : ReadFault) (new : FlashState) → t.ring ≡ Some ring → LookFails (layout_of t.schema) ring old e new → LookupFails t old e new
 lookup-fails t ring old (fault.Flash e) new is h = h
@@ -132,3 +146,37 @@ lookup-fails t ring old (fault.BadPage bad) new is h = λ told.
       kept = (omega (arith, oldest-in t ring is, bad_page.kept.from), omega (arith, next-in t ring is, bad_page.kept.before));
       is_bad = subst (λ p. IsBadPage (layout_of t.schema) bad_page.number (page_at old p) bad) (sym (ring-place t ring bad_page.number is)) bad_page.is_bad;
     }
+
+-- ---- the row at a place
+
+where-some : (layout : RowLayout) (page : List ℕ) (s : PageState) → 0 < length (rows_where s layout page) → rows_where s layout page ≡ rows_in layout page
+where-some layout page Committed some = refl
+where-some layout page Blank some = absurd (omega (arith, some))
+where-some layout page Torn some = absurd (omega (arith, some))
+where-some layout page Void some = absurd (omega (arith, some))
+
+pub rows-some : (layout : RowLayout) (page : List ℕ) (row : ℕ) → row < length (rows_on layout page) → rows_on layout page ≡ rows_in layout page
+rows-some layout page row less = where-some layout page (state_of_page page) (omega (arith, less))
+
+-- the rows of a view are as many as it counts
+pub row-within : (layout : RowLayout) (page : List ℕ) (view : PageView 8) (row : ℕ) → row < length (rows_on layout page) → rows_of view ≡ rows_in layout page → row < count_of view
+row-within layout page view row less is =
+    let many : length (rows_of view) ≡ count_of view = length-rows_from (count_of view) (layout_of_page view) (drop 16 (page_of view)) in
+    omega (arith, less, ap (λ (rows : List Row). length rows) (rows-some layout page row less), ap (λ (rows : List Row). length rows) is, many)
+
+pub row-shown : (t : Table) (first : ℕ) (plan : Plan) (page : List ℕ) (view : PageView 8) (at : ℕ) (row : Row) → IsPlanned t first plan → at < length (rows_on (layout_of t.schema) page) →
+    rows_of view ≡ rows_in (layout_of t.schema) page → slice_get (rows_of view) at ≡ Some row → slice_get (rows_on (row_layout plan) page) at ≡ Some row
+row-shown t first plan page view at row planned less is e =
+    ap (λ (l : RowLayout). slice_get (rows_on l page) at) planned.layout
+    ∙ (ap (λ (rows : List Row). slice_get rows at) (rows-some (layout_of t.schema) page at less ∙ sym is) ∙ e)
+
+-- ---- the greatest number of reads
+
+pub limit-told : (t : Table) (f : FlashState) (first : ℕ) (plan : Plan) (table : model.Table) (key pages : ℕ) → Stands t f first plan table → is_pending_key table key ≡ false → pages ≡ length table.rows.counts →
+    most_reads t.index pages t.voids key ≡ lookup_limit 64 plan table key
+limit-told t f first plan table key pages stands is many =
+    ap (λ (l : List (ℕ × ℕ)). if is_covered l key then 2 * error_in t.index + 2 + t.voids else bits pages + 1 + t.voids) stands.memory.index.knots
+    ∙ (ap (λ e. if is_covered (retained 64 plan.error table.points) key then 2 * e + 2 + t.voids else bits pages + 1 + t.voids) (sym stands.planned.error)
+    ∙ (ap (λ v. if is_covered (retained 64 plan.error table.points) key then 2 * plan.error + 2 + v else bits pages + 1 + v) stands.memory.voids
+    ∙ (ap (λ n. if is_covered (retained 64 plan.error table.points) key then 2 * plan.error + 2 + voids_of table else bits n + 1 + voids_of table) many
+    ∙ sym (ap (λ (b : Bool). if b then 0 else if is_covered (retained 64 plan.error table.points) key then 2 * plan.error + 2 + voids_of table else bits (length table.rows.counts) + 1 + voids_of table) is))))

@@ -1,8 +1,8 @@
 -- The pending records of a table, and the key of the first.
-use Rattle.std.proofs.Common.{◌≡◌, ℕ, zero, suc, ◌+◌, ◌-◌, ◌<◌, ◌≤◌, Bool, true, false, Option, Some, None, option_map, List, [], ◌∷◌, length, map, take, drop, refl, sym, ◌∙◌, ap, arith, ⊎_elim, length-drop}
-use Rattle.std.specs.Prelude.{◌==◌, nat_le, unwrap_or, if◌then◌else◌}
+use Rattle.std.proofs.Common.{◌≡◌, ℕ, zero, suc, ◌+◌, ◌-◌, ◌<◌, ◌≤◌, Bool, true, false, Option, Some, None, option_map, List, [], ◌∷◌, length, map, take, refl, sym, ◌∙◌, ap, arith, ⊎_elim, length-drop}
+use Rattle.std.specs.Prelude.{◌==◌, nat_le, unwrap_or}
 use Rattle.std.specs.List.{slice_get}
-use Rattle.std.proofs.lemmas.Bool.{cases_lt, le-leb, lt-leb, leb-false}
+use Rattle.std.proofs.lemmas.Bool.{cases_lt, lt-leb, leb-false}
 use Rattle.std.proofs.lemmas.List.{length-map}
 use Rattle.fl_find.proofs.Entries.{found-at, found-none, row-entry, rows-rise}
 use Rattle.fl_find.proofs.Firsts.{Ascending}
@@ -12,7 +12,7 @@ use Rattle.fl_model.specs.Query.{entry_at}
 use Rattle.fl_model.specs.Record.{Plan}
 use Rattle.fl_model.specs.Row.{Row, stored_row}
 use Rattle.fl_model.specs.Spline.{is_pending_key}
-use Rattle.fl_model.specs.Table.{Table, Entry, first_pending, pending_entries, written}
+use Rattle.fl_model.specs.Table.{Table, Entry, pending_entries, written}
 use Rattle.fl_model.proofs.Lists.{slice_get-some, slice_get-drop, slice_get-take, slice_get-front, slice_get-short}
 
 no : true ≡ false → ⊥
@@ -52,11 +52,14 @@ module _ (plan : Plan) (table : Table) (facts : IsTable plan table) where
   -- the first pending entry, where there is one
   first-is : (j : ℕ) (entry : Entry) → slice_get (pending_entries table) j ≡ Some entry → (x : Entry) × (slice_get (pending_entries table) 0 ≡ Some x) × (x.kept.key ≤ entry.kept.key)
   first-is j entry e =
-      let x = slice_get-some (pending_entries table) 0 (omega (arith, slice_get-short (pending_entries table) j entry e)) in
-      (x.0, x.1, ⊎_elim
-          (λ less. let up = pending-up 0 j x.0 entry less x.1 e in omega (arith, up))
-          (λ le. let zero_is : j ≡ 0 = omega (arith, le) in let same = some-same x.0 entry (sym x.1 ∙ (ap (slice_get (pending_entries table)) (sym zero_is) ∙ e)) in omega (arith, ap (λ (y : Entry). y.kept.key) same))
-          (cases_lt 0 j))
+      let x = slice_get-some (pending_entries table) 0 (omega (arith, slice_get-short (pending_entries table) j entry e)) in (
+        x.0,
+        x.1,
+        ⊎_elim
+            (λ less. let up = pending-up 0 j x.0 entry less x.1 e in omega (arith, up))
+            (λ le. let zero_is : j ≡ 0 = omega (arith, le) in let same = some-same x.0 entry (sym x.1 ∙ (ap (slice_get (pending_entries table)) (sym zero_is) ∙ e)) in omega (arith, ap (λ (y : Entry). y.kept.key) same))
+            (cases_lt 0 j),
+      )
     where
       some-same : (a b : Entry) → Some a ≡ Some b → a ≡ b
       some-same a b h = cc

@@ -1,5 +1,5 @@
 -- What a lookup in a table finds, and how many pages it reads.
-use Rattle.std.specs.Prelude.{◌≡◌, ℕ, ◌<◌, ◌≤◌, true, false, Option, Some, None, IsTrue, List, length, Result, Ok, Err, slice_get, map}
+use Rattle.std.specs.Prelude.{◌≡◌, ℕ, ◌<◌, ◌≤◌, true, false, Option, Some, None, IsTrue, length, Result, Ok, Err, slice_get, map}
 use Rattle.fl_find.specs.Index.{knots_in, shift_in}
 use Rattle.fl_find.specs.Pages.{rows_on, IsBadPage}
 use Rattle.fl_flash.specs.Buffer.{BufferState}
@@ -43,10 +43,16 @@ pub record HoldsKept (t : Table) (f : FlashState) (number : ℕ) (buf : BufferSt
   pub good : IsGoodPage (layout_in t) number buf.bytes
   pub bytes : IsTrue f.media.tells → buf.bytes ≡ page_at f (place_of t number)
 
--- there is a row at the place: a pending one, or one of the kept page in the buffer
-abbrev pub IsHere : Table → FlashState → BufferState → RowAt → Type 0
-IsHere t f buf (at.Pending i) = i < pending_in t
-IsHere t f buf (at.InPage place) = HoldsKept t f place.number buf × (place.row < length (rows_on (layout_in t) buf.bytes))
+-- there is a row at the place: a pending one, or one of the page in the buffer
+abbrev pub IsRowAt : Table → BufferState → RowAt → Type 0
+IsRowAt t buf (at.Pending i) = i < pending_in t
+IsRowAt t buf (at.InPage place) =
+    (length buf.bytes ≤ 4096) × IsGoodPage (layout_in t) place.number buf.bytes × (place.row < length (rows_on (layout_in t) buf.bytes))
+
+-- where a row isn't pending its page stands in the buffer
+abbrev pub HoldsIts : Table → FlashState → BufferState → RowAt → Type 0
+HoldsIts t f buf (at.Pending i) = Unit {0}
+HoldsIts t f buf (at.InPage place) = HoldsKept t f place.number buf
 
 -- it is the row of the entry with the key
 pub record ShowsEntry (plan : Plan) (table : model.Table) (key : ℕ) (buf : BufferState) (place : RowAt) : Type 0 where

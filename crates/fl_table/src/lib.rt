@@ -20,6 +20,6 @@ mod table;
 mod tests;
 
 pub use counts::{Mounted, TableCounts};
-pub use find::RowAt;
 pub use faults::{FlushFault, MountFault, PutRefusal};
+pub use find::RowAt;
 pub use table::Table;

@@ -1,12 +1,11 @@
-use Rattle.std.proofs.Common.{rules, ◌≡◌, ℕ, ◌+◌, ◌≤◌, Bool, true, false, Option, option_map, Ok, Err, sym, ◌∙◌, ap, subst}
+use Rattle.std.proofs.Common.{rules, ◌≡◌, ◌≤◌, true, false, Option, option_map, Ok, length, sym, ◌∙◌, ap, subst, arith}
 use Rattle.std.specs.Prelude.{IfSome}
-use Rattle.fl_schema.specs.Schema.{layout_of}
-use Rattle.fl_find.specs.declared.row.PageRow.{PageRow}
 use Rattle.fl_model.specs.Spline.{is_pending_key}
-use Rattle.fl_table.specs.Finding.{Finds, IsHere}
+use Rattle.fl_base.specs.declared.types.Geometry.{Geometry}
+use Rattle.fl_table.specs.Finding.{Finds, IsRowAt, HoldsIts}
 use Rattle.fl_table.specs.declared.find.RowAt.{RowAt}
 use Rattle.fl_table.specs.declared.find.RowAt.TheVariants as at
-use Rattle.fl_table.proofs.Finds.{holds-pages, finds-page, finds-fault, finds-pending, here-page}
+use Rattle.fl_table.proofs.Finds.{holds-pages, finds-page, finds-fault, finds-pending, here-page, holds-page}
 use Rattle.fl_table.proofs.table.Table.find.Goals as goal
 
 no : false ≡ true → ⊥
@@ -43,8 +42,15 @@ returns-in-Ok-clause-pending g c = λ first plan table stands is.
 pub returns-in-Ok-clause-here : goal.returns-in-Ok-clause-here
 returns-in-Ok-clause-here g c =
     let e : c.map-in-Ok.result ≡ option_map at.InPage c.in-Ok.found = search rules in
-    subst (λ (o : Option RowAt). IfSome o (IsHere c.args.self.now (g.F.Flash.state c.find.new.flash) c.find.new.buf)) (sym e)
-    (here-page c.args.self.now (g.F.Flash.state c.find.new.flash) c.in-Some.ring c.args.key c.find.new.buf c.in-Ok.found c.in-Some.is c.in-Ok.ensures.within c.in-Ok.ensures.holds c.in-Ok.ensures.row)
+    let few : length c.find.new.buf.bytes ≤ 4096 = omega (arith, c.in-Ok.ensures.room, c.requires.room, ap (λ (s : Geometry). s.page) c.requires.lies.geometry, c.args.self.now.served.page_greatest) in
+    subst (λ (o : Option RowAt). IfSome o (IsRowAt c.args.self.now c.find.new.buf)) (sym e)
+    (here-page c.args.self.now (g.F.Flash.state c.find.new.flash) c.in-Some.ring c.args.key c.find.new.buf c.in-Ok.found few c.in-Ok.ensures.holds c.in-Ok.ensures.row)
+
+pub returns-in-Ok-clause-holds : goal.returns-in-Ok-clause-holds
+returns-in-Ok-clause-holds g c =
+    let e : c.map-in-Ok.result ≡ option_map at.InPage c.in-Ok.found = search rules in
+    subst (λ (o : Option RowAt). IfSome o (HoldsIts c.args.self.now (g.F.Flash.state c.find.new.flash) c.find.new.buf)) (sym e)
+    (holds-page c.args.self.now (g.F.Flash.state c.find.new.flash) c.in-Some.ring c.find.new.buf c.in-Ok.found c.in-Some.is c.in-Ok.ensures.within c.in-Ok.ensures.holds)
 
 pub returns-in-Err-clause-finds : goal.returns-in-Err-clause-finds
 returns-in-Err-clause-finds g c = λ first plan table tells stands.

@@ -1,4 +1,4 @@
-use Rattle.std.proofs.Common.{◌≡◌, nat_le, ap, ◌∙◌}
+use Rattle.std.proofs.Common.{nat_le, ap, ◌∙◌}
 use Rattle.fl_schema.specs.Schema.{row_of}
 use Rattle.fl_table.proofs.PendingKey.{pending-told}
 use Rattle.fl_table.proofs.table.Table.is_pending_key.Goals as goal
