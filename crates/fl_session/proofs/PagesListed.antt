@@ -1,7 +1,7 @@
 -- The rows of pages that are listed one after another.
 use Rattle.std.proofs.Common.{◌≡◌, ℕ, suc, ◌+◌, ◌-◌, ◌≤◌, Bool, true, false, cond, nat_lt, Option, Some, Ok, Err, List, [], ◌∷◌, ◌++◌, length, take, drop, map, filter, refl, sym, ◌∙◌, ap, subst, append_assoc, length-append, arith}
-use Rattle.std.proofs.lemmas.Bool.{lt-ltb}
 use Rattle.std.proofs.lemmas.Grind.{flat_map-append}
+use Rattle.std.proofs.lemmas.Bool.{lt-ltb}
 use Rattle.std.proofs.Math.Seq.{take-add}
 use Rattle.std.proofs.lemmas.List.{map-append, take-append-le, take_all}
 use Rattle.std.proofs.lemmas.List.Elements.{filter-append}
@@ -63,6 +63,26 @@ not-void plan table i count rows page found P is shows e at some =
   where
     one : {a b : ℕ} → Some a ≡ Some b → a ≡ b
     one e = cc
+
+-- a page that is noted as void has no lines
+pub no-rows : (range : KeyRange) (span : Option Span) (table : model.Table) (i count rows : ℕ) (told : Option (List ℕ)) → slice_get table.rows.counts i ≡ Some count → slice_get table.rows.counts i ≡ Some rows → rows ≡ 0 →
+    Appends told told (texts (lines_of range span (rows_at table i count))) × (0 ≡ length (lines_of range span (rows_at table i count)))
+no-rows range span table i count rows told e at none =
+    let void : count ≡ 0 = one (sym e ∙ at) ∙ none in
+    let front = drop (sum (take i table.rows.counts)) table.entries in
+    let lines : lines_of range span (rows_at table i count) ≡ [] = ap (λ n. lines_of range span (take n front)) void ∙ ap (lines_of range span) (nothing front) in
+    (subst (λ (l : List Reply). Appends told told (texts l)) (sym lines) (appends-none told), sym (ap length lines))
+  where
+    one : {a b : ℕ} → Some a ≡ Some b → a ≡ b
+    one e = cc
+
+    nothing : {X : Type 0} (xs : List X) → take 0 xs ≡ []
+    nothing [] = refl
+    nothing (x ∷ xs) = refl
+
+-- .. and another is one page with rows
+pub full-one : (n : ℕ) → (n ≡ 0 → ⊥) → full_pages (n ∷ []) ≡ 1
+full-one n some = rw (lt-ltb 0 n (omega (arith, some))) refl
 
 -- the rows of a page that were found
 pub found-rows : (plan : Plan) (table : model.Table) (i count : ℕ) (page : List ℕ) (found : Bool) (rows : List Row) → found ≡ true → ShowsRows plan table i count page (Ok found) →
@@ -191,20 +211,3 @@ full-most noted first n m le =
 pub none-listed : (range : KeyRange) (span : Option Span) (table : model.Table) (told : Option (List ℕ)) (faults : ℕ) → ListsAll (lines_before range span table 0) told told faults faults (Ok 0)
 none-listed range span table told faults =
     (subst (λ (l : List Reply). Appends told told (texts l)) (sym (none-before range span table)) (appends-none told), sym (ap length (none-before range span table)))
-
--- a void page lists nothing, and a page with rows takes a read
-pub void-listed : (range : KeyRange) (span : Option Span) (table : model.Table) (i count rows : ℕ) (told : Option (List ℕ)) (faults : ℕ) → rows ≡ 0 → slice_get table.rows.counts i ≡ Some count → slice_get table.rows.counts i ≡ Some rows →
-    ListsAll (lines_of range span (rows_at table i count)) told told faults faults (Ok 0)
-void-listed range span table i count rows told faults none e at =
-    subst (λ n. ListsAll (lines_of range span (rows_at table i n)) told told faults faults (Ok 0)) (sym (sym (one (sym at ∙ e)) ∙ none))
-    (nothing (drop (sum (take i table.rows.counts)) table.entries))
-  where
-    one : ◌≡◌ {A = Option ℕ} (Some rows) (Some count) → rows ≡ count
-    one h = cc
-
-    nothing : (entries : List model.Entry) → ListsAll (lines_of range span (take 0 entries)) told told faults faults (Ok 0)
-    nothing [] = (appends-none told, refl)
-    nothing (entry ∷ entries) = (appends-none told, refl)
-
-pub full-one : (rows : ℕ) → (rows ≡ 0 → ⊥) → 1 ≤ full_pages (rows ∷ [])
-full-one rows some = let full : nat_lt 0 rows ≡ true = lt-ltb 0 rows (omega (arith, some)) in omega (arith, ap (λ (b : Bool). 0 + cond b 1 0) full)

@@ -13,7 +13,9 @@ use Rattle.fl_words.specs.Reply.{Reply, texts}
 use Rattle.fl_base.specs.Causes.{AppendsFront}
 use Rattle.fl_table.proofs.Looks.{oldest-is, next-is}
 use Rattle.fl_session.specs.Rows.{lines_of}
-use Rattle.fl_session.proofs.PagesListed.{unread, shown-lists, not-void, found-rows, found-lines, void-listed, full-one, reads-most}
+use Rattle.fl_ring.specs.Looking.{OnlyReads}
+use Rattle.fl_table.specs.Look.{rows_noted}
+use Rattle.fl_session.proofs.PagesListed.{no-rows, full-one, unread, shown-lists, not-void, found-rows, found-lines}
 use Rattle.fl_session.proofs.RangeEnds.{page-ends}
 use Rattle.fl_session.proofs.rows.Wanted.list_page.Goals as goal
 
@@ -60,9 +62,9 @@ returns-then-rows_of-eq0-clause-lists g c = λ first plan t count told on stands
     let f = g.F.Flash.state c.args.flash.now in
     let low : oldest t.rows ≤ c.args.number = omega (arith, c.requires.kept, oldest-is c.args.table.now f first plan t stands) in
     let high : c.args.number < t.rows.next = omega (arith, c.requires.kept, next-is c.args.table.now f first plan t stands) in
-    void-listed c.args.self.now.range c.args.self.now.span t (c.args.number - oldest t.rows) count c.rows_of.result (g.K.Sink.written c.args.out.now) f.media.faults c.if-rows_of-eq0.true e
-    (c.rows_of.ensures.stands f first plan t stands low high)
+    no-rows c.args.self.now.range c.args.self.now.span t (c.args.number - oldest t.rows) count c.rows_of.result _ e (c.rows_of.ensures.stands f first plan t stands low high) c.if-rows_of-eq0.true
 
 pub returns-clause-reads : goal.returns-clause-reads
 returns-clause-reads g c =
-    reads-most (g.F.Flash.state c.args.flash.now) (g.F.Flash.state c.read_page.new.flash) 1 _ (full-one _ (λ none. c.if-rows_of-eq0.false (c.rows_of.ensures.exact ∙ none))) c.read_page.ensures.reads
+    let one = full-one (rows_noted c.args.table.now c.args.number) (λ e. c.if-rows_of-eq0.false (c.rows_of.ensures.exact ∙ e)) in
+    subst (λ n. OnlyReads (g.F.Flash.state c.args.flash.now) n (g.F.Flash.state c.read_page.new.flash)) (sym one) c.read_page.ensures.reads

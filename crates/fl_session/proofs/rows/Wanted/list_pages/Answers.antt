@@ -1,4 +1,4 @@
-use Rattle.std.proofs.Common.{◌≡◌, suc, ◌+◌, ◌-◌, Ok, List, [], ◌∷◌, map, refl, sym, ◌∙◌, ap, subst, arith}
+use Rattle.std.proofs.Common.{◌≡◌, suc, ◌+◌, ◌-◌, Ok, [], ◌∷◌, map, refl, sym, ◌∙◌, ap, subst, arith}
 use Rattle.std.proofs.lemmas.Result.{err_from_is_err_and}
 use Rattle.std.specs.List.{range_with_len}
 use Rattle.fl_model.specs.Image.{rows_at}
@@ -12,7 +12,6 @@ use Rattle.fl_table.specs.Look.{oldest_in, rows_noted, kept_counts}
 use Rattle.fl_table.specs.Memory.{next_in}
 use Rattle.fl_table.proofs.Looks.{oldest-is, next-is}
 use Rattle.fl_table.proofs.StillStands.{stands-still}
-use Rattle.fl_words.specs.Reply.{Reply}
 use Rattle.fl_session.specs.Listed.{ListsAll}
 use Rattle.fl_session.specs.Rows.{lines_of}
 use Rattle.fl_session.proofs.PagesListed.{lines_before, lists-then, lists-stop, page-lines, written-lines, all-before, reads-most, full-next, full-most, none-listed}
@@ -157,12 +156,13 @@ returns-in_err-page-clause-counts g c = OnlyReads-then _ _ _ c.loop-number.invar
 
 pub returns-then-passes_pages-clause-lists : goal.returns-then-passes_pages-clause-lists
 returns-then-passes_pages-clause-lists g c = λ first plan table told on stands.
-    let f = g.F.Flash.state c.args.flash.now in
-    let none = c.passes_pages.ensures f first plan table stands c.if-passes_pages.true in
-    subst (λ (l : List Reply). ListsAll l (g.K.Sink.written c.args.out.now) (g.K.Sink.written c.args.out.now) f.media.faults f.media.faults (Ok 0)) (sym none) (appends-none (g.K.Sink.written c.args.out.now), refl)
+    let none = c.passes_pages.ensures (g.F.Flash.state c.args.flash.now) first plan table stands c.if-passes_pages.true in
+    rw none (appends-none _, refl)
 
 pub returns-clause-reads : goal.returns-clause-reads
 returns-clause-reads g c =
     let t = c.args.table.now in
-    let most = full-most (rows_noted t) (oldest_in t) (c.loop-number.number - oldest_in t) (next_in t - oldest_in t) (omega (arith, c.loop-number.auto.number, c.loop-number.auto.number-end, c.oldest-number.ensures.exact, c.next_number-number-end.ensures)) in
-    reads-most (g.F.Flash.state c.args.flash.now) (g.F.Flash.state c.loop-number.flash) (full_pages (map (rows_noted t) (range_with_len (oldest_in t) (c.loop-number.number - oldest_in t)))) (full_pages (kept_counts t)) most c.loop-number.invariant.reads
+    let inv = c.loop-number.invariant in
+    let end = c.loop-number.auto.number-end (omega (arith, c.oldest-number.ensures.exact, c.next_number-number-end.ensures.ordered)) in
+    let most = full-most (rows_noted t) (oldest_in t) (c.loop-number.number - oldest_in t) (next_in t - oldest_in t) (omega (arith, end, c.next_number-number-end.ensures.exact)) in
+    reads-most (g.F.Flash.state c.args.flash.now) (g.F.Flash.state c.loop-number.flash) _ (full_pages (kept_counts t)) most inv.reads
