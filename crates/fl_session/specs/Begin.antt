@@ -3,7 +3,7 @@ use Rattle.std.specs.Prelude.{◌≡◌, ℕ, ◌+◌, ◌<◌, ◌≤◌, ◌^�
 use Rattle.fl_model.specs.Record.{Config}
 use Rattle.fl_words.specs.Command.{Command}
 use Rattle.fl_words.specs.Config.{Lines, whole}
-use Rattle.fl_machine.specs.Script.{Start, Ready, Unended, BadLine, BadConfig, start_with, start_line, start_of}
+use Rattle.fl_machine.specs.Script.{Start, Unended, BadLine, BadConfig, start_with, start_line, start_of}
 use Rattle.fl_session.specs.Built.{IsRunnable, is_built, is_built_config}
 use Rattle.fl_session.specs.Taken.{HasTaken, TakesFew, TakesLine, TakesBegin, IsUnended}
 use Rattle.fl_session.specs.Texts.{most_bytes, whole_lines, rest_of, lines_read}
