@@ -30,21 +30,21 @@ above-range (suc low) (Some after) key from above =
 -- a row that is left is above what a cursor gave
 pub left-above : (asked : Asked) (row : Row) → is_left asked row ≡ true → is_above (above_of asked) row.key ≡ true
 left-above asked row left =
-    let parts = both (row_matches asked.range asked.span row) (is_above asked.after row.key && is_up_to asked.top row.key) left in
-    let matching = both (in_range asked.range row.key) (in_span asked.span (slice_get row.values 0)) parts.0 in
-    let within = both (nat_le asked.range.low row.key) (nat_le row.key asked.range.high) matching.0 in
-    let above = both (is_above asked.after row.key) (is_up_to asked.top row.key) parts.1 in
-    above-range asked.range.low asked.after row.key within.0 above.0
+    let parts = both (row_matches asked.range asked.span row && is_above asked.after row.key) (is_up_to asked.top row.key) left in
+    let matching = both (row_matches asked.range asked.span row) (is_above asked.after row.key) parts.0 in
+    let asks = both (in_range asked.range row.key) (in_span asked.span (slice_get row.values 0)) matching.0 in
+    let within = both (nat_le asked.range.low row.key) (nat_le row.key asked.range.high) asks.0 in
+    above-range asked.range.low asked.after row.key within.0 matching.1
 
 -- those that pass a test ascend above what the test asks for
 ascends-above : (test : Row → Bool) (bound above : Option ℕ) (rows : List Row) → ((row : Row) → test row ≡ true → is_above bound row.key ≡ true) → Ascends above rows →
     Ascends bound (filter test rows)
 ascends-above test bound above [] asks ascends = tt
-ascends-above test bound above (row ∷ rows) asks ascends = by_test (test row) refl
+ascends-above test bound above (row ∷ rows) asks ascends = by_test (test row) refl (ascends-above test bound (Some row.key) rows asks ascends.1)
   where
-    by_test : (b : Bool) → test row ≡ b → Ascends bound (if b then row ∷ filter test rows else filter test rows)
-    by_test true is = (asks row is, Ascends-filter test (Some row.key) rows ascends.1)
-    by_test false is = ascends-above test bound (Some row.key) rows asks ascends.1
+    by_test : (b : Bool) → test row ≡ b → Ascends bound (filter test rows) → Ascends bound (if b then row ∷ filter test rows else filter test rows)
+    by_test true is rest = (asks row is, Ascends-filter test (Some row.key) rows ascends.1)
+    by_test false is rest = rest
 
 pub left-ascends : (cursor : Cursor) (contents : Contents) → IsTold cursor contents → Ascends (above_of (asked_of cursor)) (left_of cursor contents)
 left-ascends cursor contents told = ascends-above (is_left (asked_of cursor)) (above_of (asked_of cursor)) None _ (left-above (asked_of cursor)) told.ascends

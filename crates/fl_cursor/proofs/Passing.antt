@@ -1,0 +1,2 @@
+-- Rows that a cursor passes.
+use Rattle.std.proofs.Common.{◌≡◌, ℕ}
