@@ -44,6 +44,7 @@ impl<const KNOTS: usize, const SLOTS: usize> LearnedIndex<KNOTS, SLOTS> {
             is_pending_key table key ≡ false → (F.state flash.new).work.reads ≤ (F.state flash.old).work.reads + lookup_limit KNOTS plan table key }
         ensures most { (F.state flash.new).work.reads ≤ (F.state flash.old).work.reads + (next_of ring.now - oldest_of ring.now) + 1 }
         ensures holds { IfOk result (λ row. IfSome row (λ at. Holds (layout_of schema.now) (shape_of ring.now) (F.state flash.new) at.number buf.new)) }
+        ensures within { IfOk result (λ row. IfSome row (λ at. (oldest_of ring.now ≤ at.number) × (at.number < next_of ring.now))) }
         ensures row { IfOk result (λ row. IfSome row (λ at. HasKey (rows_on (layout_of schema.now) buf.new.bytes) key at.row)) }
         ensures fails { IfErr result (λ e. LookFails (layout_of schema.now) ring.now (F.state flash.old) e (F.state flash.new)) }
         ensures later { min steps.old (2 ^ 64 - 1) ≤ steps.new }

@@ -20,6 +20,7 @@ stands-still t f g n first plan table reads stands = record {
   clean = stands.clean;
   pages = holds-same (page_at f) (page_at g) first plan (lose table) (λ ring number. same_page f g n (place_in first plan ring number) reads) stands.pages;
   memory = stands.memory;
+  points = stands.points;
 }
 
 pub lies-still : (t : Table) (f g : FlashState) (n : ℕ) → OnlyReads f n g → LiesOn t f → LiesOn t g

@@ -41,12 +41,14 @@ impl Table {
             unreachable!()
         };
         let number = ring.next_number();
+        let first_key = self.writer.row(&self.schema, 0).key();
         self.writer.finish(number, self.bitmap);
         if let Err(fault) = ring.seal(flash, self.writer.body()) {
             self.stopped = true;
             return Err(fault);
         }
         note(&mut self.counts, number, self.writer.count());
+        self.index.add_further(first_key, number);
         self.writer.clear();
         self.bitmap = 0;
         self.ring = Some(ring);
