@@ -27,9 +27,12 @@ Notes true old new =
     × (is_left (asked_of old) (present_of new) ≡ true) × (is_here new ≡ true) × ((present_of new).key < 2 ^ 64)
 
 -- It took the row with this key, and goes on from the place where a greater one may be given.
-abbrev pub Takes : ℕ → Here → Place → Cursor → Cursor → Type 0
-Takes key here place old new =
-    new ≡ record old { mark = record old.mark { after = Some key }; here = here; place = if is_last old.mark.top key then Ended else place }
+abbrev pub took : ℕ → Here → Place → Cursor → Cursor
+took key here place cursor = record cursor {
+  mark = record cursor.mark { after = Some key };
+  here = here;
+  place = if is_last cursor.mark.top key then Ended else place;
+}
 
 -- A row that was taken is the first of those left; else they stay.
 abbrev pub Gives : Bool → List Row → Row → List Row → Type 0

@@ -14,12 +14,12 @@ use fl_page::ReadFault;
 impl Cursor<'_, '_, '_> {
     ghost use Rattle.fl_flash.specs.Flash.{FlashState};
     ghost use Rattle.fl_cursor.specs.Cursor.{table_of, mark_of, asked_of, buffer_of, place_of, here_of, is_here, has_ended, IsReady, IsTold, IsPlaced, IfBad, MayBeBad};
-    ghost use Rattle.fl_cursor.specs.Going.{Goes, Fails, Takes, pages_left, is_in_page, is_at_pages};
+    ghost use Rattle.fl_cursor.specs.Going.{Goes, Fails, took, pages_left, is_in_page, is_at_pages};
     ghost use Rattle.fl_cursor.specs.declared.place.Place.{Place};
 
     /// Takes the row with this key, which is here. The next one is looked for from the place on.
     fn take(&mut self, key: u64, here: Here, place: Place)
-        ensures { Takes key here place self.old self.new }
+        ensures { self.new ≡ took key here place self.old }
     {
         self.here = here;
         self.place = if self.mark.is_last(key) {

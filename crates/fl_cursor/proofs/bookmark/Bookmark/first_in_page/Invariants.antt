@@ -5,4 +5,4 @@ use Rattle.fl_cursor.specs.Sought.{first_left}
 use Rattle.fl_cursor.proofs.bookmark.Bookmark.first_in_page.Given as goal
 
 abbrev pub invariant-loop-i : goal.invariant-loop-i
-invariant-loop-i l = first_left (asked_by l.self.now) (drop l.from (rows_of l.view.now)) l.from ≡ first_left (asked_by l.self.now) (drop l.i (rows_of l.view.now)) l.i
+invariant-loop-i l = first_left (asked_by l.self) (drop l.from (rows_of l.view)) l.from ≡ first_left (asked_by l.self) (drop l.i (rows_of l.view)) l.i
