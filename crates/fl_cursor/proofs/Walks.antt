@@ -3,6 +3,7 @@ use Rattle.std.proofs.Common.{◌≡◌, ℕ, zero, suc, ◌+◌, ◌-◌, ◌<�
 use Rattle.std.specs.List.{slice_get, list_any}
 use Rattle.fl_model.specs.Query.{Cursor}
 use Rattle.fl_model.specs.Row.{Row}
+use Rattle.fl_model.proofs.Lists.{slice_get-drop, slice_get-short}
 use Rattle.fl_page.specs.Contents.{Contents}
 use Rattle.fl_table.specs.declared.table.Table.{Table}
 use Rattle.fl_cursor.specs.Asked.{is_left, is_asked, is_last}
@@ -12,7 +13,7 @@ use Rattle.fl_cursor.specs.Reads.{has_last, pages_asked}
 use Rattle.fl_cursor.specs.Sought.{first_left}
 use Rattle.fl_cursor.specs.declared.search.Sought.{Sought}
 use Rattle.fl_cursor.specs.declared.search.Sought.TheVariants.{Row as At, Behind, Nowhere}
-use Rattle.fl_cursor.proofs.Passing.{passes-next, Above, each-front, each-back, none-asked}
+use Rattle.fl_cursor.proofs.Passing.{passes-all, passes-next, Above, each-front, each-back, none-asked}
 
 -- the row at place k, where the first of these has place i
 pub record Reached (asked : Cursor) (all xs rest : List Row) (i k : ℕ) : Type 0 where
@@ -85,6 +86,11 @@ passed asked all xs rest i h e = subst (FoundAs asked all xs rest i) (sym e) (fo
 
 pub stopped : (asked : Cursor) (all xs rest : List Row) (i : ℕ) → Passes asked all (xs ++ rest) → Nowhere ≡ first_left asked xs i → Stopped asked all rest
 stopped asked all xs rest i h e = subst (FoundAs asked all xs rest i) (sym e) (found-as asked all xs rest i h)
+
+pub found-within : (asked : Cursor) (rows : List Row) (from k : ℕ) → At k ≡ first_left asked (drop from rows) from → k < length rows
+found-within asked rows from k e =
+    let h = reached asked (drop from rows ++ []) (drop from rows) [] from k (passes-all asked (drop from rows ++ [])) e in
+    slice_get-short rows k h.row (ap (slice_get rows) h.at ∙ (sym (slice_get-drop from rows h.j) ∙ h.here))
 
 -- no page behind the last key has a row that is asked for
 pub asked-over : (t : Table) (contents : Contents) (asked : Cursor) (key n number : ℕ) → is_last asked.top key ≡ true → Above key (rows_over t contents number n) → pages_asked t contents asked number n ≡ 0

@@ -34,6 +34,7 @@ impl Cursor<'_, '_, '_> {
     fn step_in_page(&mut self) -> bool
         requires placed { IsPlaced (table_of self.old) (buffer_of self.old) (place_of self.old) }
         requires short { length (buffer_of self.old) ≤ 4096 }
+        requires few { next_in (table_of self.old) < 2 ^ 32 }
         ensures goes { (contents : Contents) (reads : ℕ) → Goes result contents reads self.old reads self.new }
         ensures here { OnFalse result (here_of self.new ≡ here_of self.old) }
         ensures outside { OnFalse result (is_in_page (place_of self.new) ≡ false) }
@@ -92,9 +93,10 @@ impl Cursor<'_, '_, '_> {
 
     /// Goes into the page with this number, which is read once, or past it where it has no rows. Behind the last page are
     /// the pending rows.
-    fn read_page<F: Flash>(&mut self, next: u32, flash: &mut F) -> Result<(), ReadFault>
+    fn read_page<F: Flash>(&mut self, next: u32, end: u32, flash: &mut F) -> Result<(), ReadFault>
         requires ready { IsReady self.old (contents_of (F.state flash.old)) }
         requires next { place_of self.old ≡ Place.Pages next }
+        requires end { end ≡ next_in (table_of self.old) }
         ensures reads_only { OnlyReads (F.state flash.old) (F.state flash.new) }
         ensures cause { IfErr result (λ fault. IsCaused (F.state flash.old) fault (F.state flash.new)) }
         ensures bad_page { IfErr result (IfBad (MayBeBad (table_of self.old) (contents_of (F.state flash.old)))) }
@@ -103,7 +105,7 @@ impl Cursor<'_, '_, '_> {
         ensures fails { OnErr result (Fails (contents_of (F.state flash.old)) (F.state flash.old).work.reads self.old (F.state flash.new).work.reads self.new) }
         ensures fewer { OnOk result (pages_left (table_of self.old) (place_of self.new) < pages_left (table_of self.old) (place_of self.old)) }
     {
-        if next == self.table.next_number() {
+        if next == end {
             self.place = Place::Pending { row: 0 };
             return Ok(());
         }
@@ -112,13 +114,13 @@ impl Cursor<'_, '_, '_> {
             self.place = behind;
             return Ok(());
         }
-        self.place = if self.table.read_page(flash, next, self.rows_buf)? {
-            Place::InPage {
-                number: next,
-                row: 0,
-            }
-        } else {
-            behind
+        if !self.table.read_page(flash, next, self.rows_buf)? {
+            self.place = behind;
+            return Ok(());
+        }
+        self.place = Place::InPage {
+            number: next,
+            row: 0,
         };
         Ok(())
     }
@@ -135,12 +137,13 @@ impl Cursor<'_, '_, '_> {
         ensures end { IfOk result (λ more. OnFalse more (has_ended self.new ≡ true)) }
         ensures stays_ended { has_ended self.old ≡ true → (result ≡ Ok false) × (F.state flash.new ≡ F.state flash.old) }
     {
+        let end = self.table.next_number();
         self.here = Here::Nowhere;
         if self.step_in_page() {
             return Ok(true);
         }
         while let Place::Pages { next } = self.place {
-            self.read_page(next, flash)?;
+            self.read_page(next, end, flash)?;
             if self.step_in_page() {
                 return Ok(true);
             }
