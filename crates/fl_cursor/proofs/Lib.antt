@@ -8,3 +8,4 @@ pub mod Stood
 pub mod Starting
 pub mod Turning
 pub mod Whole
+pub mod Stepping

@@ -55,5 +55,5 @@ returns-in_err-read_page-clause-fails g c =
     let before : c.args.next < next_in c.args.self.now.table.now = omega (arith, placed.1, c.if-next-end.false, c.requires.end) in
     let some : rows_noted c.args.self.now.table.now c.args.next ≡ 0 → ⊥ = λ none. c.if-rows_of-eq0.false (c.rows_of.ensures.exact ∙ none) in
     let p = err_from_is_err_and c.from_residual.result c.from_residual.ensures.1 in
-    rw (p.1, p.2) (page-fails c.args.self.now c.args.next c.requires.next placed.0 before (contents_of (g.F.Flash.state c.args.flash.now)) (g.F.Flash.state c.args.flash.now).work.reads _ (g.F.Flash.state c.read_page.new.flash).work.reads refl
+    rw p.1 (page-fails c.args.self.now c.args.next c.requires.next placed.0 before (contents_of (g.F.Flash.state c.args.flash.now)) (g.F.Flash.state c.args.flash.now).work.reads _ (g.F.Flash.state c.read_page.new.flash).work.reads refl
     c.read_page.ensures.room some c.read_page.ensures.reads.reads)
