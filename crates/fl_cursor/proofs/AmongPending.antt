@@ -1,5 +1,5 @@
 -- A cursor among the pending rows: it takes one, or ends.
-use Rattle.std.proofs.Common.{◌≡◌, ℕ, suc, ◌+◌, ◌^◌, ◌<◌, ◌≤◌, ◌*◌, ◌⊎◌, inl, inr, Bool, true, false, nat_lt, Option, Some, None, unwrap_or, List, [], ◌∷◌, ◌++◌, length, drop, refl, sym, ◌∙◌, ap, subst, arith}
+use Rattle.std.proofs.Common.{◌≡◌, ℕ, suc, ◌+◌, ◌^◌, ◌<◌, ◌≤◌, ◌*◌, ◌⊎◌, inl, inr, true, false, Option, Some, None, unwrap_or, List, [], ◌∷◌, ◌++◌, length, drop, sym, ◌∙◌, ap, subst, arith}
 use Rattle.std.specs.List.{slice_get}
 use Rattle.std.proofs.lemmas.Bool.{lt-ltb}
 use Rattle.std.proofs.lemmas.List.{append-nil}
@@ -12,15 +12,14 @@ use Rattle.fl_table.specs.Look.{layout_in, buffered_rows}
 use Rattle.fl_table.specs.Memory.{pending_in}
 use Rattle.fl_table.specs.declared.table.Table.{Table}
 use Rattle.fl_table.proofs.KeyRows.{length-rows_from}
-use Rattle.fl_cursor.specs.Asked.{is_left, is_last}
-use Rattle.fl_cursor.specs.Cursor.{table_of, asked_of, buffer_of, rows_behind, Passes, IsTold}
+use Rattle.fl_cursor.specs.Asked.{is_left}
+use Rattle.fl_cursor.specs.Cursor.{table_of, asked_of, rows_behind, Passes, IsTold}
 use Rattle.fl_cursor.specs.Going.{Goes, took}
 use Rattle.fl_cursor.specs.Listed.{rows_of}
-use Rattle.fl_cursor.specs.Reads.{most_from, least_from}
+use Rattle.fl_cursor.specs.Reads.{least_from}
 use Rattle.fl_cursor.specs.Sought.{first_left}
 use Rattle.fl_cursor.specs.declared.cursor.Cursor.{Cursor}
 use Rattle.fl_cursor.specs.declared.place.Here.TheVariants.{PendingRow}
-use Rattle.fl_cursor.specs.declared.place.Place.{Place}
 use Rattle.fl_cursor.specs.declared.place.Place.TheVariants.{Pending, Ended}
 use Rattle.fl_cursor.specs.declared.search.Sought.{Sought}
 use Rattle.fl_cursor.specs.declared.search.Sought.TheVariants.{Row as At, Behind, Nowhere}

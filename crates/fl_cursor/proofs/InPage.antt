@@ -1,9 +1,8 @@
 -- A cursor in a page: it takes a row, or goes on behind the page.
-use Rattle.std.proofs.Common.{◌≡◌, ℕ, suc, ◌+◌, ◌-◌, ◌^◌, ◌<◌, ◌≤◌, ◌/◌, Bool, true, false, ◌&&◌, cond, ◌==◌, nat_lt, nat_le, Option, Some, None, unwrap_or, List, [], ◌∷◌, ◌++◌, length, drop, refl, sym, ◌∙◌, ap, subst, arith}
+use Rattle.std.proofs.Common.{◌≡◌, ℕ, suc, ◌+◌, ◌-◌, ◌^◌, ◌<◌, ◌≤◌, ◌/◌, true, false, ◌&&◌, cond, ◌==◌, nat_lt, nat_le, Option, Some, None, unwrap_or, List, [], ◌∷◌, ◌++◌, length, drop, refl, sym, ◌∙◌, ap, subst, arith}
 use Rattle.std.specs.List.{slice_get}
 use Rattle.std.proofs.lemmas.Bool.{lt-ltb, le-leb, eq-eqb}
 use Rattle.std.proofs.lemmas.List.{drop-drop}
-use Rattle.fl_model.specs.Query as model
 use Rattle.fl_model.specs.Record.{RowLayout, layout_len}
 use Rattle.fl_model.specs.Row.{Row}
 use Rattle.fl_model.proofs.Lists.{slice_get-drop, slice_get-short}
@@ -14,19 +13,18 @@ use Rattle.fl_table.specs.Look.{layout_in, oldest_in, buffered_rows}
 use Rattle.fl_table.specs.Memory.{next_in}
 use Rattle.fl_table.proofs.KeyRows.{length-rows_from}
 use Rattle.fl_cursor.specs.Asked.{is_left, is_last}
-use Rattle.fl_cursor.specs.Cursor.{table_of, asked_of, buffer_of, is_good, is_here_at, row_at, rows_behind, Passes, IsPlaced, IsTold}
+use Rattle.fl_cursor.specs.Cursor.{table_of, asked_of, buffer_of, is_good, is_here_at, rows_behind, Passes, IsPlaced, IsTold}
 use Rattle.fl_cursor.specs.Going.{Goes, took}
 use Rattle.fl_cursor.specs.Listed.{rows_from, rows_over, rows_of}
 use Rattle.fl_cursor.specs.Reads.{has_last, pages_to_last, pages_asked, most_from, least_from}
 use Rattle.fl_cursor.specs.Sought.{first_left}
 use Rattle.fl_cursor.specs.declared.cursor.Cursor.{Cursor}
 use Rattle.fl_cursor.specs.declared.place.Here.TheVariants.{PageRow}
-use Rattle.fl_cursor.specs.declared.place.Place.{Place}
-use Rattle.fl_cursor.specs.declared.place.Place.TheVariants.{Pages, InPage, Pending, Ended}
+use Rattle.fl_cursor.specs.declared.place.Place.TheVariants.{Pages, InPage, Ended}
 use Rattle.fl_cursor.specs.declared.search.Sought.TheVariants.{Row as At, Behind, Nowhere}
 use Rattle.fl_cursor.proofs.Passing.{passes-all, passes-same, passes-end, passes-above, none-past, each-front, each-back, Above}
 use Rattle.fl_cursor.proofs.Taking.{takes-row, moves-on}
-use Rattle.fl_cursor.proofs.Walks.{reached, passed, stopped, asked-over, Reached}
+use Rattle.fl_cursor.proofs.Walks.{reached, passed, stopped, asked-over}
 
 -- a good page is seen as one
 pub good-seen : (layout : RowLayout) (number : ℕ) (page : List ℕ) → IsGoodPage layout number page → is_good layout number page ≡ true

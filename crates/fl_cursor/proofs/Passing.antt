@@ -1,8 +1,8 @@
 -- Rows that a cursor passes, takes and ends at.
-use Rattle.std.proofs.Common.{◌≡◌, ℕ, zero, suc, ◌+◌, ◌<◌, ◌≤◌, ◌⊎◌, Bool, true, false, ◌&&◌, ◌||◌, cond, nat_lt, nat_le, Option, Some, None, List, [], ◌∷◌, ◌++◌, length, drop, filter, refl, sym, ◌∙◌, ap, subst, append_assoc, arith, inl, inr}
-use Rattle.std.specs.List.{slice_get, AllByRecursion, list_any}
+use Rattle.std.proofs.Common.{◌≡◌, ℕ, ◌<◌, true, false, ◌&&◌, ◌||◌, cond, nat_lt, nat_le, Option, Some, None, List, [], ◌∷◌, ◌++◌, filter, refl, sym, ◌∙◌, ap, subst, append_assoc, arith}
+use Rattle.std.specs.List.{AllByRecursion, list_any}
 use Rattle.std.proofs.Math.Bool.{and-false}
-use Rattle.std.proofs.lemmas.Bool.{lt-ltb, le-ltb, ltb-true, leb-true, false_from_ne_true}
+use Rattle.std.proofs.lemmas.Bool.{lt-ltb, ltb-true, leb-true, false_from_ne_true}
 use Rattle.std.proofs.lemmas.List.{append-nil}
 use Rattle.std.proofs.lemmas.List.Elements.{filter-append}
 use Rattle.fl_model.specs.Query.{Cursor, is_above, is_up_to}
@@ -153,9 +153,10 @@ past-last (Some top) key later h lt =
 
 pub none-past : (asked : Cursor) (key : ℕ) (rows : List Row) → is_last asked.top key ≡ true → Above key rows → NotLeft asked rows
 none-past asked key [] last h = tt
-none-past asked key (row ∷ rows) last h =
-    (ap (λ b. (row_matches asked.range asked.span row && is_above asked.after row.key) && b) (past-last asked.top key row.key last h.0) ∙ and-false (row_matches asked.range asked.span row && is_above asked.after row.key),
-    none-past asked key rows last h.1)
+none-past asked key (row ∷ rows) last h = (
+  ap (λ b. (row_matches asked.range asked.span row && is_above asked.after row.key) && b) (past-last asked.top key row.key last h.0) ∙ and-false (row_matches asked.range asked.span row && is_above asked.after row.key),
+  none-past asked key rows last h.1,
+)
 
 pub none-asked : (asked : Cursor) (key : ℕ) (rows : List Row) → is_last asked.top key ≡ true → Above key rows → list_any (is_asked asked) rows ≡ false
 none-asked asked key [] last h = refl

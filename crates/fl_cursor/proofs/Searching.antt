@@ -1,5 +1,5 @@
 -- One row more of those that are searched.
-use Rattle.std.proofs.Common.{◌≡◌, ℕ, zero, suc, ◌+◌, ◌≤◌, Bool, true, false, cond, Option, Some, List, [], ◌∷◌, length, drop, refl, sym, ◌∙◌, ap, arith}
+use Rattle.std.proofs.Common.{◌≡◌, ℕ, ◌+◌, ◌≤◌, true, false, cond, Some, List, drop, ◌∙◌, ap, arith}
 use Rattle.std.specs.List.{slice_get}
 use Rattle.std.proofs.lemmas.List.{drop_all}
 use Rattle.fl_model.specs.Query.{Cursor}
@@ -9,7 +9,6 @@ use Rattle.fl_page.specs.Page.{rows_from}
 use Rattle.fl_table.proofs.KeyRows.{drop-row, length-rows_from}
 use Rattle.fl_cursor.specs.Asked.{is_left, is_last}
 use Rattle.fl_cursor.specs.Sought.{first_left}
-use Rattle.fl_cursor.specs.declared.search.Sought.{Sought}
 use Rattle.fl_cursor.specs.declared.search.Sought.TheVariants.{Row as At, Behind, Nowhere}
 
 -- the row at a place is searched first

@@ -1,5 +1,5 @@
 -- Where a cursor may begin.
-use Rattle.std.proofs.Common.{◌≡◌, ℕ, ◌+◌, ◌-◌, ◌^◌, ◌<◌, ◌≤◌, Bool, true, false, min, max, nat_le, Option, Some, None, List, [], ◌∷◌, ◌++◌, drop, refl, sym, ◌∙◌, ap, subst, arith}
+use Rattle.std.proofs.Common.{◌≡◌, ℕ, ◌-◌, ◌<◌, ◌≤◌, true, false, nat_le, Option, Some, None, List, [], ◌∷◌, ◌++◌, drop, sym, ◌∙◌, subst, arith}
 use Rattle.std.specs.List.{slice_get, AllByRecursion}
 use Rattle.std.proofs.lemmas.Bool.{leb-true, le-leb, ltb-true, false_from_ne_true}
 use Rattle.fl_model.specs.Query.{Cursor, in_range, in_span, is_above, is_up_to}
@@ -14,7 +14,7 @@ use Rattle.fl_cursor.specs.Ascending.{both}
 use Rattle.fl_cursor.specs.Asked.{is_left, lowest, lowest_of}
 use Rattle.fl_cursor.specs.Cursor.{Passes, IsStanding}
 use Rattle.fl_cursor.specs.Listed.{rows_over, rows_of}
-use Rattle.fl_cursor.proofs.Passing.{NotLeft, left-parts, passes-all, passes-over, passes-same, passes-end, each-weaker}
+use Rattle.fl_cursor.proofs.Passing.{NotLeft, left-parts, passes-all, passes-over, passes-end, each-weaker}
 use Rattle.fl_cursor.proofs.Stood.{standing-ascends}
 
 no : true ≡ false → ⊥

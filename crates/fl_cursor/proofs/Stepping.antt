@@ -1,8 +1,7 @@
 -- A step as the step of rows.
-use Rattle.std.proofs.Common.{◌≡◌, ℕ, true, false, Bool, List, [], ◌++◌, filter, Result, Ok, Err, OnErr, IfOk, IfErr, refl, sym, ◌∙◌, ap, subst}
+use Rattle.std.proofs.Common.{◌≡◌, ℕ, true, false, Bool, [], filter, Result, Ok, Err, OnErr, IfOk, IfErr, refl, ◌∙◌, ap}
 use Rattle.std.specs.Bool.{OnFalse}
 use Rattle.std.specs.Borrow.{Bor}
-use Rattle.fl_model.specs.Row.{Row}
 use Rattle.fl_page.specs.Contents.{Contents}
 use Rattle.fl_page.specs.Steps.{Steps}
 use Rattle.fl_page.specs.declared.fault.ReadFault.{ReadFault}

@@ -5,7 +5,7 @@ use Rattle.std.proofs.lemmas.Bool.{cases_lt, lt-ltb, eq-eqb, eqb-true, false_fro
 use Rattle.std.proofs.lemmas.List.{map-append, drop-drop, take_all}
 use Rattle.std.proofs.lemmas.List.Sums.{sum_by-take-le}
 use Rattle.std.specs.List.{slice_get, sum}
-use Rattle.fl_flash.specs.Flash.{FlashState, page_at}
+use Rattle.fl_flash.specs.Flash.{page_at}
 use Rattle.fl_flash.specs.Places.{page_of}
 use Rattle.fl_mark.specs.Mark.{state_of_page}
 use Rattle.fl_mark.specs.declared.page_state.PageState.{PageState}
@@ -16,11 +16,11 @@ use Rattle.fl_model.specs.Query as query
 use Rattle.fl_model.specs.Query.{is_above}
 use Rattle.fl_model.specs.Record.{RowLayout, row_layout}
 use Rattle.fl_model.specs.Ring as rings
-use Rattle.fl_model.specs.Row.{Row, stored_row, bytes_of_row}
+use Rattle.fl_model.specs.Row.{Row, stored_row}
 use Rattle.fl_model.specs.Table as model
 use Rattle.fl_model.specs.Table.{Entry, lose, pending_entries}
 use Rattle.fl_model.proofs.Lists.{slice_get-some, slice_get-short}
-use Rattle.fl_page.specs.Contents.{Contents, contents_of}
+use Rattle.fl_page.specs.Contents.{Contents}
 use Rattle.fl_page.specs.Page.{IsGoodPage, rows_in}
 use Rattle.fl_page.specs.Page as pages
 use Rattle.fl_page.specs.Steps.{Ascends}
@@ -29,7 +29,7 @@ use Rattle.fl_ring.specs.Ring.{place}
 use Rattle.fl_schema.specs.Schema.{types_of}
 use Rattle.fl_table.specs.Kept.{place_of}
 use Rattle.fl_table.specs.Look.{layout_in, oldest_in, rows_noted, buffered_rows}
-use Rattle.fl_table.specs.Memory.{next_in, pending_in}
+use Rattle.fl_table.specs.Memory.{next_in}
 use Rattle.fl_table.specs.declared.table.Table.{Table}
 use Rattle.fl_table.proofs.KeptPages.{sum-next}
 use Rattle.fl_table.proofs.KeptRead.{place-is, shown, rows-lose}
@@ -37,7 +37,7 @@ use Rattle.fl_table.proofs.Looks.{next-is, oldest-is, noted-is}
 use Rattle.fl_table.proofs.States.{shape_in}
 use Rattle.fl_cursor.specs.Asked.{is_left}
 use Rattle.fl_cursor.specs.Cursor.{IsStanding}
-use Rattle.fl_cursor.specs.Listed.{bytes_at, rows_on, rows_over, rows_from, rows_of}
+use Rattle.fl_cursor.specs.Listed.{bytes_at, rows_on, rows_over, rows_of}
 
 some-same : {X : Type 0} {a b : X} → Some a ≡ Some b → a ≡ b
 some-same e = cc
@@ -196,9 +196,12 @@ module _ (t : Table) (contents : Contents) (h : IsStanding t contents) where
 entries-ascend : (last : Option ℕ) (entries : List Entry) → ((i j : ℕ) (a b : Entry) → i < j → slice_get entries i ≡ Some a → slice_get entries j ≡ Some b → a.kept.key < b.kept.key) →
     ((b : Entry) → slice_get entries 0 ≡ Some b → is_above last b.kept.key ≡ true) → Ascends last (map stored_row entries)
 entries-ascend last [] up head = tt
-entries-ascend last (e ∷ entries) up head = (head e refl, entries-ascend (Some e.kept.key) entries
-    (λ i j a b lt at_i at_j. up (suc i) (suc j) a b (omega (arith, lt)) at_i at_j)
-    (λ b at. lt-ltb e.kept.key b.kept.key (up 0 1 e b (omega arith) refl at)))
+entries-ascend last (e ∷ entries) up head = (
+  head e refl,
+  entries-ascend (Some e.kept.key) entries
+      (λ i j a b lt at_i at_j. up (suc i) (suc j) a b (omega (arith, lt)) at_i at_j)
+      (λ b at. lt-ltb e.kept.key b.kept.key (up 0 1 e b (omega arith) refl at)),
+)
 
 pub standing-ascends : (t : Table) (contents : Contents) (h : IsStanding t contents) → Ascends None (rows_of t contents)
 standing-ascends t contents h =

@@ -1,5 +1,5 @@
 -- A cursor that reads the next page, or goes past a page without rows.
-use Rattle.std.proofs.Common.{◌≡◌, ℕ, suc, ◌+◌, ◌-◌, ◌^◌, ◌<◌, ◌≤◌, Bool, true, false, cond, ◌==◌, List, [], ◌∷◌, ◌++◌, length, drop, refl, sym, ◌∙◌, ap, subst, append_assoc, arith, IsTrue}
+use Rattle.std.proofs.Common.{◌≡◌, ℕ, suc, ◌+◌, ◌-◌, ◌^◌, ◌<◌, ◌≤◌, Bool, true, false, cond, ◌==◌, List, [], ◌++◌, length, refl, sym, ◌∙◌, ap, subst, append_assoc, arith}
 use Rattle.std.specs.Borrow.{MutBor}
 use Rattle.std.specs.List.{list_any}
 use Rattle.std.proofs.lemmas.Bool.{eq-eqb, eqb-true, false_from_ne_true}
@@ -8,7 +8,6 @@ use Rattle.fl_mark.specs.Mark.{state_of_page}
 use Rattle.fl_mark.specs.declared.page_state.PageState.TheVariants.{Committed}
 use Rattle.fl_model.specs.Row.{Row}
 use Rattle.fl_page.specs.Contents.{Contents}
-use Rattle.fl_page.specs.Header.{page_count}
 use Rattle.fl_page.specs.Page.{IsGoodPage, rows_in}
 use Rattle.fl_table.specs.Look.{layout_in, oldest_in, rows_noted, buffered_rows}
 use Rattle.fl_table.specs.Memory.{next_in}
@@ -19,7 +18,7 @@ use Rattle.fl_cursor.specs.Listed.{bytes_at, rows_on, rows_over, rows_from, rows
 use Rattle.fl_cursor.specs.Reads.{has_last, pages_to_last, pages_asked, most_from, least_from}
 use Rattle.fl_cursor.specs.declared.cursor.Cursor.{Cursor}
 use Rattle.fl_cursor.specs.declared.place.Place.{Place}
-use Rattle.fl_cursor.specs.declared.place.Place.TheVariants.{Pages, InPage, Pending, Ended}
+use Rattle.fl_cursor.specs.declared.place.Place.TheVariants.{Pages, InPage, Pending}
 use Rattle.fl_cursor.proofs.Passing.{passes-same}
 use Rattle.fl_cursor.proofs.Stood.{standing-committed}
 use Rattle.fl_cursor.proofs.Taking.{moves-on}

@@ -1,12 +1,12 @@
 -- What a search among some rows finds, and what is behind them.
-use Rattle.std.proofs.Common.{◌≡◌, ℕ, zero, suc, ◌+◌, ◌-◌, ◌<◌, ◌≤◌, Bool, true, false, ◌||◌, cond, Option, Some, None, List, [], ◌∷◌, ◌++◌, length, drop, refl, sym, ◌∙◌, ap, subst, arith}
-use Rattle.std.specs.List.{slice_get, list_any}
+use Rattle.std.proofs.Common.{◌≡◌, ℕ, zero, suc, ◌+◌, ◌<◌, Bool, true, false, ◌||◌, cond, Some, List, [], ◌∷◌, ◌++◌, length, drop, refl, sym, ◌∙◌, ap, subst, arith}
+use Rattle.std.specs.List.{slice_get}
 use Rattle.fl_model.specs.Query.{Cursor}
 use Rattle.fl_model.specs.Row.{Row}
 use Rattle.fl_model.proofs.Lists.{slice_get-drop, slice_get-short}
 use Rattle.fl_page.specs.Contents.{Contents}
 use Rattle.fl_table.specs.declared.table.Table.{Table}
-use Rattle.fl_cursor.specs.Asked.{is_left, is_asked, is_last}
+use Rattle.fl_cursor.specs.Asked.{is_left, is_last}
 use Rattle.fl_cursor.specs.Cursor.{Passes}
 use Rattle.fl_cursor.specs.Listed.{rows_on, rows_over}
 use Rattle.fl_cursor.specs.Reads.{has_last, pages_asked}

@@ -1,11 +1,11 @@
 -- Parts of a step, one after another.
-use Rattle.std.proofs.Common.{◌≡◌, ℕ, ◌+◌, ◌^◌, ◌<◌, ◌≤◌, Bool, true, false, Some, List, [], filter, Ok, refl, sym, ◌∙◌, ap, subst, arith}
+use Rattle.std.proofs.Common.{◌≡◌, ℕ, Bool, true, false, Some, List, [], Ok, refl, sym, ◌∙◌, ap, subst, arith}
 use Rattle.fl_model.specs.Row.{Row}
 use Rattle.std.specs.Bool.{OnFalse}
 use Rattle.fl_page.specs.Contents.{Contents}
 use Rattle.fl_page.specs.Steps.{Steps}
 use Rattle.fl_cursor.specs.Asked.{asked_by, is_left}
-use Rattle.fl_cursor.specs.Cursor.{table_of, mark_of, asked_of, buffer_of, here_of, is_here, is_here_at, present_of, left_of}
+use Rattle.fl_cursor.specs.Cursor.{table_of, mark_of, buffer_of, here_of, is_here, is_here_at, present_of, left_of}
 use Rattle.fl_cursor.specs.Going.{Keeps, Notes, Gives, Goes, Fails, is_in_page, is_at_pages}
 use Rattle.fl_cursor.specs.declared.bookmark.Bookmark.{Bookmark}
 use Rattle.fl_cursor.specs.declared.cursor.Cursor.{Cursor}

@@ -81,7 +81,11 @@ impl Cursor<'_, '_, '_> {
         match self.mark.first_pending(self.table, row) {
             Sought::Row(row) => {
                 let key = self.table.pending_row(row).key();
-                self.take(key, Here::PendingRow { row }, Place::Pending { row: row + 1 });
+                self.take(
+                    key,
+                    Here::PendingRow { row },
+                    Place::Pending { row: row + 1 },
+                );
                 true
             }
             Sought::Behind | Sought::Nowhere => {

@@ -1,4 +1,4 @@
-use Rattle.std.proofs.Common.{rules, ◌≡◌, ◌≤◌, true, false, not, sym, ◌∙◌, ap, arith}
+use Rattle.std.proofs.Common.{rules, ◌≡◌, ◌≤◌, false, arith}
 use Rattle.fl_model.specs.Query.{is_up_to}
 use Rattle.fl_schema.specs.Schema.{row_of}
 use Rattle.fl_cursor.specs.Asked.{asked_by, lowest_of}

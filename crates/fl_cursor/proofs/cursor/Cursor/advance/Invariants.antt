@@ -1,4 +1,4 @@
-use Rattle.std.proofs.Common.{◌≡◌, ◌≤◌, ◌^◌, ◌<◌, true, false}
+use Rattle.std.proofs.Common.{◌≡◌, true, false}
 use Rattle.fl_page.specs.Contents.{contents_of, OnlyReads}
 use Rattle.fl_table.specs.Memory.{next_in}
 use Rattle.fl_cursor.specs.Cursor.{has_ended}

@@ -1,17 +1,12 @@
-use Rattle.std.proofs.Common.{rules, ◌≡◌, ℕ, ◌+◌, ◌-◌, ◌^◌, ◌<◌, ◌≤◌, ◌≢◌, true, false, List, length, Ok, Err, OnErr, refl, sym, ◌∙◌, ap, subst, arith, IsTrue}
-use Rattle.std.specs.Borrow.{MutBor}
+use Rattle.std.proofs.Common.{rules, ◌≡◌, ◌<◌, refl, ◌∙◌, subst, arith}
 use Rattle.std.proofs.lemmas.Result.{err_from_is_err_and}
-use Rattle.fl_flash.specs.Flash.{page_at}
 use Rattle.fl_mark.specs.Mark.{state_of_page}
 use Rattle.fl_mark.specs.declared.page_state.PageState.TheVariants.{Committed}
-use Rattle.fl_page.specs.Contents.{Contents, contents_of}
+use Rattle.fl_page.specs.Contents.{contents_of}
 use Rattle.fl_page.specs.Page.{IsGoodPage}
-use Rattle.fl_table.specs.Kept.{place_of}
-use Rattle.fl_table.specs.Look.{layout_in, oldest_in, rows_noted}
+use Rattle.fl_table.specs.Look.{layout_in, rows_noted}
 use Rattle.fl_table.specs.Memory.{next_in}
-use Rattle.fl_cursor.specs.Cursor.{IsPlaced, IsTold}
-use Rattle.fl_cursor.specs.Going.{Goes, Fails}
-use Rattle.fl_cursor.specs.Listed.{bytes_at}
+use Rattle.fl_cursor.specs.Cursor.{IsPlaced}
 use Rattle.fl_cursor.proofs.Stood.{standing-tells}
 use Rattle.fl_cursor.proofs.Turning.{pages-end, page-skipped, page-entered, page-void, page-fails}
 use Rattle.fl_cursor.proofs.cursor.Cursor.read_page.Goals as goal

@@ -1,4 +1,4 @@
-use Rattle.std.proofs.Common.{rules, ◌≡◌, ℕ, ◌+◌, ◌^◌, ◌<◌, ◌≤◌, true, false, Some, List, length, drop, sym, ◌∙◌, ap, subst, arith}
+use Rattle.std.proofs.Common.{rules, ◌≡◌, ◌+◌, ◌^◌, ◌<◌, true, Some, List, length, drop, sym, ◌∙◌, ap, subst, arith}
 use Rattle.std.specs.List.{slice_get}
 use Rattle.fl_model.specs.Row.{Row}
 use Rattle.fl_page.specs.Header.{page_count}
@@ -12,10 +12,8 @@ use Rattle.fl_cursor.specs.Cursor.{IsPlaced}
 use Rattle.fl_cursor.specs.Going.{Goes, took}
 use Rattle.fl_cursor.specs.Sought.{first_left}
 use Rattle.fl_cursor.specs.declared.cursor.Cursor.{Cursor}
-use Rattle.fl_cursor.specs.declared.place.Place.{Place}
 use Rattle.fl_cursor.specs.declared.place.Here.TheVariants.{PageRow}
 use Rattle.fl_cursor.specs.declared.place.Place.TheVariants.{InPage}
-use Rattle.fl_cursor.specs.declared.search.Sought.{Sought}
 use Rattle.fl_cursor.specs.declared.search.Sought.TheVariants.{Row as At, Behind, Nowhere}
 use Rattle.fl_cursor.proofs.InPage.{page-taken, page-behind, page-nowhere}
 use Rattle.fl_cursor.proofs.Walks.{found-within}

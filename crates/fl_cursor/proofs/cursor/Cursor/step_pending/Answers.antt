@@ -1,6 +1,5 @@
-use Rattle.std.proofs.Common.{rules, ◌≡◌, ℕ, ◌+◌, ◌^◌, ◌<◌, ◌≤◌, true, false, Some, List, length, drop, sym, ◌∙◌, ap, subst, arith}
+use Rattle.std.proofs.Common.{rules, ◌≡◌, ◌+◌, ◌^◌, ◌<◌, true, drop, sym, ◌∙◌, ap, subst, arith}
 use Rattle.fl_table.specs.Look.{buffered_rows}
-use Rattle.fl_table.specs.Memory.{pending_in}
 use Rattle.fl_schema.specs.Schema.{row_of}
 use Rattle.fl_cursor.specs.Asked.{asked_by}
 use Rattle.fl_cursor.specs.Going.{Goes, took}
@@ -8,7 +7,7 @@ use Rattle.fl_cursor.specs.Sought.{first_left}
 use Rattle.fl_cursor.specs.declared.cursor.Cursor.{Cursor}
 use Rattle.fl_cursor.specs.declared.place.Here.TheVariants.{PendingRow}
 use Rattle.fl_cursor.specs.declared.place.Place.TheVariants.{Pending}
-use Rattle.fl_cursor.specs.declared.search.Sought.TheVariants.{Row as At, Behind, Nowhere}
+use Rattle.fl_cursor.specs.declared.search.Sought.TheVariants.{Row as At}
 use Rattle.fl_cursor.proofs.AmongPending.{pending-taken, pending-ends, length-buffered, few-pending}
 use Rattle.fl_cursor.proofs.Walks.{found-within}
 use Rattle.fl_cursor.proofs.cursor.Cursor.step_pending.Goals as goal

@@ -1,9 +1,8 @@
-use Rattle.std.proofs.Common.{◌≡◌, ◌<◌, true, ◌&&◌, nat_lt, nat_le, List, length, drop, sym, ◌∙◌, ap, arith}
+use Rattle.std.proofs.Common.{◌&&◌, nat_lt, nat_le, List, length, drop, sym, ◌∙◌, ap, arith}
 use Rattle.std.proofs.lemmas.Bool.{ltb-true}
 use Rattle.fl_model.specs.Row.{Row}
 use Rattle.fl_page.specs.Header.{page_count}
-use Rattle.fl_page.specs.Page.{rows_in}
-use Rattle.fl_page.specs.View.{count_of, layout_of_page, page_of, rows_of}
+use Rattle.fl_page.specs.View.{count_of, layout_of_page, page_of}
 use Rattle.fl_table.specs.Look.{layout_in}
 use Rattle.fl_table.proofs.KeyRows.{length-rows_from}
 use Rattle.fl_cursor.specs.Ascending.{both}
