@@ -1,5 +1,5 @@
 -- The lines of a load, which are written one after another.
-use Rattle.std.proofs.Common.{◌≡◌, ℕ, Bool, true, false, Option, Some, None, Result, Ok, Err, List, [], ◌∷◌, ◌++◌, append_assoc, sym, ◌∙◌, ap, subst}
+use Rattle.std.proofs.Common.{◌≡◌, ℕ, Bool, true, false, Option, Some, None, Result, Ok, Err, List, [], ◌∷◌, ◌++◌, append_assoc, refl, sym, ◌∙◌, ap, subst}
 use Rattle.std.specs.Prelude.{is_err, not}
 use Rattle.fl_base.specs.Causes.{Appends, AppendsFront}
 use Rattle.fl_flash.specs.Flash.{FlashState}
@@ -67,3 +67,8 @@ pub load-refused : (E : Type 0) (config : Config) (old : Machine) (t : Table) (n
 load-refused E config old t name cost f mounted asked count step seed said told told_now result h r wrote =
     executes-answered E config old (command.Load asked count step seed) (SessionStands config t name f mounted cost) f f (reply_text said) told told_now result
     (answers-refused config old t name cost f mounted (command.Load asked count step seed) asked (λ moment. LoadStep config old moment count step seed) said f.media.faults h r (λ moment is w. step-is config old moment (command.Load asked count step seed) is w)) (λ moment none. none) wrote
+
+-- a put that was done broke nothing
+pub unbroken : (outcome : Result (Unit {0}) PutRefusal) → is_err outcome ≡ false → put_breaks outcome ≡ false
+unbroken (Ok done) e = refl
+unbroken (Err refusal) e = cc

@@ -36,6 +36,7 @@ use Rattle.fl_session.proofs.Working.{medium-goes, planned-same, has_risen, rise
 -- the power is on
 pub stands-on : (config : Config) (old : Machine) (t : Table) (name : List ℕ) (cost : Cost) (f : FlashState) → SessionStands config t name f false cost old → SessionStands config t name (record f { is_on = true }) false cost old
 stands-on config old t name cost f h = record {
+  knots = h.knots;
   medium = record { told = h.medium.told; len = h.medium.len; head = h.medium.head; start = h.medium.start; geometry = h.medium.geometry };
   plan = h.plan;
   plans = h.plans;
@@ -96,6 +97,7 @@ module _ (config : Config) (old : Machine) (name : List ℕ) (cost : Cost) (t u 
             (mounts-all how (mounts-along (h.plan ∷ []) h.plan 0 (has_risen f g) (rings_of h.plan) [] old.device old.tables h.table (TableMounted w.now) refl here w.did how refl))
             (record { replies_are = refl; after_is = refl; last_is = refl });
         stands_after = record {
+          knots = h.knots;
           medium = medium-goes config f g goes h.medium;
           plan = h.plan;
           plans = h.plans;
@@ -116,6 +118,7 @@ module _ (config : Config) (old : Machine) (name : List ℕ) (cost : Cost) (t u 
 
   stands-bad : (state : model.Table) (device : Device) → SameDevice g device → Rests g 0 h.plan state → (m : Machine) → m.tables ≡ state ∷ [] → m.mounted ≡ false → m.cursors ≡ no_cursors → m.device ≡ device → m.cost ≡ old.cost → SessionStands config u name g false cost m
   stands-bad state device counts rests m tables off cursors is kept = record {
+    knots = h.knots;
     medium = medium-goes config f g goes h.medium;
     plan = h.plan;
     plans = h.plans;

@@ -98,24 +98,27 @@ new-lies t lines f new one device blocks fits =
 
 -- a session that begins over it is sound
 pub new-sound : (t t' : code_table.Table) (lines : Lines) (f f' : FlashState) (buf buf' : BufferState) → t' ≡ t → f' ≡ f → buf' ≡ buf → IsNewTable t lines → IsTrue (is_whole lines) → are_built lines.plans ≡ true → lines.device ≡ Some f.geometry → f.blocks ≡ sum_by blocks_of lines.plans →
-    IfSome lines.device (λ geometry. too_large geometry lines.plans ≡ false) → ((geometry : Geometry) → lines.device ≡ Some geometry → length buf.bytes ≡ geometry.page) → IsSound t' f' buf'
-new-sound t t' lines f f' buf buf' t_is f_is buf_is new whole built device blocks fits page =
+    IfSome lines.device (λ geometry. too_large geometry lines.plans ≡ false) → ((geometry : Geometry) → lines.device ≡ Some geometry → length buf.bytes ≡ geometry.page) → (mounted : Bool) → mounted ≡ false → IsSound t' f' buf' mounted
+new-sound t t' lines f f' buf buf' t_is f_is buf_is new whole built device blocks fits page mounted off =
     let one = built-one lines.plans built (some-plan lines.device lines.plans whole) in
     let small : too_large f.geometry lines.plans ≡ false = subst (λ d. IfSome d (λ geometry. too_large geometry lines.plans ≡ false)) device fits in
-    rw (t_is, f_is, buf_is) (record { lies = new-lies t lines f new one device blocks small; room = page f.geometry device })
+    rw (t_is, f_is, buf_is) (record { lies = new-lies t lines f new one device blocks small; room = page f.geometry device; running = λ on. absurd (not_on (sym on ∙ off)) })
+  where
+    not_on : true ≡ false → ⊥
+    not_on e = cc
 
 -- what was run in the session was run over the medium
 pub session-runs : (config : Config) (t t' : code_table.Table) (name name' : List ℕ) (cost cost' : Cost) (f f' : FlashState) (old new : MediaState) (mounted mounted' : Bool) (geometry : Geometry) (blocks : ℕ) (origin : GName) →
     f ≡ on_medium geometry blocks 1024 origin true None 0 (record { reads = 0; programs = 0; erases = 0 }) old → geometry ≡ config.geometry → new ≡ f'.media → IsTrue old.tells →
-    (one : IsOne config.plans) → one.plan.name ≡ name → IsPlanned t 0 one.plan → mounted ≡ false → cost ≡ code_cost.NothingYet →
+    (one : IsOne config.plans) → one.plan.name ≡ name → IsPlanned t 0 one.plan → mounted ≡ false → cost ≡ code_cost.NothingYet → config.knots ≡ 64 →
     (first : Option code.Command) (number : ℕ) (state : LinesState) (left left_now told told_now : Option (List ℕ)) (status : Status) →
     RunsFrom first number state left left_now (around_of config f.media f'.media told told_now) (SessionStands config t name f mounted cost) (SessionStands config t' name' f' mounted' cost') status →
     RunsFrom first number state left left_now (around_of config old new told told_now) (RestsOn config old.content) (StandsAfter config (Some new.content)) status
-session-runs config t t' name name' cost cost' f f' old new mounted mounted' geometry blocks origin is g_is media tells one named planned off fresh first number state left left_now told told_now status h =
+session-runs config t t' name name' cost cost' f f' old new mounted mounted' geometry blocks origin is g_is media tells one named planned off fresh knots first number state left left_now told told_now status h =
     let begin : (m : Machine) → RestsOn config old.content m → SessionStands config t name f mounted cost m =
     λ m r. subst (λ b. SessionStands config t name f b cost m) (sym off)
     (subst (λ x. SessionStands config t name x false cost m) (sym is)
-    (session-begins config t name cost (on_medium geometry blocks 1024 origin true None 0 (record { reads = 0; programs = 0; erases = 0 }) old) m fresh tells refl g_is refl refl refl one named planned r)) in
+    (session-begins config t name cost (on_medium geometry blocks 1024 origin true None 0 (record { reads = 0; programs = 0; erases = 0 }) old) m fresh tells refl g_is refl refl refl one named planned knots r)) in
     let end : (m : Machine) → SessionStands config t' name' f' mounted' cost' m → StandsAfter config (Some f'.media.content) m = λ m s. session-ends config t' name' cost' f' mounted' m s in
     let seen = runs-seen first number state left left_now (around_of config f.media f'.media told told_now) (SessionStands config t name f mounted cost) (SessionStands config t' name' f' mounted' cost')
     (RestsOn config old.content) (StandsAfter config (Some f'.media.content)) status begin end h in

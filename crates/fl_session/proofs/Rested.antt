@@ -135,10 +135,11 @@ one_table config content plan (table ∷ []) h = (table, refl, h.0)
 one_table config content plan (table ∷ next ∷ tables) h = absurd h.1
 
 pub session-begins : (config : Config) (t : code.Table) (name : List ℕ) (cost : Cost) (f : FlashState) (m : Machine) → cost ≡ code_cost.NothingYet → IsTrue f.media.tells → f.start ≡ 1024 → f.geometry ≡ config.geometry →
-    f.armed ≡ None → f.work.programs ≡ 0 → f.work.erases ≡ 0 → (one : IsOne config.plans) → one.plan.name ≡ name → IsPlanned t 0 one.plan → RestsOn config f.media.content m → SessionStands config t name f false cost m
-session-begins config t name cost f m fresh told start geometry armed programs erases one named planned h =
+    f.armed ≡ None → f.work.programs ≡ 0 → f.work.erases ≡ 0 → (one : IsOne config.plans) → one.plan.name ≡ name → IsPlanned t 0 one.plan → config.knots ≡ 64 → RestsOn config f.media.content m → SessionStands config t name f false cost m
+session-begins config t name cost f m fresh told start geometry armed programs erases one named planned knots h =
     let images = one_table config f.media.content one.plan h.0 (subst (λ ps. AreTableImages config f.media.content 0 ps h.0) one.plans_are h.1.tables_are) in
     record {
+      knots = knots;
       medium = record { told = told; len = h.1.len; head = h.1.head; start = start; geometry = geometry };
       plan = one.plan;
       plans = one.plans_are;

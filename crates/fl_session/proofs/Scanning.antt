@@ -33,6 +33,7 @@ use Rattle.fl_session.proofs.Working.{medium-goes}
 -- the session still stands, for a machine that knows what the scan cost
 stands-scanned : (config : Config) (t : Table) (name : List ℕ) (cost : Cost) (f g : FlashState) (n reads : ℕ) (m : Machine) → OnlyReads f n g → SessionStands config t name f true cost m → SessionStands config t name g true (code_cost.OfScan reads) (record m { cost = OfScan reads })
 stands-scanned config t name cost f g n reads m only h = record {
+  knots = h.knots;
   medium = medium-goes config f g only.goes h.medium;
   plan = h.plan;
   plans = h.plans;

@@ -54,6 +54,7 @@ planned-same t u first plan same h = record {
   index = h.index;
   var = h.var;
   buckets = subst (HasBuckets plan) (sym same.buckets) h.buckets;
+  error = h.error ∙ sym same.error;
 }
 
 -- whether the medium's faults rose
@@ -113,6 +114,7 @@ module _ (config : Config) (old : Machine) (name : List ℕ) (cost : Cost) (t u 
   pub stands-done : (after : model.Table → model.Table) (device : Device) → SameDevice g device → g.is_on ≡ true → Stands u g 0 h.plan (after h.table) →
       SessionStands config u name g true cost (record old { device = device; tables = changed_at 0 after old.tables })
   stands-done after device counts power stands = record {
+    knots = h.knots;
     medium = medium-goes config f g goes h.medium;
     plan = h.plan;
     plans = h.plans;
@@ -131,6 +133,7 @@ module _ (config : Config) (old : Machine) (name : List ℕ) (cost : Cost) (t u 
   pub stands-broken : (state : model.Table) (device : Device) → SameDevice g device → Rests g 0 h.plan (lose state) →
       SessionStands config u name g false cost (stopped (record old { device = device; tables = with_table 0 old.tables state }))
   stands-broken state device counts rests = record {
+    knots = h.knots;
     medium = medium-goes config f g goes h.medium;
     plan = h.plan;
     plans = h.plans;

@@ -17,6 +17,7 @@ is_built command.Off = true
 is_built (command.Cut n kind) = nat_le 1 n
 is_built (command.Put name key values blob) = true
 is_built (command.Flush name) = true
+is_built (command.Get name key) = true
 is_built (command.Scan name range span) = true
 is_built (command.Stat name) = true
 is_built command.Cost = true

@@ -17,3 +17,4 @@ pub mod Load
 pub mod Run
 pub mod Rows
 pub mod Listed
+pub mod Looked

@@ -26,6 +26,7 @@ pub record IsOnMedium (config : Config) (f : FlashState) : Type 0 where
 
 -- a session over one table, which has this name; the cost is that of the last get or scan
 pub record SessionStands (config : Config) (t : Table) (name : List ℕ) (f : FlashState) (mounted : Bool) (cost : Cost) (m : Machine) : Type 0 where
+  pub knots : config.knots ≡ 64
   pub medium : IsOnMedium config f
   pub plan : Plan
   pub plans : config.plans ≡ plan ∷ []
@@ -41,9 +42,10 @@ pub record SessionStands (config : Config) (t : Table) (name : List ℕ) (f : Fl
   pub power : IsTrue mounted → f.is_on ≡ true
 
 -- what holds of a session always
-pub record IsSound (t : Table) (f : FlashState) (buf : BufferState) : Type 0 where
+pub record IsSound (t : Table) (f : FlashState) (buf : BufferState) (mounted : Bool) : Type 0 where
   pub lies : LiesOn t f
   pub room : length buf.bytes ≡ f.geometry.page
+  pub running : mounted ≡ true → is_running t ≡ true
 
 -- a table that was made for the one that the lines configure, and never mounted
 pub record IsNewTable (t : Table) (lines : Lines) : Type 0 where

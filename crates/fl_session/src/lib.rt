@@ -10,6 +10,7 @@ mod generator;
 mod lines;
 mod listing;
 mod load;
+mod lookup;
 mod next;
 mod replies;
 mod rows;

@@ -20,6 +20,7 @@ fn is_built(command: &Command) -> bool
         | Command::Off
         | Command::Put { .. }
         | Command::Flush { .. }
+        | Command::Get { .. }
         | Command::Scan { .. }
         | Command::Stat { .. }
         | Command::Cost => true,

@@ -17,6 +17,7 @@ ghost use Rattle.fl_session.specs.Standing.{SessionStands, IsSound};
 use crate::cost::Cost;
 use crate::executor::Executor;
 use crate::load::load;
+use crate::lookup::look_up;
 use crate::replies::{cost_reply, flush_breaks, flush_reply, mount_reply, put_breaks, put_reply};
 use crate::rows::Wanted;
 use fl_base::{CutKind, Name, Sink, SinkFailed};
@@ -72,8 +73,8 @@ impl<'m, M: Media> Session<'m, M> {
 impl<'m, M: Media> Session<'m, M> {
     /// Ends the session: the power goes off, and what is in memory alone is lost.
     fn off(&mut self) -> Reply
-        requires { IsSound self.old.table (⟦<SimFlash<'m, M> as Flash>⟧.state self.old.flash) self.old.buf }
-        ensures sound { IsSound self.new.table (⟦<SimFlash<'m, M> as Flash>⟧.state self.new.flash) self.new.buf }
+        requires { IsSound self.old.table (⟦<SimFlash<'m, M> as Flash>⟧.state self.old.flash) self.old.buf self.old.mounted }
+        ensures sound { IsSound self.new.table (⟦<SimFlash<'m, M> as Flash>⟧.state self.new.flash) self.new.buf self.new.mounted }
         ensures goes { Goes (⟦<SimFlash<'m, M> as Flash>⟧.state self.old.flash) (⟦<SimFlash<'m, M> as Flash>⟧.state self.new.flash) }
         ensures step { (config : Config) (old : Machine) → SessionStands config self.old.table self.old.name (⟦<SimFlash<'m, M> as Flash>⟧.state self.old.flash) self.old.mounted self.old.cost old →
             Answers config old words.Off (SessionStands config self.new.table self.new.name (⟦<SimFlash<'m, M> as Flash>⟧.state self.new.flash) self.new.mounted self.new.cost)
@@ -87,9 +88,9 @@ impl<'m, M: Media> Session<'m, M> {
 
     /// The n-th program or erase from now on is torn.
     fn cut(&mut self, n: u64, kind: CutKind) -> Reply
-        requires sound { IsSound self.old.table (⟦<SimFlash<'m, M> as Flash>⟧.state self.old.flash) self.old.buf }
+        requires sound { IsSound self.old.table (⟦<SimFlash<'m, M> as Flash>⟧.state self.old.flash) self.old.buf self.old.mounted }
         requires counted { 1 ≤ n }
-        ensures sound { IsSound self.new.table (⟦<SimFlash<'m, M> as Flash>⟧.state self.new.flash) self.new.buf }
+        ensures sound { IsSound self.new.table (⟦<SimFlash<'m, M> as Flash>⟧.state self.new.flash) self.new.buf self.new.mounted }
         ensures goes { Goes (⟦<SimFlash<'m, M> as Flash>⟧.state self.old.flash) (⟦<SimFlash<'m, M> as Flash>⟧.state self.new.flash) }
         ensures step { (config : Config) (old : Machine) → SessionStands config self.old.table self.old.name (⟦<SimFlash<'m, M> as Flash>⟧.state self.old.flash) self.old.mounted self.old.cost old →
             Answers config old (words.Cut n kind) (SessionStands config self.new.table self.new.name (⟦<SimFlash<'m, M> as Flash>⟧.state self.new.flash) self.new.mounted self.new.cost)
@@ -101,8 +102,8 @@ impl<'m, M: Media> Session<'m, M> {
 
     /// Mounts the table: the power goes on, and what stands on the flash is found and repaired.
     fn mount(&mut self) -> Reply
-        requires sound { IsSound self.old.table (⟦<SimFlash<'m, M> as Flash>⟧.state self.old.flash) self.old.buf }
-        ensures sound { IsSound self.new.table (⟦<SimFlash<'m, M> as Flash>⟧.state self.new.flash) self.new.buf }
+        requires sound { IsSound self.old.table (⟦<SimFlash<'m, M> as Flash>⟧.state self.old.flash) self.old.buf self.old.mounted }
+        ensures sound { IsSound self.new.table (⟦<SimFlash<'m, M> as Flash>⟧.state self.new.flash) self.new.buf self.new.mounted }
         ensures goes { Goes (⟦<SimFlash<'m, M> as Flash>⟧.state self.old.flash) (⟦<SimFlash<'m, M> as Flash>⟧.state self.new.flash) }
         ensures step { (config : Config) (old : Machine) → SessionStands config self.old.table self.old.name (⟦<SimFlash<'m, M> as Flash>⟧.state self.old.flash) self.old.mounted self.old.cost old →
             Answers config old words.Mount (SessionStands config self.new.table self.new.name (⟦<SimFlash<'m, M> as Flash>⟧.state self.new.flash) self.new.mounted self.new.cost)
@@ -132,8 +133,8 @@ impl<'m, M: Media> Session<'m, M> {
 
     /// Puts a record.
     fn put(&mut self, name: Name, key: u64, values: &[i64], blob: Option<&[u8]>) -> Reply
-        requires sound { IsSound self.old.table (⟦<SimFlash<'m, M> as Flash>⟧.state self.old.flash) self.old.buf }
-        ensures sound { IsSound self.new.table (⟦<SimFlash<'m, M> as Flash>⟧.state self.new.flash) self.new.buf }
+        requires sound { IsSound self.old.table (⟦<SimFlash<'m, M> as Flash>⟧.state self.old.flash) self.old.buf self.old.mounted }
+        ensures sound { IsSound self.new.table (⟦<SimFlash<'m, M> as Flash>⟧.state self.new.flash) self.new.buf self.new.mounted }
         ensures goes { Goes (⟦<SimFlash<'m, M> as Flash>⟧.state self.old.flash) (⟦<SimFlash<'m, M> as Flash>⟧.state self.new.flash) }
         ensures step { (config : Config) (old : Machine) → SessionStands config self.old.table self.old.name (⟦<SimFlash<'m, M> as Flash>⟧.state self.old.flash) self.old.mounted self.old.cost old →
             Answers config old (words.Put name key values.now (option_map (λ b. b.now) blob.entry)) (SessionStands config self.new.table self.new.name (⟦<SimFlash<'m, M> as Flash>⟧.state self.new.flash) self.new.mounted self.new.cost)
@@ -149,8 +150,8 @@ impl<'m, M: Media> Session<'m, M> {
 
     /// Makes a page of the rows that wait in memory.
     fn flush(&mut self, name: Name) -> Reply
-        requires sound { IsSound self.old.table (⟦<SimFlash<'m, M> as Flash>⟧.state self.old.flash) self.old.buf }
-        ensures sound { IsSound self.new.table (⟦<SimFlash<'m, M> as Flash>⟧.state self.new.flash) self.new.buf }
+        requires sound { IsSound self.old.table (⟦<SimFlash<'m, M> as Flash>⟧.state self.old.flash) self.old.buf self.old.mounted }
+        ensures sound { IsSound self.new.table (⟦<SimFlash<'m, M> as Flash>⟧.state self.new.flash) self.new.buf self.new.mounted }
         ensures goes { Goes (⟦<SimFlash<'m, M> as Flash>⟧.state self.old.flash) (⟦<SimFlash<'m, M> as Flash>⟧.state self.new.flash) }
         ensures step { (config : Config) (old : Machine) → SessionStands config self.old.table self.old.name (⟦<SimFlash<'m, M> as Flash>⟧.state self.old.flash) self.old.mounted self.old.cost old →
             Answers config old (words.Flush name) (SessionStands config self.new.table self.new.name (⟦<SimFlash<'m, M> as Flash>⟧.state self.new.flash) self.new.mounted self.new.cost)
@@ -194,10 +195,31 @@ impl<'m, M: Media> Session<'m, M> {
         cost_reply(self.cost)
     }
 
+    /// Tells the record with the key. The pages that it reads, and how many they might have been, are its cost.
+    fn get<K: Sink>(&mut self, name: Name, key: u64, out: &mut K) -> Result<(), SinkFailed>
+        requires sound { IsSound self.old.table (⟦<SimFlash<'m, M> as Flash>⟧.state self.old.flash) self.old.buf self.old.mounted }
+        ensures sound { IsSound self.new.table (⟦<SimFlash<'m, M> as Flash>⟧.state self.new.flash) self.new.buf self.new.mounted }
+        ensures goes { Goes (⟦<SimFlash<'m, M> as Flash>⟧.state self.old.flash) (⟦<SimFlash<'m, M> as Flash>⟧.state self.new.flash) }
+        ensures sink { HasCause (K.faults out.old) (K.faults out.new) result }
+        ensures step { (config : Config) (old : Machine) → SessionStands config self.old.table self.old.name (⟦<SimFlash<'m, M> as Flash>⟧.state self.old.flash) self.old.mounted self.old.cost old →
+            Executes config old (words.Get name key) (SessionStands config self.new.table self.new.name (⟦<SimFlash<'m, M> as Flash>⟧.state self.new.flash) self.new.mounted self.new.cost)
+            (⟦<SimFlash<'m, M> as Flash>⟧.state self.old.flash) (⟦<SimFlash<'m, M> as Flash>⟧.state self.new.flash) (K.written out.old) (K.written out.new) result }
+    {
+        if let Some(refusal) = self.refusal(name) {
+            return write_reply(&refusal, out);
+        }
+        let limit = self.table.lookup_limit(key);
+        let before = self.flash.work().reads;
+        let reply = look_up(&self.table, key, &mut self.flash, &mut self.buf);
+        let reads = self.flash.work().reads.saturating_sub(before);
+        self.cost = Cost::OfGet { reads, limit };
+        write_reply(&reply, out)
+    }
+
     /// Lists the rows that are asked for, and their number. The pages that it reads are its cost.
     fn scan<K: Sink>(&mut self, name: Name, wanted: Wanted, out: &mut K) -> Result<(), SinkFailed>
-        requires sound { IsSound self.old.table (⟦<SimFlash<'m, M> as Flash>⟧.state self.old.flash) self.old.buf }
-        ensures sound { IsSound self.new.table (⟦<SimFlash<'m, M> as Flash>⟧.state self.new.flash) self.new.buf }
+        requires sound { IsSound self.old.table (⟦<SimFlash<'m, M> as Flash>⟧.state self.old.flash) self.old.buf self.old.mounted }
+        ensures sound { IsSound self.new.table (⟦<SimFlash<'m, M> as Flash>⟧.state self.new.flash) self.new.buf self.new.mounted }
         ensures goes { Goes (⟦<SimFlash<'m, M> as Flash>⟧.state self.old.flash) (⟦<SimFlash<'m, M> as Flash>⟧.state self.new.flash) }
         ensures sink { HasCause (K.faults out.old) (K.faults out.new) result }
         ensures step { (config : Config) (old : Machine) → SessionStands config self.old.table self.old.name (⟦<SimFlash<'m, M> as Flash>⟧.state self.old.flash) self.old.mounted self.old.cost old →
@@ -223,9 +245,9 @@ impl<'m, M: Media> Session<'m, M> {
         seed: u64,
         out: &mut K,
     ) -> Result<(), SinkFailed>
-        requires sound { IsSound self.old.table (⟦<SimFlash<'m, M> as Flash>⟧.state self.old.flash) self.old.buf }
+        requires sound { IsSound self.old.table (⟦<SimFlash<'m, M> as Flash>⟧.state self.old.flash) self.old.buf self.old.mounted }
         requires steps { 1 ≤ step }
-        ensures sound { IsSound self.new.table (⟦<SimFlash<'m, M> as Flash>⟧.state self.new.flash) self.new.buf }
+        ensures sound { IsSound self.new.table (⟦<SimFlash<'m, M> as Flash>⟧.state self.new.flash) self.new.buf self.new.mounted }
         ensures goes { Goes (⟦<SimFlash<'m, M> as Flash>⟧.state self.old.flash) (⟦<SimFlash<'m, M> as Flash>⟧.state self.new.flash) }
         ensures sink { HasCause (K.faults out.old) (K.faults out.new) result }
         ensures step { (config : Config) (old : Machine) → SessionStands config self.old.table self.old.name (⟦<SimFlash<'m, M> as Flash>⟧.state self.old.flash) self.old.mounted self.old.cost old →
@@ -253,7 +275,7 @@ impl<'m, M: Media> Executor for Session<'m, M> {
 
     ghost stands = { λ s config. SessionStands config s.table s.name (⟦<SimFlash<'m, M> as Flash>⟧.state s.flash) s.mounted s.cost };
 
-    ghost sound = { λ s. IsSound s.table (⟦<SimFlash<'m, M> as Flash>⟧.state s.flash) s.buf };
+    ghost sound = { λ s. IsSound s.table (⟦<SimFlash<'m, M> as Flash>⟧.state s.flash) s.buf s.mounted };
 
     ghost flash = { λ s. ⟦<SimFlash<'m, M> as Flash>⟧.state s.flash };
 
@@ -276,6 +298,7 @@ impl<'m, M: Media> Executor for Session<'m, M> {
             Command::Flush { name } => self.flush(*name),
             Command::Stat { name } => self.stat(*name),
             Command::Cost => self.cost(),
+            Command::Get { name, key } => return self.get(*name, *key, out),
             Command::Scan { name, range, span } => {
                 let wanted = Wanted {
                     range: *range,

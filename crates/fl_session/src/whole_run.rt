@@ -130,7 +130,7 @@ fn run_session<M: Media, S: Source, K: Sink>(
     requires table { IsNewTable rooms.table config.now }
     requires page { (g : Geometry) → config.now.device ≡ Some g → length rooms.buf.bytes ≡ g.page }
     requires flash { (g : Geometry) → config.now.device ≡ Some g → HasRoom rooms.flash g (sum_by blocks_of config.now.plans) }
-    ensures runs { (configured : Configuration) → whole configured.knots config.now ≡ Some configured → IsTrue (M.state media.old).tells →
+    ensures runs { (configured : Configuration) → whole KNOTS config.now ≡ Some configured → IsTrue (M.state media.old).tells →
         RunsFrom begun.first begun.number lines.old (S.left script.old) (S.left script.new) (around_of configured (M.state media.old) (M.state media.new) (K.written out.old) (K.written out.new))
         (RestsOn configured (M.state media.old).content) (StandsAfter configured (Some (M.state media.new).content)) result }
     ensures form { KeepsForm (M.state media.old) (M.state media.new) }

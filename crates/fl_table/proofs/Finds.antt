@@ -1,7 +1,8 @@
 -- What a lookup ends with, in the words of the table.
-use Rattle.std.proofs.Common.{◌≡◌, ℕ, ◌+◌, ◌<◌, ◌≤◌, true, false, Option, Some, None, option_map, Ok, Err, List, map, length, drop, refl, sym, ◌∙◌, ap, subst, arith, IsTrue}
-use Rattle.std.specs.Prelude.{IfSome, MatchOption}
+use Rattle.std.proofs.Common.{◌≡◌, ℕ, ◌+◌, ◌*◌, ◌<◌, ◌≤◌, Bool, true, false, Option, Some, None, option_map, Ok, Err, List, map, length, drop, refl, sym, ◌∙◌, ap, subst, arith, IsTrue}
+use Rattle.std.specs.Prelude.{IfSome, MatchOption, if◌then◌else◌}
 use Rattle.std.specs.List.{slice_get}
+use Rattle.fl_find.specs.Index.{error_in, most_reads}
 use Rattle.fl_find.specs.Looking.{LookFails}
 use Rattle.fl_find.specs.Pages.{rows_on, rows_where, Holds, IsBadPage, bytes_at}
 use Rattle.fl_find.specs.Rows.{HasKey, LacksKey, LooksUp}
@@ -17,7 +18,7 @@ use Rattle.fl_model.specs.Image.{rows_at}
 use Rattle.fl_model.specs.Record.{Plan, RowLayout, row_layout}
 use Rattle.fl_model.specs.Ring as rings
 use Rattle.fl_model.specs.Row.{Row, stored_row}
-use Rattle.fl_model.specs.Spline.{is_pending_key}
+use Rattle.fl_model.specs.Spline.{bits, is_covered, is_pending_key, lookup_limit, retained, voids_of}
 use Rattle.fl_model.specs.Table as model
 use Rattle.fl_model.specs.Table.{lose, pending_entries}
 use Rattle.fl_model.proofs.Lists.{slice_get-short}
@@ -168,3 +169,14 @@ pub row-shown : (t : Table) (first : ℕ) (plan : Plan) (page : List ℕ) (view 
 row-shown t first plan page view at row planned less is e =
     ap (λ (l : RowLayout). slice_get (rows_on l page) at) planned.layout
     ∙ (ap (λ (rows : List Row). slice_get rows at) (rows-some (layout_of t.schema) page at less ∙ sym is) ∙ e)
+
+-- ---- the greatest number of reads
+
+pub limit-told : (t : Table) (f : FlashState) (first : ℕ) (plan : Plan) (table : model.Table) (key pages : ℕ) → Stands t f first plan table → is_pending_key table key ≡ false → pages ≡ length table.rows.counts →
+    most_reads t.index pages t.voids key ≡ lookup_limit 64 plan table key
+limit-told t f first plan table key pages stands is many =
+    ap (λ (l : List (ℕ × ℕ)). if is_covered l key then 2 * error_in t.index + 2 + t.voids else bits pages + 1 + t.voids) stands.memory.index.knots
+    ∙ (ap (λ e. if is_covered (retained 64 plan.error table.points) key then 2 * e + 2 + t.voids else bits pages + 1 + t.voids) (sym stands.planned.error)
+    ∙ (ap (λ v. if is_covered (retained 64 plan.error table.points) key then 2 * plan.error + 2 + v else bits pages + 1 + v) stands.memory.voids
+    ∙ (ap (λ n. if is_covered (retained 64 plan.error table.points) key then 2 * plan.error + 2 + voids_of table else bits n + 1 + voids_of table) many
+    ∙ sym (ap (λ (b : Bool). if b then 0 else if is_covered (retained 64 plan.error table.points) key then 2 * plan.error + 2 + voids_of table else bits (length table.rows.counts) + 1 + voids_of table) is))))

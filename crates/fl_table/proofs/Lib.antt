@@ -32,3 +32,4 @@ pub mod Pointed
 pub mod PendingKey
 pub mod PendingRows
 pub mod Finds
+pub mod VoidPages

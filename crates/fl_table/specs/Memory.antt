@@ -8,6 +8,7 @@ use Rattle.fl_flash.specs.Flash.{FlashState, pages}
 use Rattle.fl_model.specs.Record.{Plan, row_layout, layout_len}
 use Rattle.fl_model.specs.Ring as rings
 use Rattle.fl_model.specs.Row.{stored_row}
+use Rattle.fl_model.specs.Spline.{voids_of}
 use Rattle.fl_model.specs.Layout.{bitmap_of}
 use Rattle.fl_model.specs.Table as model
 use Rattle.fl_model.specs.Table.{pending_entries, last_entry}
@@ -95,6 +96,7 @@ pub record InMemory (t : Table) (plan : Plan) (table : model.Table) : Type 0 whe
   pub last : t.last_key ≡ option_map (λ entry. entry.kept.key) (last_entry table)
   pub counts : (i count : ℕ) → slice_get table.rows.counts i ≡ Some count →
       slice_index t.counts.items ((rings.oldest table.rows + i) % (plan.data_blocks * plan.geometry.block)) ≡ count
+  pub voids : t.voids ≡ voids_of table
   pub index : IndexOf plan.error table.points t.index
   pub no_fill : table.fill ≡ 0
   pub idle : table.waiting ≡ 0

@@ -36,8 +36,8 @@ impl Table {
         if self.is_pending_key(key) {
             return 0;
         }
-        let counts = self.counts();
-        self.index.lookup_limit(key, counts.pages, counts.voids)
+        let pages = self.next_number() - self.oldest();
+        self.index.lookup_limit(key, pages, self.voids)
     }
 
     /// The row with the key, and none where no record has it. Where it isn't pending the buffer holds its page then.

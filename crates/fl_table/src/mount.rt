@@ -37,6 +37,7 @@ impl Table {
         self.writer.clear();
         self.bitmap = 0;
         self.last_key = None;
+        self.voids = 0;
         self.index.clear();
     }
 
@@ -76,6 +77,7 @@ impl Table {
             buf,
         )?;
         self.last_key = last;
+        self.voids = mounted.voids;
         self.ring = Some(ring);
         Ok(mounted)
     }

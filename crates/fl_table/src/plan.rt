@@ -62,6 +62,7 @@ impl Table {
             bitmap: 0,
             last_key: None,
             counts,
+            voids: 0,
             index: LearnedIndex::new(config.error),
         })
     }

@@ -34,6 +34,8 @@ pub struct Table {
     pub(crate) last_key: Option<u64>,
     /// How many rows each kept page holds, by its place in the ring.
     pub(crate) counts: Vec<u16>,
+    /// How many of the kept pages are void.
+    pub(crate) voids: u32,
     /// Where the pages of keys are.
     pub(crate) index: LearnedIndex<64, 64>,
     ghost served: { IsGeometry geometry },

@@ -13,7 +13,7 @@ returns-in_default g c = record {
   sink = record { later = omega arith; failed = tt };
   step = λ config old h.
       executes-nothing SinkFailed config old _ _ _ _ (default-view c.args.command.now c.args.room.now c.requires.runnable c.in_default.not-Mount c.in_default.not-Off (λ n kind e. c.in_default.not-Cut n kind e)
-      (λ name key values blob e. c.in_default.not-Put name key values blob e) (λ name e. c.in_default.not-Flush name e) (λ name e. c.in_default.not-Stat name e) (λ name range span e. c.in_default.not-Scan name range span e)
+      (λ name key values blob e. c.in_default.not-Put name key values blob e) (λ name e. c.in_default.not-Flush name e) (λ name e. c.in_default.not-Stat name e) (λ name key e. c.in_default.not-Get name key e) (λ name range span e. c.in_default.not-Scan name range span e)
       (λ name count step seed e. c.in_default.not-Load name count step seed e) c.in_default.not-Cost) h;
 }
 

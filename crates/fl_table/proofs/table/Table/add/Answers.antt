@@ -52,6 +52,7 @@ returns-clause-stands c = λ f first plan table stands ok.
         bitmap = bits ∙ a.bits;
         last = sym (ap (option_map (λ (entry : model.Entry). entry.kept.key)) a.last);
         counts = memory.counts;
+        voids = memory.voids;
         index = memory.index;
         no_fill = memory.no_fill;
         idle = memory.idle;

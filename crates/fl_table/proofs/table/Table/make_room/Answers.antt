@@ -47,6 +47,7 @@ returns-then-not-is_full-clause-ends g c = λ first plan table rose device watch
           bitmap = memory.bitmap;
           last = memory.last;
           counts = memory.counts;
+          voids = memory.voids;
           index = memory.index;
           no_fill = memory.no_fill;
           idle = memory.idle;

@@ -5,6 +5,7 @@ use Rattle.fl_ring.specs.Mounting.{shape_at}
 use Rattle.fl_ring.specs.Place.{next_of, oldest_of}
 use Rattle.fl_schema.specs.Schema.{layout_of}
 use Rattle.fl_table.specs.Reading.{AreNoted, pages_of}
+use Rattle.fl_table.specs.declared.counts.Mounted.{Mounted}
 use Rattle.fl_table.proofs.MountCalls.{same-shape, watched-front, risen-later, outside-stands, refuses-ring, refuses-page, finds-pages, ring-cause, pages-cause}
 use Rattle.fl_table.proofs.MountEnded.{mounting-of, ring-fails, ring-ends, ring-mounts, reads-end, same_device, started-stands, mount-answer}
 use Rattle.fl_table.proofs.MountReads.{few-first, few-all}
@@ -124,7 +125,8 @@ returns-clause-ends g c = λ first plan table rose device watched planned rests.
           c.forget.ensures.empty c.forget.ensures.bits (ensures.last still)
           (λ fits. subst (λ (cs : List ℕ). AreNoted (layout_of t1.schema) (pages_of ring mid) (oldest_of ring) (next_of ring - oldest_of ring) cs) (sym back)
           (ensures.noted (subst (λ k. next_of ring - oldest_of ring ≤ k) (ap length back ∙ ensures.counts) fits) still))
-          (ensures.index still plan.error (subst (λ e. IndexOf e [] t1.index) (sym planned.error) c.forget.ensures.index));
+          (ensures.index still plan.error (subst (λ e. IndexOf e [] t1.index) (sym planned.error) c.forget.ensures.index))
+          (ap (λ (m : Mounted). m.voids) (ensures.mounted still));
       answer = mount-answer first plan table rose device old is ring mid new n l reads sizes t1 c.in_ok-mounted.mounted planned1 here (ensures.mounted still);
     }
 

@@ -1,0 +1,18 @@
+-- The reply to a lookup.
+use Rattle.std.specs.Prelude.{◌≡◌, ◌⊎◌, ℕ, Bool, IsTrue, List}
+use Rattle.fl_base.specs.Causes.{Rose}
+use Rattle.fl_model.specs.Query.{entry_at}
+use Rattle.fl_model.specs.Record.{Plan}
+use Rattle.fl_model.specs.Table as model
+use Rattle.fl_words.specs.Reply as words
+use Rattle.fl_words.specs.Reply.{text}
+use Rattle.fl_machine.specs.Step.{found_reply}
+
+-- What was said of the record with the key in this table of the model: its row or that there is none, or that a page wasn't
+-- read, which is said only where the medium's faults rose.
+pub record Looks (plan : Plan) (table : model.Table) (key faults faults_now : ℕ) (said : List ℕ) : Type 0 where
+  pub rose : Bool
+  pub risen : IsTrue rose → Rose faults faults_now
+  pub reply : words.Reply
+  pub reply_is : (reply ≡ found_reply plan (entry_at key table.entries)) ⊎ (IsTrue rose × (reply ≡ words.ReadFault))
+  pub said_is : said ≡ text reply
