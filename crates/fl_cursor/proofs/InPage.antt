@@ -22,8 +22,8 @@ use Rattle.fl_cursor.specs.declared.cursor.Cursor.{Cursor}
 use Rattle.fl_cursor.specs.declared.place.Here.TheVariants.{PageRow}
 use Rattle.fl_cursor.specs.declared.place.Place.TheVariants.{Pages, InPage, Ended}
 use Rattle.fl_cursor.specs.declared.search.Sought.TheVariants.{Row as At, Behind, Nowhere}
-use Rattle.fl_cursor.proofs.Passing.{passes-all, passes-same, passes-end, passes-above, none-past, each-front, each-back, Above}
-use Rattle.fl_cursor.proofs.Taking.{takes-row, moves-on}
+use Rattle.fl_cursor.proofs.Passing.{passes-all, passes-same, passes-end, passes-above, none-past, taken, each-front, each-back, Above}
+use Rattle.fl_cursor.proofs.Taking.{takes-row, moves-on, pages-taken}
 use Rattle.fl_cursor.proofs.Walks.{reached, passed, stopped, asked-over}
 
 -- a good page is seen as one
@@ -56,8 +56,8 @@ module _ (old : Cursor) (number row : ℕ) (here_is : old.place ≡ InPage numbe
   passes-here told = passes-same (asked_of old) (rows_of (table_of old) contents) (rows_behind old.table.now contents old.rows_buf.now.bytes old.place) (drop row rows ++ rest)
       (ap (rows_behind old.table.now contents old.rows_buf.now.bytes) here_is) told.passes
 
-  most-here : most_from (table_of old) contents (asked_of old).top (buffer_of old) old.place ≡ cond (has_last (asked_of old).top (drop row rows)) 0 (pages_to_last (table_of old) contents (asked_of old).top (number + 1) (next_in (table_of old) - (number + 1)))
-  most-here = ap (most_from (table_of old) contents (asked_of old).top (buffer_of old)) here_is
+  most-here : most_from (table_of old) contents (asked_of old) (buffer_of old) old.place ≡ cond (has_last (asked_of old).top (drop row rows)) 0 (pages_to_last (table_of old) contents (asked_of old).top (number + 1) (next_in (table_of old) - (number + 1)))
+  most-here = ap (most_from (table_of old) contents (asked_of old) (buffer_of old)) here_is
 
   least-here : least_from (table_of old) contents (asked_of old) old.place ≡ pages_asked (table_of old) contents (asked_of old) (number + 1) (next_in (table_of old) - (number + 1))
   least-here = ap (least_from (table_of old) contents (asked_of old)) here_is
@@ -80,7 +80,7 @@ module _ (old : Cursor) (number row : ℕ) (here_is : old.place ≡ InPage numbe
       (is-here within short) left small
       (λ told. told-row told k found here search)
       (λ told last. told-most told k found here search last)
-      (λ told. omega (arith, least-here))
+      (λ told. let same = pages-taken (table_of old) contents (asked_of old) found.key (next_in (table_of old) - (number + 1)) (number + 1) in omega (arith, least-here, same))
       (λ told last. none-behind found.key (drop (k + 1) rows) last (passes-above (asked_of old) (rows_of (table_of old) contents) (drop (k + 1) rows ++ rest) found told.ascends (told-row told k found here search)))
     where
       is-here : {k : ℕ} → k < page_count (buffer_of old) → length (buffer_of old) ≤ 4096 → is_here_at (table_of old) (buffer_of old) (PageRow number k) ≡ true
@@ -97,12 +97,12 @@ module _ (old : Cursor) (number row : ℕ) (here_is : old.place ≡ InPage numbe
           ∙ ap (λ (xs : List Row). found ∷ (xs ++ rest)) (drop-same rows row h.j k h.at)) h.passes
 
       told-most : IsTold old contents → (k : ℕ) (found : Row) → slice_get rows k ≡ Some found → At k ≡ first_left (asked_of old) (drop row rows) row → is_last (asked_of old).top found.key ≡ false →
-          most_from (table_of old) contents (asked_of old).top (buffer_of old) (InPage number (k + 1)) ≤ most_from (table_of old) contents (asked_of old).top (buffer_of old) old.place
+          most_from (table_of old) contents (taken (asked_of old) found.key) (buffer_of old) (InPage number (k + 1)) ≤ most_from (table_of old) contents (asked_of old) (buffer_of old) old.place
       told-most told k found here search last =
           let h = reached (asked_of old) (rows_of (table_of old) contents) (drop row rows) rest row k (passes-here told) search in
           let not_last : is_last (asked_of old).top h.row.key ≡ false = ap (λ (r : Row). is_last (asked_of old).top r.key) (same-row rows row h.j k h.row found h.at h.here here) ∙ last in
           let same : has_last (asked_of old).top (drop row rows) ≡ has_last (asked_of old).top (drop (k + 1) rows) = h.last not_last ∙ ap (has_last (asked_of old).top) (drop-same rows row h.j k h.at) in
-          let most : most_from (table_of old) contents (asked_of old).top (buffer_of old) old.place ≡ most_from (table_of old) contents (asked_of old).top (buffer_of old) (InPage number (k + 1)) =
+          let most : most_from (table_of old) contents (asked_of old) (buffer_of old) old.place ≡ most_from (table_of old) contents (taken (asked_of old) found.key) (buffer_of old) (InPage number (k + 1)) =
           most-here ∙ ap (λ b. cond b 0 (pages_to_last (table_of old) contents (asked_of old).top (number + 1) (next_in (table_of old) - (number + 1)))) same in
           omega (arith, most)
 

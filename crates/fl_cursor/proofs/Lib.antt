@@ -9,3 +9,5 @@ pub mod Starting
 pub mod Turning
 pub mod Whole
 pub mod Stepping
+pub mod Beginning
+pub mod Finding

@@ -14,7 +14,7 @@ use Rattle.fl_cursor.specs.Listed.{rows_of}
 use Rattle.fl_cursor.specs.declared.bookmark.Bookmark.{Bookmark}
 use Rattle.fl_cursor.specs.declared.cursor.Cursor.{Cursor}
 use Rattle.fl_cursor.specs.declared.place.Place.{Place}
-use Rattle.fl_cursor.specs.declared.place.Place.TheVariants.{Pages, InPage, Pending, Ended}
+use Rattle.fl_cursor.specs.declared.place.Place.TheVariants.{Start, Pages, InPage, Pending, Ended}
 use Rattle.fl_cursor.proofs.Passing.{passes-left}
 use Rattle.fl_cursor.proofs.Stood.{standing-good, standing-tells}
 use Rattle.fl_cursor.proofs.Whole.{goes-steps}
@@ -24,6 +24,7 @@ no e = cc
 
 end-is : (place : Place) → is_end place ≡ true → place ≡ Ended
 end-is Ended e = refl
+end-is Start e = absurd (no e)
 end-is (Pages next) e = absurd (no e)
 end-is (InPage number row) e = absurd (no e)
 end-is (Pending row) e = absurd (no e)

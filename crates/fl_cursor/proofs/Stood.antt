@@ -10,6 +10,7 @@ use Rattle.fl_flash.specs.Places.{page_of}
 use Rattle.fl_mark.specs.Mark.{state_of_page}
 use Rattle.fl_mark.specs.declared.page_state.PageState.{PageState}
 use Rattle.fl_mark.specs.declared.page_state.PageState.TheVariants.{Blank, Torn, Committed, Void}
+use Rattle.fl_find.specs.Pages as find
 use Rattle.fl_find.specs.Pages.{rows_where}
 use Rattle.fl_model.specs.Image.{rows_at}
 use Rattle.fl_model.specs.Query as query
@@ -128,6 +129,17 @@ module _ (t : Table) (contents : Contents) (h : IsStanding t contents) where
       let s = shown t h.flash h.first h.plan h.table h.stands h.lies h.reaches i (rows_noted t number) e in
       let is : state_of_page (there i) ≡ Committed = where-committed (state_of_page (there i)) (row_layout h.plan) (there i) (omega (arith, s.many, some)) in
       sym (ap state_of_page (bytes-there number from)) ∙ is
+
+  -- its rows are those that its state tells
+  pub same-rows : (number : ℕ) → oldest_in t ≤ number → number < next_in t → find.rows_on (layout_in t) (page_at h.flash (place_of t number)) ≡ rows_on t contents number
+  same-rows number from before =
+      let i = number - first_number in
+      let e = at-number number from before in
+      let bytes : page_at h.flash (place_of t number) ≡ there (number - first_number) = sym (bytes-there number from ∙ ap (λ (c : Contents). page_of c.bytes c.start c.geometry.page (place_of t number)) (sym h.same)) in
+      ap (find.rows_on (layout_in t)) bytes
+      ∙ (ap (λ (l : RowLayout). find.rows_on l (there i)) (sym h.stands.planned.layout)
+      ∙ (stored i (rows_noted t number) e
+      ∙ (sym (kept-rows i (rows_noted t number) e) ∙ ap (rows_on t contents) (back number from))))
 
   pub standing-good : (number : ℕ) → oldest_in t ≤ number → number < next_in t → state_of_page (bytes_at t contents number) ≡ Committed → IsGoodPage (layout_in t) number (bytes_at t contents number)
   standing-good number from before committed =

@@ -18,20 +18,14 @@ use Rattle.fl_cursor.specs.declared.place.Place.TheVariants.{Pages, InPage, Pend
 use Rattle.fl_cursor.proofs.Passing.{passes-taken, passes-end, passes-above, gives-taken, none-past, taken}
 
 -- what is asked for doesn't change with the key given last
-pages-taken : (t : Table) (contents : Contents) (asked : model.Cursor) (key n number : ℕ) → pages_asked t contents (taken asked key) number n ≡ pages_asked t contents asked number n
+pub pages-taken : (t : Table) (contents : Contents) (asked : model.Cursor) (key n number : ℕ) → pages_asked t contents (taken asked key) number n ≡ pages_asked t contents asked number n
 pages-taken t contents asked key zero number = refl
 pages-taken t contents asked key (suc n) number = ap (λ m. cond (list_any (is_asked asked) (rows_on t contents number)) 1 0 + m) (pages-taken t contents asked key n (number + 1))
-
-least-taken : (t : Table) (contents : Contents) (asked : model.Cursor) (key : ℕ) (place : Place) → least_from t contents (taken asked key) place ≡ least_from t contents asked place
-least-taken t contents asked key (Pages next) = pages-taken t contents asked key (next_in t - next) next
-least-taken t contents asked key (InPage number row) = pages-taken t contents asked key (next_in t - (number + 1)) (number + 1)
-least-taken t contents asked key (Pending row) = refl
-least-taken t contents asked key Ended = refl
 
 module _ (old : Cursor) (contents : Contents) (reads : ℕ) (place : Place) (placed : IsPlaced (table_of old) (buffer_of old) place) where
   -- it goes on from another place, and the rows before that are passed
   pub moves-on : (IsTold old contents → Passes (asked_of old) (rows_of (table_of old) contents) (rows_behind (table_of old) contents (buffer_of old) place)) →
-      (IsTold old contents → most_from (table_of old) contents (asked_of old).top (buffer_of old) place ≤ most_from (table_of old) contents (asked_of old).top (buffer_of old) old.place) →
+      (IsTold old contents → most_from (table_of old) contents (asked_of old) (buffer_of old) place ≤ most_from (table_of old) contents (asked_of old) (buffer_of old) old.place) →
       (IsTold old contents → least_from (table_of old) contents (asked_of old) old.place ≤ least_from (table_of old) contents (asked_of old) place) →
       Goes false contents reads old reads (record old { place = place })
   moves-on passes most least = record {
@@ -49,8 +43,8 @@ module _ (old : Cursor) (contents : Contents) (reads : ℕ) (place : Place) (pla
   pub takes-row : (here : Here) (row : Row) → row_at (table_of old) (buffer_of old) here ≡ row → is_here_at (table_of old) (buffer_of old) here ≡ true → is_left (asked_of old) row ≡ true → row.key < 2 ^ 64 →
       (IsTold old contents → Passes (asked_of old) (rows_of (table_of old) contents) (row ∷ rows_behind (table_of old) contents (buffer_of old) place)) →
       (IsTold old contents → is_last (asked_of old).top row.key ≡ false →
-      most_from (table_of old) contents (asked_of old).top (buffer_of old) place ≤ most_from (table_of old) contents (asked_of old).top (buffer_of old) old.place) →
-      (IsTold old contents → least_from (table_of old) contents (asked_of old) old.place ≤ least_from (table_of old) contents (asked_of old) place) →
+      most_from (table_of old) contents (taken (asked_of old) row.key) (buffer_of old) place ≤ most_from (table_of old) contents (asked_of old) (buffer_of old) old.place) →
+      (IsTold old contents → least_from (table_of old) contents (asked_of old) old.place ≤ least_from (table_of old) contents (taken (asked_of old) row.key) place) →
       (IsTold old contents → is_last (asked_of old).top row.key ≡ true → least_from (table_of old) contents (asked_of old) old.place ≡ 0) →
       Goes true contents reads old reads (took row.key here place old)
   takes-row here row present is_here left small passes most least end = record {
@@ -84,14 +78,11 @@ module _ (old : Cursor) (contents : Contents) (reads : ℕ) (place : Place) (pla
       passes_by told false last = passes-taken (asked_of old) (rows_of (table_of old) contents) (rows_behind (table_of old) contents (buffer_of old) place) row (passes told) left
 
       most_by : IsTold old contents → (b : Bool) → is_last (asked_of old).top row.key ≡ b →
-          reads + most_from (table_of old) contents (asked_of old).top (buffer_of old) (cond b Ended place) ≤ reads + most_from (table_of old) contents (asked_of old).top (buffer_of old) old.place
+          reads + most_from (table_of old) contents (taken (asked_of old) row.key) (buffer_of old) (cond b Ended place) ≤ reads + most_from (table_of old) contents (asked_of old) (buffer_of old) old.place
       most_by told true last = omega arith
       most_by told false last = let le = most told last in omega (arith, le)
 
       least_by : IsTold old contents → (b : Bool) → is_last (asked_of old).top row.key ≡ b →
           reads + least_from (table_of old) contents (asked_of old) old.place ≤ reads + least_from (table_of old) contents (taken (asked_of old) row.key) (cond b Ended place)
       least_by told true last = let e = end told last in omega (arith, e)
-      least_by told false last =
-          let le = least told in
-          let same = least-taken (table_of old) contents (asked_of old) row.key place in
-          omega (arith, le, same)
+      least_by told false last = let le = least told in omega (arith, le)

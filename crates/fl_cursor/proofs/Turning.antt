@@ -27,7 +27,7 @@ use Rattle.fl_cursor.proofs.Taking.{moves-on}
 pub turns : (old : Cursor) (buf : MutBor BufferState) (place : Place) (contents : Contents) (reads reads_now : ℕ) → buf.ghost_name ≡ old.rows_buf.ghost_name → length buf.now.bytes ≡ length old.rows_buf.now.bytes →
     IsPlaced (table_of old) buf.now.bytes place → (reads_now < 2 ^ 64 - 1 → reads ≤ reads_now) →
     (IsTold old contents → Passes (asked_of old) (rows_of (table_of old) contents) (rows_behind (table_of old) contents buf.now.bytes place)) →
-    (IsTold old contents → reads_now + most_from (table_of old) contents (asked_of old).top buf.now.bytes place ≤ reads + most_from (table_of old) contents (asked_of old).top (buffer_of old) old.place) →
+    (IsTold old contents → reads_now + most_from (table_of old) contents (asked_of old) buf.now.bytes place ≤ reads + most_from (table_of old) contents (asked_of old) (buffer_of old) old.place) →
     (IsTold old contents → reads_now < 2 ^ 64 - 1 → reads + least_from (table_of old) contents (asked_of old) old.place ≤ reads_now + least_from (table_of old) contents (asked_of old) place) →
     Goes false contents reads old reads_now (record old { rows_buf = buf; place = place })
 turns old buf place contents reads reads_now named room placed later passes most least = record {
@@ -63,9 +63,9 @@ module _ (old : Cursor) (next : ℕ) (here_is : old.place ≡ Pages next) (from 
   passes-here : IsTold old contents → Passes (asked_of old) (rows_of (table_of old) contents) (rows_on (table_of old) contents next ++ behind)
   passes-here told = passes-same (asked_of old) (rows_of (table_of old) contents) (rows_behind (table_of old) contents (buffer_of old) old.place) (rows_on (table_of old) contents next ++ behind) ahead-here told.passes
 
-  most-here : most_from (table_of old) contents (asked_of old).top (buffer_of old) old.place
+  most-here : most_from (table_of old) contents (asked_of old) (buffer_of old) old.place
       ≡ cond (rows_noted (table_of old) next == 0) most_behind (1 + cond (has_last (asked_of old).top (rows_on (table_of old) contents next)) 0 most_behind)
-  most-here = ap (most_from (table_of old) contents (asked_of old).top (buffer_of old)) here_is ∙ ap (pages_to_last (table_of old) contents (asked_of old).top next) one-page
+  most-here = ap (most_from (table_of old) contents (asked_of old) (buffer_of old)) here_is ∙ ap (pages_to_last (table_of old) contents (asked_of old).top next) one-page
 
   least-here : least_from (table_of old) contents (asked_of old) old.place ≡ cond (list_any (is_asked (asked_of old)) (rows_on (table_of old) contents next)) 1 0 + least_behind
   least-here = ap (least_from (table_of old) contents (asked_of old)) here_is ∙ ap (pages_asked (table_of old) contents (asked_of old) next) one-page
@@ -89,7 +89,7 @@ module _ (old : Cursor) (next : ℕ) (here_is : old.place ≡ Pages next) (from 
   not-none : (rows_noted (table_of old) next ≡ 0 → ⊥) → (rows_noted (table_of old) next == 0) ≡ false
   not-none some = false_from_ne_true (rows_noted (table_of old) next == 0) (λ b. some (eqb-true (rows_noted (table_of old) next) 0 b))
 
-  most-some : (rows_noted (table_of old) next ≡ 0 → ⊥) → most_from (table_of old) contents (asked_of old).top (buffer_of old) old.place ≡ 1 + cond (has_last (asked_of old).top (rows_on (table_of old) contents next)) 0 most_behind
+  most-some : (rows_noted (table_of old) next ≡ 0 → ⊥) → most_from (table_of old) contents (asked_of old) (buffer_of old) old.place ≡ 1 + cond (has_last (asked_of old).top (rows_on (table_of old) contents next)) 0 most_behind
   most-some some = most-here ∙ ap (λ b. cond b most_behind (1 + cond (has_last (asked_of old).top (rows_on (table_of old) contents next)) 0 most_behind)) (not-none some)
 
   -- the read failed

@@ -6,12 +6,12 @@ use Rattle.fl_page.specs.Contents.{Contents}
 use Rattle.fl_page.specs.Steps.{Steps}
 use Rattle.fl_cursor.specs.Asked.{asked_by, is_left}
 use Rattle.fl_cursor.specs.Cursor.{table_of, mark_of, buffer_of, here_of, is_here, is_here_at, present_of, left_of}
-use Rattle.fl_cursor.specs.Going.{Keeps, Notes, Gives, Goes, Fails, is_in_page, is_at_pages}
+use Rattle.fl_cursor.specs.Going.{Keeps, Notes, Gives, Goes, Fails, is_start, is_in_page, is_at_pages}
 use Rattle.fl_cursor.specs.declared.bookmark.Bookmark.{Bookmark}
 use Rattle.fl_cursor.specs.declared.cursor.Cursor.{Cursor}
 use Rattle.fl_cursor.specs.declared.place.Here.TheVariants.{Nowhere}
 use Rattle.fl_cursor.specs.declared.place.Place.{Place}
-use Rattle.fl_cursor.specs.declared.place.Place.TheVariants.{Pages, InPage, Pending, Ended}
+use Rattle.fl_cursor.specs.declared.place.Place.TheVariants.{Start, Pages, InPage, Pending, Ended}
 
 pub keeps-then : (a b c : Cursor) → Keeps a b → Keeps b c → Keeps a c
 keeps-then a b c h k = record { table = k.table ∙ h.table; rows_name = k.rows_name ∙ h.rows_name; rows_room = k.rows_room ∙ h.rows_room; index = k.index ∙ h.index }
@@ -82,11 +82,12 @@ here-after true a c notes same none = notes.2
 here-after false a c notes same none = ap (is_here_at (table_of c) (buffer_of c)) (same ∙ none)
 
 -- behind the pages
-pub behind-pages : (place : Place) → is_in_page place ≡ false → ((next : ℕ) → place ≡ Pages next → ⊥) → is_at_pages place ≡ false
-behind-pages (Pages next) outside other = absurd (other next refl)
-behind-pages (InPage number row) outside other = outside
-behind-pages (Pending row) outside other = refl
-behind-pages Ended outside other = refl
+pub behind-pages : (place : Place) → is_start place ≡ false → is_in_page place ≡ false → ((next : ℕ) → place ≡ Pages next → ⊥) → is_at_pages place ≡ false
+behind-pages (Pages next) begun outside other = absurd (other next refl)
+behind-pages (InPage number row) begun outside other = outside
+behind-pages (Pending row) begun outside other = refl
+behind-pages Ended begun outside other = refl
+behind-pages Start begun outside other = begun
 
 -- what a step makes of the rows left
 pub goes-steps : (more : Bool) (before : List Row) (row : Row) (after : List Row) → Gives more before row after → OnFalse more (after ≡ []) → Steps (Ok more) before row after

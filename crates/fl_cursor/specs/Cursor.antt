@@ -19,14 +19,14 @@ use Rattle.fl_page.specs.declared.fault.BadPage.{BadPage}
 use Rattle.fl_page.specs.declared.fault.ReadFault.{ReadFault}
 use Rattle.fl_page.specs.declared.fault.ReadFault.TheVariants as fault
 use Rattle.fl_table.specs.Look.{layout_in, oldest_in, buffered_rows}
-use Rattle.fl_table.specs.Memory.{next_in, pending_in, LiesOn}
+use Rattle.fl_table.specs.Memory.{is_running, next_in, pending_in, LiesOn}
 use Rattle.fl_table.specs.Standing.{Stands}
 use Rattle.fl_table.specs.declared.table.Table.{Table}
 use Rattle.fl_cursor.specs.Asked.{asked_by, is_left}
 use Rattle.fl_cursor.specs.Listed.{bytes_at, rows_from, rows_of}
 use Rattle.fl_cursor.specs.declared.bookmark.Bookmark.{Bookmark}
 use Rattle.fl_cursor.specs.declared.place.Place.{Place}
-use Rattle.fl_cursor.specs.declared.place.Place.TheVariants.{Pages, InPage, Pending, Ended}
+use Rattle.fl_cursor.specs.declared.place.Place.TheVariants.{Start, Pages, InPage, Pending, Ended}
 use Rattle.fl_cursor.specs.declared.place.Here.{Here}
 use Rattle.fl_cursor.specs.declared.place.Here.TheVariants.{Nowhere, PageRow, PendingRow}
 use Rattle.fl_cursor.specs.declared.cursor.Cursor.{Cursor}
@@ -68,6 +68,7 @@ here_of cursor = cursor.here
 -- it found that no row is left
 abbrev pub is_end : Place → Bool
 is_end Ended = true
+is_end Start = false
 is_end (Pages next) = false
 is_end (InPage number row) = false
 is_end (Pending row) = false
@@ -105,6 +106,7 @@ present_of cursor = row_at (table_of cursor) (buffer_of cursor) cursor.here
 
 -- the rows from a place on
 abbrev pub rows_behind : Table → Contents → List ℕ → Place → List Row
+rows_behind t contents page Start = rows_of t contents
 rows_behind t contents page (Pages next) = rows_from t contents next
 rows_behind t contents page (InPage number row) = drop row (rows_in (layout_in t) page) ++ rows_from t contents (number + 1)
 rows_behind t contents page (Pending row) = drop row (buffered_rows t)
@@ -145,6 +147,7 @@ pub record IsTold (cursor : Cursor) (contents : Contents) : Type 0 where
 
 -- the place is one of the table, and a page that the place is in is in the buffer
 abbrev pub IsPlaced : Table → List ℕ → Place → Type 0
+IsPlaced t page Start = is_running t ≡ true
 IsPlaced t page (Pages next) = (oldest_in t ≤ next) × (next ≤ next_in t)
 IsPlaced t page (InPage number row) =
     (oldest_in t ≤ number) × (number < next_in t) × IsGoodPage (layout_in t) number page × (row ≤ page_count page)

@@ -2,6 +2,7 @@
 use Rattle.std.specs.Prelude.{◌≡◌, ℕ, ◌+◌, ◌-◌, ◌^◌, ◌<◌, ◌≤◌, Bool, true, false, Some, List, ◌∷◌, length, if◌then◌else◌}
 use Rattle.fl_model.specs.Row.{Row}
 use Rattle.fl_page.specs.Contents.{Contents}
+use Rattle.fl_table.specs.Look.{oldest_in}
 use Rattle.fl_table.specs.Memory.{next_in}
 use Rattle.fl_table.specs.declared.table.Table.{Table}
 use Rattle.fl_cursor.specs.Asked.{is_left, is_last}
@@ -9,7 +10,7 @@ use Rattle.fl_cursor.specs.Cursor.{mark_of, asked_of, is_here, present_of, left_
 use Rattle.fl_cursor.specs.Reads.{most_of, least_of}
 use Rattle.fl_cursor.specs.declared.place.Here.{Here}
 use Rattle.fl_cursor.specs.declared.place.Place.{Place}
-use Rattle.fl_cursor.specs.declared.place.Place.TheVariants.{Pages, InPage, Pending, Ended}
+use Rattle.fl_cursor.specs.declared.place.Place.TheVariants.{Start, Pages, InPage, Pending, Ended}
 use Rattle.fl_cursor.specs.declared.cursor.Cursor.{Cursor}
 
 -- it holds the same table and the same references
@@ -41,19 +42,30 @@ Gives false before row after = after ≡ before
 
 -- how many pages a place may still go to
 abbrev pub pages_left : Table → Place → ℕ
+pages_left t Start = 1 + (next_in t - oldest_in t)
 pages_left t (Pages next) = 1 + (next_in t - next)
 pages_left t (InPage number row) = next_in t - number
 pages_left t (Pending row) = 0
 pages_left t Ended = 0
 
+-- the place isn't known yet
+abbrev pub is_start : Place → Bool
+is_start Start = true
+is_start (InPage number row) = false
+is_start (Pages next) = false
+is_start (Pending row) = false
+is_start Ended = false
+
 -- the place is in a page, or in front of one
 abbrev pub is_in_page : Place → Bool
 is_in_page (InPage number row) = true
+is_in_page Start = false
 is_in_page (Pages next) = false
 is_in_page (Pending row) = false
 is_in_page Ended = false
 
 abbrev pub is_at_pages : Place → Bool
+is_at_pages Start = true
 is_at_pages (InPage number row) = true
 is_at_pages (Pages next) = true
 is_at_pages (Pending row) = false

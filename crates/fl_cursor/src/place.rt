@@ -3,6 +3,8 @@
 /// Where the next row is looked for.
 #[derive(Clone, Copy, Debug, PartialEq, Eq)]
 pub(crate) enum Place {
+    /// In the page of the lowest key that may be given, which isn't known yet.
+    Start,
     /// In the kept pages from this one on, none of which was read.
     Pages { next: u32 },
     /// In the page with this number, which is in the buffer, from this row on.

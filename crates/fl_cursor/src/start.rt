@@ -14,7 +14,7 @@ impl Bookmark {
     ghost use Rattle.fl_cursor.specs.Going.{is_in_page};
 
     /// The lowest key that may still be given.
-    fn lowest(&self) -> u64
+    pub(crate) fn lowest(&self) -> u64
         ensures { result ≡ lowest_of (asked_by self.now) }
     {
         match self.after {
@@ -38,8 +38,6 @@ impl Bookmark {
         if table.pending_rows() > 0 && table.pending_row(0).key() <= lowest {
             return Place::Pending { row: 0 };
         }
-        Place::Pages {
-            next: table.oldest(),
-        }
+        Place::Start
     }
 }

@@ -8,13 +8,14 @@ ghost use Rattle.fl_table.specs.Memory.{next_in};
 use crate::Cursor;
 use crate::place::{Here, Place};
 use crate::search::Sought;
+use fl_base::Steps;
 use fl_flash::Flash;
 use fl_page::ReadFault;
 
 impl Cursor<'_, '_, '_> {
     ghost use Rattle.fl_flash.specs.Flash.{FlashState};
     ghost use Rattle.fl_cursor.specs.Cursor.{table_of, mark_of, asked_of, buffer_of, place_of, here_of, is_here, has_ended, IsReady, IsTold, IsPlaced, IfBad, MayBeBad};
-    ghost use Rattle.fl_cursor.specs.Going.{Goes, Fails, took, pages_left, is_in_page, is_at_pages};
+    ghost use Rattle.fl_cursor.specs.Going.{Goes, Fails, took, pages_left, is_start, is_in_page, is_at_pages};
     ghost use Rattle.fl_cursor.specs.declared.place.Place.{Place};
 
     /// Takes the row with this key, which is here. The next one is looked for from the place on.
@@ -33,10 +34,12 @@ impl Cursor<'_, '_, '_> {
     /// Goes to the next row in the page in hand, and says whether there is one.
     fn step_in_page(&mut self) -> bool
         requires placed { IsPlaced (table_of self.old) (buffer_of self.old) (place_of self.old) }
+        requires begun { is_start (place_of self.old) ≡ false }
         requires short { length (buffer_of self.old) ≤ 4096 }
         requires few { next_in (table_of self.old) < 2 ^ 32 }
         ensures goes { (contents : Contents) (reads : ℕ) → Goes result contents reads self.old reads self.new }
         ensures here { OnFalse result (here_of self.new ≡ here_of self.old) }
+        ensures begun { is_start (place_of self.new) ≡ false }
         ensures outside { OnFalse result (is_in_page (place_of self.new) ≡ false) }
         ensures fewer { pages_left (table_of self.old) (place_of self.new) ≤ pages_left (table_of self.old) (place_of self.old) }
         ensures stays_ended { has_ended self.old ≡ true → (result ≡ false) × (has_ended self.new ≡ true) }
@@ -95,6 +98,36 @@ impl Cursor<'_, '_, '_> {
         }
     }
 
+    /// Finds the page of the lowest key that may be given, where that isn't known yet.
+    fn find_start<F: Flash>(&mut self, flash: &mut F) -> Result<(), ReadFault>
+        requires ready { IsReady self.old (contents_of (F.state flash.old)) }
+        ensures reads_only { OnlyReads (F.state flash.old) (F.state flash.new) }
+        ensures cause { IfErr result (λ fault. IsCaused (F.state flash.old) fault (F.state flash.new)) }
+        ensures bad_page { IfErr result (IfBad (MayBeBad (table_of self.old) (contents_of (F.state flash.old)))) }
+        ensures here { here_of self.new ≡ here_of self.old }
+        ensures goes { OnOk result (Goes false (contents_of (F.state flash.old)) (F.state flash.old).work.reads self.old (F.state flash.new).work.reads self.new) }
+        ensures fails { OnErr result (Fails (contents_of (F.state flash.old)) (F.state flash.old).work.reads self.old (F.state flash.new).work.reads self.new) }
+        ensures begun { OnOk result (is_start (place_of self.new) ≡ false) }
+        ensures stays_ended { has_ended self.old ≡ true → (has_ended self.new ≡ true) × (F.state flash.new ≡ F.state flash.old) × OnErr result ⊥ }
+    {
+        let Place::Start = self.place else {
+            return Ok(());
+        };
+        let lowest = self.mark.lowest();
+        let mut steps = Steps::new();
+        let Some(number) = self
+            .table
+            .page_of(flash, lowest, self.rows_buf, &mut steps)?
+        else {
+            self.place = Place::Pages {
+                next: self.table.oldest(),
+            };
+            return Ok(());
+        };
+        self.place = Place::InPage { number, row: 0 };
+        Ok(())
+    }
+
     /// Goes into the page with this number, which is read once, or past it where it has no rows. Behind the last page are
     /// the pending rows.
     fn read_page<F: Flash>(&mut self, next: u32, end: u32, flash: &mut F) -> Result<(), ReadFault>
@@ -107,6 +140,7 @@ impl Cursor<'_, '_, '_> {
         ensures here { here_of self.new ≡ here_of self.old }
         ensures goes { OnOk result (Goes false (contents_of (F.state flash.old)) (F.state flash.old).work.reads self.old (F.state flash.new).work.reads self.new) }
         ensures fails { OnErr result (Fails (contents_of (F.state flash.old)) (F.state flash.old).work.reads self.old (F.state flash.new).work.reads self.new) }
+        ensures begun { is_start (place_of self.new) ≡ false }
         ensures fewer { OnOk result (pages_left (table_of self.old) (place_of self.new) < pages_left (table_of self.old) (place_of self.old)) }
     {
         if next == end {
@@ -143,6 +177,7 @@ impl Cursor<'_, '_, '_> {
     {
         let end = self.table.next_number();
         self.here = Here::Nowhere;
+        self.find_start(flash)?;
         if self.step_in_page() {
             return Ok(true);
         }

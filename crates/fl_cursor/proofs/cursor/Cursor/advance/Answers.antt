@@ -2,7 +2,7 @@ use Rattle.std.proofs.Common.{rules, ◌≡◌, true, false, Ok, refl, sym, ◌�
 use Rattle.std.specs.Borrow.{Bor}
 use Rattle.std.proofs.lemmas.Result.{err_from_is_err_and}
 use Rattle.fl_page.specs.Contents.{Contents, contents_of}
-use Rattle.fl_page.proofs.Reading.{OnlyReads-same, OnlyReads-then}
+use Rattle.fl_page.proofs.Reading.{OnlyReads-then}
 use Rattle.fl_table.specs.declared.table.Table.{Table}
 use Rattle.fl_cursor.specs.Cursor.{is_end}
 use Rattle.fl_cursor.specs.Going.{Goes, Fails, pages_left}
@@ -12,6 +12,13 @@ use Rattle.fl_cursor.proofs.cursor.Cursor.advance.Goals as goal
 no : true ≡ false → ⊥
 no e = cc
 
+pub returns-in_err-find_start-clause-fails : goal.returns-in_err-find_start-clause-fails
+returns-in_err-find_start-clause-fails g c =
+    let held = contents_of (g.F.Flash.state c.args.flash.now) in
+    let reads = (g.F.Flash.state c.args.flash.now).work.reads in
+    let p = err_from_is_err_and c.from_residual.result c.from_residual.ensures.1 in
+    rw p.1 (fails-then held reads reads (g.F.Flash.state c.find_start.new.flash).work.reads c.args.self.now _ c.find_start.new.self (goes-nowhere c.args.self.now held reads) c.in_err-find_start.ensures.fails)
+
 pub returns-then-step_in_page-clause-here : goal.returns-then-step_in_page-clause-here
 returns-then-step_in_page-clause-here g c = (c.if-step_in_page.ensures.goes (contents_of (g.F.Flash.state c.args.flash.now)) 0).notes.2
 
@@ -19,18 +26,25 @@ pub returns-then-step_in_page-clause-goes : goal.returns-then-step_in_page-claus
 returns-then-step_in_page-clause-goes g c =
     let held = contents_of (g.F.Flash.state c.args.flash.now) in
     let reads = (g.F.Flash.state c.args.flash.now).work.reads in
-    goes-then true held reads reads reads _ _ _ (goes-nowhere c.args.self.now held reads) (c.if-step_in_page.ensures.goes held reads)
+    let mid = (g.F.Flash.state c.find_start.new.flash).work.reads in
+    goes-then true held reads mid mid c.args.self.now c.find_start.new.self c.step_in_page.new.self
+    (goes-then false held reads reads mid c.args.self.now _ c.find_start.new.self (goes-nowhere c.args.self.now held reads) c.in_ok-find_start.ensures.goes)
+    (c.if-step_in_page.ensures.goes held mid)
 
 pub loop-self-init : goal.loop-self-init
 loop-self-init g c =
     let held = contents_of (g.F.Flash.state c.args.flash.now) in
     let reads = (g.F.Flash.state c.args.flash.now).work.reads in
+    let mid = (g.F.Flash.state c.find_start.new.flash).work.reads in
     record {
-      reads_only = OnlyReads-same (g.F.Flash.state c.args.flash.now);
-      goes = goes-then false held reads reads reads _ _ _ (goes-nowhere c.args.self.now held reads) (c.if-step_in_page.ensures.goes held reads);
-      here = c.if-step_in_page.ensures.here;
+      reads_only = c.find_start.ensures.reads_only;
+      goes = goes-then false held reads mid mid c.args.self.now c.find_start.new.self c.step_in_page.new.self
+          (goes-then false held reads reads mid c.args.self.now _ c.find_start.new.self (goes-nowhere c.args.self.now held reads) c.in_ok-find_start.ensures.goes)
+          (c.if-step_in_page.ensures.goes held mid);
+      here = c.if-step_in_page.ensures.here ∙ c.find_start.ensures.here;
+      begun = c.if-step_in_page.ensures.begun;
       outside = c.if-step_in_page.ensures.outside;
-      ended = λ e. ((c.if-step_in_page.ensures.stays_ended e).1, refl);
+      ended = λ e. let was = c.in_ok-find_start.ensures.stays_ended e in ((c.if-step_in_page.ensures.stays_ended was.0).1, was.1);
       end = search rules;
     }
 
@@ -40,7 +54,7 @@ returns-in_err-read_page-clause-reads_only g c = OnlyReads-then _ _ _ c.loop-sel
 pub returns-in_err-read_page-clause-fails : goal.returns-in_err-read_page-clause-fails
 returns-in_err-read_page-clause-fails g c =
     let held = contents_of (g.F.Flash.state c.args.flash.now) in
-    let p = err_from_is_err_and c.from_residual.result c.from_residual.ensures.1 in
+    let p = err_from_is_err_and c.from_residual-in_err-read_page.result c.from_residual-in_err-read_page.ensures.1 in
     rw p.1 (fails-then held (g.F.Flash.state c.args.flash.now).work.reads (g.F.Flash.state c.loop-self.flash).work.reads (g.F.Flash.state c.read_page.new.flash).work.reads c.args.self.now c.loop-self.self c.read_page.new.self c.loop-self.invariant.goes
     (subst (λ (k : Contents). Fails k (g.F.Flash.state c.loop-self.flash).work.reads c.loop-self.self (g.F.Flash.state c.read_page.new.flash).work.reads c.read_page.new.self) c.loop-self.invariant.reads_only.contents c.in_err-read_page.ensures.fails))
 
@@ -89,6 +103,7 @@ loop-self-preserved g c =
       goes = goes-then false held reads now now c.args.self.now c.read_page.new.self c.step_in_page-in-Pages.new.self (goes-then false held reads mid now c.args.self.now c.loop-self.self c.read_page.new.self c.loop-self.invariant.goes page)
           (c.if-step_in_page-2.ensures.goes held now);
       here = c.if-step_in_page-2.ensures.here ∙ (c.read_page.ensures.here ∙ c.loop-self.invariant.here);
+      begun = c.if-step_in_page-2.ensures.begun;
       outside = c.if-step_in_page-2.ensures.outside;
       ended = λ e. absurd (no (sym (c.loop-self.invariant.ended e).0 ∙ ap is_end c.in-Pages.is));
       end = c.loop-self.invariant.end;
@@ -99,7 +114,7 @@ step_pending-requires g c =
     let held = contents_of (g.F.Flash.state c.args.flash.now) in
     record {
       placed = (c.loop-self.invariant.goes.ready held c.requires).placed;
-      behind = behind-pages c.loop-self.self.place c.loop-self.invariant.outside c.in_default.not-Pages;
+      behind = behind-pages c.loop-self.self.place c.loop-self.invariant.begun c.loop-self.invariant.outside c.in_default.not-Pages;
     }
 
 pub returns : goal.returns
