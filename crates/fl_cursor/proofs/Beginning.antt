@@ -2,6 +2,7 @@
 use Rattle.std.proofs.Common.{◌≡◌, ℕ, zero, suc, ◌+◌, ◌-◌, ◌^◌, ◌<◌, ◌≤◌, ◌⊎◌, Bool, true, false, ◌&&◌, ◌||◌, cond, ◌==◌, nat_le, Option, Some, None, option_map, unwrap_or, List, [], ◌∷◌, ◌++◌, length, map, drop, refl, sym, ◌∙◌, ap, subst, append_assoc, arith, inl, inr}
 use Rattle.std.specs.List.{slice_get, AllByRecursion, list_any}
 use Rattle.std.proofs.lemmas.Bool.{leb-true, le-leb, false_from_ne_true, eqb-true}
+use Rattle.fl_find.specs.Index.{most_reads}
 use Rattle.fl_find.specs.Pages.{first_key, first_on}
 use Rattle.fl_find.specs.Pages as find
 use Rattle.fl_find.proofs.Modelled.{found}
@@ -10,9 +11,9 @@ use Rattle.fl_flash.specs.Places.{page_of}
 use Rattle.fl_model.specs.Query.{Cursor, in_range, in_span, is_up_to}
 use Rattle.fl_model.specs.Record.{RowLayout, row_layout}
 use Rattle.fl_model.specs.Ring as rings
-use Rattle.fl_model.specs.Row.{Row}
-use Rattle.fl_model.specs.Spline.{page_at as page_with}
-use Rattle.fl_model.specs.Table.{lose}
+use Rattle.fl_model.specs.Row.{Row, stored_row}
+use Rattle.fl_model.specs.Spline.{page_at as page_with, is_pending_key, lookup_limit}
+use Rattle.fl_model.specs.Table.{Entry, lose, pending_entries}
 use Rattle.fl_page.specs.Contents.{Contents, contents_of}
 use Rattle.fl_page.specs.Page.{rows_in}
 use Rattle.fl_page.specs.Steps.{Ascends}
@@ -25,17 +26,17 @@ use Rattle.fl_table.specs.Memory.{next_in}
 use Rattle.fl_table.specs.Pages.{place_in}
 use Rattle.fl_table.specs.Standing.{Stands}
 use Rattle.fl_table.specs.declared.table.Table.{Table}
-use Rattle.fl_table.proofs.Finds.{holds-pages}
+use Rattle.fl_table.proofs.Finds.{holds-pages, limit-told}
 use Rattle.fl_table.proofs.Images.{holds-same}
 use Rattle.fl_table.proofs.KeptRead.{ring-place}
-use Rattle.fl_table.proofs.Looks.{next-is, oldest-is}
+use Rattle.fl_table.proofs.Looks.{next-is, oldest-is, pages-is}
 use Rattle.fl_cursor.specs.Ascending.{both}
 use Rattle.fl_cursor.specs.Asked.{is_asked, row_matches, lowest, lowest_of}
 use Rattle.fl_cursor.specs.Cursor.{IsStanding}
 use Rattle.fl_cursor.specs.Listed.{bytes_at, rows_on, rows_over, rows_from, rows_of}
-use Rattle.fl_cursor.specs.Reads.{begins_by, start_among, start_of, pages_asked, raised}
+use Rattle.fl_cursor.specs.Reads.{begins_by, start_among, start_of, most_to_find, pages_asked, raised}
 use Rattle.fl_cursor.proofs.Passing.{each-front, each-back}
-use Rattle.fl_cursor.proofs.Stood.{same-rows}
+use Rattle.fl_cursor.proofs.Stood.{same-rows, standing-buffered}
 
 -- what stands on a flash stands on each that holds the same
 pub stands-moved : (t : Table) (f : FlashState) (h : IsStanding t (contents_of f)) → Stands t f h.first h.plan h.table
@@ -195,3 +196,25 @@ lowest-from asked = by_after asked.after
     by_after : (after : Option ℕ) → asked.range.low ≤ lowest asked.range.low after
     by_after None = omega arith
     by_after (Some after) = omega arith
+
+-- ---- how many reads find it
+
+first-stored : (entries : List Entry) → option_map (λ (entry : Entry). entry.kept.key) (slice_get entries 0) ≡ first_key (map stored_row entries)
+first-stored [] = refl
+first-stored (e ∷ entries) = refl
+
+pub pending-same : (t : Table) (contents : Contents) (h : IsStanding t contents) (key : ℕ) → is_pending_key h.table key ≡ begins_by key (buffered_rows t)
+pending-same t contents h key =
+    ap (λ (o : Option ℕ). unwrap_or (option_map (λ first. nat_le first key) o) false) (first-stored (pending_entries h.table) ∙ ap first_key (sym (standing-buffered t contents h)))
+
+pub few-reads : (t : Table) (contents : Contents) (h : IsStanding t contents) (key reads reads_now : ℕ) → reads_now ≤ reads + (next_in t - oldest_in t) + 1 →
+    (is_pending_key h.table key ≡ false → reads_now ≤ reads + lookup_limit 64 h.plan h.table key) → reads_now ≤ reads + most_to_find t key
+few-reads t contents h key reads reads_now most limit = by_pending (begins_by key (buffered_rows t)) refl
+  where
+    by_pending : (b : Bool) → begins_by key (buffered_rows t) ≡ b → reads_now ≤ reads + cond b (next_in t - oldest_in t + 1) (most_reads t.index (next_in t - oldest_in t) t.voids key)
+    by_pending true is = omega (arith, most)
+    by_pending false is =
+        let free : is_pending_key h.table key ≡ false = pending-same t contents h key ∙ is in
+        let le = limit free in
+        let same = limit-told t h.flash h.first h.plan h.table key (next_in t - oldest_in t) h.stands free (pages-is t h.flash h.first h.plan h.table h.stands) in
+        omega (arith, le, same)

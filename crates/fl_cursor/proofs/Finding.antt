@@ -88,26 +88,27 @@ module _ (old : Cursor) (here_is : old.place ≡ Start) (buf : MutBor BufferStat
   }
 
   -- no page begins by the key, so that the oldest one comes next
-  pub start-none : oldest_in (table_of old) ≤ next_in (table_of old) →
+  pub start-none : (first : ℕ) → first ≡ oldest_in (table_of old) → oldest_in (table_of old) ≤ next_in (table_of old) →
       (IsTold old contents → IsPageOf (λ n. first_key (rows_on (table_of old) contents n)) (oldest_in (table_of old)) (next_in (table_of old)) low None) →
-      Goes false contents reads old reads_now (record old { rows_buf = buf; place = Pages (oldest_in (table_of old)) })
-  start-none ordered is =
-      turns old buf (Pages (oldest_in (table_of old))) contents reads reads_now named room (omega arith, ordered) later
+      Goes false contents reads old reads_now (record old { rows_buf = buf; place = Pages first })
+  start-none first is_oldest ordered is =
+      subst (λ n. Goes false contents reads old reads_now (record old { rows_buf = buf; place = Pages n })) (sym is_oldest)
+      (turns old buf (Pages (oldest_in (table_of old))) contents reads reads_now named room (omega arith, ordered) later
       passes-here
       (λ told.
       let le = few told in
       let start = start-is (table_of old) contents low None (is told) in
       let same : pages_to_last (table_of old) contents (asked_of old).top (start_of (table_of old) contents low) (next_in (table_of old) - start_of (table_of old) contents low)
-          ≡ pages_to_last (table_of old) contents (asked_of old).top (oldest_in (table_of old)) pages =
+      ≡ pages_to_last (table_of old) contents (asked_of old).top (oldest_in (table_of old)) pages =
       ap (λ n. pages_to_last (table_of old) contents (asked_of old).top n (next_in (table_of old) - n)) start in
       omega (arith, le, most-here, same))
       (λ told lt.
       let le = later lt in
       let fewer = raised-fewer (table_of old) contents (asked_of old) pages (oldest_in (table_of old)) (lowest-from (asked_of old)) in
-      omega (arith, le, least-here, fewer))
+      omega (arith, le, least-here, fewer)))
 
   module _ (number : ℕ) (from : oldest_in (table_of old) ≤ number) (before : number < next_in (table_of old)) (good : IsGoodPage (layout_in (table_of old)) number buf.now.bytes)
-      (some : reads_now < 2 ^ 64 - 1 → reads + 1 ≤ reads_now) (bytes : IsTold old contents → buf.now.bytes ≡ bytes_at (table_of old) contents number)
+      (some : IsTold old contents → reads_now < 2 ^ 64 - 1 → reads + 1 ≤ reads_now) (bytes : IsTold old contents → buf.now.bytes ≡ bytes_at (table_of old) contents number)
       (is : IsTold old contents → IsPageOf (λ n. first_key (rows_on (table_of old) contents n)) (oldest_in (table_of old)) (next_in (table_of old)) low (Some number)) where
     abbrev front : List Row
     front = rows_over old.table.now contents (oldest_in old.table.now) (number - oldest_in old.table.now)
@@ -155,23 +156,23 @@ module _ (old : Cursor) (here_is : old.place ≡ Start) (buf : MutBor BufferStat
         let le = few told in
         let start : start_of (table_of old) contents low ≡ number = start-is (table_of old) contents low (Some number) (is told) in
         let same : pages_to_last (table_of old) contents (asked_of old).top (start_of (table_of old) contents low) (next_in (table_of old) - start_of (table_of old) contents low)
-            ≡ 1 + cond (has_last (asked_of old).top (rows_in (layout_in (table_of old)) buf.now.bytes)) 0 (pages_to_last (table_of old) contents (asked_of old).top (number + 1) (next_in (table_of old) - (number + 1))) =
+        ≡ 1 + cond (has_last (asked_of old).top (rows_in (layout_in (table_of old)) buf.now.bytes)) 0 (pages_to_last (table_of old) contents (asked_of old).top (number + 1) (next_in (table_of old) - (number + 1))) =
         ap (λ n. pages_to_last (table_of old) contents (asked_of old).top n (next_in (table_of old) - n)) start
         ∙ (ap (pages_to_last (table_of old) contents (asked_of old).top number) (let one : next_in (table_of old) - number ≡ suc (next_in (table_of old) - (number + 1)) = omega (arith, before) in one)
         ∙ (ap (λ b. cond b (pages_to_last (table_of old) contents (asked_of old).top (number + 1) (next_in (table_of old) - (number + 1)))
-            (1 + cond (has_last (asked_of old).top (rows_on (table_of old) contents number)) 0 (pages_to_last (table_of old) contents (asked_of old).top (number + 1) (next_in (table_of old) - (number + 1))))) (noted told)
+        (1 + cond (has_last (asked_of old).top (rows_on (table_of old) contents number)) 0 (pages_to_last (table_of old) contents (asked_of old).top (number + 1) (next_in (table_of old) - (number + 1))))) (noted told)
         ∙ ap (λ (xs : List Row). 1 + cond (has_last (asked_of old).top xs) 0 (pages_to_last (table_of old) contents (asked_of old).top (number + 1) (next_in (table_of old) - (number + 1)))) (rows-here told))) in
         omega (arith, le, most-here, same))
         (λ told lt.
         let b = first told in
-        let one = some lt in
+        let one = some told lt in
         let is_first : rows_on (table_of old) contents number ++ behind ≡ b.row ∷ drop 1 (rows_on (table_of old) contents number ++ behind) =
         drop-row (rows_on (table_of old) contents number ++ behind) 0 b.row (first-front (rows_on (table_of old) contents number) behind b.row b.first) in
         let lesser = ascends-front None front b.row (drop 1 (rows_on (table_of old) contents number ++ behind)) (subst (λ (xs : List Row). Ascends None (front ++ xs)) is_first (subst (Ascends None) rows-split told.ascends)) in
         let none = raised-below (table_of old) contents (asked_of old) (number - oldest_in (table_of old)) (oldest_in (table_of old)) (each-weaker (λ x. x.key < b.row.key) (λ x. x.key < low) front (λ x lt. omega (arith, lt, b.up_to)) lesser) in
         let split = ap (pages_asked (table_of old) contents (raised (asked_of old)) (oldest_in (table_of old))) parts
-            ∙ (asked-split (table_of old) contents (raised (asked_of old)) (number - oldest_in (table_of old)) (suc (next_in (table_of old) - (number + 1))) (oldest_in (table_of old))
-            ∙ ap (λ k. pages_asked (table_of old) contents (raised (asked_of old)) (oldest_in (table_of old)) (number - oldest_in (table_of old)) + pages_asked (table_of old) contents (raised (asked_of old)) k (suc (next_in (table_of old) - (number + 1)))) at) in
+        ∙ (asked-split (table_of old) contents (raised (asked_of old)) (number - oldest_in (table_of old)) (suc (next_in (table_of old) - (number + 1))) (oldest_in (table_of old))
+        ∙ ap (λ k. pages_asked (table_of old) contents (raised (asked_of old)) (oldest_in (table_of old)) (number - oldest_in (table_of old)) + pages_asked (table_of old) contents (raised (asked_of old)) k (suc (next_in (table_of old) - (number + 1)))) at) in
         let few_here = at-most-one (list_any (is_asked (raised (asked_of old))) (rows_on (table_of old) contents number)) in
         let fewer = raised-fewer (table_of old) contents (asked_of old) (next_in (table_of old) - (number + 1)) (number + 1) (lowest-from (asked_of old)) in
         omega (arith, one, least-here, split, none, few_here, fewer))

@@ -180,8 +180,8 @@ module _ (t : Table) (contents : Contents) (h : IsStanding t contents) where
       ∙ (sym (take-add at.0 (many - before (suc i)) (drop (before i) h.table.entries))
       ∙ ap (λ k. take k (drop (before i) h.table.entries)) (sym split)))))))
 
-  buffered : buffered_rows t ≡ map stored_row (pending_entries h.table)
-  buffered =
+  pub standing-buffered : buffered_rows t ≡ map stored_row (pending_entries h.table)
+  standing-buffered =
       let gathers = h.stands.memory.gathers in
       let rows = map stored_row (pending_entries h.table) in
       ap (λ n. pages.rows_from n (layout_in t) (drop 16 t.writer.body)) gathers.count
@@ -199,7 +199,7 @@ module _ (t : Table) (contents : Contents) (h : IsStanding t contents) where
       ap (λ n. rows_over t contents n (next_in t - oldest_in t) ++ buffered_rows t) start
       ∙ (ap (λ n. rows_over t contents (first_number + 0) n ++ buffered_rows t) count
       ∙ (ap (λ (xs : List Row). xs ++ buffered_rows t) (over-rows (length h.table.rows.counts) 0 (omega arith))
-      ∙ (ap (λ (xs : List Row). map stored_row (take (many - before 0) (drop (before 0) h.table.entries)) ++ xs) buffered
+      ∙ (ap (λ (xs : List Row). map stored_row (take (many - before 0) (drop (before 0) h.table.entries)) ++ xs) standing-buffered
       ∙ (sym (map-append stored_row (take (many - before 0) (drop (before 0) h.table.entries)) (pending_entries h.table))
       ∙ ap (map stored_row)
       (ap (λ n. take (many - before 0) (drop n h.table.entries) ++ pending_entries h.table) none

@@ -101,6 +101,7 @@ impl Cursor<'_, '_, '_> {
     /// Finds the page of the lowest key that may be given, where that isn't known yet.
     fn find_start<F: Flash>(&mut self, flash: &mut F) -> Result<(), ReadFault>
         requires ready { IsReady self.old (contents_of (F.state flash.old)) }
+        requires ordered { oldest_in (table_of self.old) ≤ next_in (table_of self.old) }
         ensures reads_only { OnlyReads (F.state flash.old) (F.state flash.new) }
         ensures cause { IfErr result (λ fault. IsCaused (F.state flash.old) fault (F.state flash.new)) }
         ensures bad_page { IfErr result (IfBad (MayBeBad (table_of self.old) (contents_of (F.state flash.old)))) }

@@ -19,6 +19,11 @@ returns-in_err-find_start-clause-fails g c =
     let p = err_from_is_err_and c.from_residual.result c.from_residual.ensures.1 in
     rw p.1 (fails-then held reads reads (g.F.Flash.state c.find_start.new.flash).work.reads c.args.self.now _ c.find_start.new.self (goes-nowhere c.args.self.now held reads) c.in_err-find_start.ensures.fails)
 
+pub step_in_page-requires-clause-placed : goal.step_in_page-requires-clause-placed
+step_in_page-requires-clause-placed g c =
+    let held = contents_of (g.F.Flash.state c.args.flash.now) in
+    (c.in_ok-find_start.ensures.goes.ready held ((goes-nowhere c.args.self.now held 0).ready held c.requires)).placed
+
 pub returns-then-step_in_page-clause-here : goal.returns-then-step_in_page-clause-here
 returns-then-step_in_page-clause-here g c = (c.if-step_in_page.ensures.goes (contents_of (g.F.Flash.state c.args.flash.now)) 0).notes.2
 
