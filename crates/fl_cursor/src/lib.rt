@@ -3,6 +3,7 @@
 
 mod bookmark;
 mod cursor;
+mod laws;
 mod place;
 mod rows;
 mod search;
@@ -11,3 +12,4 @@ mod walk;
 
 pub use bookmark::Bookmark;
 pub use cursor::Cursor;
+pub use laws::cursor_is_the_models;
