@@ -39,7 +39,7 @@ use Rattle.fl_config.specs.Opening.{Opens}
 use Rattle.fl_config.specs.Whole.{is_whole, is_whole_of, Makes}
 use Rattle.fl_session.proofs.Running.{nothing-added}
 use Rattle.fl_session.proofs.Ready.{ready-room, stands-ready}
-use Rattle.fl_session.proofs.Ending.{runs-seen, ends-of_run, begins-ready}
+use Rattle.fl_session.proofs.Ending.{runs-seen, ends-of_run, begins-ready, begins-takes}
 use Rattle.fl_session.proofs.Rooms.{some-plan}
 use Rattle.fl_session.proofs.Rested.{IsOne, built-one, session-begins, session-ends, opened-rests, opened-formed}
 
@@ -175,27 +175,27 @@ ends-opened knots text lines first number state left left_now told told_now conf
     (le_trans later later') h
 
 -- a run whose image wasn't opened: the medium failed, or is another's
-pub ends-half : (knots : ℕ) (text : List ℕ) (lines : Lines) (first : Option code.Command) (number : ℕ) (state : LinesState) (left left_now told : Option (List ℕ)) (config : Config) (old new : MediaState) →
-    BeginsAt knots text lines first number state left → whole knots lines ≡ Some config → IsTrue old.tells → HalfOpened config old new → Ends knots text (told_of old new left_now told told) MediaMake
-ends-half knots text lines first number state left left_now told config old new begins w tells h =
+pub ends-half : (knots : ℕ) (text : List ℕ) (lines : Lines) (first : Option code.Command) (number : ℕ) (state : LinesState) (left told : Option (List ℕ)) (config : Config) (old new : MediaState) →
+    BeginsAt knots text lines first number state left → whole knots lines ≡ Some config → IsTrue old.tells → HalfOpened config old new → Ends knots text (told_of old new left told told) MediaMake
+ends-half knots text lines first number state left told config old new begins w tells h =
     let ready = begins-ready knots text lines first number state left config begins w in
-    subst (λ s. EndsMaking s (told_of old new left_now told told)) (sym ready.2) (nothing-added told, h.kept tells, h.part tells)
+    (subst (λ s. EndsMaking s (told_of old new left told told)) (sym ready.2) (nothing-added told, h.kept tells, h.part tells), begins-takes knots text lines first number state left begins)
 
-pub ends-foreign : (knots : ℕ) (text : List ℕ) (lines : Lines) (first : Option code.Command) (number : ℕ) (state : LinesState) (left left_now told : Option (List ℕ)) (config : Config) (old new : MediaState) (wanted found at : ℕ) →
-    BeginsAt knots text lines first number state left → whole knots lines ≡ Some config → IsTrue old.tells → Foreign config old new wanted found at → Ends knots text (told_of old new left_now told told) (OtherConfig wanted found at)
-ends-foreign knots text lines first number state left left_now told config old new wanted found at begins w tells h =
+pub ends-foreign : (knots : ℕ) (text : List ℕ) (lines : Lines) (first : Option code.Command) (number : ℕ) (state : LinesState) (left told : Option (List ℕ)) (config : Config) (old new : MediaState) (wanted found at : ℕ) →
+    BeginsAt knots text lines first number state left → whole knots lines ≡ Some config → IsTrue old.tells → Foreign config old new wanted found at → Ends knots text (told_of old new left told told) (OtherConfig wanted found at)
+ends-foreign knots text lines first number state left told config old new wanted found at begins w tells h =
     let ready = begins-ready knots text lines first number state left config begins w in
-    subst (λ s. EndsOther s (told_of old new left_now told told) wanted found at) (sym ready.2) (h.other tells, record { content = h.kept tells; written = nothing-added told })
+    (subst (λ s. EndsOther s (told_of old new left told told) wanted found at) (sym ready.2) (h.other tells, record { content = h.kept tells; written = nothing-added told }), begins-takes knots text lines first number state left begins)
 
 -- the statuses of the commands
 pub commands-words : (status : Status) → IsOfCommands status → status ≡ Usage → ⊥
 commands-words status h e = subst IsOfCommands e h
 
-pub ends-refused : (knots : ℕ) (text : List ℕ) (lines : Lines) (first : Option code.Command) (number : ℕ) (state : LinesState) (left left_now told : Option (List ℕ)) (config : Config) (old new : MediaState) (refusal : ImageRefusal) →
-    BeginsAt knots text lines first number state left → whole knots lines ≡ Some config → IsTrue old.tells → OpensAs config old (Err refusal) new → Ends knots text (told_of old new left_now told told) (refused_status refusal)
-ends-refused knots text lines first number state left left_now told config old new Media begins w tells h = ends-half knots text lines first number state left left_now told config old new begins w tells h
-ends-refused knots text lines first number state left left_now told config old new (Other wanted found at) begins w tells h =
-    ends-foreign knots text lines first number state left left_now told config old new wanted found at begins w tells h
+pub ends-refused : (knots : ℕ) (text : List ℕ) (lines : Lines) (first : Option code.Command) (number : ℕ) (state : LinesState) (left told : Option (List ℕ)) (config : Config) (old new : MediaState) (refusal : ImageRefusal) →
+    BeginsAt knots text lines first number state left → whole knots lines ≡ Some config → IsTrue old.tells → OpensAs config old (Err refusal) new → Ends knots text (told_of old new left told told) (refused_status refusal)
+ends-refused knots text lines first number state left told config old new Media begins w tells h = ends-half knots text lines first number state left told config old new begins w tells h
+ends-refused knots text lines first number state left told config old new (Other wanted found at) begins w tells h =
+    ends-foreign knots text lines first number state left told config old new wanted found at begins w tells h
 
 pub early-refused : (config : Config) (old new : MediaState) (told : Option (List ℕ)) (refusal : ImageRefusal) → OpensAs config old (Err refusal) new → IsEarlyBy old new told told (refused_status refusal)
 early-refused config old new told Media h = record { written = nothing-added told; content = h.kept }

@@ -1,6 +1,7 @@
 pub mod Words
 pub mod Built
 pub mod Texts
+pub mod Taken
 pub mod Ends
 pub mod Number
 pub mod Execute

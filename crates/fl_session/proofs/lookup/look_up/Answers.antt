@@ -1,7 +1,6 @@
 use Rattle.std.proofs.Common.{◌≡◌, false, refl}
 use Rattle.fl_model.specs.Record.{has_var}
 use Rattle.fl_schema.specs.Schema.{row_of}
-use Rattle.fl_table.specs.declared.find.RowAt.{RowAt}
 use Rattle.fl_table.proofs.SealAnswers.{planned-plain}
 use Rattle.fl_session.proofs.Lookups.{looks-absent, looks-found, looks-unread}
 use Rattle.fl_session.proofs.lookup.look_up.Goals as goal

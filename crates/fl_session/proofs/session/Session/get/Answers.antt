@@ -1,5 +1,4 @@
 use Rattle.std.proofs.Common.{◌≡◌, ◌-◌, sym, ◌∙◌, ap, arith}
-use Rattle.fl_base.specs.declared.types.Geometry.{Geometry}
 use Rattle.fl_flash.specs.declared.flash.Work.{Work}
 use Rattle.fl_page.specs.Contents.{Contents}
 use Rattle.fl_session.proofs.Costing.{has-read}
