@@ -1,10 +1,8 @@
 -- Looks at pages, one after another.
-use Rattle.std.proofs.Common.{◌≡◌, ℕ, ◌+◌, ◌-◌, ◌^◌, ◌<◌, ◌≤◌, min, Bool, true, false, IsTrue, Option, Some, None, List, refl, sym, ap, subst, ◌∙◌, arith, Result, Ok, Err}
-use Rattle.std.specs.Prelude.{IsErrOf}
+use Rattle.std.proofs.Common.{◌≡◌, ℕ, IsTrue, Option, Some, None, List, refl, sym, ap, subst, ◌∙◌, arith, Result, Ok, Err}
 use Rattle.fl_flash.specs.Buffer.{BufferState}
 use Rattle.fl_flash.specs.Places.{page_of}
 use Rattle.fl_flash.specs.Flash.{FlashState, ReadsPage, page_at}
-use Rattle.fl_flash.specs.declared.flash.Work.{Work}
 use Rattle.fl_flash.specs.declared.flash.FlashFault.{FlashFault}
 use Rattle.fl_flash.specs.declared.flash.FlashFault.TheVariants.{PowerLost, Media}
 use Rattle.fl_model.specs.Record.{RowLayout}
@@ -18,7 +16,7 @@ use Rattle.fl_ring.specs.Ring.{place}
 use Rattle.fl_ring.specs.declared.ring.Ring.{Ring}
 use Rattle.fl_search.specs.Search.{RoseSome}
 use Rattle.fl_find.specs.Pages.{IsBadPage, IsFresh}
-use Rattle.fl_find.specs.Looking.{OnlyLooks, HasBadPage, IsKept, LookFails, Since}
+use Rattle.fl_find.specs.Looking.{OnlyLooks, HasBadPage, LookFails, Since}
 
 pub looks-read : (old new : FlashState) (page size : ℕ) (result : Result (Unit {0}) FlashFault) (into : BufferState) → ReadsPage old page size result into new → OnlyLooks old new
 looks-read old new page size result into is = record { reads = OnlyReads-read old new page size result into is; power = is.power; cuts = is.cuts }
