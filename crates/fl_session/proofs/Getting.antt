@@ -29,7 +29,7 @@ use Rattle.fl_session.specs.Answer.{Refusal}
 use Rattle.fl_session.specs.Execute.{Executes}
 use Rattle.fl_session.specs.Looked.{Looks}
 use Rattle.fl_session.specs.Cost.{HasRead}
-use Rattle.fl_session.specs.declared.cost.Cost.{Cost}
+use Rattle.fl_session.specs.declared.notes.Notes.{Notes}
 use Rattle.fl_session.specs.declared.cost.Cost.TheVariants as code_cost
 use Rattle.fl_session.specs.Standing.{SessionStands}
 use Rattle.fl_session.proofs.Answering.{executes-answered, step-is, table-step, located-own}
@@ -68,9 +68,9 @@ module _ (f g : FlashState) (only : OnlyReads f g) where
       }
 
   -- the session still stands, for a machine that knows what the get cost
-  session-looked : (config : Config) (t : Table) (name : List ℕ) (cost : Cost) (reads limit key : ℕ) (m : Machine) (h : SessionStands config t name f true cost m) → limit ≡ lookup_limit config.knots h.plan h.table key →
-      SessionStands config t name g true (code_cost.OfGet reads limit) (record m { cost = OfGet reads (lookup_limit config.knots h.plan h.table key) })
-  session-looked config t name cost reads limit key m h is = record {
+  session-looked : (config : Config) (t : Table) (name : List ℕ) (notes : Notes) (reads limit key : ℕ) (m : Machine) (h : SessionStands config t name f true notes m) → limit ≡ lookup_limit config.knots h.plan h.table key →
+      SessionStands config t name g true (record notes { cost = code_cost.OfGet reads limit }) (record m { cost = OfGet reads (lookup_limit config.knots h.plan h.table key) })
+  session-looked config t name notes reads limit key m h is = record {
     knots = h.knots;
     medium = medium-goes config f g goes-reads h.medium;
     plan = h.plan;
@@ -92,14 +92,14 @@ module _ (f g : FlashState) (only : OnlyReads f g) where
   }
 
 -- a get that is executed
-pub get-executes : (E : Type 0) (config : Config) (old : Machine) (t : Table) (name asked : List ℕ) (cost : Cost) (f g : FlashState) (reads limit key : ℕ) (mounted : Bool) (said : code.Reply) (told told_now : Option (List ℕ)) (result : Result (Unit {0}) E) →
-    SessionStands config t name f mounted cost old → Refusal name mounted asked None → OnlyReads f g → HasRead f reads g →
+pub get-executes : (E : Type 0) (config : Config) (old : Machine) (t : Table) (name asked : List ℕ) (notes : Notes) (f g : FlashState) (reads limit key : ℕ) (mounted : Bool) (said : code.Reply) (told told_now : Option (List ℕ)) (result : Result (Unit {0}) E) →
+    SessionStands config t name f mounted notes old → Refusal name mounted asked None → OnlyReads f g → HasRead f reads g →
     ((f : FlashState) (first : ℕ) (plan : Plan) (table : model.Table) → Stands t f first plan table → limit ≡ lookup_limit 64 plan table key) →
     ((first : ℕ) (plan : Plan) (table : model.Table) → IsTrue f.media.tells → f.is_on ≡ true → Stands t f first plan table → Looks plan table key f.media.faults g.media.faults (reply_text said)) →
     Written told told_now result (reply_text said) →
-    Executes config old (command.Get asked key) (SessionStands config t name g mounted (code_cost.OfGet reads limit)) f g told told_now result
-get-executes E config old t name asked cost f g reads limit key mounted said told told_now result h r only counted limits looks wrote =
-    let h' = subst (λ m. SessionStands config t name f m cost old) r.0 h in
+    Executes config old (command.Get asked key) (SessionStands config t name g mounted (record notes { cost = code_cost.OfGet reads limit })) f g told told_now result
+get-executes E config old t name asked notes f g reads limit key mounted said told told_now result h r only counted limits looks wrote =
+    let h' = subst (λ m. SessionStands config t name f m notes old) r.0 h in
     let s = looks 0 h'.plan h'.table h'.medium.told (h'.power refl) h'.on_flash in
     let is : limit ≡ lookup_limit config.knots h'.plan h'.table key = limits f 0 h'.plan h'.table h'.on_flash ∙ ap (λ n. lookup_limit n h'.plan h'.table key) (sym h'.knots) in
     let moment : Moment = record { command = command.Get name key; rose = s.rose; reads = reads; last = None; replies = s.reply ∷ []; after = record old { cost = OfGet reads (lookup_limit config.knots h'.plan h'.table key) } } in
@@ -108,14 +108,14 @@ get-executes E config old t name asked cost f g reads limit key mounted said tol
     let replied : (moment.replies ≡ found_reply h'.plan (entry_at key h'.table.entries) ∷ []) ⊎ (IsTrue moment.rose × (moment.replies ≡ reply.ReadFault ∷ [])) = elim s.reply_is [ inl e ↦ inl (ap (λ (x : Reply). x ∷ []) e) | inr e ↦ inr (e.0, ap (λ (x : Reply). x ∷ []) e.1) ] in
     let step = table-step config old moment name (GetStep config old moment key) at h'.is_mounted own (refl, refl, replied) in
     let written : Written told told_now result (texts (s.reply ∷ [])) = subst (λ (l : List ℕ). Written told told_now result l) (s.said_is ∙ sym (one-text s.reply)) wrote in
-    subst (λ asked. Executes config old (command.Get asked key) (SessionStands config t name g mounted (code_cost.OfGet reads limit)) f g told told_now result) (sym r.1)
-    (subst (λ m. Executes config old (command.Get name key) (SessionStands config t name g m (code_cost.OfGet reads limit)) f g told told_now result) (sym r.0)
-    (executes-by E config old (command.Get name key) (SessionStands config t name g true (code_cost.OfGet reads limit)) f g told told_now result moment refl step (session-looked f g only config t name cost reads limit key old h' is) counted s.risen written))
+    subst (λ asked. Executes config old (command.Get asked key) (SessionStands config t name g mounted (record notes { cost = code_cost.OfGet reads limit })) f g told told_now result) (sym r.1)
+    (subst (λ m. Executes config old (command.Get name key) (SessionStands config t name g m (record notes { cost = code_cost.OfGet reads limit })) f g told told_now result) (sym r.0)
+    (executes-by E config old (command.Get name key) (SessionStands config t name g true (record notes { cost = code_cost.OfGet reads limit })) f g told told_now result moment refl step (session-looked f g only config t name notes reads limit key old h' is) counted s.risen written))
 
 -- .. and one that isn't
-pub get-refused : (E : Type 0) (config : Config) (old : Machine) (t : Table) (name : List ℕ) (cost : Cost) (f : FlashState) (mounted : Bool) (asked : List ℕ) (key : ℕ) (said : code.Reply) (told told_now : Option (List ℕ)) (result : Result (Unit {0}) E) →
-    SessionStands config t name f mounted cost old → Refusal name mounted asked (Some said) → Written told told_now result (reply_text said) →
-    Executes config old (command.Get asked key) (SessionStands config t name f mounted cost) f f told told_now result
-get-refused E config old t name cost f mounted asked key said told told_now result h r wrote =
-    executes-answered E config old (command.Get asked key) (SessionStands config t name f mounted cost) f f (reply_text said) told told_now result
-    (answers-refused config old t name cost f mounted (command.Get asked key) asked (λ moment. GetStep config old moment key) said f.media.faults h r (λ moment is w. step-is config old moment (command.Get asked key) is w)) (λ moment none. read-none f moment.reads none) wrote
+pub get-refused : (E : Type 0) (config : Config) (old : Machine) (t : Table) (name : List ℕ) (notes : Notes) (f : FlashState) (mounted : Bool) (asked : List ℕ) (key : ℕ) (said : code.Reply) (told told_now : Option (List ℕ)) (result : Result (Unit {0}) E) →
+    SessionStands config t name f mounted notes old → Refusal name mounted asked (Some said) → Written told told_now result (reply_text said) →
+    Executes config old (command.Get asked key) (SessionStands config t name f mounted notes) f f told told_now result
+get-refused E config old t name notes f mounted asked key said told told_now result h r wrote =
+    executes-answered E config old (command.Get asked key) (SessionStands config t name f mounted notes) f f (reply_text said) told told_now result
+    (answers-refused config old t name notes f mounted (command.Get asked key) asked (λ moment. GetStep config old moment key) said f.media.faults h r (λ moment is w. step-is config old moment (command.Get asked key) is w)) (λ moment none. read-none f moment.reads none) wrote

@@ -21,7 +21,8 @@ use Rattle.fl_session.specs.Built.{are_built}
 use Rattle.fl_session.specs.Stream.{LinesState}
 use Rattle.fl_table.specs.declared.table.Table as code_table
 use Rattle.fl_table.specs.Memory.{IsPlanned, LiesOn}
-use Rattle.fl_session.specs.declared.cost.Cost.{Cost}
+use Rattle.fl_session.specs.Notes.{no_notes}
+use Rattle.fl_session.specs.declared.notes.Notes.{Notes}
 use Rattle.fl_session.specs.declared.cost.Cost.TheVariants as code_cost
 use Rattle.fl_session.specs.Standing.{SessionStands, IsSound, RestsOn, IsNewTable}
 use Rattle.fl_session.specs.Run.{RunsFrom, around_of, IsOfCommands, refused_status}
@@ -108,19 +109,19 @@ new-sound t t' lines f f' buf buf' t_is f_is buf_is new whole built device block
     not_on e = cc
 
 -- what was run in the session was run over the medium
-pub session-runs : (config : Config) (t t' : code_table.Table) (name name' : List ℕ) (cost cost' : Cost) (f f' : FlashState) (old new : MediaState) (mounted mounted' : Bool) (geometry : Geometry) (blocks : ℕ) (origin : GName) →
+pub session-runs : (config : Config) (t t' : code_table.Table) (name name' : List ℕ) (notes notes' : Notes) (f f' : FlashState) (old new : MediaState) (mounted mounted' : Bool) (geometry : Geometry) (blocks : ℕ) (origin : GName) →
     f ≡ on_medium geometry blocks 1024 origin true None 0 (record { reads = 0; programs = 0; erases = 0 }) old → geometry ≡ config.geometry → new ≡ f'.media → IsTrue old.tells →
-    (one : IsOne config.plans) → one.plan.name ≡ name → IsPlanned t 0 one.plan → mounted ≡ false → cost ≡ code_cost.NothingYet → config.knots ≡ 64 →
+    (one : IsOne config.plans) → one.plan.name ≡ name → IsPlanned t 0 one.plan → mounted ≡ false → notes ≡ no_notes → config.knots ≡ 64 →
     (first : Option code.Command) (number : ℕ) (state : LinesState) (left left_now told told_now : Option (List ℕ)) (status : Status) →
-    RunsFrom first number state left left_now (around_of config f.media f'.media told told_now) (SessionStands config t name f mounted cost) (SessionStands config t' name' f' mounted' cost') status →
+    RunsFrom first number state left left_now (around_of config f.media f'.media told told_now) (SessionStands config t name f mounted notes) (SessionStands config t' name' f' mounted' notes') status →
     RunsFrom first number state left left_now (around_of config old new told told_now) (RestsOn config old.content) (StandsAfter config (Some new.content)) status
-session-runs config t t' name name' cost cost' f f' old new mounted mounted' geometry blocks origin is g_is media tells one named planned off fresh knots first number state left left_now told told_now status h =
-    let begin : (m : Machine) → RestsOn config old.content m → SessionStands config t name f mounted cost m =
-    λ m r. subst (λ b. SessionStands config t name f b cost m) (sym off)
-    (subst (λ x. SessionStands config t name x false cost m) (sym is)
-    (session-begins config t name cost (on_medium geometry blocks 1024 origin true None 0 (record { reads = 0; programs = 0; erases = 0 }) old) m fresh tells refl g_is refl refl refl one named planned knots r)) in
-    let end : (m : Machine) → SessionStands config t' name' f' mounted' cost' m → StandsAfter config (Some f'.media.content) m = λ m s. session-ends config t' name' cost' f' mounted' m s in
-    let seen = runs-seen first number state left left_now (around_of config f.media f'.media told told_now) (SessionStands config t name f mounted cost) (SessionStands config t' name' f' mounted' cost')
+session-runs config t t' name name' notes notes' f f' old new mounted mounted' geometry blocks origin is g_is media tells one named planned off fresh knots first number state left left_now told told_now status h =
+    let begin : (m : Machine) → RestsOn config old.content m → SessionStands config t name f mounted notes m =
+    λ m r. subst (λ b. SessionStands config t name f b notes m) (sym off)
+    (subst (λ x. SessionStands config t name x false notes m) (sym is)
+    (session-begins config t name notes (on_medium geometry blocks 1024 origin true None 0 (record { reads = 0; programs = 0; erases = 0 }) old) m fresh tells refl g_is refl refl refl one named planned knots r)) in
+    let end : (m : Machine) → SessionStands config t' name' f' mounted' notes' m → StandsAfter config (Some f'.media.content) m = λ m s. session-ends config t' name' notes' f' mounted' m s in
+    let seen = runs-seen first number state left left_now (around_of config f.media f'.media told told_now) (SessionStands config t name f mounted notes) (SessionStands config t' name' f' mounted' notes')
     (RestsOn config old.content) (StandsAfter config (Some f'.media.content)) status begin end h in
     let from : RunsFrom first number state left left_now (around_of config old f'.media told told_now) (RestsOn config old.content) (StandsAfter config (Some f'.media.content)) status =
     subst (λ (x : FlashState). RunsFrom first number state left left_now (around_of config x.media f'.media told told_now) (RestsOn config old.content) (StandsAfter config (Some f'.media.content)) status) is seen in

@@ -25,7 +25,7 @@ use Rattle.fl_table.proofs.Holding.{lost-twice}
 use Rattle.fl_session.specs.Answer.{Answers}
 use Rattle.fl_session.specs.Built.{IsRunnable}
 use Rattle.fl_session.specs.Execute.{Executes}
-use Rattle.fl_session.specs.declared.cost.Cost.{Cost}
+use Rattle.fl_session.specs.declared.notes.Notes.{Notes}
 use Rattle.fl_session.specs.Standing.{SessionStands}
 use Rattle.fl_session.proofs.Answering.{answers-saying, saying, says}
 use Rattle.fl_session.proofs.Executing.{executes-by}
@@ -55,8 +55,8 @@ pub off-rests : (t : Table) (f : FlashState) (plan : Plan) (table : model.Table)
 off-rests t f plan table true h = stands-rests t f plan table h
 off-rests t f plan table false h = subst (λ x. Rests f 0 plan x) h.settled.lost h
 
-pub stands-off : (config : Config) (old : Machine) (t : Table) (name : List ℕ) (cost : Cost) (f : FlashState) (mounted : Bool) → SessionStands config t name f mounted cost old → SessionStands config t name (record f { is_on = false }) false cost (stopped old)
-stands-off config old t name cost f mounted h =
+pub stands-off : (config : Config) (old : Machine) (t : Table) (name : List ℕ) (notes : Notes) (f : FlashState) (mounted : Bool) → SessionStands config t name f mounted notes old → SessionStands config t name (record f { is_on = false }) false notes (stopped old)
+stands-off config old t name notes f mounted h =
     let r = off-rests t f h.plan h.table mounted h.on_flash in
     record {
       knots = h.knots;
@@ -88,9 +88,9 @@ cut-flash t f plan table false n kind h = record { settled = h.settled; pages = 
 abbrev pub cut_to_come : Machine → ℕ → CutKind → Machine
 cut_to_come old n kind = record old { device = record old.device { armed = Some (n, kind) } }
 
-pub stands-cut : (config : Config) (old : Machine) (t : Table) (name : List ℕ) (cost : Cost) (f : FlashState) (mounted : Bool) (n : ℕ) (kind : CutKind) → 1 ≤ n →
-    SessionStands config t name f mounted cost old → SessionStands config t name (record f { armed = Some (record { left = n; tear = Kind kind }) }) mounted cost (cut_to_come old n kind)
-stands-cut config old t name cost f mounted n kind counted h = record {
+pub stands-cut : (config : Config) (old : Machine) (t : Table) (name : List ℕ) (notes : Notes) (f : FlashState) (mounted : Bool) (n : ℕ) (kind : CutKind) → 1 ≤ n →
+    SessionStands config t name f mounted notes old → SessionStands config t name (record f { armed = Some (record { left = n; tear = Kind kind }) }) mounted notes (cut_to_come old n kind)
+stands-cut config old t name notes f mounted n kind counted h = record {
   knots = h.knots;
   medium = record { told = h.medium.told; len = h.medium.len; head = h.medium.head; start = h.medium.start; geometry = h.medium.geometry };
   plan = h.plan;

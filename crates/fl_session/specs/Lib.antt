@@ -13,6 +13,7 @@ pub mod Begin
 pub mod Opening
 pub mod Answer
 pub mod Cost
+pub mod Notes
 pub mod Standing
 pub mod Load
 pub mod Run

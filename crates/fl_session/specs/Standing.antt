@@ -1,5 +1,5 @@
 -- A session, and the states of the machine for which it stands.
-use Rattle.std.specs.Prelude.{◌≡◌, ℕ, Bool, true, false, IsTrue, MatchBool, List, [], ◌∷◌, length, take, Some}
+use Rattle.std.specs.Prelude.{◌≡◌, ℕ, Bool, true, false, IsTrue, MatchBool, List, [], ◌∷◌, length, take, Some, if◌then◌else◌}
 use Rattle.fl_flash.specs.Flash.{FlashState}
 use Rattle.fl_flash.specs.Buffer.{BufferState}
 use Rattle.fl_ring.specs.Device.{SameDevice}
@@ -14,7 +14,8 @@ use Rattle.fl_table.specs.Memory.{IsPlanned, LiesOn, is_running}
 use Rattle.fl_table.specs.Pages.{Rests}
 use Rattle.fl_table.specs.Standing.{Stands}
 use Rattle.fl_session.specs.Cost.{cost_of}
-use Rattle.fl_session.specs.declared.cost.Cost.{Cost}
+use Rattle.fl_session.specs.Notes.{cursors_of}
+use Rattle.fl_session.specs.declared.notes.Notes.{Notes}
 
 -- the header and the length of the medium are those of the configuration
 pub record IsOnMedium (config : Config) (f : FlashState) : Type 0 where
@@ -24,8 +25,9 @@ pub record IsOnMedium (config : Config) (f : FlashState) : Type 0 where
   pub start : f.start ≡ 1024
   pub geometry : f.geometry ≡ config.geometry
 
--- a session over one table, which has this name; the cost is that of the last get or scan
-pub record SessionStands (config : Config) (t : Table) (name : List ℕ) (f : FlashState) (mounted : Bool) (cost : Cost) (m : Machine) : Type 0 where
+-- a session over one table, which has this name; it notes the cost of the last get or scan and, while it is mounted, the
+-- cursors that are open
+pub record SessionStands (config : Config) (t : Table) (name : List ℕ) (f : FlashState) (mounted : Bool) (notes : Notes) (m : Machine) : Type 0 where
   pub knots : config.knots ≡ 64
   pub medium : IsOnMedium config f
   pub plan : Plan
@@ -35,9 +37,9 @@ pub record SessionStands (config : Config) (t : Table) (name : List ℕ) (f : Fl
   pub table : model.Table
   pub tables : m.tables ≡ table ∷ []
   pub is_mounted : m.mounted ≡ mounted
-  pub cursors : m.cursors ≡ no_cursors
+  pub cursors : m.cursors ≡ (if mounted then cursors_of notes.cursors else no_cursors)
   pub device : SameDevice f m.device
-  pub cost_is : m.cost ≡ cost_of cost
+  pub cost_is : m.cost ≡ cost_of notes.cost
   pub on_flash : MatchBool mounted (Stands t f 0 plan table) (Rests f 0 plan table)
   pub power : IsTrue mounted → f.is_on ≡ true
 

@@ -12,6 +12,7 @@ mod listing;
 mod load;
 mod lookup;
 mod next;
+mod notes;
 mod replies;
 mod rows;
 mod session;

@@ -11,7 +11,7 @@ ghost use Rattle.fl_table.specs.Causes.{put_breaks};
 ghost use Rattle.fl_table.specs.Memory.{is_running, LiesOn};
 ghost use Rattle.fl_session.specs.Answer.{Answers, load_replies};
 ghost use Rattle.fl_session.specs.Standing.{SessionStands};
-ghost use Rattle.fl_session.specs.declared.cost.Cost.{Cost};
+ghost use Rattle.fl_session.specs.declared.notes.Notes.{Notes};
 
 use crate::generator::Generator;
 use crate::replies::put_reply;
@@ -56,8 +56,8 @@ pub(crate) fn load<F: Flash>(
     ensures lies { LiesOn table.new (F.state flash.new) }
     ensures goes { Goes (F.state flash.old) (F.state flash.new) }
     ensures running { is_running table.new ≡ (is_running table.old && not (put_breaks result.outcome)) }
-    ensures answers { (config : Config) → (name : List ℕ) → (cost : Cost) → (old : Machine) → SessionStands config table.old name (F.state flash.old) true cost old →
-        Answers config old (words.Load name count step seed) (SessionStands config table.new name (F.state flash.new) (not (put_breaks result.outcome)) cost)
+    ensures answers { (config : Config) → (name : List ℕ) → (notes : Notes) → (old : Machine) → SessionStands config table.old name (F.state flash.old) true notes old →
+        Answers config old (words.Load name count step seed) (SessionStands config table.new name (F.state flash.new) (not (put_breaks result.outcome)) notes)
         (F.state flash.old).media.faults (F.state flash.new).media.faults (texts (load_replies result.count result.outcome)) }
 {
     let mut records = Generator::new(table, step, seed);

@@ -12,12 +12,14 @@ ghost use Rattle.fl_script.specs.ReplyView.{reply_text};
 ghost use Rattle.fl_session.specs.Answer.{Answers, Refusal};
 ghost use Rattle.fl_session.specs.Built.{IsRunnable};
 ghost use Rattle.fl_session.specs.Execute.{Executes};
+ghost use Rattle.fl_session.specs.Notes.{no_notes};
 ghost use Rattle.fl_session.specs.Standing.{SessionStands, IsSound};
 
 use crate::cost::Cost;
 use crate::executor::Executor;
 use crate::load::load;
 use crate::lookup::look_up;
+use crate::notes::{NO_CURSORS, Notes};
 use crate::replies::{cost_reply, flush_breaks, flush_reply, mount_reply, put_breaks, put_reply};
 use crate::rows::Wanted;
 use fl_base::{CutKind, Name, Sink, SinkFailed};
@@ -32,7 +34,7 @@ pub struct Session<'m, M: Media> {
     name: Name,
     buf: PageBuf,
     mounted: bool,
-    cost: Cost,
+    notes: Notes,
 }
 
 impl<'m, M: Media> Session<'m, M> {
@@ -41,7 +43,7 @@ impl<'m, M: Media> Session<'m, M> {
         ensures flash { ⟦<SimFlash<'m, M> as Flash>⟧.state result.flash ≡ ⟦<SimFlash<'m, M> as Flash>⟧.state flash.entry }
         ensures rooms { (result.table ≡ table) × (result.name ≡ name) × (result.buf ≡ buf) }
         ensures off { result.mounted ≡ false }
-        ensures fresh { result.cost ≡ Cost.NothingYet }
+        ensures fresh { result.notes ≡ no_notes }
     {
         Session {
             flash,
@@ -49,7 +51,7 @@ impl<'m, M: Media> Session<'m, M> {
             name,
             buf,
             mounted: false,
-            cost: Cost::NothingYet,
+            notes: Notes::new(),
         }
     }
 
@@ -64,7 +66,7 @@ impl<'m, M: Media> Session<'m, M> {
             name: _,
             buf: _,
             mounted: _,
-            cost: _,
+            notes: _,
         } = self;
         flash.into_media()
     }
@@ -76,8 +78,8 @@ impl<'m, M: Media> Session<'m, M> {
         requires { IsSound self.old.table (⟦<SimFlash<'m, M> as Flash>⟧.state self.old.flash) self.old.buf self.old.mounted }
         ensures sound { IsSound self.new.table (⟦<SimFlash<'m, M> as Flash>⟧.state self.new.flash) self.new.buf self.new.mounted }
         ensures goes { Goes (⟦<SimFlash<'m, M> as Flash>⟧.state self.old.flash) (⟦<SimFlash<'m, M> as Flash>⟧.state self.new.flash) }
-        ensures step { (config : Config) (old : Machine) → SessionStands config self.old.table self.old.name (⟦<SimFlash<'m, M> as Flash>⟧.state self.old.flash) self.old.mounted self.old.cost old →
-            Answers config old words.Off (SessionStands config self.new.table self.new.name (⟦<SimFlash<'m, M> as Flash>⟧.state self.new.flash) self.new.mounted self.new.cost)
+        ensures step { (config : Config) (old : Machine) → SessionStands config self.old.table self.old.name (⟦<SimFlash<'m, M> as Flash>⟧.state self.old.flash) self.old.mounted self.old.notes old →
+            Answers config old words.Off (SessionStands config self.new.table self.new.name (⟦<SimFlash<'m, M> as Flash>⟧.state self.new.flash) self.new.mounted self.new.notes)
             (⟦<SimFlash<'m, M> as Flash>⟧.state self.old.flash).media.faults (⟦<SimFlash<'m, M> as Flash>⟧.state self.new.flash).media.faults (reply_text result) }
     {
         self.flash.power_off();
@@ -92,8 +94,8 @@ impl<'m, M: Media> Session<'m, M> {
         requires counted { 1 ≤ n }
         ensures sound { IsSound self.new.table (⟦<SimFlash<'m, M> as Flash>⟧.state self.new.flash) self.new.buf self.new.mounted }
         ensures goes { Goes (⟦<SimFlash<'m, M> as Flash>⟧.state self.old.flash) (⟦<SimFlash<'m, M> as Flash>⟧.state self.new.flash) }
-        ensures step { (config : Config) (old : Machine) → SessionStands config self.old.table self.old.name (⟦<SimFlash<'m, M> as Flash>⟧.state self.old.flash) self.old.mounted self.old.cost old →
-            Answers config old (words.Cut n kind) (SessionStands config self.new.table self.new.name (⟦<SimFlash<'m, M> as Flash>⟧.state self.new.flash) self.new.mounted self.new.cost)
+        ensures step { (config : Config) (old : Machine) → SessionStands config self.old.table self.old.name (⟦<SimFlash<'m, M> as Flash>⟧.state self.old.flash) self.old.mounted self.old.notes old →
+            Answers config old (words.Cut n kind) (SessionStands config self.new.table self.new.name (⟦<SimFlash<'m, M> as Flash>⟧.state self.new.flash) self.new.mounted self.new.notes)
             (⟦<SimFlash<'m, M> as Flash>⟧.state self.old.flash).media.faults (⟦<SimFlash<'m, M> as Flash>⟧.state self.new.flash).media.faults (reply_text result) }
     {
         self.flash.arm(n, kind);
@@ -105,8 +107,8 @@ impl<'m, M: Media> Session<'m, M> {
         requires sound { IsSound self.old.table (⟦<SimFlash<'m, M> as Flash>⟧.state self.old.flash) self.old.buf self.old.mounted }
         ensures sound { IsSound self.new.table (⟦<SimFlash<'m, M> as Flash>⟧.state self.new.flash) self.new.buf self.new.mounted }
         ensures goes { Goes (⟦<SimFlash<'m, M> as Flash>⟧.state self.old.flash) (⟦<SimFlash<'m, M> as Flash>⟧.state self.new.flash) }
-        ensures step { (config : Config) (old : Machine) → SessionStands config self.old.table self.old.name (⟦<SimFlash<'m, M> as Flash>⟧.state self.old.flash) self.old.mounted self.old.cost old →
-            Answers config old words.Mount (SessionStands config self.new.table self.new.name (⟦<SimFlash<'m, M> as Flash>⟧.state self.new.flash) self.new.mounted self.new.cost)
+        ensures step { (config : Config) (old : Machine) → SessionStands config self.old.table self.old.name (⟦<SimFlash<'m, M> as Flash>⟧.state self.old.flash) self.old.mounted self.old.notes old →
+            Answers config old words.Mount (SessionStands config self.new.table self.new.name (⟦<SimFlash<'m, M> as Flash>⟧.state self.new.flash) self.new.mounted self.new.notes)
             (⟦<SimFlash<'m, M> as Flash>⟧.state self.old.flash).media.faults (⟦<SimFlash<'m, M> as Flash>⟧.state self.new.flash).media.faults (reply_text result) }
     {
         if self.mounted {
@@ -115,6 +117,7 @@ impl<'m, M: Media> Session<'m, M> {
         self.flash.power_on();
         let outcome = self.table.mount(&mut self.flash, &mut self.buf);
         self.mounted = outcome.is_ok();
+        self.notes.cursors = NO_CURSORS;
         mount_reply(self.name, outcome)
     }
 
@@ -136,8 +139,8 @@ impl<'m, M: Media> Session<'m, M> {
         requires sound { IsSound self.old.table (⟦<SimFlash<'m, M> as Flash>⟧.state self.old.flash) self.old.buf self.old.mounted }
         ensures sound { IsSound self.new.table (⟦<SimFlash<'m, M> as Flash>⟧.state self.new.flash) self.new.buf self.new.mounted }
         ensures goes { Goes (⟦<SimFlash<'m, M> as Flash>⟧.state self.old.flash) (⟦<SimFlash<'m, M> as Flash>⟧.state self.new.flash) }
-        ensures step { (config : Config) (old : Machine) → SessionStands config self.old.table self.old.name (⟦<SimFlash<'m, M> as Flash>⟧.state self.old.flash) self.old.mounted self.old.cost old →
-            Answers config old (words.Put name key values.now (option_map (λ b. b.now) blob.entry)) (SessionStands config self.new.table self.new.name (⟦<SimFlash<'m, M> as Flash>⟧.state self.new.flash) self.new.mounted self.new.cost)
+        ensures step { (config : Config) (old : Machine) → SessionStands config self.old.table self.old.name (⟦<SimFlash<'m, M> as Flash>⟧.state self.old.flash) self.old.mounted self.old.notes old →
+            Answers config old (words.Put name key values.now (option_map (λ b. b.now) blob.entry)) (SessionStands config self.new.table self.new.name (⟦<SimFlash<'m, M> as Flash>⟧.state self.new.flash) self.new.mounted self.new.notes)
             (⟦<SimFlash<'m, M> as Flash>⟧.state self.old.flash).media.faults (⟦<SimFlash<'m, M> as Flash>⟧.state self.new.flash).media.faults (reply_text result) }
     {
         if let Some(refusal) = self.refusal(name) {
@@ -153,8 +156,8 @@ impl<'m, M: Media> Session<'m, M> {
         requires sound { IsSound self.old.table (⟦<SimFlash<'m, M> as Flash>⟧.state self.old.flash) self.old.buf self.old.mounted }
         ensures sound { IsSound self.new.table (⟦<SimFlash<'m, M> as Flash>⟧.state self.new.flash) self.new.buf self.new.mounted }
         ensures goes { Goes (⟦<SimFlash<'m, M> as Flash>⟧.state self.old.flash) (⟦<SimFlash<'m, M> as Flash>⟧.state self.new.flash) }
-        ensures step { (config : Config) (old : Machine) → SessionStands config self.old.table self.old.name (⟦<SimFlash<'m, M> as Flash>⟧.state self.old.flash) self.old.mounted self.old.cost old →
-            Answers config old (words.Flush name) (SessionStands config self.new.table self.new.name (⟦<SimFlash<'m, M> as Flash>⟧.state self.new.flash) self.new.mounted self.new.cost)
+        ensures step { (config : Config) (old : Machine) → SessionStands config self.old.table self.old.name (⟦<SimFlash<'m, M> as Flash>⟧.state self.old.flash) self.old.mounted self.old.notes old →
+            Answers config old (words.Flush name) (SessionStands config self.new.table self.new.name (⟦<SimFlash<'m, M> as Flash>⟧.state self.new.flash) self.new.mounted self.new.notes)
             (⟦<SimFlash<'m, M> as Flash>⟧.state self.old.flash).media.faults (⟦<SimFlash<'m, M> as Flash>⟧.state self.new.flash).media.faults (reply_text result) }
     {
         if let Some(refusal) = self.refusal(name) {
@@ -167,8 +170,8 @@ impl<'m, M: Media> Session<'m, M> {
 
     /// How much the table holds, and the programs and erases of the whole run.
     fn stat(&self, name: Name) -> Reply
-        ensures { (config : Config) (old : Machine) → SessionStands config self.now.table self.now.name (⟦<SimFlash<'m, M> as Flash>⟧.state self.now.flash) self.now.mounted self.now.cost old →
-            Answers config old (words.Stat name) (SessionStands config self.now.table self.now.name (⟦<SimFlash<'m, M> as Flash>⟧.state self.now.flash) self.now.mounted self.now.cost)
+        ensures { (config : Config) (old : Machine) → SessionStands config self.now.table self.now.name (⟦<SimFlash<'m, M> as Flash>⟧.state self.now.flash) self.now.mounted self.now.notes old →
+            Answers config old (words.Stat name) (SessionStands config self.now.table self.now.name (⟦<SimFlash<'m, M> as Flash>⟧.state self.now.flash) self.now.mounted self.now.notes)
             (⟦<SimFlash<'m, M> as Flash>⟧.state self.now.flash).media.faults (⟦<SimFlash<'m, M> as Flash>⟧.state self.now.flash).media.faults (reply_text result) }
     {
         if let Some(refusal) = self.refusal(name) {
@@ -188,11 +191,11 @@ impl<'m, M: Media> Session<'m, M> {
 
     /// What the last get or scan cost.
     fn cost(&self) -> Reply
-        ensures { (config : Config) (old : Machine) → SessionStands config self.now.table self.now.name (⟦<SimFlash<'m, M> as Flash>⟧.state self.now.flash) self.now.mounted self.now.cost old →
-            Answers config old words.Cost (SessionStands config self.now.table self.now.name (⟦<SimFlash<'m, M> as Flash>⟧.state self.now.flash) self.now.mounted self.now.cost)
+        ensures { (config : Config) (old : Machine) → SessionStands config self.now.table self.now.name (⟦<SimFlash<'m, M> as Flash>⟧.state self.now.flash) self.now.mounted self.now.notes old →
+            Answers config old words.Cost (SessionStands config self.now.table self.now.name (⟦<SimFlash<'m, M> as Flash>⟧.state self.now.flash) self.now.mounted self.now.notes)
             (⟦<SimFlash<'m, M> as Flash>⟧.state self.now.flash).media.faults (⟦<SimFlash<'m, M> as Flash>⟧.state self.now.flash).media.faults (reply_text result) }
     {
-        cost_reply(self.cost)
+        cost_reply(self.notes.cost)
     }
 
     /// Tells the record with the key. The pages that it reads, and how many they might have been, are its cost.
@@ -201,8 +204,8 @@ impl<'m, M: Media> Session<'m, M> {
         ensures sound { IsSound self.new.table (⟦<SimFlash<'m, M> as Flash>⟧.state self.new.flash) self.new.buf self.new.mounted }
         ensures goes { Goes (⟦<SimFlash<'m, M> as Flash>⟧.state self.old.flash) (⟦<SimFlash<'m, M> as Flash>⟧.state self.new.flash) }
         ensures sink { HasCause (K.faults out.old) (K.faults out.new) result }
-        ensures step { (config : Config) (old : Machine) → SessionStands config self.old.table self.old.name (⟦<SimFlash<'m, M> as Flash>⟧.state self.old.flash) self.old.mounted self.old.cost old →
-            Executes config old (words.Get name key) (SessionStands config self.new.table self.new.name (⟦<SimFlash<'m, M> as Flash>⟧.state self.new.flash) self.new.mounted self.new.cost)
+        ensures step { (config : Config) (old : Machine) → SessionStands config self.old.table self.old.name (⟦<SimFlash<'m, M> as Flash>⟧.state self.old.flash) self.old.mounted self.old.notes old →
+            Executes config old (words.Get name key) (SessionStands config self.new.table self.new.name (⟦<SimFlash<'m, M> as Flash>⟧.state self.new.flash) self.new.mounted self.new.notes)
             (⟦<SimFlash<'m, M> as Flash>⟧.state self.old.flash) (⟦<SimFlash<'m, M> as Flash>⟧.state self.new.flash) (K.written out.old) (K.written out.new) result }
     {
         if let Some(refusal) = self.refusal(name) {
@@ -212,7 +215,7 @@ impl<'m, M: Media> Session<'m, M> {
         let before = self.flash.work().reads;
         let reply = look_up(&self.table, key, &mut self.flash, &mut self.buf);
         let reads = self.flash.work().reads.saturating_sub(before);
-        self.cost = Cost::OfGet { reads, limit };
+        self.notes.cost = Cost::OfGet { reads, limit };
         write_reply(&reply, out)
     }
 
@@ -222,8 +225,8 @@ impl<'m, M: Media> Session<'m, M> {
         ensures sound { IsSound self.new.table (⟦<SimFlash<'m, M> as Flash>⟧.state self.new.flash) self.new.buf self.new.mounted }
         ensures goes { Goes (⟦<SimFlash<'m, M> as Flash>⟧.state self.old.flash) (⟦<SimFlash<'m, M> as Flash>⟧.state self.new.flash) }
         ensures sink { HasCause (K.faults out.old) (K.faults out.new) result }
-        ensures step { (config : Config) (old : Machine) → SessionStands config self.old.table self.old.name (⟦<SimFlash<'m, M> as Flash>⟧.state self.old.flash) self.old.mounted self.old.cost old →
-            Executes config old (words.Scan name wanted.range wanted.span) (SessionStands config self.new.table self.new.name (⟦<SimFlash<'m, M> as Flash>⟧.state self.new.flash) self.new.mounted self.new.cost)
+        ensures step { (config : Config) (old : Machine) → SessionStands config self.old.table self.old.name (⟦<SimFlash<'m, M> as Flash>⟧.state self.old.flash) self.old.mounted self.old.notes old →
+            Executes config old (words.Scan name wanted.range wanted.span) (SessionStands config self.new.table self.new.name (⟦<SimFlash<'m, M> as Flash>⟧.state self.new.flash) self.new.mounted self.new.notes)
             (⟦<SimFlash<'m, M> as Flash>⟧.state self.old.flash) (⟦<SimFlash<'m, M> as Flash>⟧.state self.new.flash) (K.written out.old) (K.written out.new) result }
     {
         if let Some(refusal) = self.refusal(name) {
@@ -232,7 +235,7 @@ impl<'m, M: Media> Session<'m, M> {
         let before = self.flash.work().reads;
         let written = wanted.scan(&self.table, &mut self.flash, &mut self.buf, out);
         let reads = self.flash.work().reads.saturating_sub(before);
-        self.cost = Cost::OfScan { reads };
+        self.notes.cost = Cost::OfScan { reads };
         written
     }
 
@@ -250,8 +253,8 @@ impl<'m, M: Media> Session<'m, M> {
         ensures sound { IsSound self.new.table (⟦<SimFlash<'m, M> as Flash>⟧.state self.new.flash) self.new.buf self.new.mounted }
         ensures goes { Goes (⟦<SimFlash<'m, M> as Flash>⟧.state self.old.flash) (⟦<SimFlash<'m, M> as Flash>⟧.state self.new.flash) }
         ensures sink { HasCause (K.faults out.old) (K.faults out.new) result }
-        ensures step { (config : Config) (old : Machine) → SessionStands config self.old.table self.old.name (⟦<SimFlash<'m, M> as Flash>⟧.state self.old.flash) self.old.mounted self.old.cost old →
-            Executes config old (words.Load name count step seed) (SessionStands config self.new.table self.new.name (⟦<SimFlash<'m, M> as Flash>⟧.state self.new.flash) self.new.mounted self.new.cost)
+        ensures step { (config : Config) (old : Machine) → SessionStands config self.old.table self.old.name (⟦<SimFlash<'m, M> as Flash>⟧.state self.old.flash) self.old.mounted self.old.notes old →
+            Executes config old (words.Load name count step seed) (SessionStands config self.new.table self.new.name (⟦<SimFlash<'m, M> as Flash>⟧.state self.new.flash) self.new.mounted self.new.notes)
             (⟦<SimFlash<'m, M> as Flash>⟧.state self.old.flash) (⟦<SimFlash<'m, M> as Flash>⟧.state self.new.flash) (K.written out.old) (K.written out.new) result }
     {
         if let Some(refusal) = self.refusal(name) {
@@ -273,7 +276,7 @@ fn blob_in(room: &LineRoom, blob: bool) -> Option<&[u8]>
 impl<'m, M: Media> Executor for Session<'m, M> {
     ghost use Rattle.fl_session.specs.Standing.{SessionStands, IsSound};
 
-    ghost stands = { λ s config. SessionStands config s.table s.name (⟦<SimFlash<'m, M> as Flash>⟧.state s.flash) s.mounted s.cost };
+    ghost stands = { λ s config. SessionStands config s.table s.name (⟦<SimFlash<'m, M> as Flash>⟧.state s.flash) s.mounted s.notes };
 
     ghost sound = { λ s. IsSound s.table (⟦<SimFlash<'m, M> as Flash>⟧.state s.flash) s.buf s.mounted };
 
