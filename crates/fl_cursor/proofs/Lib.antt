@@ -11,3 +11,4 @@ pub mod Whole
 pub mod Stepping
 pub mod Beginning
 pub mod Finding
+pub mod Selected

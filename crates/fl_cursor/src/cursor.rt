@@ -1,9 +1,12 @@
 // A cursor: made, kept as a bookmark, and made again.
-ghost use Rattle.std.specs.Prelude.{◌≡◌, ◌≤◌, ◌+◌, ℕ, true, Some, None, length, option_map, min};
+ghost use Rattle.std.specs.Prelude.{◌≡◌, ◌≤◌, ◌+◌, ℕ, true, Some, None, IsTrue, length, map, option_map, min};
 ghost use Rattle.fl_flash.specs.Flash.{FlashState};
+ghost use Rattle.fl_flash.specs.Places.{extent};
 ghost use Rattle.fl_model.specs.Query as query;
 ghost use Rattle.fl_model.specs.Record.{Plan};
+ghost use Rattle.fl_model.specs.Row.{stored_row};
 ghost use Rattle.fl_model.specs.Table as model;
+ghost use Rattle.fl_model.specs.Table.{last_entry};
 ghost use Rattle.fl_page.specs.Contents.{Contents, contents_of};
 ghost use Rattle.fl_table.specs.Look.{last_key_in};
 ghost use Rattle.fl_table.specs.Memory.{is_running, LiesOn};
@@ -14,6 +17,17 @@ use crate::place::{Here, Place};
 use fl_base::{KeyRange, Span};
 use fl_flash::PageBuf;
 use fl_table::Table;
+
+/// The greatest key of the range that the table may have now.
+fn last_wanted(table: &Table, range: KeyRange) -> Option<u64>
+    ensures exact { result ≡ option_map (λ last. min range.high last) (last_key_in table.now) }
+    ensures stands { (f : FlashState) → (first : ℕ) → (plan : Plan) → (t : model.Table) → Stands table.now f first plan t → result ≡ option_map (λ last. min range.high last.kept.key) (last_entry t) }
+{
+    match table.last_key() {
+        Some(last) => Some(range.high.min(last)),
+        None => None,
+    }
+}
 
 /// The rows of a table that are asked for, in the order of their keys, each lent as a slice of its page. It holds the
 /// table and two buffers for pages, one for rows and one for index pages, until it is parked.
@@ -28,7 +42,7 @@ pub struct Cursor<'s, 'r, 'i> {
 }
 
 impl<'s, 'r, 'i> Cursor<'s, 'r, 'i> {
-    ghost use Rattle.fl_cursor.specs.Cursor.{table_of, mark_of, asked_of, is_here, IsStanding, IsTold, IsReady, rows_name, index_name, rows_page, index_page};
+    ghost use Rattle.fl_cursor.specs.Cursor.{table_of, mark_of, asked_of, left_of, IsStanding, IsTold, IsReady, rows_name, index_name, rows_page, index_page};
 
     /// A cursor over the rows whose keys are in the range and whose first values are in the span. Rows that are put from
     /// now on never come. Both buffers forget the page that they hold.
@@ -42,6 +56,8 @@ impl<'s, 'r, 'i> Cursor<'s, 'r, 'i> {
         requires running { is_running table.now ≡ true }
         ensures mark { mark_of result ≡ record { after = None; top = option_map (λ last. min range.high last) (last_key_in table.now); range = range; span = span } }
         ensures model { (f : FlashState) → (first : ℕ) → (plan : Plan) → (t : model.Table) → Stands table.now f first plan t → asked_of result ≡ query.begin range span t }
+        ensures left { (f : FlashState) → (first : ℕ) → (plan : Plan) → (t : model.Table) → IsTrue f.media.tells → f.start + extent f.geometry f.blocks ≤ length f.media.content →
+            LiesOn table.now f → Stands table.now f first plan t → left_of result (contents_of f) ≡ map stored_row (query.selected range span t.entries) }
         ensures table { table_of result ≡ table.now }
         ensures rows_name { rows_name result ≡ rows_buf.entry.ghost_name }
         ensures index_name { index_name result ≡ index_buf.entry.ghost_name }
@@ -52,10 +68,7 @@ impl<'s, 'r, 'i> Cursor<'s, 'r, 'i> {
     {
         rows_buf.forget();
         index_buf.forget();
-        let top = match table.last_key() {
-            Some(last) => Some(range.high.min(last)),
-            None => None,
-        };
+        let top = last_wanted(table, range);
         let mark = Bookmark {
             after: None,
             top,
