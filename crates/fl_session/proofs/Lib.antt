@@ -37,3 +37,4 @@ pub mod Getting
 pub mod Lookups
 pub mod LoadLines
 pub mod RangeEnds
+pub mod CursorsOf

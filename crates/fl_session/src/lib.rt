@@ -6,6 +6,7 @@ mod buffers;
 mod built;
 mod commands;
 mod cost;
+mod cursors;
 mod executor;
 mod generator;
 mod lines;

@@ -1,5 +1,5 @@
 // A session over a flash.
-ghost use Rattle.std.specs.Prelude.{◌≡◌, ◌≤◌, ℕ, false, Some, None, option_map, if◌then◌else◌};
+ghost use Rattle.std.specs.Prelude.{◌≡◌, ◌≤◌, ◌<◌, ℕ, false, Some, None, option_map, if◌then◌else◌};
 ghost use Rattle.fl_base.specs.Causes.{HasCause};
 ghost use Rattle.fl_flash.specs.Flash.{Goes};
 ghost use Rattle.fl_model.specs.Record.{Config};
@@ -17,13 +17,14 @@ ghost use Rattle.fl_session.specs.Standing.{SessionStands, IsSound};
 
 use crate::buffers::Buffers;
 use crate::cost::Cost;
+use crate::cursors::open_cursor;
 use crate::executor::Executor;
 use crate::load::load;
 use crate::lookup::look_up;
 use crate::notes::{NO_CURSORS, Notes};
 use crate::replies::{cost_reply, flush_breaks, flush_reply, mount_reply, put_breaks, put_reply};
 use crate::rows::Wanted;
-use fl_base::{CutKind, Name, Sink, SinkFailed};
+use fl_base::{CutKind, KeyRange, Name, Sink, SinkFailed, Span};
 use fl_flash::{Flash, Media, SimFlash};
 use fl_script::{Command, LineRoom, Reply, write_reply};
 use fl_table::Table;
@@ -199,6 +200,44 @@ impl<'m, M: Media> Session<'m, M> {
         cost_reply(self.notes.cost)
     }
 
+    /// Opens a cursor over the rows that are asked for.
+    fn open(&mut self, cursor: u64, name: Name, range: KeyRange, span: Option<Span>) -> Reply
+        requires sound { IsSound self.old.table (⟦<SimFlash<'m, M> as Flash>⟧.state self.old.flash) self.old.buf self.old.mounted }
+        requires cursor { cursor < 4 }
+        ensures sound { IsSound self.new.table (⟦<SimFlash<'m, M> as Flash>⟧.state self.new.flash) self.new.buf self.new.mounted }
+        ensures goes { Goes (⟦<SimFlash<'m, M> as Flash>⟧.state self.old.flash) (⟦<SimFlash<'m, M> as Flash>⟧.state self.new.flash) }
+        ensures step { (config : Config) (old : Machine) → SessionStands config self.old.table self.old.name (⟦<SimFlash<'m, M> as Flash>⟧.state self.old.flash) self.old.mounted self.old.notes old →
+            Answers config old (words.Open cursor name range span) (SessionStands config self.new.table self.new.name (⟦<SimFlash<'m, M> as Flash>⟧.state self.new.flash) self.new.mounted self.new.notes)
+            (⟦<SimFlash<'m, M> as Flash>⟧.state self.old.flash).media.faults (⟦<SimFlash<'m, M> as Flash>⟧.state self.new.flash).media.faults (reply_text result) }
+    {
+        if let Some(refusal) = self.refusal(name) {
+            return refusal;
+        }
+        let mark = open_cursor(&self.table, range, span, &mut self.buf);
+        self.notes.set_cursor(cursor, Some(mark));
+        Reply::Done
+    }
+
+    /// Closes a cursor.
+    fn close(&mut self, cursor: u64) -> Reply
+        requires sound { IsSound self.old.table (⟦<SimFlash<'m, M> as Flash>⟧.state self.old.flash) self.old.buf self.old.mounted }
+        requires cursor { cursor < 4 }
+        ensures sound { IsSound self.new.table (⟦<SimFlash<'m, M> as Flash>⟧.state self.new.flash) self.new.buf self.new.mounted }
+        ensures goes { Goes (⟦<SimFlash<'m, M> as Flash>⟧.state self.old.flash) (⟦<SimFlash<'m, M> as Flash>⟧.state self.new.flash) }
+        ensures step { (config : Config) (old : Machine) → SessionStands config self.old.table self.old.name (⟦<SimFlash<'m, M> as Flash>⟧.state self.old.flash) self.old.mounted self.old.notes old →
+            Answers config old (words.Close cursor) (SessionStands config self.new.table self.new.name (⟦<SimFlash<'m, M> as Flash>⟧.state self.new.flash) self.new.mounted self.new.notes)
+            (⟦<SimFlash<'m, M> as Flash>⟧.state self.old.flash).media.faults (⟦<SimFlash<'m, M> as Flash>⟧.state self.new.flash).media.faults (reply_text result) }
+    {
+        if !self.mounted {
+            return Reply::NotMounted;
+        }
+        if self.notes.cursor(cursor).is_none() {
+            return Reply::NoCursor;
+        }
+        self.notes.set_cursor(cursor, None);
+        Reply::Done
+    }
+
     /// Tells the record with the key. The pages that it reads, and how many they might have been, are its cost.
     fn get<K: Sink>(&mut self, name: Name, key: u64, out: &mut K) -> Result<(), SinkFailed>
         requires sound { IsSound self.old.table (⟦<SimFlash<'m, M> as Flash>⟧.state self.old.flash) self.old.buf self.old.mounted }
@@ -302,6 +341,13 @@ impl<'m, M: Media> Executor for Session<'m, M> {
             Command::Flush { name } => self.flush(*name),
             Command::Stat { name } => self.stat(*name),
             Command::Cost => self.cost(),
+            Command::Open {
+                cursor,
+                name,
+                range,
+                span,
+            } => self.open(*cursor, *name, *range, *span),
+            Command::Close { cursor } => self.close(*cursor),
             Command::Get { name, key } => return self.get(*name, *key, out),
             Command::Scan { name, range, span } => {
                 let wanted = Wanted {
