@@ -2,6 +2,7 @@
 use Rattle.std.proofs.Common.{◌≡◌, ℕ, ◌<◌, zero, suc, Bool, true, false, Option, Some, None, option_map, List, [], ◌∷◌, map, set, refl, sym, ◌∙◌, ap, subst}
 use Rattle.std.specs.Prelude.{unwrap_or, MatchBool, MatchOption, if◌then◌else◌}
 use Rattle.std.specs.List.{slice_get}
+use Rattle.std.specs.Option.{is_none}
 use Rattle.std.proofs.lemmas.List.{map-set}
 use Rattle.fl_base.specs.declared.types.KeyRange.{KeyRange}
 use Rattle.fl_base.specs.declared.types.Span.{Span}
@@ -81,33 +82,44 @@ open-refused config old t name notes f mounted asked n range span said faults h 
 
 -- ---- closed
 
-close-of : (config : Config) (old : Machine) (n : ℕ) (moment : Moment) (mounted : Bool) (open : Option OpenCursor) → old.mounted ≡ mounted → cursor_at old n ≡ open →
-    MatchBool mounted (MatchOption open (Says moment (reply.NoCursor ∷ []) old) (λ _. Says moment (reply.Done ∷ []) (record old { cursors = set old.cursors n None }))) (Says moment (reply.NotMounted ∷ []) old) →
+close-of : (config : Config) (old : Machine) (n : ℕ) (moment : Moment) (mounted : Bool) (at : Option OpenCursor) → old.mounted ≡ mounted → cursor_at old n ≡ at →
+    MatchBool mounted (MatchOption at (Says moment (reply.NoCursor ∷ []) old) (λ _. Says moment (reply.Done ∷ []) (record old { cursors = set old.cursors n None }))) (Says moment (reply.NotMounted ∷ []) old) →
     MatchBool old.mounted (MatchOption (cursor_at old n) (Says moment (reply.NoCursor ∷ []) old) (λ _. Says moment (reply.Done ∷ []) (record old { cursors = set old.cursors n None }))) (Says moment (reply.NotMounted ∷ []) old)
-close-of config old n moment mounted open m o h =
+close-of config old n moment mounted at m o h =
     subst (λ b. MatchBool b (MatchOption (cursor_at old n) (Says moment (reply.NoCursor ∷ []) old) (λ _. Says moment (reply.Done ∷ []) (record old { cursors = set old.cursors n None }))) (Says moment (reply.NotMounted ∷ []) old)) (sym m)
     (subst (λ (x : Option OpenCursor). MatchBool mounted (MatchOption x (Says moment (reply.NoCursor ∷ []) old) (λ _. Says moment (reply.Done ∷ []) (record old { cursors = set old.cursors n None }))) (Says moment (reply.NotMounted ∷ []) old)) (sym o) h)
 
 module _ (config : Config) (old : Machine) (t : Table) (name : List ℕ) (notes : Notes) (f : FlashState) (faults n : ℕ) where
-  pub close-off : SessionStands config t name f false notes old → Answers config old (command.Close n) (SessionStands config t name f false notes) faults faults (text reply.NotMounted)
-  close-off h =
+  pub close-off : (mounted : Bool) → mounted ≡ false → SessionStands config t name f mounted notes old → Answers config old (command.Close n) (SessionStands config t name f mounted notes) faults faults (text reply.NotMounted)
+  close-off mounted off h =
       let c = command.Close n in
-      answers-saying config old c reply.NotMounted old (SessionStands config t name f false notes) faults faults
-      (close-of config old n (saying c (reply.NotMounted ∷ []) old) false (cursor_at old n) h.is_mounted refl (says c (reply.NotMounted ∷ []) old)) h
+      answers-saying config old c reply.NotMounted old (SessionStands config t name f mounted notes) faults faults
+      (close-of config old n (saying c (reply.NotMounted ∷ []) old) false (cursor_at old n) (h.is_mounted ∙ off) refl (says c (reply.NotMounted ∷ []) old)) h
 
-  pub close-none : SessionStands config t name f true notes old → slice_get notes.cursors n ≡ Some None → Answers config old (command.Close n) (SessionStands config t name f true notes) faults faults (text reply.NoCursor)
-  close-none h e =
+  pub close-none : (mounted : Bool) (mark : Option Bookmark) → mounted ≡ true → slice_get notes.cursors n ≡ Some mark → is_none mark ≡ true → SessionStands config t name f mounted notes old →
+      Answers config old (command.Close n) (SessionStands config t name f mounted notes) faults faults (text reply.NoCursor)
+  close-none mounted None on e none h =
       let c = command.Close n in
-      let at : cursor_at old n ≡ None = ap (λ (cs : List (Option OpenCursor)). unwrap_or (slice_get cs n) None) h.cursors ∙ cursor-told notes.cursors n None e in
-      answers-saying config old c reply.NoCursor old (SessionStands config t name f true notes) faults faults
-      (close-of config old n (saying c (reply.NoCursor ∷ []) old) true None h.is_mounted at (says c (reply.NoCursor ∷ []) old)) h
+      let h' = subst (λ m. SessionStands config t name f m notes old) on h in
+      let at : cursor_at old n ≡ None = ap (λ (cs : List (Option OpenCursor)). unwrap_or (slice_get cs n) None) h'.cursors ∙ cursor-told notes.cursors n None e in
+      answers-saying config old c reply.NoCursor old (SessionStands config t name f mounted notes) faults faults
+      (close-of config old n (saying c (reply.NoCursor ∷ []) old) true None h'.is_mounted at (says c (reply.NoCursor ∷ []) old)) h
+  close-none mounted (Some mark) on e none h = absurd (no none)
+    where
+      no : false ≡ true → ⊥
+      no k = cc
 
-  pub close-open : (mark : Bookmark) → SessionStands config t name f true notes old → slice_get notes.cursors n ≡ Some (Some mark) →
-      Answers config old (command.Close n) (SessionStands config t name f true (record notes { cursors = set notes.cursors n None })) faults faults (text reply.Done)
-  close-open mark h e =
+  pub close-open : (mounted : Bool) (mark : Option Bookmark) → mounted ≡ true → slice_get notes.cursors n ≡ Some mark → is_none mark ≡ false → SessionStands config t name f mounted notes old →
+      Answers config old (command.Close n) (SessionStands config t name f mounted (record notes { cursors = set notes.cursors n None })) faults faults (text reply.Done)
+  close-open mounted None on e some h = absurd (no some)
+    where
+      no : true ≡ false → ⊥
+      no k = cc
+  close-open mounted (Some mark) on e some h =
       let c = command.Close n in
+      let h' = subst (λ m. SessionStands config t name f m notes old) on h in
       let after : Machine = record old { cursors = set old.cursors n None } in
-      let at : cursor_at old n ≡ Some (cursor_of mark) = ap (λ (cs : List (Option OpenCursor)). unwrap_or (slice_get cs n) None) h.cursors ∙ cursor-told notes.cursors n (Some mark) e in
-      answers-saying config old c reply.Done after (SessionStands config t name f true (record notes { cursors = set notes.cursors n None })) faults faults
-      (close-of config old n (saying c (reply.Done ∷ []) after) true (Some (cursor_of mark)) h.is_mounted at (says c (reply.Done ∷ []) after))
-      (stands-set config t name notes f n None old h)
+      let at : cursor_at old n ≡ Some (cursor_of mark) = ap (λ (cs : List (Option OpenCursor)). unwrap_or (slice_get cs n) None) h'.cursors ∙ cursor-told notes.cursors n (Some mark) e in
+      answers-saying config old c reply.Done after (SessionStands config t name f mounted (record notes { cursors = set notes.cursors n None })) faults faults
+      (close-of config old n (saying c (reply.Done ∷ []) after) true (Some (cursor_of mark)) h'.is_mounted at (says c (reply.Done ∷ []) after))
+      (subst (λ m. SessionStands config t name f m (record notes { cursors = set notes.cursors n None }) (record old { cursors = set old.cursors n None })) (sym on) (stands-set config t name notes f n None old h'))

@@ -4,7 +4,7 @@ use Rattle.fl_session.proofs.Going.{goes-same}
 use Rattle.fl_session.proofs.StepsOf.{default-view, executes-nothing}
 use Rattle.fl_session.proofs.Answering.{executes-answered}
 use Rattle.fl_session.proofs.session.SessionExecutor.execute.Goals as goal
-use Rattle.fl_session.proofs.session.SessionExecutor.execute.Goals.{in-Mount, in-Off, in-Cut, in-Put, in-Flush, in-Stat, in-Cost}
+use Rattle.fl_session.proofs.session.SessionExecutor.execute.Goals.{in-Mount, in-Off, in-Cut, in-Put, in-Flush, in-Stat, in-Open, in-Close, in-Cost}
 
 pub returns-in_default : goal.returns-in_default
 returns-in_default g c = record {
@@ -14,7 +14,7 @@ returns-in_default g c = record {
   step = λ config old h.
       executes-nothing SinkFailed config old _ _ _ _ (default-view c.args.command.now c.args.room.now c.requires.runnable c.in_default.not-Mount c.in_default.not-Off (λ n kind e. c.in_default.not-Cut n kind e)
       (λ name key values blob e. c.in_default.not-Put name key values blob e) (λ name e. c.in_default.not-Flush name e) (λ name e. c.in_default.not-Stat name e) (λ name key e. c.in_default.not-Get name key e) (λ name range span e. c.in_default.not-Scan name range span e)
-      (λ name count step seed e. c.in_default.not-Load name count step seed e) c.in_default.not-Cost) h;
+      (λ name count step seed e. c.in_default.not-Load name count step seed e) (λ cursor name range span e. c.in_default.not-Open cursor name range span e) (λ cursor e. c.in_default.not-Close cursor e) c.in_default.not-Cost) h;
 }
 
 pub returns-clause-step : goal.returns-clause-step
@@ -25,5 +25,7 @@ returns-clause-step g c = λ config old h. elim c.match-command.branch [
   | in-Put w ↦ rw (w.self-is, w.in-Put.is, sym w.as_slice.ensures.value, sym w.blob_in.ensures) (executes-answered SinkFailed config old _ _ _ _ _ _ _ c.write_reply.result (w.put-reply.ensures.step config old h) (λ moment none. none) (rw w.reply-is at c.write_reply.ensures.text))
   | in-Flush w ↦ rw (w.self-is, w.in-Flush.is) (executes-answered SinkFailed config old _ _ _ _ _ _ _ c.write_reply.result (w.flush-reply.ensures.step config old h) (λ moment none. none) (rw w.reply-is at c.write_reply.ensures.text))
   | in-Stat w ↦ rw (w.self-is, w.in-Stat.is) (executes-answered SinkFailed config old _ _ _ _ _ _ _ c.write_reply.result (w.stat-reply.ensures config old h) (λ moment none. none) (rw w.reply-is at c.write_reply.ensures.text))
+  | in-Open w ↦ rw (w.self-is, w.in-Open.is) (executes-answered SinkFailed config old _ _ _ _ _ _ _ c.write_reply.result (w.open-reply.ensures.step config old h) (λ moment none. none) (rw w.reply-is at c.write_reply.ensures.text))
+  | in-Close w ↦ rw (w.self-is, w.in-Close.is) (executes-answered SinkFailed config old _ _ _ _ _ _ _ c.write_reply.result (w.close-reply.ensures.step config old h) (λ moment none. none) (rw w.reply-is at c.write_reply.ensures.text))
   | in-Cost w ↦ rw (w.self-is, w.in-Cost.is) (executes-answered SinkFailed config old _ _ _ _ _ _ _ c.write_reply.result (w.cost-reply.ensures config old h) (λ moment none. none) (rw w.reply-is at c.write_reply.ensures.text))
 ]
