@@ -1,5 +1,3 @@
-use Rattle.std.proofs.Common.{sym, ap, subst}
-use Rattle.fl_session.specs.declared.notes.Notes.{Notes}
 use Rattle.fl_session.proofs.CursorsOf.{open-call, open-refused}
 use Rattle.fl_session.proofs.session.Session.open.Goals as goal
 

@@ -29,3 +29,29 @@ returns-clause-step g c = λ config old h. elim c.match-command.branch [
   | in-Close w ↦ rw (w.self-is, w.in-Close.is) (executes-answered SinkFailed config old _ _ _ _ _ _ _ c.write_reply.result (w.close-reply.ensures.step config old h) (λ moment none. none) (rw w.reply-is at c.write_reply.ensures.text))
   | in-Cost w ↦ rw (w.self-is, w.in-Cost.is) (executes-answered SinkFailed config old _ _ _ _ _ _ _ c.write_reply.result (w.cost-reply.ensures config old h) (λ moment none. none) (rw w.reply-is at c.write_reply.ensures.text))
 ]
+
+pub returns-clause-sound : goal.returns-clause-sound
+returns-clause-sound g c = elim c.match-command.branch [
+  | in-Mount w ↦ rw w.self-is (w.mount-reply.ensures.sound)
+  | in-Off w ↦ rw w.self-is (w.off-reply.ensures.sound)
+  | in-Cut w ↦ rw w.self-is (w.cut-reply.ensures.sound)
+  | in-Put w ↦ rw w.self-is (w.put-reply.ensures.sound)
+  | in-Flush w ↦ rw w.self-is (w.flush-reply.ensures.sound)
+  | in-Stat w ↦ rw w.self-is (c.requires.sound)
+  | in-Open w ↦ rw w.self-is (w.open-reply.ensures.sound)
+  | in-Close w ↦ rw w.self-is (w.close-reply.ensures.sound)
+  | in-Cost w ↦ rw w.self-is (c.requires.sound)
+]
+
+pub returns-clause-goes : goal.returns-clause-goes
+returns-clause-goes g c = elim c.match-command.branch [
+  | in-Mount w ↦ rw w.self-is (w.mount-reply.ensures.goes)
+  | in-Off w ↦ rw w.self-is (w.off-reply.ensures.goes)
+  | in-Cut w ↦ rw w.self-is (w.cut-reply.ensures.goes)
+  | in-Put w ↦ rw w.self-is (w.put-reply.ensures.goes)
+  | in-Flush w ↦ rw w.self-is (w.flush-reply.ensures.goes)
+  | in-Stat w ↦ rw w.self-is (goes-same _)
+  | in-Open w ↦ rw w.self-is (w.open-reply.ensures.goes)
+  | in-Close w ↦ rw w.self-is (w.close-reply.ensures.goes)
+  | in-Cost w ↦ rw w.self-is (goes-same _)
+]
