@@ -1,5 +1,5 @@
 -- What a lookup in a table finds, and how many pages it reads.
-use Rattle.std.specs.Prelude.{◌≡◌, ℕ, ◌<◌, ◌≤◌, true, false, Option, Some, None, IsTrue, length, Result, Ok, Err, slice_get, map}
+use Rattle.std.specs.Prelude.{◌≡◌, ℕ, ◌-◌, ◌<◌, ◌≤◌, true, false, Option, Some, None, IsTrue, length, Result, Ok, Err, slice_get, map}
 use Rattle.fl_find.specs.Index.{knots_in, shift_in}
 use Rattle.fl_find.specs.Pages.{rows_on, IsBadPage}
 use Rattle.fl_flash.specs.Buffer.{BufferState}
@@ -16,7 +16,7 @@ use Rattle.fl_page.specs.Page.{IsGoodPage}
 use Rattle.fl_page.specs.declared.fault.BadPage.{BadPage}
 use Rattle.fl_page.specs.declared.fault.ReadFault.{ReadFault}
 use Rattle.fl_page.specs.declared.fault.ReadFault.TheVariants as fault
-use Rattle.fl_radix.specs.Slots.{knots_in_slot}
+use Rattle.fl_radix.specs.Slots.{first_key, last_key, knots_in_slot, IsLeastShift}
 use Rattle.fl_ring.specs.Looking.{ReadFails}
 use Rattle.fl_search.specs.Search.{RoseBy, RoseSome}
 use Rattle.fl_table.specs.Kept.{place_of}
@@ -29,6 +29,12 @@ use Rattle.fl_table.specs.declared.table.Table.{Table}
 -- how many knots stand in the slot of a key
 abbrev pub knots_near : Table → ℕ → ℕ
 knots_near t key = knots_in_slot (knots_in t.index) (shift_in t.index) key
+
+-- how many of a table's knots stand in the slot of a key, where 64 slots are as narrow as they may be
+pub record IsInSlot (plan : Plan) (table : model.Table) (key count : ℕ) : Type 0 where
+  pub shift : ℕ
+  pub narrow : IsLeastShift 64 (last_key (retained 64 plan.error table.points) - first_key (retained 64 plan.error table.points)) shift
+  pub count_is : count ≡ knots_in_slot (retained 64 plan.error table.points) shift key
 
 -- the row at a place: a pending one, or one of the page in the buffer
 abbrev pub row_of_place : Plan → model.Table → BufferState → RowAt → Option Row

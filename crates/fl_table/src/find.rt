@@ -23,7 +23,7 @@ impl Table {
     ghost use Rattle.fl_model.specs.Record.{Plan};
     ghost use Rattle.fl_model.specs.Spline.{bits, is_pending_key, lookup_limit};
     ghost use Rattle.fl_model.specs.Table as model;
-    ghost use Rattle.fl_table.specs.Finding.{Finds, IsRowAt, HoldsIts, HoldsKept, LookupFails, knots_near, row_of_place};
+    ghost use Rattle.fl_table.specs.Finding.{Finds, IsRowAt, HoldsIts, HoldsKept, LookupFails, IsInSlot, knots_near, row_of_place};
     ghost use Rattle.fl_schema.specs.Schema.{layout_of_row, row_of};
     ghost use Rattle.fl_table.specs.Look.{layout_in, oldest_in};
     ghost use Rattle.fl_table.specs.Memory.{is_running, next_in, LiesOn};
@@ -68,6 +68,8 @@ impl Table {
         ensures fails { IfErr result (λ e. LookupFails self.now (F.state flash.old) e (F.state flash.new)) }
         ensures later { min steps.old (2 ^ 64 - 1) ≤ steps.new }
         ensures comparisons { steps.new ≤ steps.old + bits (knots_near self.now key) + 2 }
+        ensures slot { (first : ℕ) → (plan : Plan) → (table : model.Table) → (count : ℕ) → Stands self.now (F.state flash.old) first plan table → IsInSlot plan table key count →
+            steps.new ≤ steps.old + bits count + 2 }
     {
         if self.is_pending_key(key) {
             return Ok(self.pending_place(key).map(RowAt::Pending));
@@ -119,6 +121,8 @@ impl Table {
         ensures fails { IfErr result (λ e. LookupFails self.now (F.state flash.old) e (F.state flash.new)) }
         ensures later { min steps.old (2 ^ 64 - 1) ≤ steps.new }
         ensures comparisons { steps.new ≤ steps.old + bits (knots_near self.now key) + 2 }
+        ensures slot { (first : ℕ) → (plan : Plan) → (table : model.Table) → (count : ℕ) → Stands self.now (F.state flash.old) first plan table → IsInSlot plan table key count →
+            steps.new ≤ steps.old + bits count + 2 }
     {
         let Some(ring) = &self.ring else {
             unreachable!()

@@ -10,6 +10,7 @@ invariant-loop-low l = record {
   before : AreUpTo l.knots l.key l.low;
   after : AreBeyond l.knots l.key l.high;
   later : min l.initial.steps (2 ^ 64 - 1) ≤ l.steps;
+  counted : min (l.initial.steps + (bits (length l.knots + 1) - 1)) (2 ^ 64 - 1) ≤ l.steps + (bits (l.high - l.low + 1) - 1);
   few : l.steps + bits (l.high - l.low) ≤ l.initial.steps + bits (length l.knots);
 }
 
