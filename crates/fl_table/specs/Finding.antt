@@ -4,6 +4,7 @@ use Rattle.fl_find.specs.Index.{knots_in, shift_in}
 use Rattle.fl_find.specs.Pages.{rows_on, IsBadPage}
 use Rattle.fl_flash.specs.Buffer.{BufferState}
 use Rattle.fl_flash.specs.Flash.{FlashState, page_at}
+use Rattle.fl_flash.specs.declared.flash.FlashFault.TheVariants.{PowerLost, Media}
 use Rattle.fl_mark.specs.Mark.{state_of_page}
 use Rattle.fl_mark.specs.declared.page_state.PageState.TheVariants.{Committed}
 use Rattle.fl_model.specs.Record.{Plan, row_layout}
@@ -89,13 +90,20 @@ Finds knots plan table key before now buf (Ok place) = IsFound knots plan table 
 Finds knots plan table key before now buf (Err (fault.Flash e)) = is_pending_key table key ≡ false
 Finds knots plan table key before now buf (Err (fault.BadPage bad)) = ⊥
 
+-- a key that is pending is looked for in memory, which never fails
+abbrev pub FindsPending : Plan → model.Table → ℕ → BufferState → Result (Option RowAt) ReadFault → Type 0
+FindsPending plan table key buf (Ok place) = FindsEntry plan table key buf place
+FindsPending plan table key buf (Err e) = ⊥
+
 -- a kept page is committed, and has another number or no count that a page has
 pub record HasBadPage (t : Table) (f : FlashState) (bad : BadPage) : Type 0 where
   pub number : ℕ
   pub kept : (oldest_in t ≤ number) × (number < next_in t)
   pub is_bad : IsBadPage (layout_in t) number (page_at f (place_of t number)) bad
 
--- why a lookup fails: a read failed, or a kept page is bad, which is told where the flash tells its bytes
+-- why a lookup fails: the power was off and there are pages; or in a read the medium failed; or a kept page that was
+-- read is bad, which is told where the flash tells its bytes
 abbrev pub LookupFails : Table → FlashState → ReadFault → FlashState → Type 0
-LookupFails t old (fault.Flash e) new = ReadFails old e new
-LookupFails t old (fault.BadPage bad) new = IsTrue old.media.tells → HasBadPage t old bad
+LookupFails t old (fault.Flash PowerLost) new = ReadFails old PowerLost new × (oldest_in t < next_in t)
+LookupFails t old (fault.Flash Media) new = ReadFails old Media new × RoseSome old.work.reads new.work.reads
+LookupFails t old (fault.BadPage bad) new = (IsTrue old.media.tells → HasBadPage t old bad) × RoseSome old.work.reads new.work.reads
