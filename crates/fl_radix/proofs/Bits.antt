@@ -47,23 +47,17 @@ bits-half m n le some lt = ⊎_elim
     absurd (omega (arith, top, even, (digits n lt).below, (digits m (omega arith)).above)))
     (cases_lt (bits m) (bits n))
 
--- one that is at most twice another has at most one digit more
+-- a number that is at most one more than twice another has one digit more at most
 pub bits-twice : (m n : ℕ) → n ≤ 2 * m + 1 → m < 2 ^ 64 → n < 2 ^ 64 → bits n ≤ bits m + 1
 bits-twice m n le small lt = ⊎_elim
-    (λ less.
-    let power : 2 ^ (bits m + 1 + 1) ≤ 2 ^ bits n = pow-le-pow_right (omega arith) (omega (arith, less)) in
+    (λ more.
+    let power : 2 ^ (bits m + 1 + 1) ≤ 2 ^ bits n = pow-le-pow_right (omega arith) (omega arith) in
     let twice : 2 ^ (bits m + 1 + 1) ≡ 2 ^ (bits m + 1) * 2 = pow_more 2 (bits m + 1) in
     let once : 2 ^ (bits m + 1) ≡ 2 ^ bits m * 2 = pow_more 2 (bits m) in
-    absurd (omega (arith, power, twice, once, (digits n lt).above, (digits m small).below)))
-    (λ le. le)
+    absurd (omega (arith, power, twice, once, (digits m small).below, (digits n lt).above)))
+    (λ few. few)
     (cases_lt (bits m + 1) (bits n))
 
-pub bits-one : (n : ℕ) → n ≡ 1 → bits n ≤ 1
-bits-one n e = ⊎_elim
-    (λ more.
-    let power : 2 ^ (n + 1) ≤ 2 ^ bits n = pow-le-pow_right (omega arith) (omega (arith, more, e)) in
-    let twice : 2 ^ (n + 1) ≡ 2 ^ n * 2 = pow_more 2 n in
-    let two : 2 ^ n ≡ 2 = ap (λ k. 2 ^ k) e in
-    absurd (omega (arith, power, twice, two, e, (digits n (omega (arith, e))).above)))
-    (λ le. le)
-    (cases_lt 1 (bits n))
+pub bits-one : (n : ℕ) → n ≡ 0 → bits (n + 1) ≡ 1
+unfolding lib.Count.count_leading_zeros
+bits-one n none = ap (λ k. bits (k + 1)) none

@@ -58,7 +58,7 @@ load-executes E config old t u name asked notes f g mounted breaks count step se
     subst (λ asked. Executes config old (command.Load asked count step seed) (SessionStands config u name g (not breaks) notes) f g told told_now result) (sym r.1)
     (subst (λ broken. Executes config old (command.Load name count step seed) (SessionStands config u name g (not broken) notes) f g told told_now result) (sym b)
     (executes-answered E config old (command.Load name count step seed) (SessionStands config u name g (not (put_breaks outcome)) notes) f g (texts (load_replies loaded outcome)) told told_now result
-    (answers config name notes old h') (λ moment none. none) wrote))
+    (answers config name notes old h') (λ moment none. none) (λ moment none. tt) wrote))
 
 -- .. and one that isn't
 pub load-refused : (E : Type 0) (config : Config) (old : Machine) (t : Table) (name : List ℕ) (notes : Notes) (f : FlashState) (mounted : Bool) (asked : List ℕ) (count step seed : ℕ) (said : code.Reply) (told told_now : Option (List ℕ)) (result : Result (Unit {0}) E) →
@@ -66,7 +66,7 @@ pub load-refused : (E : Type 0) (config : Config) (old : Machine) (t : Table) (n
     Executes config old (command.Load asked count step seed) (SessionStands config t name f mounted notes) f f told told_now result
 load-refused E config old t name notes f mounted asked count step seed said told told_now result h r wrote =
     executes-answered E config old (command.Load asked count step seed) (SessionStands config t name f mounted notes) f f (reply_text said) told told_now result
-    (answers-refused config old t name notes f mounted (command.Load asked count step seed) asked (λ moment. LoadStep config old moment count step seed) said f.media.faults h r (λ moment is w. step-is config old moment (command.Load asked count step seed) is w)) (λ moment none. none) wrote
+    (answers-refused config old t name notes f mounted (command.Load asked count step seed) asked (λ moment. LoadStep config old moment count step seed) said f.media.faults h r (λ moment is w. step-is config old moment (command.Load asked count step seed) is w)) (λ moment none. none) (λ moment none. tt) wrote
 
 -- a put that was done broke nothing
 pub unbroken : (outcome : Result (Unit {0}) PutRefusal) → is_err outcome ≡ false → put_breaks outcome ≡ false

@@ -67,7 +67,7 @@ scan-executes E config old t name asked notes f g n reads mounted range span tol
     let step = table-step config old moment name (ScanStep config old moment range span) at h'.is_mounted own (refl, refl, s.lists) in
     subst (λ asked. Executes config old (command.Scan asked range span) (SessionStands config t name g mounted (record notes { cost = code_cost.OfScan reads })) f g told told_now result) (sym r.1)
     (subst (λ m. Executes config old (command.Scan name range span) (SessionStands config t name g m (record notes { cost = code_cost.OfScan reads })) f g told told_now result) (sym r.0)
-    (executes-by E config old (command.Scan name range span) (SessionStands config t name g true (record notes { cost = code_cost.OfScan reads })) f g told told_now result moment refl step (stands-scanned config t name notes f g n reads old only h') counted s.risen s.wrote))
+    (executes-by E config old (command.Scan name range span) (SessionStands config t name g true (record notes { cost = code_cost.OfScan reads })) f g told told_now result moment refl step (stands-scanned config t name notes f g n reads old only h') counted tt s.risen s.wrote))
 
 -- .. and one that isn't
 pub scan-refused : (E : Type 0) (config : Config) (old : Machine) (t : Table) (name : List ℕ) (notes : Notes) (f : FlashState) (mounted : Bool) (asked : List ℕ) (range : KeyRange) (span : Option Span) (said : code.Reply) (told told_now : Option (List ℕ)) (result : Result (Unit {0}) E) →
@@ -75,4 +75,4 @@ pub scan-refused : (E : Type 0) (config : Config) (old : Machine) (t : Table) (n
     Executes config old (command.Scan asked range span) (SessionStands config t name f mounted notes) f f told told_now result
 scan-refused E config old t name notes f mounted asked range span said told told_now result h r wrote =
     executes-answered E config old (command.Scan asked range span) (SessionStands config t name f mounted notes) f f (reply_text said) told told_now result
-    (answers-refused config old t name notes f mounted (command.Scan asked range span) asked (λ moment. ScanStep config old moment range span) said f.media.faults h r (λ moment is w. step-is config old moment (command.Scan asked range span) is w)) (λ moment none. read-none f moment.reads none) wrote
+    (answers-refused config old t name notes f mounted (command.Scan asked range span) asked (λ moment. ScanStep config old moment range span) said f.media.faults h r (λ moment is w. step-is config old moment (command.Scan asked range span) is w)) (λ moment none. read-none f moment.reads none) (λ moment none. tt) wrote

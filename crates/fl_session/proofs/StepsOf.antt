@@ -37,7 +37,7 @@ pub executes-nothing : (E : Type 0) (config : Config) (old : Machine) (c : Comma
 executes-nothing E config old c stands f told e s =
     let w : Written {E = E} told told (Ok tt) [] = nothing-added told in
     subst (λ x. Executes {E = E} config old x stands f f told told (Ok tt)) (sym e)
-    (executes-by E config old command.Nothing stands f f told told (Ok tt) (saying command.Nothing [] old) refl (record { replies_are = refl; after_is = refl; last_is = refl }) s refl (λ t. cc) w)
+    (executes-by E config old command.Nothing stands f f told told (Ok tt) (saying command.Nothing [] old) refl (record { replies_are = refl; after_is = refl; last_is = refl }) s refl tt (λ t. cc) w)
 
 -- a table rests where what it has in memory is lost
 planned-plain : (t : Table) (plan : Plan) → IsPlanned t 0 plan → IsPlain plan

@@ -10,7 +10,7 @@ use Rattle.fl_machine.specs.Machine.{Machine}
 use Rattle.fl_machine.specs.Step.{Moment, Step}
 use Rattle.fl_machine.specs.Found.{HasRoom, IsAtRest}
 use Rattle.fl_machine.specs.Script.{Ran, RanInto}
-use Rattle.fl_session.specs.Cost.{CountsReads}
+use Rattle.fl_session.specs.Cost.{CountsReads, ReadsAsStated}
 
 -- all but the cursors and the cost is the same
 pub record IsAlike (a b : Machine) : Type 0 where
@@ -29,6 +29,7 @@ pub record Executes {E : Type 0} (config : Config) (old : Machine) (command : Co
   pub alike : IsAlike moment.after after
   pub same : OnOk result (after ≡ moment.after)
   pub reads : CountsReads flash moment flash_now command
+  pub stated : ReadsAsStated config old moment flash_now command
   pub rose : IsTrue moment.rose → Rose flash.media.faults flash_now.media.faults
   pub told_all : OnOk result (Appends told told_now (texts moment.replies))
   pub told_front : OnErr result (AppendsFront told told_now (texts moment.replies))

@@ -25,7 +25,7 @@ pub(crate) fn look_up<F: Flash>(table: &Table, key: u64, flash: &mut F, buf: &mu
     ensures lies { LiesOn table.now (F.state flash.new) }
     ensures room { length buf.new.bytes ≡ length buf.old.bytes }
     ensures looks { (first : ℕ) → (plan : Plan) → (t : model.Table) → IsTrue (F.state flash.old).media.tells → (F.state flash.old).is_on ≡ true → Stands table.now (F.state flash.old) first plan t →
-        Looks plan t key (F.state flash.old).media.faults (F.state flash.new).media.faults (reply_text result) }
+        Looks plan t key (F.state flash.old).media.faults (F.state flash.new).media.faults (F.state flash.old).work.reads (F.state flash.new).work.reads (reply_text result) }
 {
     let columns = table.columns();
     let mut steps = Steps::new();

@@ -27,4 +27,4 @@ returns-clause-step g c = λ config old h.
     let after : c.work.result.reads ≡ c.look_up-reply.new.flash.work.reads = ap (λ (w : Work). w.reads) c.work.ensures in
     let reads : c.saturating_sub-reads.result ≡ c.look_up-reply.new.flash.work.reads - c.args.self.now.flash.work.reads = omega (arith, c.saturating_sub-reads.ensures, before, after) in
     get-executes _ config old _ _ c.args.name _ _ _ _ _ c.args.key _ c.look_up-reply.result _ _ _ h c.in_default.ensures c.look_up-reply.ensures.counts
-    (has-read _ _ c.look_up-reply.ensures.counts _ reads) c.lookup_limit-limit.ensures.stands c.look_up-reply.ensures.looks c.write_reply-2.ensures.text
+    (has-read _ _ c.look_up-reply.ensures.counts _ reads) reads c.lookup_limit-limit.ensures.stands c.look_up-reply.ensures.looks c.write_reply-2.ensures.text

@@ -19,15 +19,15 @@ returns-in_default g c = record {
 
 pub returns-clause-step : goal.returns-clause-step
 returns-clause-step g c = λ config old h. elim c.match-command.branch [
-  | in-Mount w ↦ rw (w.self-is, w.in-Mount.is) (executes-answered SinkFailed config old _ _ _ _ _ _ _ c.write_reply.result (w.mount-reply.ensures.step config old h) (λ moment none. tt) (rw w.reply-is at c.write_reply.ensures.text))
-  | in-Off w ↦ rw (w.self-is, w.in-Off.is) (executes-answered SinkFailed config old _ _ _ _ _ _ _ c.write_reply.result (w.off-reply.ensures.step config old h) (λ moment none. none) (rw w.reply-is at c.write_reply.ensures.text))
-  | in-Cut w ↦ rw (w.self-is, w.in-Cut.is) (executes-answered SinkFailed config old _ _ _ _ _ _ _ c.write_reply.result (w.cut-reply.ensures.step config old h) (λ moment none. none) (rw w.reply-is at c.write_reply.ensures.text))
-  | in-Put w ↦ rw (w.self-is, w.in-Put.is, sym w.as_slice.ensures.value, sym w.blob_in.ensures) (executes-answered SinkFailed config old _ _ _ _ _ _ _ c.write_reply.result (w.put-reply.ensures.step config old h) (λ moment none. none) (rw w.reply-is at c.write_reply.ensures.text))
-  | in-Flush w ↦ rw (w.self-is, w.in-Flush.is) (executes-answered SinkFailed config old _ _ _ _ _ _ _ c.write_reply.result (w.flush-reply.ensures.step config old h) (λ moment none. none) (rw w.reply-is at c.write_reply.ensures.text))
-  | in-Stat w ↦ rw (w.self-is, w.in-Stat.is) (executes-answered SinkFailed config old _ _ _ _ _ _ _ c.write_reply.result (w.stat-reply.ensures config old h) (λ moment none. none) (rw w.reply-is at c.write_reply.ensures.text))
-  | in-Open w ↦ rw (w.self-is, w.in-Open.is) (executes-answered SinkFailed config old _ _ _ _ _ _ _ c.write_reply.result (w.open-reply.ensures.step config old h) (λ moment none. none) (rw w.reply-is at c.write_reply.ensures.text))
-  | in-Close w ↦ rw (w.self-is, w.in-Close.is) (executes-answered SinkFailed config old _ _ _ _ _ _ _ c.write_reply.result (w.close-reply.ensures.step config old h) (λ moment none. none) (rw w.reply-is at c.write_reply.ensures.text))
-  | in-Cost w ↦ rw (w.self-is, w.in-Cost.is) (executes-answered SinkFailed config old _ _ _ _ _ _ _ c.write_reply.result (w.cost-reply.ensures config old h) (λ moment none. none) (rw w.reply-is at c.write_reply.ensures.text))
+  | in-Mount w ↦ rw (w.self-is, w.in-Mount.is) (executes-answered SinkFailed config old _ _ _ _ _ _ _ c.write_reply.result (w.mount-reply.ensures.step config old h) (λ moment none. tt) (λ moment none. tt) (rw w.reply-is at c.write_reply.ensures.text))
+  | in-Off w ↦ rw (w.self-is, w.in-Off.is) (executes-answered SinkFailed config old _ _ _ _ _ _ _ c.write_reply.result (w.off-reply.ensures.step config old h) (λ moment none. none) (λ moment none. tt) (rw w.reply-is at c.write_reply.ensures.text))
+  | in-Cut w ↦ rw (w.self-is, w.in-Cut.is) (executes-answered SinkFailed config old _ _ _ _ _ _ _ c.write_reply.result (w.cut-reply.ensures.step config old h) (λ moment none. none) (λ moment none. tt) (rw w.reply-is at c.write_reply.ensures.text))
+  | in-Put w ↦ rw (w.self-is, w.in-Put.is, sym w.as_slice.ensures.value, sym w.blob_in.ensures) (executes-answered SinkFailed config old _ _ _ _ _ _ _ c.write_reply.result (w.put-reply.ensures.step config old h) (λ moment none. none) (λ moment none. tt) (rw w.reply-is at c.write_reply.ensures.text))
+  | in-Flush w ↦ rw (w.self-is, w.in-Flush.is) (executes-answered SinkFailed config old _ _ _ _ _ _ _ c.write_reply.result (w.flush-reply.ensures.step config old h) (λ moment none. none) (λ moment none. tt) (rw w.reply-is at c.write_reply.ensures.text))
+  | in-Stat w ↦ rw (w.self-is, w.in-Stat.is) (executes-answered SinkFailed config old _ _ _ _ _ _ _ c.write_reply.result (w.stat-reply.ensures config old h) (λ moment none. none) (λ moment none. tt) (rw w.reply-is at c.write_reply.ensures.text))
+  | in-Open w ↦ rw (w.self-is, w.in-Open.is) (executes-answered SinkFailed config old _ _ _ _ _ _ _ c.write_reply.result (w.open-reply.ensures.step config old h) (λ moment none. none) (λ moment none. tt) (rw w.reply-is at c.write_reply.ensures.text))
+  | in-Close w ↦ rw (w.self-is, w.in-Close.is) (executes-answered SinkFailed config old _ _ _ _ _ _ _ c.write_reply.result (w.close-reply.ensures.step config old h) (λ moment none. none) (λ moment none. tt) (rw w.reply-is at c.write_reply.ensures.text))
+  | in-Cost w ↦ rw (w.self-is, w.in-Cost.is) (executes-answered SinkFailed config old _ _ _ _ _ _ _ c.write_reply.result (w.cost-reply.ensures config old h) (λ moment none. none) (λ moment none. tt) (rw w.reply-is at c.write_reply.ensures.text))
 ]
 
 pub returns-clause-sound : goal.returns-clause-sound
