@@ -22,7 +22,6 @@ use Rattle.fl_table.specs.declared.table.Table as code_table
 use Rattle.fl_table.specs.Memory.{IsPlanned, LiesOn}
 use Rattle.fl_session.specs.Notes.{no_notes}
 use Rattle.fl_session.specs.declared.notes.Notes.{Notes}
-use Rattle.fl_session.specs.declared.cost.Cost.TheVariants as code_cost
 use Rattle.fl_session.specs.Standing.{SessionStands, IsSound, RestsOn, IsNewTable, HasRooms}
 use Rattle.fl_session.specs.declared.buffers.Buffers.{Buffers}
 use Rattle.fl_session.specs.Run.{RunsFrom, around_of, IsOfCommands, refused_status}

@@ -28,7 +28,6 @@ use Rattle.fl_session.proofs.StepsOf.{off-rests}
 use Rattle.fl_session.specs.Cost.{cost_of}
 use Rattle.fl_session.specs.Notes.{no_notes}
 use Rattle.fl_session.specs.declared.notes.Notes.{Notes}
-use Rattle.fl_session.specs.declared.cost.Cost.TheVariants as code_cost
 use Rattle.fl_session.specs.Standing.{SessionStands, RestsOn}
 use Rattle.fl_table.proofs.Images.{image-rests, rests-image, blank-rests}
 

@@ -12,7 +12,7 @@ use Rattle.fl_words.specs.Command as command
 use Rattle.fl_words.specs.Command.{Command}
 use Rattle.fl_words.specs.Reply.{texts}
 use Rattle.fl_machine.specs.Machine.{Machine}
-use Rattle.fl_machine.specs.Reads.{OnTable, none_read, PromisedReads, RunPromised}
+use Rattle.fl_machine.specs.Reads.{none_read, PromisedReads, RunPromised}
 use Rattle.fl_machine.specs.Step.{Moment, Step, Located, located}
 use Rattle.fl_machine.specs.Run.{Run, end_of, written_by, risen_in}
 use Rattle.fl_machine.specs.Script.{Ran, RanInto, RoseBy}

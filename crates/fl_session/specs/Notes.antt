@@ -1,5 +1,5 @@
 -- What a session remembers between two commands, as the machine has it.
-use Rattle.std.specs.Prelude.{ℕ, Option, None, option_map, List, map, replicate}
+use Rattle.std.specs.Prelude.{Option, None, option_map, List, map, replicate}
 use Rattle.fl_cursor.specs.Asked.{asked_by}
 use Rattle.fl_cursor.specs.declared.bookmark.Bookmark.{Bookmark}
 use Rattle.fl_machine.specs.Machine.{OpenCursor}
