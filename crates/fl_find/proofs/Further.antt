@@ -1,5 +1,5 @@
 -- A point after the last of a list, told by a test.
-use Rattle.std.proofs.Common.{◌≡◌, ℕ, Bool, true, ◌&&◌, nat_lt, Option, Some, None, List, sym, ◌∙◌, ap, refl}
+use Rattle.std.proofs.Common.{◌≡◌, ℕ, true, ◌&&◌, nat_lt, Option, Some, None, List, ◌∙◌, ap, refl}
 use Rattle.std.specs.Prelude.{IfSome, option_map, unwrap_or}
 use Rattle.std.proofs.lemmas.Bool.{lt-ltb}
 use Rattle.fl_spline.specs.Points.{IsPast, IsFurther, last_of}

@@ -34,7 +34,7 @@ impl<const KNOTS: usize, const SLOTS: usize> LearnedIndex<KNOTS, SLOTS> {
     ghost use Rattle.fl_search.specs.Search.{IsPageOf, Ascends, RoseBy, RoseSome, looked_at, voids_in};
     ghost use Rattle.fl_spline.specs.Points.{IsFurther, last_of};
     ghost use Rattle.fl_spline.specs.Segment.{IsSegment};
-    ghost use Rattle.fl_find.specs.Pages.{first_on, Holds};
+    ghost use Rattle.fl_find.specs.Pages.{first_on, Holds, IsFresh};
     ghost use Rattle.fl_find.specs.Looking.{OnlyLooks, LookFails};
     ghost use Rattle.fl_find.specs.Standing.{HoldsPages, HasPoints};
     ghost use Rattle.fl_find.specs.Finding.{FindsPage};
@@ -169,6 +169,7 @@ impl<const KNOTS: usize, const SLOTS: usize> LearnedIndex<KNOTS, SLOTS> {
         ensures most { (F.state flash.new).work.reads ≤ (F.state flash.old).work.reads + (next_of ring.now - oldest_of ring.now) + 1 }
         ensures holds { IfOk result (λ page. IfSome page (λ number. Holds (layout_of schema.now) (shape_of ring.now) (F.state flash.new) number buf.new)) }
         ensures within { IfOk result (λ page. IfSome page (λ number. (oldest_of ring.now ≤ number) × (number < next_of ring.now))) }
+        ensures fresh { IsFresh (F.state flash.old) buf.old → IsFresh (F.state flash.new) buf.new }
         ensures fails { IfErr result (λ e. LookFails (layout_of schema.now) ring.now (F.state flash.old) e (F.state flash.new)) }
         ensures found { (plan : Plan) (table : model.Table) → HoldsPages (layout_of schema.now) ring.now (F.state flash.old) plan table → HasPoints table → IndexOf plan.error table.points self.now →
             FindsPage KNOTS plan table key (F.state flash.old).work.reads (F.state flash.new).work.reads result }

@@ -5,7 +5,6 @@ use Rattle.std.proofs.lemmas.Bool.{ltb-false}
 use base.Fml.{GName}
 use Rattle.fl_base.specs.declared.types.Geometry.{Geometry}
 use Rattle.fl_flash.specs.Flash.{FlashState, pages, Goes}
-use Rattle.fl_flash.specs.Buffer.{BufferState}
 use Rattle.fl_flash.specs.Media.{MediaState}
 use Rattle.fl_flash.specs.Sim.{on_medium}
 use Rattle.fl_flash.specs.Places.{extent}
@@ -23,7 +22,8 @@ use Rattle.fl_table.specs.declared.table.Table as code_table
 use Rattle.fl_table.specs.Memory.{IsPlanned, LiesOn}
 use Rattle.fl_session.specs.declared.cost.Cost.{Cost}
 use Rattle.fl_session.specs.declared.cost.Cost.TheVariants as code_cost
-use Rattle.fl_session.specs.Standing.{SessionStands, IsSound, RestsOn, IsNewTable}
+use Rattle.fl_session.specs.Standing.{SessionStands, IsSound, RestsOn, IsNewTable, HasRooms}
+use Rattle.fl_session.specs.declared.buffers.Buffers.{Buffers}
 use Rattle.fl_session.specs.Run.{RunsFrom, around_of, IsOfCommands, refused_status}
 use Rattle.fl_session.specs.declared.status.Status.TheVariants.{Usage, MediaMake, OtherConfig}
 use Rattle.fl_config.specs.declared.image.ImageRefusal.{ImageRefusal}
@@ -97,8 +97,8 @@ new-lies t lines f new one device blocks fits =
     some e = cc
 
 -- a session that begins over it is sound
-pub new-sound : (t t' : code_table.Table) (lines : Lines) (f f' : FlashState) (buf buf' : BufferState) → t' ≡ t → f' ≡ f → buf' ≡ buf → IsNewTable t lines → IsTrue (is_whole lines) → are_built lines.plans ≡ true → lines.device ≡ Some f.geometry → f.blocks ≡ sum_by blocks_of lines.plans →
-    IfSome lines.device (λ geometry. too_large geometry lines.plans ≡ false) → ((geometry : Geometry) → lines.device ≡ Some geometry → length buf.bytes ≡ geometry.page) → (mounted : Bool) → mounted ≡ false → IsSound t' f' buf' mounted
+pub new-sound : (t t' : code_table.Table) (lines : Lines) (f f' : FlashState) (buf buf' : Buffers) → t' ≡ t → f' ≡ f → buf' ≡ buf → IsNewTable t lines → IsTrue (is_whole lines) → are_built lines.plans ≡ true → lines.device ≡ Some f.geometry → f.blocks ≡ sum_by blocks_of lines.plans →
+    IfSome lines.device (λ geometry. too_large geometry lines.plans ≡ false) → ((geometry : Geometry) → lines.device ≡ Some geometry → HasRooms buf geometry.page) → (mounted : Bool) → mounted ≡ false → IsSound t' f' buf' mounted
 new-sound t t' lines f f' buf buf' t_is f_is buf_is new whole built device blocks fits page mounted off =
     let one = built-one lines.plans built (some-plan lines.device lines.plans whole) in
     let small : too_large f.geometry lines.plans ≡ false = subst (λ d. IfSome d (λ geometry. too_large geometry lines.plans ≡ false)) device fits in

@@ -1,7 +1,6 @@
 -- A session, and the states of the machine for which it stands.
 use Rattle.std.specs.Prelude.{◌≡◌, ℕ, Bool, true, false, IsTrue, MatchBool, List, [], ◌∷◌, length, take, Some}
 use Rattle.fl_flash.specs.Flash.{FlashState}
-use Rattle.fl_flash.specs.Buffer.{BufferState}
 use Rattle.fl_ring.specs.Device.{SameDevice}
 use Rattle.fl_model.specs.Record.{Config, Plan}
 use Rattle.fl_model.specs.Table as model
@@ -14,6 +13,7 @@ use Rattle.fl_table.specs.Memory.{IsPlanned, LiesOn, is_running}
 use Rattle.fl_table.specs.Pages.{Rests}
 use Rattle.fl_table.specs.Standing.{Stands}
 use Rattle.fl_session.specs.Cost.{cost_of}
+use Rattle.fl_session.specs.declared.buffers.Buffers.{Buffers}
 use Rattle.fl_session.specs.declared.cost.Cost.{Cost}
 
 -- the header and the length of the medium are those of the configuration
@@ -41,10 +41,14 @@ pub record SessionStands (config : Config) (t : Table) (name : List ℕ) (f : Fl
   pub on_flash : MatchBool mounted (Stands t f 0 plan table) (Rests f 0 plan table)
   pub power : IsTrue mounted → f.is_on ≡ true
 
+-- each buffer has room for a page of this size
+abbrev pub HasRooms : Buffers → ℕ → Type 0
+HasRooms buf size = (length buf.rows.bytes ≡ size) × (length buf.index.bytes ≡ size)
+
 -- what holds of a session always
-pub record IsSound (t : Table) (f : FlashState) (buf : BufferState) (mounted : Bool) : Type 0 where
+pub record IsSound (t : Table) (f : FlashState) (buf : Buffers) (mounted : Bool) : Type 0 where
   pub lies : LiesOn t f
-  pub room : length buf.bytes ≡ f.geometry.page
+  pub room : HasRooms buf f.geometry.page
   pub running : mounted ≡ true → is_running t ≡ true
 
 -- a table that was made for the one that the lines configure, and never mounted

@@ -14,6 +14,7 @@ ghost use Rattle.fl_session.specs.Built.{IsRunnable};
 ghost use Rattle.fl_session.specs.Execute.{Executes};
 ghost use Rattle.fl_session.specs.Standing.{SessionStands, IsSound};
 
+use crate::buffers::Buffers;
 use crate::cost::Cost;
 use crate::executor::Executor;
 use crate::load::load;
@@ -21,7 +22,7 @@ use crate::lookup::look_up;
 use crate::replies::{cost_reply, flush_breaks, flush_reply, mount_reply, put_breaks, put_reply};
 use crate::rows::Wanted;
 use fl_base::{CutKind, Name, Sink, SinkFailed};
-use fl_flash::{Flash, Media, PageBuf, SimFlash};
+use fl_flash::{Flash, Media, SimFlash};
 use fl_script::{Command, LineRoom, Reply, write_reply};
 use fl_table::Table;
 
@@ -30,14 +31,14 @@ pub struct Session<'m, M: Media> {
     flash: SimFlash<'m, M>,
     table: Table,
     name: Name,
-    buf: PageBuf,
+    buf: Buffers,
     mounted: bool,
     cost: Cost,
 }
 
 impl<'m, M: Media> Session<'m, M> {
     /// A session that isn't mounted.
-    pub(crate) fn new(flash: SimFlash<'m, M>, table: Table, name: Name, buf: PageBuf) -> Self
+    pub(crate) fn new(flash: SimFlash<'m, M>, table: Table, name: Name, buf: Buffers) -> Self
         ensures flash { ⟦<SimFlash<'m, M> as Flash>⟧.state result.flash ≡ ⟦<SimFlash<'m, M> as Flash>⟧.state flash.entry }
         ensures rooms { (result.table ≡ table) × (result.name ≡ name) × (result.buf ≡ buf) }
         ensures off { result.mounted ≡ false }
@@ -113,7 +114,7 @@ impl<'m, M: Media> Session<'m, M> {
             return Reply::AlreadyMounted;
         }
         self.flash.power_on();
-        let outcome = self.table.mount(&mut self.flash, &mut self.buf);
+        let outcome = self.table.mount(&mut self.flash, &mut self.buf.rows);
         self.mounted = outcome.is_ok();
         mount_reply(self.name, outcome)
     }
@@ -210,7 +211,7 @@ impl<'m, M: Media> Session<'m, M> {
         }
         let limit = self.table.lookup_limit(key);
         let before = self.flash.work().reads;
-        let reply = look_up(&self.table, key, &mut self.flash, &mut self.buf);
+        let reply = look_up(&self.table, key, &mut self.flash, &mut self.buf.rows);
         let reads = self.flash.work().reads.saturating_sub(before);
         self.cost = Cost::OfGet { reads, limit };
         write_reply(&reply, out)
@@ -230,7 +231,7 @@ impl<'m, M: Media> Session<'m, M> {
             return write_reply(&refusal, out);
         }
         let before = self.flash.work().reads;
-        let written = wanted.scan(&self.table, &mut self.flash, &mut self.buf, out);
+        let written = wanted.scan(&self.table, &mut self.flash, &mut self.buf.rows, out);
         let reads = self.flash.work().reads.saturating_sub(before);
         self.cost = Cost::OfScan { reads };
         written

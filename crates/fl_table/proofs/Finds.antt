@@ -4,12 +4,14 @@ use Rattle.std.specs.Prelude.{IfSome, MatchOption, if◌then◌else◌}
 use Rattle.std.specs.List.{slice_get}
 use Rattle.fl_find.specs.Index.{error_in, most_reads}
 use Rattle.fl_find.specs.Looking.{LookFails}
+use Rattle.fl_find.specs.Looking as find
 use Rattle.fl_find.specs.Pages.{rows_on, rows_where, Holds, IsBadPage, bytes_at}
 use Rattle.fl_find.specs.Rows.{HasKey, LacksKey, LooksUp}
 use Rattle.fl_find.specs.Standing.{HoldsPages, HoldsEntries}
 use Rattle.fl_find.specs.declared.row.PageRow.{PageRow}
 use Rattle.fl_flash.specs.Buffer.{BufferState}
 use Rattle.fl_flash.specs.Flash.{FlashState, page_at}
+use Rattle.fl_flash.specs.declared.flash.FlashFault.TheVariants.{PowerLost, Media}
 use Rattle.fl_flash.specs.Places.{extent}
 use Rattle.fl_mark.specs.Mark.{state_of_page}
 use Rattle.fl_mark.specs.declared.page_state.PageState.{PageState}
@@ -31,7 +33,7 @@ use Rattle.fl_ring.specs.Place.{shape_of, next_of, oldest_of}
 use Rattle.fl_ring.specs.Ring.{Shape, place}
 use Rattle.fl_ring.specs.declared.ring.Ring.{Ring}
 use Rattle.fl_schema.specs.Schema.{layout_of}
-use Rattle.fl_table.specs.Finding.{Finds, IsRowAt, HoldsIts, HoldsKept, LookupFails}
+use Rattle.fl_table.specs.Finding.{Finds, IsRowAt, HoldsIts, HoldsKept, HasBadPage, LookupFails}
 use Rattle.fl_table.specs.Look.{oldest_in}
 use Rattle.fl_table.specs.Memory.{next_in, IsPlanned, LiesOn}
 use Rattle.fl_table.specs.Standing.{Stands}
@@ -138,13 +140,15 @@ holds-found t f ring buf None is kept holds = tt
 holds-found t f ring buf (Some number) is kept holds = holds-kept t f ring number buf is kept holds
 
 pub lookup-fails : (t : Table) (ring : Ring) (old : FlashState) (e : ReadFault) (new : FlashState) → t.ring ≡ Some ring → LookFails (layout_of t.schema) ring old e new → LookupFails t old e new
-lookup-fails t ring old (fault.Flash e) new is h = h
-lookup-fails t ring old (fault.BadPage bad) new is h = λ told.
-    let bad_page = h told in
-    record {
-      number = bad_page.number;
-      kept = (omega (arith, oldest-in t ring is, bad_page.kept.from), omega (arith, next-in t ring is, bad_page.kept.before));
-      is_bad = subst (λ p. IsBadPage (layout_of t.schema) bad_page.number (page_at old p) bad) (sym (ring-place t ring bad_page.number is)) bad_page.is_bad;
+lookup-fails t ring old (fault.Flash PowerLost) new is h = (h.0, omega (arith, oldest-in t ring is, next-in t ring is, h.1))
+lookup-fails t ring old (fault.Flash Media) new is h = h
+lookup-fails t ring old (fault.BadPage bad) new is h = (λ told. of (h.0 told), h.1)
+  where
+    of : find.HasBadPage (layout_of t.schema) ring old bad → HasBadPage t old bad
+    of page = record {
+      number = page.number;
+      kept = (omega (arith, oldest-in t ring is, page.kept.from), omega (arith, next-in t ring is, page.kept.before));
+      is_bad = subst (λ p. IsBadPage (layout_of t.schema) page.number (page_at old p) bad) (sym (ring-place t ring page.number is)) page.is_bad;
     }
 
 -- ---- the row at a place

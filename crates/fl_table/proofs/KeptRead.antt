@@ -50,7 +50,7 @@ has-rows layout page Torn other = refl
 has-rows layout page Void other = refl
 
 -- the entries of a page are written ones
-rows-lose : (table : model.Table) (i c : ℕ) → slice_get table.rows.counts i ≡ Some c → sum table.rows.counts + table.pending ≡ length table.entries → rows_at (lose table) i c ≡ rows_at table i c
+pub rows-lose : (table : model.Table) (i c : ℕ) → slice_get table.rows.counts i ≡ Some c → sum table.rows.counts + table.pending ≡ length table.entries → rows_at (lose table) i c ≡ rows_at table i c
 rows-lose table i c e counted =
     let s = sum (take i table.rows.counts) in
     let m = length table.entries - table.pending in

@@ -33,3 +33,4 @@ pub mod PendingKey
 pub mod PendingRows
 pub mod Finds
 pub mod VoidPages
+pub mod Slots

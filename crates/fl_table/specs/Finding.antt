@@ -1,9 +1,10 @@
 -- What a lookup in a table finds, and how many pages it reads.
-use Rattle.std.specs.Prelude.{◌≡◌, ℕ, ◌<◌, ◌≤◌, true, false, Option, Some, None, IsTrue, length, Result, Ok, Err, slice_get, map}
+use Rattle.std.specs.Prelude.{◌≡◌, ℕ, ◌-◌, ◌<◌, ◌≤◌, true, false, Option, Some, None, IsTrue, length, Result, Ok, Err, slice_get, map}
 use Rattle.fl_find.specs.Index.{knots_in, shift_in}
 use Rattle.fl_find.specs.Pages.{rows_on, IsBadPage}
 use Rattle.fl_flash.specs.Buffer.{BufferState}
 use Rattle.fl_flash.specs.Flash.{FlashState, page_at}
+use Rattle.fl_flash.specs.declared.flash.FlashFault.TheVariants.{PowerLost, Media}
 use Rattle.fl_mark.specs.Mark.{state_of_page}
 use Rattle.fl_mark.specs.declared.page_state.PageState.TheVariants.{Committed}
 use Rattle.fl_model.specs.Record.{Plan, row_layout}
@@ -16,7 +17,7 @@ use Rattle.fl_page.specs.Page.{IsGoodPage}
 use Rattle.fl_page.specs.declared.fault.BadPage.{BadPage}
 use Rattle.fl_page.specs.declared.fault.ReadFault.{ReadFault}
 use Rattle.fl_page.specs.declared.fault.ReadFault.TheVariants as fault
-use Rattle.fl_radix.specs.Slots.{knots_in_slot}
+use Rattle.fl_radix.specs.Slots.{first_key, last_key, knots_in_slot, IsLeastShift}
 use Rattle.fl_ring.specs.Looking.{ReadFails}
 use Rattle.fl_search.specs.Search.{RoseBy, RoseSome}
 use Rattle.fl_table.specs.Kept.{place_of}
@@ -29,6 +30,12 @@ use Rattle.fl_table.specs.declared.table.Table.{Table}
 -- how many knots stand in the slot of a key
 abbrev pub knots_near : Table → ℕ → ℕ
 knots_near t key = knots_in_slot (knots_in t.index) (shift_in t.index) key
+
+-- how many of a table's knots stand in the slot of a key, where 64 slots are as narrow as they may be
+pub record IsInSlot (plan : Plan) (table : model.Table) (key count : ℕ) : Type 0 where
+  pub shift : ℕ
+  pub narrow : IsLeastShift 64 (last_key (retained 64 plan.error table.points) - first_key (retained 64 plan.error table.points)) shift
+  pub count_is : count ≡ knots_in_slot (retained 64 plan.error table.points) shift key
 
 -- the row at a place: a pending one, or one of the page in the buffer
 abbrev pub row_of_place : Plan → model.Table → BufferState → RowAt → Option Row
@@ -83,13 +90,20 @@ Finds knots plan table key before now buf (Ok place) = IsFound knots plan table 
 Finds knots plan table key before now buf (Err (fault.Flash e)) = is_pending_key table key ≡ false
 Finds knots plan table key before now buf (Err (fault.BadPage bad)) = ⊥
 
+-- a key that is pending is looked for in memory, which never fails
+abbrev pub FindsPending : Plan → model.Table → ℕ → BufferState → Result (Option RowAt) ReadFault → Type 0
+FindsPending plan table key buf (Ok place) = FindsEntry plan table key buf place
+FindsPending plan table key buf (Err e) = ⊥
+
 -- a kept page is committed, and has another number or no count that a page has
 pub record HasBadPage (t : Table) (f : FlashState) (bad : BadPage) : Type 0 where
   pub number : ℕ
   pub kept : (oldest_in t ≤ number) × (number < next_in t)
   pub is_bad : IsBadPage (layout_in t) number (page_at f (place_of t number)) bad
 
--- why a lookup fails: a read failed, or a kept page is bad, which is told where the flash tells its bytes
+-- why a lookup fails: the power was off and there are pages; or in a read the medium failed; or a kept page that was
+-- read is bad, which is told where the flash tells its bytes
 abbrev pub LookupFails : Table → FlashState → ReadFault → FlashState → Type 0
-LookupFails t old (fault.Flash e) new = ReadFails old e new
-LookupFails t old (fault.BadPage bad) new = IsTrue old.media.tells → HasBadPage t old bad
+LookupFails t old (fault.Flash PowerLost) new = ReadFails old PowerLost new × (oldest_in t < next_in t)
+LookupFails t old (fault.Flash Media) new = ReadFails old Media new × RoseSome old.work.reads new.work.reads
+LookupFails t old (fault.BadPage bad) new = (IsTrue old.media.tells → HasBadPage t old bad) × RoseSome old.work.reads new.work.reads

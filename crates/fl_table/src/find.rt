@@ -19,11 +19,12 @@ pub enum RowAt {
 impl Table {
     ghost use Rattle.std.specs.Prelude.{Some, false};
     ghost use Rattle.fl_find.specs.Finding.{FindsPage};
+    ghost use Rattle.fl_find.specs.Pages.{IsFresh};
     ghost use Rattle.fl_flash.specs.Flash.{FlashState};
     ghost use Rattle.fl_model.specs.Record.{Plan};
     ghost use Rattle.fl_model.specs.Spline.{bits, is_pending_key, lookup_limit};
     ghost use Rattle.fl_model.specs.Table as model;
-    ghost use Rattle.fl_table.specs.Finding.{Finds, IsRowAt, HoldsIts, HoldsKept, LookupFails, knots_near, row_of_place};
+    ghost use Rattle.fl_table.specs.Finding.{Finds, FindsPending, IsRowAt, HoldsIts, HoldsKept, LookupFails, IsInSlot, knots_near, row_of_place};
     ghost use Rattle.fl_schema.specs.Schema.{layout_of_row, row_of};
     ghost use Rattle.fl_table.specs.Look.{layout_in, oldest_in};
     ghost use Rattle.fl_table.specs.Memory.{is_running, next_in, LiesOn};
@@ -58,16 +59,19 @@ impl Table {
         ensures reads { (first : ℕ) → (plan : Plan) → (table : model.Table) → IsTrue (F.state flash.old).media.tells → Stands self.now (F.state flash.old) first plan table →
             (F.state flash.new).work.reads ≤ (F.state flash.old).work.reads + lookup_limit 64 plan table key }
         ensures pending { (first : ℕ) → (plan : Plan) → (table : model.Table) → Stands self.now (F.state flash.old) first plan table → is_pending_key table key ≡ true →
-            (F.state flash.new ≡ F.state flash.old) × (buf.new ≡ buf.old) }
+            (F.state flash.new ≡ F.state flash.old) × (buf.new ≡ buf.old) × FindsPending plan table key buf.new result }
         ensures most { (F.state flash.new).work.reads ≤ (F.state flash.old).work.reads + (next_in self.now - oldest_in self.now) + 1 }
         ensures counts { contents.OnlyReads (F.state flash.old) (F.state flash.new) }
         ensures lies { LiesOn self.now (F.state flash.new) }
         ensures room { length buf.new.bytes ≡ length buf.old.bytes }
         ensures here { IfOk result (λ found. IfSome found (IsRowAt self.now buf.new)) }
         ensures holds { IfOk result (λ found. IfSome found (HoldsIts self.now (F.state flash.new) buf.new)) }
+        ensures fresh { IsFresh (F.state flash.old) buf.old → IsFresh (F.state flash.new) buf.new }
         ensures fails { IfErr result (λ e. LookupFails self.now (F.state flash.old) e (F.state flash.new)) }
         ensures later { min steps.old (2 ^ 64 - 1) ≤ steps.new }
         ensures comparisons { steps.new ≤ steps.old + bits (knots_near self.now key) + 2 }
+        ensures slot { (first : ℕ) → (plan : Plan) → (table : model.Table) → (count : ℕ) → Stands self.now (F.state flash.old) first plan table → IsInSlot plan table key count →
+            steps.new ≤ steps.old + bits count + 2 }
     {
         if self.is_pending_key(key) {
             return Ok(self.pending_place(key).map(RowAt::Pending));
@@ -116,9 +120,12 @@ impl Table {
         ensures lies { LiesOn self.now (F.state flash.new) }
         ensures room { length buf.new.bytes ≡ length buf.old.bytes }
         ensures holds { IfOk result (λ page. IfSome page (λ number. HoldsKept self.now (F.state flash.new) number buf.new)) }
+        ensures fresh { IsFresh (F.state flash.old) buf.old → IsFresh (F.state flash.new) buf.new }
         ensures fails { IfErr result (λ e. LookupFails self.now (F.state flash.old) e (F.state flash.new)) }
         ensures later { min steps.old (2 ^ 64 - 1) ≤ steps.new }
         ensures comparisons { steps.new ≤ steps.old + bits (knots_near self.now key) + 2 }
+        ensures slot { (first : ℕ) → (plan : Plan) → (table : model.Table) → (count : ℕ) → Stands self.now (F.state flash.old) first plan table → IsInSlot plan table key count →
+            steps.new ≤ steps.old + bits count + 2 }
     {
         let Some(ring) = &self.ring else {
             unreachable!()

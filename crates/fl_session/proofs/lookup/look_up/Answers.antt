@@ -1,9 +1,21 @@
 use Rattle.std.proofs.Common.{◌≡◌, false, refl}
+use Rattle.fl_flash.specs.Flash.{FlashState}
+use Rattle.fl_flash.specs.declared.flash.FlashFault.{FlashFault}
+use Rattle.fl_flash.specs.declared.flash.FlashFault.TheVariants.{PowerLost, Media}
+use Rattle.fl_page.specs.declared.fault.ReadFault.TheVariants.{Flash}
+use Rattle.fl_ring.specs.Looking.{ReadFails}
+use Rattle.fl_table.specs.Finding.{LookupFails}
+use Rattle.fl_table.specs.declared.table.Table.{Table}
 use Rattle.fl_model.specs.Record.{has_var}
 use Rattle.fl_schema.specs.Schema.{row_of}
 use Rattle.fl_table.proofs.SealAnswers.{planned-plain}
 use Rattle.fl_session.proofs.Lookups.{looks-absent, looks-found, looks-unread}
 use Rattle.fl_session.proofs.lookup.look_up.Goals as goal
+
+-- why the flash failed
+unread : (t : Table) (old : FlashState) (e : FlashFault) (new : FlashState) → LookupFails t old (Flash e) new → ReadFails old e new
+unread t old PowerLost new h = h.0
+unread t old Media new h = h.0
 
 pub returns-in-Ok-None-clause-looks : goal.returns-in-Ok-None-clause-looks
 returns-in-Ok-None-clause-looks g c = λ first plan t told on stands.
@@ -18,7 +30,7 @@ returns-in-Ok-Some-clause-looks g c = λ first plan t told on stands.
 
 pub returns-in-Err-Flash-clause-looks : goal.returns-in-Err-Flash-clause-looks
 returns-in-Err-Flash-clause-looks g c = λ first plan t told on stands.
-    looks-unread plan t c.args.key (g.F.Flash.state c.args.flash.now) (g.F.Flash.state c.find.new.flash) c.in-Err-Flash.field-0-0 _ on (rw c.in-Err-Flash.field-0-is at c.in-Err-Flash.ensures.fails) (c.in-Err-Flash.ensures.reads first plan t told stands) refl
+    looks-unread plan t c.args.key (g.F.Flash.state c.args.flash.now) (g.F.Flash.state c.find.new.flash) c.in-Err-Flash.field-0-0 _ on (unread c.args.table.now (g.F.Flash.state c.args.flash.now) c.in-Err-Flash.field-0-0 (g.F.Flash.state c.find.new.flash) (rw c.in-Err-Flash.field-0-is at c.in-Err-Flash.ensures.fails)) (c.in-Err-Flash.ensures.reads first plan t told stands) refl
 
 pub returns-in-Err-BadPage-clause-looks : goal.returns-in-Err-BadPage-clause-looks
 returns-in-Err-BadPage-clause-looks g c = λ first plan t told on stands. absurd (rw c.in-Err-BadPage.field-0-is at (c.in-Err-BadPage.ensures.finds first plan t told stands))

@@ -14,7 +14,10 @@ returns-clause-goes g c = goes-reads _ _ c.look_up-reply.ensures.counts
 pub returns-clause-sound : goal.returns-clause-sound
 returns-clause-sound g c = record {
   lies = c.look_up-reply.ensures.lies;
-  room = c.look_up-reply.ensures.room ∙ (c.requires.sound.room ∙ ap (λ (x : Contents). x.geometry.page) (sym c.look_up-reply.ensures.counts.contents));
+  room = (
+    c.look_up-reply.ensures.room ∙ (c.requires.sound.room.0 ∙ ap (λ (x : Contents). x.geometry.page) (sym c.look_up-reply.ensures.counts.contents)),
+    c.requires.sound.room.1 ∙ ap (λ (x : Contents). x.geometry.page) (sym c.look_up-reply.ensures.counts.contents),
+  );
   running = c.requires.sound.running;
 }
 

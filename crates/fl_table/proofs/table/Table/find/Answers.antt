@@ -1,11 +1,12 @@
-use Rattle.std.proofs.Common.{rules, ◌≡◌, ◌≤◌, true, false, Option, option_map, Ok, length, sym, ◌∙◌, ap, subst, arith}
+use Rattle.std.proofs.Common.{rules, ◌≡◌, ◌≤◌, true, false, Option, option_map, Ok, length, refl, sym, ◌∙◌, ap, subst, arith}
 use Rattle.std.specs.Prelude.{IfSome}
 use Rattle.fl_model.specs.Spline.{is_pending_key}
 use Rattle.fl_base.specs.declared.types.Geometry.{Geometry}
-use Rattle.fl_table.specs.Finding.{Finds, IsRowAt, HoldsIts}
+use Rattle.fl_table.specs.Finding.{Finds, FindsPending, IsRowAt, HoldsIts}
 use Rattle.fl_table.specs.declared.find.RowAt.{RowAt}
 use Rattle.fl_table.specs.declared.find.RowAt.TheVariants as at
 use Rattle.fl_table.proofs.Finds.{holds-pages, finds-page, finds-fault, finds-pending, here-page, holds-page}
+use Rattle.fl_table.proofs.Slots.{steps-model}
 use Rattle.fl_table.proofs.table.Table.find.Goals as goal
 
 no : false ≡ true → ⊥
@@ -68,3 +69,21 @@ returns-in-Err-clause-reads g c = λ first plan table tells stands.
 pub returns-in-Err-clause-pending : goal.returns-in-Err-clause-pending
 returns-in-Err-clause-pending g c = λ first plan table stands is.
     absurd (no (sym c.if-is_pending_key.false ∙ (c.is_pending_key.ensures.stands (g.F.Flash.state c.args.flash.now) first plan table stands ∙ is)))
+
+pub returns-in-Ok-clause-slot : goal.returns-in-Ok-clause-slot
+returns-in-Ok-clause-slot g c = λ first plan table count stands is.
+    steps-model c.args.self.now (g.F.Flash.state c.args.flash.now) first plan table c.args.key count _ _ stands is c.find.ensures.comparisons
+
+pub returns-in-Err-clause-slot : goal.returns-in-Err-clause-slot
+returns-in-Err-clause-slot g c = λ first plan table count stands is.
+    steps-model c.args.self.now (g.F.Flash.state c.args.flash.now) first plan table c.args.key count _ _ stands is c.find.ensures.comparisons
+
+pub returns-then-is_pending_key-clause-pending : goal.returns-then-is_pending_key-clause-pending
+returns-then-is_pending_key-clause-pending g c = λ first plan table stands is.
+    let f = g.F.Flash.state c.args.flash.now in
+    let e : c.map.result ≡ option_map at.Pending c.pending_place.result = search rules in (
+      refl,
+      refl,
+      subst (λ (o : Option RowAt). FindsPending plan table c.args.key c.args.buf.now (Ok o)) (sym e)
+          (finds-pending c.args.self.now f first plan table stands c.args.key 0 0 c.args.buf.now c.pending_place.result is (c.pending_place.ensures.stands f first plan table stands)).entry,
+    )
