@@ -1,0 +1,45 @@
+// An index page: its number in four bytes, the first data page that it lists in four, the count of its bitmaps in two,
+// six zeros, and the bitmaps of consecutive data pages.
+ghost use Rattle.std.specs.Prelude.{◌≡◌, ◌+◌, ◌*◌, ◌≤◌, ◌^◌, ◌%◌, ◌<◌, length};
+ghost use Rattle.fl_index.specs.Page.{page_number, page_first, page_entries, entry_at};
+
+use byteorder::{ByteOrder, LittleEndian};
+use fl_base::{get_u16, get_u32};
+
+/// How many bytes stand before the bitmaps.
+pub(crate) const HEADER: usize = 16;
+
+/// The number of a page.
+pub(crate) fn number_in(page: &[u8]) -> u32
+    requires { 16 ≤ length page.now }
+    ensures { result ≡ page_number page.now }
+{
+    get_u32(page, 0)
+}
+
+/// The first data page that it lists.
+pub(crate) fn first_in(page: &[u8]) -> u32
+    requires { 16 ≤ length page.now }
+    ensures { result ≡ page_first page.now }
+{
+    get_u32(page, 4)
+}
+
+/// How many bitmaps it says to hold.
+pub(crate) fn count_in(page: &[u8]) -> u16
+    requires { 16 ≤ length page.now }
+    ensures { result ≡ page_entries page.now }
+{
+    get_u16(page, 8)
+}
+
+/// One of its bitmaps, of so many bytes each.
+pub(crate) fn entry_in(page: &[u8], width: usize, entry: usize) -> u64
+    requires some { 1 ≤ width }
+    requires few { width ≤ 8 }
+    requires room { 16 + (entry + 1) * width ≤ length page.now }
+    ensures { result ≡ entry_at width page.now entry }
+{
+    let at = HEADER + entry * width;
+    LittleEndian::read_uint(&page[at..at + width], width)
+}
