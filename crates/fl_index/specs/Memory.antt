@@ -84,6 +84,11 @@ pub record IsSamePlan (old new : Index) : Type 0 where
   pub place : new.place ≡ old.place
   pub bits : new.bits ≡ old.bits
 
+-- .. and what no call changes that leaves the ring
+pub record IsSameRing (old new : Index) : Type 0 where
+  pub ring : new.ring ≡ old.ring
+  pub firsts : new.firsts ≡ old.firsts
+
 -- a flash on which the index lies
 pub record LiesOn (index : Index) (f : FlashState) : Type 0 where
   pub geometry : f.geometry ≡ index.geometry

@@ -1,10 +1,10 @@
 -- The bytes of an index page: its number in four bytes, the first data page that it lists in four, the count of its
 -- bitmaps in two, six zeros, and the bitmaps of consecutive data pages.
-use Rattle.std.specs.Prelude.{◌≡◌, ℕ, zero, suc, ◌+◌, ◌*◌, Option, Some, None, List, take, drop, if◌then◌else◌}
+use Rattle.std.specs.Prelude.{◌≡◌, ℕ, zero, suc, ◌+◌, ◌*◌, Option, Some, None, List, ◌++◌, take, drop}
 use Rattle.fl_mark.specs.Mark.{state_of_page}
 use Rattle.fl_mark.specs.declared.page_state.PageState.{PageState}
 use Rattle.fl_mark.specs.declared.page_state.PageState.TheVariants.{Blank, Torn, Committed, Void}
-use Rattle.fl_model.specs.Row.{number_of}
+use Rattle.fl_model.specs.Row.{le, number_of}
 pub use Rattle.fl_page.specs.Header.{page_number}
 
 -- the first data page that it lists
@@ -18,6 +18,10 @@ page_entries page = number_of (take 2 (drop 8 page))
 -- bitmap j, of so many bytes
 abbrev pub entry_at : ℕ → List ℕ → ℕ → ℕ
 entry_at width page j = number_of (take width (drop (16 + j * width) page))
+
+-- what stands before its bitmaps
+abbrev pub header_bytes : ℕ → ℕ → ℕ → List ℕ
+header_bytes number first count = le 4 number ++ le 4 first ++ le 2 count ++ le 6 0
 
 -- a page in this state with this first data page; only a committed page lists any
 abbrev pub first_where : PageState → ℕ → Option ℕ

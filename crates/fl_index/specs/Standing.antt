@@ -25,7 +25,7 @@ HoldsIndex page first plan table ring = IsRingImage (shape_of plan IndexRing) ri
 -- what holds of the index of a table in each state
 pub record HasIndex (plan : Plan) (table : Table) (ring : Ring) : Type 0 where
   pub ring_is : table.index ≡ Some ring
-  pub ring : IsRing (shape_of plan IndexRing) ring
+  pub is_ring : IsRing (shape_of plan IndexRing) ring
   pub counts : AllByRecursion (λ count. (count ≡ 0) ⊎ (count ≡ entries_per_page plan)) ring.counts
   pub first_each : length table.firsts ≡ full_pages ring.counts
   pub firsts : (i j a b : ℕ) → i < j → slice_get table.firsts i ≡ Some a → slice_get table.firsts j ≡ Some b → a + entries_per_page plan ≤ b

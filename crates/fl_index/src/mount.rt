@@ -38,7 +38,9 @@ impl Index {
 
     // As it was before its first mount.
     fn forget(&mut self)
-        ensures { self.new ≡ record self.old { ring = None; first = 0; waiting = 0 } }
+        ensures same { IsSamePlan self.old self.new }
+        ensures down { is_running self.new ≡ false }
+        ensures none { waiting_in self.new ≡ 0 }
     {
         self.ring = None;
         self.first = 0;

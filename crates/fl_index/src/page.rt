@@ -1,10 +1,11 @@
 // An index page: its number in four bytes, the first data page that it lists in four, the count of its bitmaps in two,
 // six zeros, and the bitmaps of consecutive data pages.
 ghost use Rattle.std.specs.Prelude.{◌≡◌, ◌+◌, ◌*◌, ◌≤◌, ◌^◌, ◌%◌, ◌<◌, length};
-ghost use Rattle.fl_index.specs.Page.{page_number, page_first, page_entries, entry_at};
+ghost use Rattle.fl_index.specs.Page.{page_number, page_first, page_entries, entry_at, header_bytes};
+ghost use Rattle.fl_base.specs.Bytes.{splice};
 
 use byteorder::{ByteOrder, LittleEndian};
-use fl_base::{get_u16, get_u32};
+use fl_base::{get_u16, get_u32, put_u16, put_u32};
 
 /// How many bytes stand before the bitmaps.
 pub(crate) const HEADER: usize = 16;
@@ -31,6 +32,17 @@ pub(crate) fn count_in(page: &[u8]) -> u16
     ensures { result ≡ page_entries page.now }
 {
     get_u16(page, 8)
+}
+
+/// Writes what stands before its bitmaps.
+pub(crate) fn write_header(body: &mut [u8], number: u32, first: u32, count: u16)
+    requires { 16 ≤ length body.old }
+    ensures { body.new ≡ splice body.old 0 (header_bytes number first count) }
+{
+    put_u32(body, 0, number);
+    put_u32(body, 4, first);
+    put_u16(body, 8, count);
+    body[10..16].fill(0);
 }
 
 /// One of its bitmaps, of so many bytes each.

@@ -4,12 +4,11 @@ ghost use Rattle.fl_flash.specs.Flash.{Goes, page_at};
 ghost use Rattle.fl_ring.specs.Causes.{CausedBy};
 
 use crate::index::Index;
-use fl_base::{put_u16, put_u32};
+use crate::page::write_header;
 use fl_flash::{Flash, FlashFault};
 
 impl Index {
     ghost use Rattle.std.specs.Prelude.{ℕ, Bool, List};
-    ghost use Rattle.fl_model.specs.Layout.{index_body};
     ghost use Rattle.fl_model.specs.Record.{Plan};
     ghost use Rattle.fl_model.specs.Table as model;
     ghost use Rattle.fl_model.specs.Work.{Device};
@@ -46,21 +45,6 @@ impl Index {
         self.seal(flash)
     }
 
-    /// Writes the header of the next index page, which has this number.
-    fn finish(&mut self, number: u32)
-        requires full { waiting_in self.old ≡ per_page self.old }
-        ensures same { self.new ≡ record self.old { body = self.new.body } }
-        ensures size { length self.new.body.items ≡ length self.old.body.items }
-        ensures body { (plan : Plan) → (bitmaps : List ℕ) → plan.geometry ≡ self.old.geometry → plan.bits ≡ self.old.bits → length bitmaps ≡ per_page self.old → ((j : ℕ) → j < per_page self.old → waiting_at self.old j ≡ slice_index bitmaps j) →
-            self.new.body.items ≡ index_body plan number (first_waiting self.old) bitmaps }
-    {
-        let count = self.waiting as u16;
-        put_u32(&mut self.body, 0, number);
-        put_u32(&mut self.body, 4, self.first);
-        put_u16(&mut self.body, 8, count);
-        self.body[10..16].fill(0);
-    }
-
     /// Seals a full list of bitmaps as the next index page.
     fn seal<F: Flash>(&mut self, flash: &mut F) -> Result<(), FlashFault>
         requires running { is_running self.old ≡ true }
@@ -85,7 +69,7 @@ impl Index {
             unreachable!()
         };
         let number = ring.next_number();
-        self.finish(number);
+        write_header(&mut self.body, number, self.first, self.waiting as u16);
         ring.seal(flash, &self.body)?;
         let at = number as usize % self.firsts.len();
         self.firsts[at] = Some(self.first);

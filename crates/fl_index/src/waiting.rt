@@ -13,14 +13,16 @@ impl Index {
     ghost use Rattle.fl_model.specs.Record.{Plan};
     ghost use Rattle.fl_model.specs.Ring as rings;
     ghost use Rattle.fl_model.specs.Table as model;
-    ghost use Rattle.fl_index.specs.Memory.{first_waiting, is_waiting, oldest_in, per_page, waiting_at, waiting_in, width_in, IsSamePlan, LiesOn};
+    ghost use Rattle.fl_index.specs.Memory.{first_waiting, is_waiting, oldest_in, per_page, waiting_at, waiting_in, width_in, IsSamePlan, IsSameRing, LiesOn};
     ghost use Rattle.fl_index.specs.Standing.{StandsForRing, Waits};
 
     /// The next waiting bitmap is that of this data page.
     pub fn restart(&mut self, first: u32)
         requires none { waiting_in self.old ≡ 0 }
         ensures same { IsSamePlan self.old self.new }
-        ensures exact { self.new ≡ record self.old { first = first } }
+        ensures still { IsSameRing self.old self.new }
+        ensures first { first_waiting self.new ≡ first }
+        ensures none { waiting_in self.new ≡ 0 }
         ensures lies { (f : FlashState) → LiesOn self.old f → LiesOn self.new f }
         ensures ring { (f : FlashState) → (begin : ℕ) → (plan : Plan) → (table : model.Table) → StandsForRing self.old f begin plan table → StandsForRing self.new f begin plan table }
         ensures waits { (plan : Plan) → (table : model.Table) → Waits self.new plan table first 0 }
@@ -33,6 +35,7 @@ impl Index {
         requires few { waiting_in self.old < per_page self.old }
         requires left { first_waiting self.old + waiting_in self.old + 1 < 2 ^ 32 }
         ensures same { IsSamePlan self.old self.new }
+        ensures still { IsSameRing self.old self.new }
         ensures first { first_waiting self.new ≡ first_waiting self.old }
         ensures one { waiting_in self.new ≡ waiting_in self.old + 1 }
         ensures last { waiting_at self.new (waiting_in self.old) ≡ bitmap % 256 ^ width_in self.old }

@@ -1,0 +1,4 @@
+pub mod Bytes
+pub mod Firsts
+pub mod State
+pub mod Memories
