@@ -1,7 +1,6 @@
 use Rattle.std.proofs.Common.{refl}
 use Rattle.fl_index.proofs.Memories.{ring-same}
-use Rattle.fl_index.proofs.State.{to-state, to-index}
-use Rattle.fl_index.proofs.Firsts.{full-page}
+use Rattle.fl_index.proofs.Steps.{state-kept}
 use Rattle.fl_index.proofs.index.Index.restart.Goals as goal
 
 pub returns-clause-ring : goal.returns-clause-ring
