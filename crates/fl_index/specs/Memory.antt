@@ -1,8 +1,10 @@
 -- What clauses see of an index in memory.
-use Rattle.std.specs.Prelude.{◌≡◌, ℕ, zero, suc, ◌+◌, ◌-◌, ◌*◌, ◌/◌, ◌%◌, ◌^◌, ◌<◌, ◌≤◌, Bool, false, ◌&&◌, nat_lt, nat_le, Option, Some, None, is_some, option_map, unwrap_or, slice_index_or, vec_len, if◌then◌else◌}
+use Rattle.std.specs.Prelude.{◌≡◌, ℕ, zero, suc, ◌+◌, ◌-◌, ◌*◌, ◌/◌, ◌%◌, ◌^◌, ◌<◌, ◌≤◌, Bool, false, ◌&&◌, nat_lt, nat_le, Option, Some, None, is_some, option_map, unwrap_or, List, length, take, drop, slice_index_or, vec_len, if◌then◌else◌}
+use Rattle.std.specs.List.{flat_map}
 use Rattle.std.specs.Option.{ForSome}
 use Rattle.fl_flash.specs.Flash.{FlashState, pages}
 use Rattle.fl_model.specs.Record.{Plan}
+use Rattle.fl_model.specs.Row.{le}
 use Rattle.fl_ring.specs.Mounting.{shape_at}
 use Rattle.fl_ring.specs.Place.{next_of, oldest_of}
 use Rattle.fl_ring.specs.Place as place
@@ -39,6 +41,10 @@ first_waiting index = index.first
 
 abbrev pub waiting_at : Index → ℕ → ℕ
 waiting_at index j = entry_at (width_in index) index.body.items j
+
+-- these bitmaps wait, one after another
+abbrev pub Gathers : Index → List ℕ → Type 0
+Gathers index bitmaps = take (length bitmaps * width_in index) (drop 16 index.body.items) ≡ flat_map (λ bits. le (width_in index) bits) bitmaps
 
 -- the bitmap of a data page waits
 abbrev pub is_waiting : Index → ℕ → Bool

@@ -11,7 +11,7 @@ use Rattle.fl_model.specs.Mount.{index_end}
 use Rattle.fl_ring.specs.Place as memory
 use Rattle.fl_ring.specs.declared.ring.Ring as code
 use Rattle.fl_index.specs.declared.index.Index.{Index}
-use Rattle.fl_index.specs.Memory.{IsPlanned, first_in, first_waiting, waiting_in, waiting_at}
+use Rattle.fl_index.specs.Memory.{IsPlanned, first_in, first_waiting, waiting_in, Gathers}
 
 -- the bytes at the place of a number of the index ring, whose blocks begin at `first`
 abbrev pub bytes_in : (ℕ → List ℕ) → ℕ → Plan → ℕ → List ℕ
@@ -62,8 +62,11 @@ pub record StandsForRing (index : Index) (f : FlashState) (first : ℕ) (plan : 
 pub record Waits (index : Index) (plan : Plan) (table : Table) (first count : ℕ) : Type 0 where
   pub first_is : first_waiting index ≡ first
   pub count_is : waiting_in index ≡ count
+  pub bitmaps : List ℕ
+  pub as_many : length bitmaps ≡ count
+  pub gathered : Gathers index bitmaps
   pub each : (j n : ℕ) → j < count → first + j ≡ oldest table.rows + n → IfSome (slice_get table.rows.counts n) (λ rows. 0 < rows →
-      waiting_at index j ≡ bitmap_of plan (rows_at table n rows))
+      slice_get bitmaps j ≡ Some (bitmap_of plan (rows_at table n rows)))
 
 -- the index stands for that of the table: its ring, and the waiting bitmaps, which are those of the last data pages
 pub record Stands (index : Index) (f : FlashState) (first : ℕ) (plan : Plan) (table : Table) : Type 0 where
