@@ -1,6 +1,7 @@
 -- Bitmaps one after another behind the header of a page.
-use Rattle.std.proofs.Common.{◌≡◌, ℕ, zero, suc, ◌+◌, ◌-◌, ◌*◌, ◌/◌, ◌%◌, ◌^◌, ◌<◌, ◌≤◌, ◌⊎◌, inl, inr, Bool, true, false, cond, ◌==◌, ◌||◌, IsTrue, Option, Some, None, ℤ, pos, negsuc, ◌-ℤ◌, List, [], ◌∷◌, ◌++◌, length, take, drop, replicate, fold, bit_or, refl, sym, ◌∙◌, ap, subst, arith, length-append, length-take, length-drop, append_assoc}
-use Rattle.std.specs.Int.{int_div_euclid}
+use Rattle.std.proofs.Common.{◌≡◌, ℕ, zero, suc, ◌+◌, ◌-◌, ◌*◌, ◌/◌, ◌%◌, ◌^◌, ◌<◌, ◌≤◌, ◌⊎◌, inl, inr, Bool, true, false, cond, ◌==◌, ◌||◌, IsTrue, Option, Some, None, ℤ, pos, negsuc, ◌-ℤ◌, List, [], ◌∷◌, ◌++◌, length, take, drop, slice_range, replicate, fold, bit_or, refl, sym, ◌∙◌, ap, subst, arith, length-append, length-take, length-drop, append_assoc}
+use Rattle.std.specs.Int.{int_div_euclid, w64, to_le_bytes, bytes_low_first}
+use borrow.Rule.Slice.PartMut.{put_mid}
 use Rattle.std.specs.List.{slice_get, flat_map}
 use Rattle.std.proofs.lemmas.Bool.{eqb-true}
 use Rattle.std.proofs.lemmas.Grind.{flat_map-append}
@@ -9,6 +10,7 @@ use Rattle.std.proofs.lemmas.Nat.{or_lt}
 use Rattle.std.proofs.Math.Nat.{add-mul, mod-eq_of_lt, mul-le-mul_right, one-le-pow}
 use Rattle.std.proofs.Math.Pow.{pow-lt}
 use Rattle.fl_base.specs.Bytes.{splice}
+use Rattle.fl_base.proofs.Ranges.{length-splice}
 use Rattle.fl_bitmap.specs.Widths.{is_bits}
 use Rattle.fl_model.specs.Record.{Plan}
 use Rattle.fl_model.specs.Row.{le, number_of}
@@ -18,7 +20,7 @@ use Rattle.fl_schema.proofs.Numbers.{length-le}
 use Rattle.fl_bitmap.proofs.Pages.{onto, first_value}
 use Rattle.fl_schema.proofs.Writing.{take-splice_end}
 use Rattle.fl_index.specs.Page.{entry_at, header_bytes}
-use Rattle.fl_index.proofs.Bytes.{number_of-low}
+use Rattle.fl_index.proofs.Bytes.{number_of-low, take-low}
 
 -- these bitmaps of so many bytes stand at the front of a list
 abbrev pub InFront : ℕ → List ℕ → List ℕ → Type 0
@@ -83,6 +85,13 @@ pub read-at : (w : ℕ) (page bitmaps : List ℕ) (j b : ℕ) → InFront w (dro
 read-at w page bitmaps j b h e =
     ap (λ (xs : List ℕ). number_of (take w xs)) (sym (drop-drop (j * w) 16 page))
     ∙ (ap number_of (bitmap-at w (drop 16 page) bitmaps j b h e) ∙ number_of-low w b)
+
+-- the low bytes of a number that were copied to a part
+pub low-written : (w at b : ℕ) (old new : List ℕ) → w ≤ 8 → new ≡ take w (to_le_bytes w64 b) → put_mid at (at + w - at) old new ≡ splice old at (le w b)
+low-written w at b old new few is =
+    let low : new ≡ le w b = is ∙ (ap (λ n. take w (bytes_low_first 0 n b)) (let k : 8 ≡ w + (8 - w) = omega (arith, few) in k) ∙ take-low w (8 - w) 0 b) in
+    ap (λ (l : List ℕ). take at old ++ (l ++ drop (at + w - at) (drop at old))) low
+    ∙ ap (λ (l : List ℕ). take at old ++ (le w b ++ l)) (drop-drop (at + w - at) at old ∙ ap (λ (k : ℕ). drop k old) (let k : at + (at + w - at) ≡ at + length (le w b) = omega (arith, length-le w b) in k))
 
 -- one more is written behind the others
 pub push-in : (w n : ℕ) (page bitmaps : List ℕ) (b : ℕ) → length bitmaps ≡ n → 16 + n * w + w ≤ length page → InFront w (drop 16 page) bitmaps →
@@ -174,3 +183,19 @@ bitmap-small plan entries bits =
     by_none : (b : Bool) → onto plan 0 entries < 2 ^ plan.bits → cond b 0 (onto plan 0 entries) < 2 ^ plan.bits
     by_none true h = one-le-pow plan.bits 2 (omega arith)
     by_none false h = h
+
+-- what was written to a whole list stands in its place
+pub written-back : {X : Type 0} (n : ℕ) (old new is : List X) → new ≡ is → length is ≡ length old → n ≡ length old → take n (new ++ drop (length new) old) ≡ is
+written-back n old new is e same len =
+    let k = ap length e in
+    take-append-le n new (drop (length new) old) (omega (arith, same, len, k)) ∙ (take_all n new (omega (arith, same, len, k)) ∙ e)
+
+pub entry-length : (w n : ℕ) (page : List ℕ) (b : ℕ) → 16 + n * w + w ≤ length page → length (splice page (16 + n * w) (le w b)) ≡ length page
+entry-length w n page b room = length-splice page (16 + n * w) (le w b) (omega (arith, room, length-le w b))
+
+pub header-length : (a b c : ℕ) → length (header_bytes a b c) ≡ 16
+header-length a b c =
+    omega (arith, length-append (le 4 a ++ le 4 b ++ le 2 c) (le 6 0), length-append (le 4 a ++ le 4 b) (le 2 c), length-append (le 4 a) (le 4 b), length-le 4 a, length-le 4 b, length-le 2 c, length-le 6 0)
+
+pub headed-length : (a b c : ℕ) (page : List ℕ) → 16 ≤ length page → length (splice page 0 (header_bytes a b c)) ≡ length page
+headed-length a b c page room = length-splice page 0 (header_bytes a b c) (omega (arith, room, header-length a b c))

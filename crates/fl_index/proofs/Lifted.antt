@@ -119,16 +119,16 @@ sealed-state first plan body table s is shape m =
     (state-kept first plan shape table s is m.clean (Some body) (entries_per_page plan) refl ((table.rows.next - entries_per_page plan) ∷ []) (inr refl) (sym (full-one (entries_per_page plan) m.some)) m.left
     (ascend-push (entries_per_page plan) (table.rows.next - entries_per_page plan) table.firsts is.facts.firsts (omega (arith, is.facts.listed, m.full)))
     (let e = ap (λ (o : Option ℕ). unwrap_or (option_map (λ p. p + entries_per_page plan) o) 0) (last_or-push None table.firsts (table.rows.next - entries_per_page plan)) in
-      omega (arith, e, is.facts.listed, m.full))
+    omega (arith, e, is.facts.listed, m.full))
     page_ok)
   where
     table_is : seal_buffer plan IndexRing table ≡ with_index table (model.sealed (shape_of plan IndexRing) (entries_per_page plan) is.ring)
         (drop (full_pages (model.given_up (shape_of plan IndexRing) (entries_per_page plan) is.ring)) table.firsts ++ (table.rows.next - entries_per_page plan) ∷ [])
     table_is = ap (λ (o : Option model.Ring). record table {
-        firsts = drop (full_pages (unwrap_or (option_map (model.given_up (shape_of plan IndexRing) (entries_per_page plan)) o) [])) table.firsts ++ (table.rows.next - entries_per_page plan) ∷ [];
-        index = option_map (model.sealed (shape_of plan IndexRing) (entries_per_page plan)) o;
-        waiting = 0;
-      }) is.facts.ring_is
+      firsts = drop (full_pages (unwrap_or (option_map (model.given_up (shape_of plan IndexRing) (entries_per_page plan)) o) [])) table.firsts ++ (table.rows.next - entries_per_page plan) ∷ [];
+      index = option_map (model.sealed (shape_of plan IndexRing) (entries_per_page plan)) o;
+      waiting = 0;
+    }) is.facts.ring_is
 
     page_ok : (body' : List ℕ) → Some body ≡ Some body' →
         HoldsBitmaps plan (with_index table (model.extended (entries_per_page plan) is.ring) (table.firsts ++ (table.rows.next - entries_per_page plan) ∷ [])) (model.extended (entries_per_page plan) is.ring) (length is.ring.counts) (entries_per_page plan) (committed body')

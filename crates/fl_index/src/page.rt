@@ -3,6 +3,7 @@
 ghost use Rattle.std.specs.Prelude.{◌≡◌, ◌+◌, ◌*◌, ◌≤◌, ◌^◌, ◌%◌, ◌<◌, length};
 ghost use Rattle.fl_index.specs.Page.{page_number, page_first, page_entries, entry_at, header_bytes};
 ghost use Rattle.fl_base.specs.Bytes.{splice};
+ghost use Rattle.fl_model.specs.Row.{le};
 
 use byteorder::{ByteOrder, LittleEndian};
 use fl_base::{get_u16, get_u32, put_u16, put_u32};
@@ -54,4 +55,14 @@ pub(crate) fn entry_in(page: &[u8], width: usize, entry: usize) -> u64
 {
     let at = HEADER + entry * width;
     LittleEndian::read_uint(&page[at..at + width], width)
+}
+
+/// Writes one of its bitmaps: its bits that the bytes of a bitmap have room for.
+pub(crate) fn write_entry(body: &mut [u8], width: usize, entry: usize, bitmap: u64)
+    requires few { width ≤ 8 }
+    requires room { 16 + entry * width + width ≤ length body.old }
+    ensures { body.new ≡ splice body.old (16 + entry * width) (le width bitmap) }
+{
+    let at = HEADER + entry * width;
+    body[at..at + width].copy_from_slice(&bitmap.to_le_bytes()[..width]);
 }

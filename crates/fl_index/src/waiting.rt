@@ -3,7 +3,7 @@ ghost use Rattle.std.specs.Prelude.{◌≡◌, ◌+◌, ◌-◌, ◌*◌, ◌%�
 ghost use Rattle.fl_index.specs.Page.{entry_at};
 
 use crate::index::Index;
-use crate::page::{HEADER, entry_in};
+use crate::page::{entry_in, write_entry};
 
 impl Index {
     ghost use Rattle.std.specs.Prelude.{ℕ, slice_get};
@@ -47,8 +47,7 @@ impl Index {
             Waits self.new plan table first (count + 1) }
     {
         let width = self.width();
-        let at = HEADER + self.waiting as usize * width;
-        self.body[at..at + width].copy_from_slice(&bitmap.to_le_bytes()[..width]);
+        write_entry(&mut self.body, width, self.waiting as usize, bitmap);
         self.waiting += 1;
     }
 
