@@ -6,3 +6,6 @@ pub mod State
 pub mod Steps
 pub mod Lifted
 pub mod Memories
+pub mod Sealings
+pub mod SealAnswers
+pub mod Rooms

@@ -24,7 +24,7 @@ use Rattle.fl_index.specs.Standing.{HasIndex}
 use Rattle.fl_index.proofs.Firsts.{full-one, full-last}
 use Rattle.fl_index.proofs.Lists.{end_after, ascend-push}
 use Rattle.fl_index.proofs.State.{shape_in, full_count, IsStateOf, holds-moved}
-use Rattle.fl_index.proofs.Steps.{with_index, state-kept}
+use Rattle.fl_index.proofs.Steps.{with_index, state-kept, last-shifted}
 
 -- an operation of the index ring
 abbrev pub of_index : Kind → RingName × Kind
@@ -111,6 +111,26 @@ erased-state plan table s is = record {
     both true e = cc
     both false e = cc
 
+-- a page that is sealed holds the bitmaps that waited
+sealed-page : (plan : Plan) (body : List ℕ) (table : Table) (s : RingState) (is : IsStateOf plan table s) → MakesBody plan body table is.ring → (body' : List ℕ) → Some body ≡ Some body' →
+    HoldsBitmaps plan (with_index table (model.extended (entries_per_page plan) is.ring) (table.firsts ++ (table.rows.next - entries_per_page plan) ∷ [])) (model.extended (entries_per_page plan) is.ring) (length is.ring.counts) (entries_per_page plan) (committed body')
+sealed-page plan body table s is m body' e = record {
+  first = table.rows.next - entries_per_page plan;
+  bitmaps = m.bitmaps;
+  listed = ap (slice_get (table.firsts ++ (table.rows.next - entries_per_page plan) ∷ [])) (full-last is.ring.counts (entries_per_page plan ∷ []) ∙ sym is.facts.first_each)
+      ∙ slice_get-last table.firsts (table.rows.next - entries_per_page plan);
+  length = m.length_is;
+  bytes = ap committed (sym (some_same e) ∙ m.body_is) ∙ ap (λ n. committed (index_body plan n (table.rows.next - entries_per_page plan) m.bitmaps)) here;
+  each = m.each;
+}
+  where
+    pushed_length : (xs : List ℕ) (y : ℕ) → length (xs ++ y ∷ []) ≡ length xs + 1
+    pushed_length [] y = refl
+    pushed_length (x ∷ xs) y = let k = pushed_length xs y in omega (arith, k)
+
+    here : is.ring.next ≡ is.ring.next + 1 - length (is.ring.counts ++ entries_per_page plan ∷ []) + length is.ring.counts
+    here = let k : length (is.ring.counts ++ entries_per_page plan ∷ []) ≡ length is.ring.counts + 1 = pushed_length is.ring.counts (entries_per_page plan) in omega (arith, k, is.facts.is_ring.not_negative)
+
 -- the page is sealed
 pub sealed-state : (first : ℕ) (plan : Plan) (body : List ℕ) (table : Table) (s : RingState) (is : IsStateOf plan table s) → model.IsShape (shape_of plan IndexRing) → MakesBody plan body table is.ring →
     IsStateOf plan (seal_buffer plan IndexRing table) (sealed (shape_in first plan) s body)
@@ -120,7 +140,7 @@ sealed-state first plan body table s is shape m =
     (ascend-push (entries_per_page plan) (table.rows.next - entries_per_page plan) table.firsts is.facts.firsts (omega (arith, is.facts.listed, m.full)))
     (let e = ap (λ (o : Option ℕ). unwrap_or (option_map (λ p. p + entries_per_page plan) o) 0) (last_or-push None table.firsts (table.rows.next - entries_per_page plan)) in
     omega (arith, e, is.facts.listed, m.full))
-    page_ok)
+    (sealed-page plan body table s is m))
   where
     table_is : seal_buffer plan IndexRing table ≡ with_index table (model.sealed (shape_of plan IndexRing) (entries_per_page plan) is.ring)
         (drop (full_pages (model.given_up (shape_of plan IndexRing) (entries_per_page plan) is.ring)) table.firsts ++ (table.rows.next - entries_per_page plan) ∷ [])
@@ -130,24 +150,22 @@ sealed-state first plan body table s is shape m =
       waiting = 0;
     }) is.facts.ring_is
 
-    page_ok : (body' : List ℕ) → Some body ≡ Some body' →
-        HoldsBitmaps plan (with_index table (model.extended (entries_per_page plan) is.ring) (table.firsts ++ (table.rows.next - entries_per_page plan) ∷ [])) (model.extended (entries_per_page plan) is.ring) (length is.ring.counts) (entries_per_page plan) (committed body')
-    page_ok body' e = record {
-      first = table.rows.next - entries_per_page plan;
-      bitmaps = m.bitmaps;
-      listed = ap (slice_get (table.firsts ++ (table.rows.next - entries_per_page plan) ∷ [])) (full-last is.ring.counts (entries_per_page plan ∷ []) ∙ sym is.facts.first_each)
-          ∙ slice_get-last table.firsts (table.rows.next - entries_per_page plan);
-      length = m.length_is;
-      bytes = ap committed (sym (some_same e) ∙ m.body_is) ∙ ap (λ n. committed (index_body plan n (table.rows.next - entries_per_page plan) m.bitmaps)) here;
-      each = m.each;
-    }
-      where
-        here : is.ring.next ≡ is.ring.next + 1 - length (is.ring.counts ++ entries_per_page plan ∷ []) + length is.ring.counts
-        here = let k : length (is.ring.counts ++ entries_per_page plan ∷ []) ≡ length is.ring.counts + 1 = pushed_length is.ring.counts (entries_per_page plan) in omega (arith, k, is.facts.is_ring.not_negative)
-          where
-            pushed_length : (xs : List ℕ) (y : ℕ) → length (xs ++ y ∷ []) ≡ length xs + 1
-            pushed_length [] y = refl
-            pushed_length (x ∷ xs) y = let k = pushed_length xs y in omega (arith, k)
+-- .. and where its pages stood before
+pub record IndexShift (plan : Plan) (table : Table) (ring : model.Ring) : Type 0 where
+  pub by : ℕ
+  pub counts : (i : ℕ) → slice_get (model.sealed (shape_of plan IndexRing) (entries_per_page plan) ring).counts i ≡ slice_get (ring.counts ++ entries_per_page plan ∷ []) (by + i)
+  pub old : (i : ℕ) → model.oldest (model.sealed (shape_of plan IndexRing) (entries_per_page plan) ring) + i ≡ model.oldest ring + (by + i)
+  pub listed : (i : ℕ) → slice_get (drop (full_pages (model.given_up (shape_of plan IndexRing) (entries_per_page plan) ring)) table.firsts ++ (table.rows.next - entries_per_page plan) ∷ []) (full_pages (take i (model.sealed (shape_of plan IndexRing) (entries_per_page plan) ring).counts))
+      ≡ slice_get (table.firsts ++ (table.rows.next - entries_per_page plan) ∷ []) (full_pages (take (by + i) (ring.counts ++ entries_per_page plan ∷ [])))
+
+pub index-shift : (first : ℕ) (plan : Plan) (body : List ℕ) (table : Table) (s : RingState) (is : IsStateOf plan table s) → model.IsShape (shape_of plan IndexRing) → MakesBody plan body table is.ring → IndexShift plan table is.ring
+index-shift first plan body table s is shape m =
+    let l = last-shifted first plan shape table s is m.clean (Some body) (entries_per_page plan) refl ((table.rows.next - entries_per_page plan) ∷ []) (inr refl) (sym (full-one (entries_per_page plan) m.some)) m.left
+    (ascend-push (entries_per_page plan) (table.rows.next - entries_per_page plan) table.firsts is.facts.firsts (omega (arith, is.facts.listed, m.full)))
+    (let e = ap (λ (o : Option ℕ). unwrap_or (option_map (λ p. p + entries_per_page plan) o) 0) (last_or-push None table.firsts (table.rows.next - entries_per_page plan)) in
+      omega (arith, e, is.facts.listed, m.full))
+    (sealed-page plan body table s is m) in
+    record { by = l.by; counts = l.counts; old = l.old; listed = l.listed }
 
 -- a torn page is given up, where none waits
 pub voided-state : (first : ℕ) (plan : Plan) (table : Table) (s : RingState) (is : IsStateOf plan table s) → model.IsShape (shape_of plan IndexRing) → table.waiting ≡ 0 → is.ring.torn ≡ true →

@@ -188,3 +188,38 @@ module _ (first : ℕ) (plan : Plan) (shape : model.IsShape (shape_of plan Index
     bodies = subst (λ b. Bodies plan last_table last_ring (cond b (record (appended s x) { kept = drop plan.geometry.block (s.kept ++ x ∷ []); dirty = true }) (appended s x))) (sym same_test)
         (bodies_after (model.is_full (shape_of plan IndexRing) grown) refl);
   }
+
+  -- where the pages of the last ring stood before the trim
+  pub record Shifted (last : model.Ring) (firsts : List ℕ) : Type 0 where
+    pub by : ℕ
+    pub few : by ≤ length (ring.counts ++ c ∷ [])
+    pub counts : (i : ℕ) → slice_get last.counts i ≡ slice_get (ring.counts ++ c ∷ []) (by + i)
+    pub old : (i : ℕ) → model.oldest last + i ≡ model.oldest ring + (by + i)
+    pub listed : (i : ℕ) → slice_get firsts (full_pages (take i last.counts)) ≡ slice_get (table.firsts ++ more) (full_pages (take (by + i) (ring.counts ++ c ∷ [])))
+
+  shifts : (b : Bool) → model.is_full (shape_of plan IndexRing) grown ≡ b →
+      Shifted (cond b (record grown { counts = drop plan.geometry.block grown.counts; dirty = true }) grown) (drop (full_pages (cond b (take plan.geometry.block grown.counts) [])) table.firsts ++ more)
+  shifts true e =
+      let P = plan.geometry.block in
+      let k = full_pages (take plan.geometry.block (ring.counts ++ c ∷ [])) in
+      let l = long (shape_of plan IndexRing) ring c shape e in
+      record {
+        by = P;
+        few = omega (arith, l, len);
+        counts = λ i. slice_get-drop P (ring.counts ++ c ∷ []) i;
+        old = λ i. omega (arith, len, length-drop P (ring.counts ++ c ∷ []), is.facts.is_ring.not_negative, l);
+        listed = λ i. ap (λ (fs : List ℕ). slice_get fs (full_pages (take i (drop P (ring.counts ++ c ∷ []))))) (gone e)
+            ∙ (slice_get-drop k (table.firsts ++ more) (full_pages (take i (drop P (ring.counts ++ c ∷ []))))
+            ∙ ap (slice_get (table.firsts ++ more)) (sym (full-dropped P i (ring.counts ++ c ∷ []))));
+      }
+  shifts false e = record {
+    by = 0;
+    few = omega arith;
+    counts = λ i. ap (slice_get (ring.counts ++ c ∷ [])) (let k : i ≡ 0 + i = omega arith in k);
+    old = λ i. omega (arith, len, is.facts.is_ring.not_negative);
+    listed = λ i. ap (λ (fs : List ℕ). slice_get (fs ++ more) (full_pages (take i (ring.counts ++ c ∷ [])))) (drop-zero table.firsts)
+        ∙ ap (λ n. slice_get (table.firsts ++ more) (full_pages (take n (ring.counts ++ c ∷ [])))) (let k : i ≡ 0 + i = omega arith in k);
+  }
+
+  pub last-shifted : Shifted last_ring (drop (full_pages (model.given_up (shape_of plan IndexRing) c is.ring)) table.firsts ++ more)
+  last-shifted = shifts (model.is_full (shape_of plan IndexRing) grown) refl

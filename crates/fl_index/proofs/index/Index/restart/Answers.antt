@@ -1,7 +1,6 @@
 use Rattle.std.proofs.Common.{ℕ, ◌<◌, List, [], refl, arith}
 use Rattle.fl_index.proofs.Memories.{ring-same}
-use Rattle.fl_index.proofs.Lifted.{seal-lifts}
-use Rattle.fl_index.proofs.Gathering.{none-in, bitmap-small}
+use Rattle.fl_index.proofs.Gathering.{none-in}
 use Rattle.fl_index.proofs.index.Index.restart.Goals as goal
 
 pub returns-clause-ring : goal.returns-clause-ring
