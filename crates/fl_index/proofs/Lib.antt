@@ -9,3 +9,4 @@ pub mod Memories
 pub mod Sealings
 pub mod SealAnswers
 pub mod Rooms
+pub mod HeaderPages

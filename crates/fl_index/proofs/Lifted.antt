@@ -163,7 +163,7 @@ index-shift first plan body table s is shape m =
     let l = last-shifted first plan shape table s is m.clean (Some body) (entries_per_page plan) refl ((table.rows.next - entries_per_page plan) ∷ []) (inr refl) (sym (full-one (entries_per_page plan) m.some)) m.left
     (ascend-push (entries_per_page plan) (table.rows.next - entries_per_page plan) table.firsts is.facts.firsts (omega (arith, is.facts.listed, m.full)))
     (let e = ap (λ (o : Option ℕ). unwrap_or (option_map (λ p. p + entries_per_page plan) o) 0) (last_or-push None table.firsts (table.rows.next - entries_per_page plan)) in
-      omega (arith, e, is.facts.listed, m.full))
+    omega (arith, e, is.facts.listed, m.full))
     (sealed-page plan body table s is m) in
     record { by = l.by; counts = l.counts; old = l.old; listed = l.listed }
 

@@ -132,6 +132,16 @@ fn read_header<F: Flash>(
     }))
 }
 
+/// The first data page that a page with this header lists.
+fn first_of(header: Option<Newest>) -> Option<u32>
+    ensures { result ≡ option_map (λ h. h.first) header }
+{
+    match header {
+        Some(header) => Some(header.first),
+        None => None,
+    }
+}
+
 /// Reads the kept pages of a ring, from the oldest on, and remembers the first data page that each lists.
 fn read_firsts<F: Flash>(
     ring: &Ring,
@@ -158,7 +168,7 @@ fn read_firsts<F: Flash>(
     for number in ring.oldest()..ring.next_number() {
         let header = read_header(flash, ring.place_of(number), buf)?;
         let at = number as usize % firsts.len();
-        firsts[at] = header.map(|h| h.first);
+        firsts[at] = first_of(header);
         newest = header.or(newest);
     }
     Ok(newest)
