@@ -10,3 +10,6 @@ pub mod Sealings
 pub mod SealAnswers
 pub mod Rooms
 pub mod HeaderPages
+pub mod Listings
+pub mod ListingAnswers
+pub mod Showing

@@ -1,5 +1,5 @@
 // A lookup of a data page's bitmap.
-ghost use Rattle.std.specs.Prelude.{◌≡◌, ◌⊎◌, ◌+◌, ◌-◌, ◌*◌, ◌<◌, ◌≤◌, None, Some, Err, true, false, length, IsTrue, IfSome, IfOk, IfErr, OnOk, OnErr, MatchOption, option_map};
+ghost use Rattle.std.specs.Prelude.{◌≡◌, ◌⊎◌, ◌+◌, ◌-◌, ◌*◌, ◌<◌, ◌≤◌, None, Some, Err, true, false, length, IsTrue, IfSome, IfErr, OnOk, OnErr, if◌then◌else◌, unwrap_or};
 ghost use Rattle.fl_flash.specs.Flash.{page_at};
 ghost use Rattle.fl_page.specs.Contents as contents;
 ghost use Rattle.fl_ring.specs.Looking.{OnlyReads, ReadFails};
@@ -26,7 +26,7 @@ impl Index {
     ghost use Rattle.fl_model.specs.Record.{Plan};
     ghost use Rattle.fl_model.specs.Table as model;
     ghost use Rattle.fl_index.specs.Looking.{looked_at, entry_of, IsFound, IsHeld, IsFresh, IfRead, IfUnread, ByMemory, ShowsBitmap, IsScanning, ScansOn};
-    ghost use Rattle.fl_index.specs.Memory.{first_in, listing_from, listing_in, per_page, place_in, width_in, LiesOn};
+    ghost use Rattle.fl_index.specs.Memory.{first_in, listing_from, lists, per_page, place_in, width_in, LiesOn};
     ghost use Rattle.fl_index.specs.Standing.{Stands};
 
     /// The bitmap of a data page, and none where it doesn't wait and no kept index page lists it. The index page that
@@ -82,16 +82,25 @@ impl Index {
         ensures some { IfSome result (λ l. (listing_from (per_page self.now) (first_in self.now) number (oldest_of ring.now) (next_of ring.now - oldest_of ring.now) ≡ Some l.page)
             × (l.entry ≡ entry_of self.now l.page number) × (l.entry < per_page self.now)) }
     {
-        let most = self.capacity();
         for page in ring.oldest()..ring.next_number() {
-            if let Some(first) = self.firsts[page as usize % self.firsts.len()] {
-                if first <= number && number - first < most {
-                    let entry = (number - first) as usize;
-                    return Some(Listing { page, entry });
-                }
+            let first = self.firsts[page as usize % self.firsts.len()];
+            if let Some(entry) = self.entry_after(first, number) {
+                return Some(Listing { page, entry });
             }
         }
         None
+    }
+
+    /// The place of a data page's bitmap in an index page that lists data pages from `first` on, if it lists that one.
+    fn entry_after(&self, first: Option<u32>, number: u32) -> Option<usize>
+        ensures { result ≡ (if lists (per_page self.now) number first then Some (number - unwrap_or first 0) else None) }
+    {
+        match first {
+            Some(first) if first <= number && number - first < self.capacity() => {
+                Some((number - first) as usize)
+            }
+            _ => None,
+        }
     }
 
     /// The bitmap at a place of an index page with these bytes.
