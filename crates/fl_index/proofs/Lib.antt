@@ -13,3 +13,4 @@ pub mod HeaderPages
 pub mod Listings
 pub mod ListingAnswers
 pub mod Showing
+pub mod Lookups

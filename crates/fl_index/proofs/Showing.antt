@@ -109,7 +109,7 @@ module _ (t : Index) (f : FlashState) (first : ℕ) (plan : Plan) (table : Table
   abbrev ring : model.Ring
   ring = stands.in_ring.ring
 
-  X_is : per_page t ≡ entries_per_page plan
+  pub X_is : per_page t ≡ entries_per_page plan
   X_is = planned-page t first plan stands.in_ring.planned
 
   some_index : nat_lt 0 plan.index_blocks ≡ true
