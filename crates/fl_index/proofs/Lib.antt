@@ -14,3 +14,5 @@ pub mod Listings
 pub mod ListingAnswers
 pub mod Showing
 pub mod Lookups
+pub mod Mountings
+pub mod MountPages

@@ -90,7 +90,7 @@ any-none : (p : ℕ → Bool) (xs : List ℕ) → ((k x : ℕ) → slice_get xs 
 any-none p [] h = refl
 any-none p (x ∷ xs) h = ap (λ b. b || list_any p xs) (h 0 x refl) ∙ any-none p xs (λ k y e. h (suc k) y e)
 
-any-some : (p : ℕ → Bool) (xs : List ℕ) (k x : ℕ) → slice_get xs k ≡ Some x → p x ≡ true → list_any p xs ≡ true
+pub any-some : (p : ℕ → Bool) (xs : List ℕ) (k x : ℕ) → slice_get xs k ≡ Some x → p x ≡ true → list_any p xs ≡ true
 any-some p [] k x e t = absurd (none e)
   where
     none : ◌≡◌ {A = Option ℕ} None (Some x) → ⊥
