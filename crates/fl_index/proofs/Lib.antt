@@ -16,3 +16,5 @@ pub mod Showing
 pub mod Lookups
 pub mod Mountings
 pub mod MountPages
+pub mod MountEnded
+pub mod MountCalls

@@ -60,6 +60,7 @@ impl Index {
         requires few { place.blocks ≤ 16384 }
         requires bits { IsTrue (is_bits bits) }
         ensures planned { IfOk result (λ index. (plan : Plan) → plan.geometry ≡ geometry → plan.index_blocks ≡ place.blocks → plan.bits ≡ bits → IsPlanned index place.first_block plan) }
+        ensures entries { IfOk result (λ index. per_page index ≡ (geometry.page - 24) / (bits / 8)) }
         ensures lies { IfOk result (λ index. (f : FlashState) → f.geometry ≡ geometry → place.first_block + place.blocks ≤ f.blocks → pages f < 2 ^ 32 → LiesOn index f) }
         ensures fresh { IfOk result (λ index. (is_running index ≡ false) × (waiting_in index ≡ 0)) }
     {
