@@ -89,17 +89,17 @@ module _ (old new : Index) (f mid g : FlashState) (n : ℕ) (same : IsSamePlan o
 
     pub refuses-end : (e : RingFault) → IsBadEnd (place (shape_of ring)) (kept_page ring mid) (per_page new) (newest_of (kept_page ring mid) (oldest_of ring) (next_of ring - oldest_of ring)) e → RefusesIndex old f e g
     refuses-end e bad = subst (λ (x : RingFault). RefusesIndex old f x g) (sym bad.fault_is) (inr (record {
-        ring = ring;
-        ring_reads = reads-ring;
-        number = bad.number;
-        newest = ap (λ (page : ℕ → List ℕ). newest_of page (oldest_of ring) (next_of ring - oldest_of ring)) (sym pages_are) ∙ bad.newest;
-        unfit = λ end. bad.unfit (subst (λ (page : ℕ → List ℕ). HasEnd (per_page new) (page bad.number)) (sym pages_are)
-            (subst (λ k. HasEnd k (pages_of old g bad.number)) (sym (same-entries old new same)) end));
-        fault_is =
-            ap (λ (r : Shape). BadPage (place r bad.number) (per_page new) (page_entries (kept_page ring mid bad.number))) (shape ∙ same-shape old new f same geometry)
-            ∙ (ap (λ k. BadPage (place (shape_at old.place old.geometry) bad.number) k (page_entries (kept_page ring mid bad.number))) (same-entries old new same)
-            ∙ ap (λ (page : ℕ → List ℕ). BadPage (place (shape_at old.place old.geometry) bad.number) (per_page old) (page_entries (page bad.number))) pages_are);
-      }))
+      ring = ring;
+      ring_reads = reads-ring;
+      number = bad.number;
+      newest = ap (λ (page : ℕ → List ℕ). newest_of page (oldest_of ring) (next_of ring - oldest_of ring)) (sym pages_are) ∙ bad.newest;
+      unfit = λ end. bad.unfit (subst (λ (page : ℕ → List ℕ). HasEnd (per_page new) (page bad.number)) (sym pages_are)
+          (subst (λ k. HasEnd k (pages_of old g bad.number)) (sym (same-entries old new same)) end));
+      fault_is =
+          ap (λ (r : Shape). BadPage (place r bad.number) (per_page new) (page_entries (kept_page ring mid bad.number))) (shape ∙ same-shape old new f same geometry)
+          ∙ (ap (λ k. BadPage (place (shape_at old.place old.geometry) bad.number) k (page_entries (kept_page ring mid bad.number))) (same-entries old new same)
+          ∙ ap (λ (page : ℕ → List ℕ). BadPage (place (shape_at old.place old.geometry) bad.number) (per_page old) (page_entries (page bad.number))) pages_are);
+    }))
 
     pub finds-index : (now : Index) (end : Option ℕ) → now.ring ≡ Some ring → AreRemembered (kept_page ring mid) (oldest_of ring) (next_of ring - oldest_of ring) now.firsts.items →
         IsEnd (per_page new) (kept_page ring mid) (newest_of (kept_page ring mid) (oldest_of ring) (next_of ring - oldest_of ring)) end → FindsIndex old f end now g

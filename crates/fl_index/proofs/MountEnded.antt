@@ -151,14 +151,17 @@ module _ (first : ℕ) (plan : Plan) (table : Table) (rose : Bool) (device : Dev
         not_both e k = cc
     reads-fail Media now rises risen = record {
       now = l.now;
-      did = inr (record {
+      did = inr (
+        record {
           may_fail = risen rises;
           front = repair_within plan IndexRing (renumber plan IndexRing table);
           others = [];
           split = sym (append-nil (repair_within plan IndexRing (renumber plan IndexRing table)));
           did = l.did;
           whole = l.whole;
-        }, refl);
+        },
+        refl,
+      );
       counts = same_device;
       rests = record { ring = l.is_now.ring; facts = l.is_now.facts; idle = l.idle_now; pages = image_now };
     }

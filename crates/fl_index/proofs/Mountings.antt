@@ -406,14 +406,17 @@ module _ (first : ℕ) (plan : Plan) (shape : model.IsShape (shape_of plan Index
       let l = repair-lifts rose u.front u.others device (Ok tt) new u.split u.did in
       record {
         now = l.now;
-        did = inr (record {
+        did = inr (
+          record {
             may_fail = u.risen;
             front = map of_index u.front;
             others = map of_index u.others;
             split = sym repair-kinds ∙ (ap (map of_index) u.split ∙ map-append u.front u.others);
             did = l.did;
             whole = (all-whole l.now.end tt new l.answer).0;
-          }, is_media u.is);
+          },
+          is_media u.is,
+        );
         counts = l.counts;
         idle_now = l.more;
         s_now = u.did.now.state;

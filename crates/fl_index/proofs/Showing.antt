@@ -293,10 +293,12 @@ module _ (t : Index) (f : FlashState) (first : ℕ) (plan : Plan) (table : Table
   -- what the page says is right
   pub found-shows : (number page : ℕ) (bytes : List ℕ) (result : Result (Option ℕ) ReadFault) → PageIs number page bytes → IsFound t page number bytes result → ShowsBitmap plan table number result
   found-shows number page bytes (Ok None) p found = absurd (found p.is.committed_is)
-  found-shows number page bytes (Ok (Some bitmap)) p found =
-      (sym (listed-indexed number page p.l), λ n rows e c some.
-          found.2 ∙ (ap (λ w. entry_at w bytes (entry_of t page number)) (planned-width t first plan stands.in_ring.planned)
-          ∙ (ap (λ (o : Option ℕ). entry_at (plan.bits / 8) bytes (number - unwrap_or o 0)) p.l.memory
-          ∙ (p.is.at (number - p.l.first_page) (bitmap_of plan (rows_at table n rows)) (p.each n rows e c some) ∙ bitmap-small plan (rows_at table n rows) (planned-bits t first plan stands.in_ring.planned)))))
+  found-shows number page bytes (Ok (Some bitmap)) p found = (
+    sym (listed-indexed number page p.l),
+    λ n rows e c some.
+        found.2 ∙ (ap (λ w. entry_at w bytes (entry_of t page number)) (planned-width t first plan stands.in_ring.planned)
+        ∙ (ap (λ (o : Option ℕ). entry_at (plan.bits / 8) bytes (number - unwrap_or o 0)) p.l.memory
+        ∙ (p.is.at (number - p.l.first_page) (bitmap_of plan (rows_at table n rows)) (p.each n rows e c some) ∙ bitmap-small plan (rows_at table n rows) (planned-bits t first plan stands.in_ring.planned)))),
+  )
   found-shows number page bytes (Err (Flash fault)) p found = tt
   found-shows number page bytes (Err (BadPage bad)) p found = absurd (found.1 (subst (λ n. IsGoodPage n page bytes) (sym X_is) p.is.good))

@@ -6,6 +6,8 @@ mod lookup;
 mod mount;
 mod page;
 mod seal;
+#[cfg(test)]
+mod tests;
 mod waiting;
 
 pub use index::Index;

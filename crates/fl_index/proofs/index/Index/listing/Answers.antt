@@ -23,9 +23,11 @@ returns-in-Some-clause-some c =
     let is : first ≡ first_in t page = first-read t page c.len.result (page % c.len.result) first c.len.ensures refl (get_or_read t.firsts.items _ _ within c.index-first.ensures None) in
     let e = entry-some (per_page t) c.args.number first c.in-Some.entry (sym c.entry_after.ensures ∙ c.in-Some.is) in
     let here : lists (per_page t) c.args.number (first_in t page) ≡ true = ap (lists (per_page t) c.args.number) (sym is) ∙ e.0 in
-    let at : c.in-Some.entry ≡ c.args.number - unwrap_or (first_in t page) 0 = e.1 ∙ ap (λ (o : Option ℕ). c.args.number - unwrap_or o 0) is in
-    (listing-found (per_page t) (first_in t) c.args.number n (next_of ring - oldest_of ring) (oldest_of ring) page c.loop-page.invariant.none (omega (arith, c.loop-page.invariant.from)) (omega (arith, c.loop-page.invariant.from, c.loop-page-test.true)) here,
-    at, omega (arith, at, lists-within (per_page t) c.args.number (first_in t page) here))
+    let at : c.in-Some.entry ≡ c.args.number - unwrap_or (first_in t page) 0 = e.1 ∙ ap (λ (o : Option ℕ). c.args.number - unwrap_or o 0) is in (
+      listing-found (per_page t) (first_in t) c.args.number n (next_of ring - oldest_of ring) (oldest_of ring) page c.loop-page.invariant.none (omega (arith, c.loop-page.invariant.from)) (omega (arith, c.loop-page.invariant.from, c.loop-page-test.true)) here,
+      at,
+      omega (arith, at, lists-within (per_page t) c.args.number (first_in t page) here),
+    )
 
 pub loop-page-preserved : goal.loop-page-preserved
 loop-page-preserved c =
