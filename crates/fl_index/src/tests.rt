@@ -1,6 +1,5 @@
 // An index over a flash in memory: the bytes of its pages, and what lookups answer and read.
 ghost use Rattle.std.specs.Prelude.{◌≡◌, true, length, OnOk};
-ghost use Rattle.fl_flash.specs.Flash.{FlashState, Goes};
 ghost use Rattle.fl_index.specs.Memory.{is_running, LiesOn};
 
 use crate::Index;
@@ -26,6 +25,7 @@ type Found = (Result<Option<u64>, ReadFault>, u64);
 fn push<F: Flash>(index: &mut Index, flash: &mut F, bitmap: u64) -> Result<(), FlashFault>
     requires running { is_running index.old ≡ true }
     requires lies { LiesOn index.old (F.state flash.old) }
+    ensures page { (F.state flash.new).geometry.page ≡ (F.state flash.old).geometry.page }
     ensures running { OnOk result (is_running index.new ≡ true) }
     ensures lies { OnOk result (LiesOn index.new (F.state flash.new)) }
 {
