@@ -12,7 +12,7 @@ use Rattle.fl_session.specs.Cost.{CountsReads, ReadsAsStated}
 use Rattle.fl_session.specs.Execute.{Executes, IsAlike}
 
 pub alike-same : (m : Machine) → IsAlike m m
-alike-same m = record { tables = refl; mounted = refl; device = refl }
+alike-same m = record { cost = refl; tables = refl; mounted = refl; device = refl }
 
 -- a step whose replies were written
 pub executes-by : (E : Type 0) (config : Config) (old : Machine) (command : Command) (stands : Machine → Type 0) (f g : FlashState) (told told_now : Option (List ℕ)) (result : Result (Unit {0}) E) (moment : Moment) →
