@@ -38,3 +38,4 @@ pub mod Lookups
 pub mod LoadLines
 pub mod RangeEnds
 pub mod CursorsOf
+pub mod Giving

@@ -14,6 +14,7 @@ pub mod Opening
 pub mod Answer
 pub mod Cost
 pub mod Notes
+pub mod Gives
 pub mod Standing
 pub mod Load
 pub mod Run

@@ -3,6 +3,8 @@ use Rattle.std.specs.Prelude.{◌≡◌, ℕ, ◌+◌, ◌<◌, ◌≤◌, IsTru
 use Rattle.fl_base.specs.Causes.{Rose, Appends, AppendsFront}
 use Rattle.fl_base.specs.declared.types.KeyRange.{KeyRange}
 use Rattle.fl_base.specs.declared.types.Span.{Span}
+use Rattle.fl_flash.specs.Flash.{FlashState}
+use Rattle.fl_page.specs.Contents.{IsCaused}
 use Rattle.fl_model.specs.Query.{selected}
 use Rattle.fl_model.specs.Record.{Plan}
 use Rattle.fl_model.specs.Table as model
@@ -38,6 +40,11 @@ EndsIn range table i =
 abbrev pub IfSink : ListFault → Type 0 → Type 0
 IfSink (Sink failed) P = P
 IfSink (Read fault) P = Unit {0}
+
+-- .. and one of a read has its own
+abbrev pub IfUnread : FlashState → FlashState → ListFault → Type 0
+IfUnread old new (Sink failed) = Unit {0}
+IfUnread old new (Read fault) = IsCaused old fault new
 
 pub record HasSinkCause (before now : ℕ) (result : Result ℕ ListFault) : Type 0 where
   pub later : before ≤ now

@@ -1,5 +1,12 @@
 // The cursors of a session, kept as bookmarks between two commands.
-ghost use Rattle.std.specs.Prelude.{◌≡◌, ℕ, true, length};
+ghost use Rattle.std.specs.Prelude.{◌≡◌, ◌≤◌, ℕ, true, length, IfErr};
+ghost use Rattle.fl_cursor.specs.Cursor.{table_of, IsReady, IsTold};
+ghost use Rattle.fl_cursor.specs.Going.{Keeps};
+ghost use Rattle.fl_page.specs.Contents.{contents_of, OnlyReads};
+ghost use Rattle.fl_table.specs.Look.{layout_in};
+ghost use Rattle.fl_session.specs.Gives.{Gives};
+ghost use Rattle.fl_session.specs.Listed.{IfSink, IfUnread};
+ghost use Rattle.fl_base.specs.Causes.{Rose};
 ghost use Rattle.fl_cursor.specs.Asked.{asked_by};
 ghost use Rattle.fl_flash.specs.Flash.{FlashState};
 ghost use Rattle.fl_model.specs.Query.{begin};
@@ -9,8 +16,12 @@ ghost use Rattle.fl_table.specs.Memory.{is_running};
 ghost use Rattle.fl_table.specs.Standing.{Stands};
 
 use crate::buffers::Buffers;
-use fl_base::{KeyRange, Span};
+use crate::listing::ListFault;
+use crate::rows::show_row;
+use fl_base::{KeyRange, Sink, Span};
 use fl_cursor::{Bookmark, Cursor};
+use fl_flash::Flash;
+use fl_page::RowHere;
 use fl_table::Table;
 
 /// A cursor over the rows that are asked for, before its first row.
@@ -26,4 +37,31 @@ pub(crate) fn open_cursor(
     ensures index { length buf.new.index.bytes ≡ length buf.old.index.bytes }
 {
     Cursor::begin(table, range, span, &mut buf.rows, &mut buf.index).park()
+}
+
+/// Writes the lines of the next rows of a cursor, up to so many, and says whether there were as many.
+fn give_rows<F: Flash, K: Sink>(
+    cursor: &mut Cursor<'_, '_, '_>,
+    count: u64,
+    columns: usize,
+    flash: &mut F,
+    out: &mut K,
+) -> Result<bool, ListFault>
+    requires ready { IsReady cursor.old (contents_of (F.state flash.old)) }
+    requires columns { columns ≡ length (layout_in (table_of cursor.old)).columns }
+    requires few { columns ≤ 8 }
+    ensures counts { OnlyReads (F.state flash.old) (F.state flash.new) }
+    ensures keeps { Keeps cursor.old cursor.new }
+    ensures later { K.faults out.old ≤ K.faults out.new }
+    ensures sink { IfErr result (λ fault. IfSink fault (Rose (K.faults out.old) (K.faults out.new))) }
+    ensures unread { IfErr result (IfUnread (F.state flash.old) (F.state flash.new)) }
+    ensures gives { IsTold cursor.old (contents_of (F.state flash.old)) → Gives count cursor.old cursor.new (contents_of (F.state flash.old)) (K.written out.old) (K.written out.new) result }
+{
+    for _given in 0..count {
+        if !cursor.advance(flash)? {
+            return Ok(false);
+        }
+        show_row(&cursor.row(), columns, out)?;
+    }
+    Ok(true)
 }
