@@ -39,3 +39,4 @@ pub mod LoadLines
 pub mod RangeEnds
 pub mod CursorsOf
 pub mod Giving
+pub mod Following

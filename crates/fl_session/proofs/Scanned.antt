@@ -63,7 +63,7 @@ written-last lines last told mid now (Ok done) lines_are wrote = subst (λ (l : 
 written-last lines last told mid now (Err failed) lines_are wrote =
     sent-failed told mid now (texts (lines ++ last ∷ [])) (text last) [] (text last) (record { front = texts lines; parts = texts-last lines last; appended = lines_are }) wrote (append-nil (text last))
 
-front-last : (lines : List Reply) (last : Reply) (told now : Option (List ℕ)) → AppendsFront told now (texts lines) → AppendsFront told now (texts (lines ++ last ∷ []))
+pub front-last : (lines : List Reply) (last : Reply) (told now : Option (List ℕ)) → AppendsFront told now (texts lines) → AppendsFront told now (texts (lines ++ last ∷ []))
 front-last lines last told now front =
     (front.0, (front.1.0 ++ text last, sym (append_assoc front.0 front.1.0 (text last)) ∙ (ap (λ (l : List ℕ). l ++ text last) front.1.1 ∙ texts-last lines last)), front.2)
 

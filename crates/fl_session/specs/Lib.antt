@@ -15,6 +15,7 @@ pub mod Answer
 pub mod Cost
 pub mod Notes
 pub mod Gives
+pub mod Nexts
 pub mod Standing
 pub mod Load
 pub mod Run

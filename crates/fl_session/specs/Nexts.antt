@@ -1,0 +1,33 @@
+-- The replies to a command for the next rows of a cursor.
+use Rattle.std.specs.Prelude.{◌≡◌, ◌⊎◌, ℕ, ◌<◌, ◌≤◌, Bool, ◌==◌, IsTrue, OnOk, Option, Result, List, [], ◌∷◌, ◌++◌, length, take, if◌then◌else◌}
+use Rattle.fl_base.specs.Causes.{Rose}
+use Rattle.fl_cursor.specs.Asked.{asked_by}
+use Rattle.fl_cursor.specs.declared.bookmark.Bookmark.{Bookmark}
+use Rattle.fl_machine.specs.Step.{rows_of}
+use Rattle.fl_model.specs.Query.{left_of, moved}
+use Rattle.fl_model.specs.Record.{Plan}
+use Rattle.fl_model.specs.Table as model
+use Rattle.fl_script.specs.Written.{Written}
+use Rattle.fl_words.specs.Reply as words
+use Rattle.fl_words.specs.Reply.{texts}
+
+-- the entries that are given where as many are wanted, and the reply behind them
+abbrev pub given_of : ℕ → Bookmark → model.Table → List model.Entry
+given_of count mark table = take count (left_of (asked_by mark) table.entries)
+
+abbrev pub ending_of : ℕ → ℕ → words.Reply
+ending_of count given = if given == count then words.More else words.CursorEnd
+
+-- In this table of the model the rows that are left were given, up to so many, and the cursor was moved behind them. Or a
+-- page wasn't read after some of them, which is said only where the medium's faults rose. Where the sink failed the cursor
+-- may be anywhere.
+pub record Nexts {E : Type 0} (plan : Plan) (table : model.Table) (count : ℕ) (mark new : Bookmark) (told told_now : Option (List ℕ)) (faults faults_now : ℕ) (result : Result (Unit {0}) E) : Type 0 where
+  pub rose : Bool
+  pub risen : IsTrue rose → Rose faults faults_now
+  pub given : ℕ
+  pub some : given ≤ length (given_of count mark table)
+  pub replies : List words.Reply
+  pub replied : ((given ≡ length (given_of count mark table)) × (replies ≡ rows_of plan (given_of count mark table) ++ ending_of count (length (given_of count mark table)) ∷ []))
+      ⊎ (IsTrue rose × (given < count) × (replies ≡ rows_of plan (take given (given_of count mark table)) ++ words.ReadFault ∷ []))
+  pub moved_to : OnOk result (asked_by new ≡ moved (asked_by mark) (take given (given_of count mark table)))
+  pub wrote : Written told told_now result (texts replies)
