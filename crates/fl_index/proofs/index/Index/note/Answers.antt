@@ -1,9 +1,6 @@
-use Rattle.std.proofs.Common.{◌≡◌, ◌⊎◌, inl, inr, ◌+◌, ◌*◌, ◌/◌, ◌<◌, ◌≤◌, ℕ, List, [], ◌∷◌, ◌++◌, Option, Some, None, IfSome, length, take, drop, refl, sym, ◌∙◌, ap, subst, arith, length-append}
-use Rattle.std.proofs.lemmas.Bool.{cases_lt}
-use Rattle.std.specs.List.{slice_get}
+use Rattle.std.proofs.Common.{◌≡◌, ◌+◌, ◌*◌, ℕ, List, [], ◌∷◌, ◌++◌, length, take, drop, refl, sym, ◌∙◌, ap, subst, length-append}
 use Rattle.fl_base.specs.Bytes.{splice}
 use Rattle.fl_model.specs.Row.{le}
-use Rattle.fl_model.proofs.Lists.{slice_get-left, slice_get-last}
 use Rattle.fl_index.specs.Page.{entry_at}
 use Rattle.fl_index.specs.Memory.{width_in}
 use Rattle.fl_index.proofs.Gathering.{InFront, other-kept, push-in, written-back, entry-length}
