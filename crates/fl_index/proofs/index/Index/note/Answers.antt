@@ -20,7 +20,7 @@ returns-clause-ring c = λ f begin plan table stands.
     ring-same c.args.self.now _ f begin plan table (record { geometry = refl; place = refl; bits = refl }) (record { ring = refl; firsts = refl }) stands
 
 pub returns-clause-waits : goal.returns-clause-waits
-returns-clause-waits c = λ plan table first count bits waits right.
+returns-clause-waits c = λ plan table first count waits right.
     let t = c.args.self.now in
     let w = width_in t in
     let written : take t.body.len (c.write_entry.new.body ++ drop (length c.write_entry.new.body) t.body.items) ≡ splice t.body.items (16 + t.waiting * width_in t) (le (width_in t) c.args.bitmap) =
