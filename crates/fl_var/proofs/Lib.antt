@@ -1,0 +1,4 @@
+pub mod Waitings
+pub mod PageImages
+pub mod Wholes
+pub mod Chunks

@@ -11,6 +11,7 @@ use Rattle.fl_page.specs.declared.fault.ReadFault.{ReadFault}
 use Rattle.fl_page.specs.declared.fault.ReadFault.TheVariants as fault
 use Rattle.fl_ring.specs.Looking.{ReadFails}
 use Rattle.fl_var.specs.Blobs.{IsGone, contents_in, bytes_of, IsWhole, IsBadFirst, IsBadLater}
+use Rattle.fl_var.specs.Content.{content_of}
 use Rattle.fl_var.specs.Memory.{next_in, room_in, page_in, image_in, present}
 use Rattle.fl_var.specs.declared.reader.BlobReader.{BlobReader}
 use Rattle.fl_var.specs.declared.var_data.VarData.{VarData}
@@ -19,7 +20,11 @@ use Rattle.fl_var.specs.declared.var_data.VarData.{VarData}
 abbrev pub data_of : BlobReader → VarData
 data_of r = r.var.now
 
--- the bytes that it has given
+-- the page on which it is
+abbrev pub page_of : BlobReader → ℕ
+page_of r = r.page
+
+-- the bytes that its last step gave
 abbrev pub chunk_of : BlobReader → List ℕ
 chunk_of r = slice_range (present r.var.now r.page r.buf.now.bytes) r.begin r.end
 
@@ -40,6 +45,7 @@ pub record Reads (r : BlobReader) (f : FlashState) : Type 0 where
   pub told : IsTrue f.media.tells
   pub within : r.page ≤ next_in r.var.now
   pub used : 0 < r.left → r.used ≡ page_count (image_in r.var.now f r.page)
+  pub size : 0 < r.left → length (content_of (image_in r.var.now f r.page)) ≡ r.used
   pub bytes : r.end < r.used → r.page < next_in r.var.now → r.buf.now.bytes ≡ page_in r.var.now f r.page
 
 -- the bytes left stand on pages that are all there
@@ -50,7 +56,7 @@ IsWholeIn r f = 0 < r.left → IsWhole (image_in r.var.now f) (next_in r.var.now
 pub record Opened (v : VarData) (f : FlashState) (at : BlobRef) (r : BlobReader) : Type 0 where
   pub not_gone : IsGone v f at → ⊥
   pub reads : Reads r f
-  pub data : data_of r ≡ v
+  pub reads_of : data_of r ≡ v
   pub left : bytes_left r f ≡ bytes_of v f at
 
 -- how an opening ends over any bytes: none exactly where the blob is gone

@@ -72,7 +72,7 @@ impl VarData {
     ) -> Result<Option<BlobReader<'s, 'b>>, ReadFault>
         requires mounted { is_mounted self.now ≡ true }
         requires lies { LiesOn self.now (F.state flash.old) }
-        requires room { length buf.entry.now.bytes ≡ self.now.geometry.page }
+        requires room { length buf.now.bytes ≡ self.now.geometry.page }
         ensures reads { OnlyReads (F.state flash.old) 1 (F.state flash.new) }
         ensures lies { LiesOn self.now (F.state flash.new) }
         ensures data { IfOk result (λ reader. IfSome reader (λ r. (data_of r ≡ self.now) × (count_left r ≡ at.length))) }

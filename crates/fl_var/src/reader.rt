@@ -32,30 +32,35 @@ pub struct BlobReader<'s, 'b> {
 }
 
 impl<'s, 'b> BlobReader<'s, 'b> {
-    ghost use Rattle.std.specs.Prelude.{nat_lt, false, [], IsTrue, IfOk, IfErr, OnOk, OnErr};
-    ghost use Rattle.fl_page.specs.declared.fault.BadPage.{BadPage};
+    ghost use Rattle.std.specs.Prelude.{nat_lt, ◌++◌, IsTrue, IfOk, IfErr, OnOk};
+    ghost use Rattle.fl_flash.specs.Flash.{FlashState};
     ghost use Rattle.fl_ring.specs.Looking.{OnlyReads};
     ghost use Rattle.fl_var.specs.Blobs.{IsBadLater};
     ghost use Rattle.fl_var.specs.Memory.{LiesOn};
-    ghost use Rattle.fl_var.specs.Reading.{data_of, chunk_of, count_left, pages_left, bytes_left, Reads, IsWholeIn, Steps, IfUnread, IfBad, NoneBad};
+    ghost use Rattle.fl_var.specs.Reading.{data_of, page_of, chunk_of, count_left, pages_left, bytes_left, Reads, IsWholeIn, Steps, IfUnread, IfBad, NoneBad};
 
-    /// Turns to the next page, which has to have content.
+    /// Turns to the next page, which has to have content, where the present one was given to its end.
     fn turn<F: Flash>(&mut self, flash: &mut F) -> Result<(), ReadFault>
         requires lies { LiesOn (data_of self.old) (F.state flash.old) }
-        requires done { self.old.end ≡ self.old.used }
+        requires left { 1 ≤ count_left self.old }
         requires empty { self.old.begin ≡ self.old.end }
         ensures reads { OnlyReads (F.state flash.old) 1 (F.state flash.new) }
         ensures data { data_of self.new ≡ data_of self.old }
         ensures lies { LiesOn (data_of self.new) (F.state flash.new) }
-        ensures left { self.new.left ≡ self.old.left }
+        ensures left { count_left self.new ≡ count_left self.old }
         ensures empty { self.new.begin ≡ self.new.end }
         ensures some { OnOk result (self.new.end < self.new.used) }
-        ensures turned { OnOk result ((self.new.page ≡ self.old.page + 1) × (self.new.end ≡ 0)) }
-        ensures same { OnErr result ((self.new.page ≡ self.old.page) × (self.new.used ≡ self.old.used) × (self.new.end ≡ self.old.end)) }
-        ensures ready { Reads self.old (F.state flash.old) → OnOk result (Reads self.new (F.state flash.old)) }
+        ensures ready { Reads self.old (F.state flash.old) → Reads self.new (F.state flash.new) }
+        ensures bytes { Reads self.old (F.state flash.old) → bytes_left self.new (F.state flash.new) ≡ bytes_left self.old (F.state flash.old) }
+        ensures whole { Reads self.old (F.state flash.old) → IsWholeIn self.old (F.state flash.old) → NoneBad result × IsWholeIn self.new (F.state flash.new) }
+        ensures few { Reads self.old (F.state flash.old) → IsWholeIn self.old (F.state flash.old) → OnOk result ((F.state flash.new).work.reads + pages_left self.new ≤ (F.state flash.old).work.reads + pages_left self.old) }
+        ensures most { Reads self.old (F.state flash.old) → IsWholeIn self.old (F.state flash.old) → (F.state flash.new).work.reads ≤ (F.state flash.old).work.reads + pages_left self.old }
         ensures fails { IfErr result (λ e. IfUnread (F.state flash.old) e (F.state flash.new)) }
-        ensures bad { IsTrue (F.state flash.old).media.tells → IfErr result (IfBad (IsBadLater (data_of self.old) (F.state flash.old) (self.old.page + 1))) }
+        ensures bad { IsTrue (F.state flash.old).media.tells → IfErr result (IfBad (IsBadLater (data_of self.old) (F.state flash.old) (page_of self.old + 1))) }
     {
+        if self.end < self.used {
+            return Ok(());
+        }
         if self.page == self.var.next_number() {
             return Err(ReadFault::BadPage(self.var.end_fault()));
         }
@@ -73,12 +78,14 @@ impl<'s, 'b> BlobReader<'s, 'b> {
     /// Takes the bytes of the present page that are the blob's.
     fn take(&mut self)
         requires some { self.old.end < self.old.used }
-        requires left { 1 ≤ self.old.left }
+        requires left { 1 ≤ count_left self.old }
         requires empty { self.old.begin ≡ self.old.end }
         ensures data { data_of self.new ≡ data_of self.old }
-        ensures page { self.new.page ≡ self.old.page }
-        ensures sum { self.new.end + self.new.left ≡ self.old.end + self.old.left }
-        ensures whole { (1 ≤ self.new.left) → self.new.end ≡ self.new.used }
+        ensures ready { (f : FlashState) → Reads self.old f → Reads self.new f }
+        ensures bytes { (f : FlashState) → Reads self.old f → bytes_left self.old f ≡ chunk_of self.new ++ bytes_left self.new f }
+        ensures some { 1 ≤ length (chunk_of self.new) }
+        ensures whole { (f : FlashState) → IsWholeIn self.old f → IsWholeIn self.new f }
+        ensures few { pages_left self.new ≤ pages_left self.old }
     {
         let here = self.used - self.end;
         let len = here.min(self.left as usize);
@@ -97,18 +104,16 @@ impl<'s, 'b> BlobReader<'s, 'b> {
         ensures more { IfOk result (λ more. more ≡ nat_lt 0 (count_left self.old)) }
         ensures steps { Reads self.old (F.state flash.old) → Steps result (bytes_left self.old (F.state flash.old)) (chunk_of self.new) (bytes_left self.new (F.state flash.new)) }
         ensures whole { Reads self.old (F.state flash.old) → IsWholeIn self.old (F.state flash.old) → NoneBad result × IsWholeIn self.new (F.state flash.new) }
-        ensures few { Reads self.old (F.state flash.old) → IsWholeIn self.old (F.state flash.old) →
-            (F.state flash.new).work.reads + pages_left self.new ≤ (F.state flash.old).work.reads + pages_left self.old }
+        ensures few { Reads self.old (F.state flash.old) → IsWholeIn self.old (F.state flash.old) → OnOk result ((F.state flash.new).work.reads + pages_left self.new ≤ (F.state flash.old).work.reads + pages_left self.old) }
+        ensures most { Reads self.old (F.state flash.old) → IsWholeIn self.old (F.state flash.old) → (F.state flash.new).work.reads ≤ (F.state flash.old).work.reads + pages_left self.old }
         ensures fails { IfErr result (λ e. IfUnread (F.state flash.old) e (F.state flash.new)) }
-        ensures bad { Reads self.old (F.state flash.old) → IfErr result (IfBad (IsBadLater (data_of self.old) (F.state flash.old) (self.old.page + 1))) }
+        ensures bad { Reads self.old (F.state flash.old) → IfErr result (IfBad (IsBadLater (data_of self.old) (F.state flash.old) (page_of self.old + 1))) }
     {
         self.begin = self.end;
         if self.left == 0 {
             return Ok(false);
         }
-        if self.end == self.used {
-            self.turn(flash)?;
-        }
+        self.turn(flash)?;
         self.take();
         Ok(true)
     }
