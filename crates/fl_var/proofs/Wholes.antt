@@ -18,7 +18,7 @@ use Rattle.std.specs.Prelude.{if◌then◌else◌}
 use Rattle.fl_var.specs.Blobs.{IsWhole, IsBadLater}
 use Rattle.fl_var.specs.Content.{content_body, HasContent}
 use Rattle.fl_var.specs.Memory.{next_in, waiting_in, var_shape, image_in}
-use Rattle.fl_var.specs.Reading.{IfBad, NoneBad}
+use Rattle.fl_var.specs.Reading.{Steps, IfBad, NoneBad}
 use Rattle.fl_var.specs.declared.var_data.VarData.{VarData}
 
 -- reads change no page
@@ -100,3 +100,11 @@ pages-turned left from room before now some pages reads = by_test (left == 0) re
     by_test : (b : Bool) → (left == 0) ≡ b → now + cond b 0 ((0 + left - 1) / room) ≤ before + cond b 0 ((from + left - 1) / room)
     by_test true e = absurd (omega (arith, eqb-true left 0 e, some))
     by_test false e = omega (arith, pages, reads)
+
+pub none-bad-any : (e : ReadFault) → NoneBad {T = Unit {0}} (Err e) → NoneBad {T = Bool} (Err e)
+none-bad-any (fault.Flash e) h = tt
+none-bad-any (fault.BadPage b) h = h
+
+-- a fault leaves the bytes
+pub steps-err : (result : Result Bool ReadFault) (e : ReadFault) (before chunk after : List ℕ) → result ≡ Err e → after ≡ before → Steps result before chunk after
+steps-err result e before chunk after is same = subst (λ (x : Result Bool ReadFault). Steps x before chunk after) (sym is) same
