@@ -1,11 +1,15 @@
 -- The pages of variable data by their bytes, and the next one as it would be sealed.
 use Rattle.std.proofs.Common.{◌≡◌, ℕ, ◌+◌, ◌-◌, ◌^◌, ◌<◌, ◌≤◌, Bool, true, false, cond, ◌==◌, List, ◌++◌, length, take, drop, replicate, refl, sym, ◌∙◌, ap, subst, arith, append_assoc, length-append}
 use Rattle.std.proofs.lemmas.Bool.{eq-eqb, eqb-true}
-use Rattle.std.proofs.lemmas.List.{length-take-le, length-replicate, take_at, length-drop}
+use Rattle.std.proofs.lemmas.List.{length-take-le, length-replicate, take_at, drop_at, drop-drop, length-drop}
 use Rattle.fl_flash.specs.Flash.{FlashState}
 use Rattle.fl_mark.specs.Mark.{state_of_page}
 use Rattle.fl_mark.specs.declared.page_state.PageState.TheVariants.{Committed}
-use Rattle.fl_model.specs.Layout.{le, committed}
+use Rattle.fl_model.specs.Image.{HoldsContent}
+use Rattle.fl_model.specs.Layout.{le, committed, is_blank}
+use Rattle.fl_model.specs.Record.{Plan, content_per_page}
+use Rattle.fl_model.specs.Ring.{Ring, oldest}
+use Rattle.fl_ring.proofs.Steps.{blank_is}
 use Rattle.fl_page.specs.Header.{page_number, page_count}
 use Rattle.fl_page.specs.Page.{bad_page}
 use Rattle.fl_page.specs.declared.fault.BadPage.{BadPage}
@@ -55,6 +59,32 @@ module _ (len number : ℕ) (content : List ℕ) (small : number < 2 ^ 32) (room
     some = omega (arith, sealed-count, some);
     room = omega (arith, sealed-count, sealed-length, room);
   }
+
+-- .. is one of the model's
+pub sealed-holds : (plan : Plan) (ring : Ring) (i len : ℕ) (content : List ℕ) → len ≡ plan.geometry.page - 8 → 8 + length content ≤ len → length content < 65536 → oldest ring + i < 2 ^ 32 → 1 ≤ length content →
+    HoldsContent plan ring i 1 (committed (content_body len (oldest ring + i) content))
+sealed-holds plan ring i len content size room few small some = record {
+  used = length content;
+  some = some;
+  most = omega (arith, size, room);
+  head = refl;
+  marks =
+      let whole = sealed-length len (oldest ring + i) content small room few in
+      let body = body-length len (oldest ring + i) content small room few in
+      ap (drop (length (committed (content_body len (oldest ring + i) content)) - 8)) (committed_is (content_body len (oldest ring + i) content))
+      ∙ drop_at (content_body len (oldest ring + i) content) (replicate 4 0 ++ replicate 4 255) (length (committed (content_body len (oldest ring + i) content)) - 8) (omega (arith, whole, body));
+  rest =
+      let pad : List ℕ = replicate (len - length (le 4 (oldest ring + i) ++ le 2 (length content) ++ le 2 0 ++ content)) 255 in
+      let ends : content ++ pad ++ replicate 4 0 ++ replicate 4 255 ≡ content ++ (pad ++ (replicate 4 0 ++ replicate 4 255)) =
+      append_assoc (content ++ pad) (replicate 4 0) (replicate 4 255) ∙ append_assoc content pad (replicate 4 0 ++ replicate 4 255) in
+      let header : length (le 4 (oldest ring + i) ++ le 2 (length content) ++ le 2 0 ++ content) ≡ 8 + length content = omega arith in
+      let behind : drop (8 + length content) (committed (content_body len (oldest ring + i) content)) ≡ pad ++ (replicate 4 0 ++ replicate 4 255) =
+      sym (drop-drop (length content) 8 (committed (content_body len (oldest ring + i) content)) ∙ ap (λ n. drop n (committed (content_body len (oldest ring + i) content))) (omega arith))
+      ∙ (ap (drop (length content)) ends ∙ drop_at content (pad ++ (replicate 4 0 ++ replicate 4 255)) (length content) refl) in
+      ap is_blank (ap (take (content_per_page plan - length content)) behind
+      ∙ take_at pad (replicate 4 0 ++ replicate 4 255) (content_per_page plan - length content) (length-replicate (len - length (le 4 (oldest ring + i) ++ le 2 (length content) ++ le 2 0 ++ content)) 255 ∙ omega (arith, size, header, room)))
+      ∙ blank_is (len - length (le 4 (oldest ring + i) ++ le 2 (length content) ++ le 2 0 ++ content));
+}
 
 -- the content that waits
 pub waiting-length : (v : VarData) → length (waiting_in v) ≡ v.waiting.fill

@@ -74,15 +74,19 @@ PlaceEnds plan bytes table rose device old old_f (Ok at) v new = Places plan byt
 PlaceEnds plan bytes table rose device old old_f (Err fault) v new =
     Breaks plan (place_seals plan (length bytes) table) table rose device fault old old_f new
 
--- the page that the rest of the buffer makes
-abbrev pub rest_seals : ℕ → List RingName
-rest_seals fill = if fill == 0 then [] else VarRing ∷ []
+-- the buffer was sealed: the page is what the buffer was
+pub record SealsPage (plan : Plan) (table : model.Table) (rose : Bool) (device : Device) (old : VarData) (old_f : FlashState) (v : VarData) (new : FlashState) : Type 0 where
+  pub seals : Seals plan (VarRing ∷ []) table rose device old old_f v new
+  pub page : (before : Ring) → table.var ≡ Some before → KeepsPages (extended 1 before) (image_in old old_f) seals.has.ring (page_in v new)
 
--- the rest was sealed: the page is what the buffer was
-pub record SealsRest (plan : Plan) (table : model.Table) (rose : Bool) (device : Device) (old : VarData) (old_f : FlashState) (v : VarData) (new : FlashState) : Type 0 where
-  pub seals : Seals plan (rest_seals table.fill) table rose device old old_f v new
-  pub page : (before : Ring) → table.var ≡ Some before → 0 < table.fill → KeepsPages (extended 1 before) (image_in old old_f) seals.has.ring (page_in v new)
+abbrev pub SealEnds : Plan → model.Table → Bool → Device → VarData → FlashState → Result (Unit {0}) FlashFault → VarData → FlashState → Type 0
+SealEnds plan table rose device old old_f (Ok done) v new = SealsPage plan table rose device old old_f v new
+SealEnds plan table rose device old old_f (Err fault) v new = Breaks plan (VarRing ∷ []) table rose device fault old old_f new
+
+-- the rest of the buffer is sealed, where it isn't empty
+abbrev pub SealsWhere : Bool → Plan → model.Table → Bool → Device → VarData → FlashState → Result (Unit {0}) FlashFault → VarData → FlashState → Type 0
+SealsWhere true plan table rose device old old_f result v new = Seals plan [] table rose device old old_f v new
+SealsWhere false plan table rose device old old_f result v new = SealEnds plan table rose device old old_f result v new
 
 abbrev pub RestEnds : Plan → model.Table → Bool → Device → VarData → FlashState → Result (Unit {0}) FlashFault → VarData → FlashState → Type 0
-RestEnds plan table rose device old old_f (Ok done) v new = SealsRest plan table rose device old old_f v new
-RestEnds plan table rose device old old_f (Err fault) v new = Breaks plan (rest_seals table.fill) table rose device fault old old_f new
+RestEnds plan table rose device old old_f result v new = SealsWhere (table.fill == 0) plan table rose device old old_f result v new

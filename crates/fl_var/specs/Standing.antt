@@ -36,9 +36,9 @@ pub record Stands (v : VarData) (f : FlashState) (plan : Plan) (table : model.Ta
   pub ring : HasRing v f plan table
   pub fill : table.fill ≡ length (waiting_in v)
 
--- Each page that was kept and is still kept is as it was.
+-- Each page that was kept and is still kept is void where it was, and has its bytes where it was committed.
 pub record KeepsPages (old : Ring) (old_at : ℕ → List ℕ) (new : Ring) (new_at : ℕ → List ℕ) : Type 0 where
   pub later : oldest old ≤ oldest new
   pub further : old.next ≤ new.next
   pub counts : (n : ℕ) → oldest new ≤ n → n < old.next → slice_get new.counts (n - oldest new) ≡ slice_get old.counts (n - oldest old)
-  pub bytes : (n : ℕ) → oldest new ≤ n → n < old.next → new_at n ≡ old_at n
+  pub bytes : (n : ℕ) → oldest new ≤ n → n < old.next → slice_get old.counts (n - oldest old) ≡ Some 1 → new_at n ≡ old_at n

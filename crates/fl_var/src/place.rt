@@ -16,7 +16,7 @@ impl VarData {
     ghost use Rattle.fl_ring.specs.Ring.{OutsideStands};
     ghost use Rattle.fl_ring.specs.Step.{IsWatched};
     ghost use Rattle.fl_var.specs.Memory.{is_mounted, next_in, waiting_in, room_in, var_shape, IsSamePlan, LiesOn};
-    ghost use Rattle.fl_var.specs.Placing.{reference_in, PlaceEnds, RestEnds};
+    ghost use Rattle.fl_var.specs.Placing.{reference_in, SealEnds, PlaceEnds, RestEnds};
     ghost use Rattle.fl_var.specs.Standing.{Stands, HasRing};
 
     /// Seals the bytes in the buffer as the next page.
@@ -31,6 +31,8 @@ impl VarData {
         ensures mounted { is_mounted self.new ≡ is_ok result }
         ensures next { OnOk result (next_in self.new ≡ next_in self.old + 1) }
         ensures empty { OnOk result (waiting_in self.new ≡ []) }
+        ensures ends { (plan : Plan) → (table : model.Table) → (rose : Bool) → (device : Device) → IsWatched (F.state flash.old) (F.state flash.new) rose device
+            → HasRing self.old (F.state flash.old) plan table → SealEnds plan table rose device self.old (F.state flash.old) result self.new (F.state flash.new) }
         ensures outside { IsTrue (F.state flash.old).media.tells → OutsideStands (var_shape self.old) (page_at (F.state flash.old)) (page_at (F.state flash.new)) }
         ensures reads { (F.state flash.new).work.reads ≡ (F.state flash.old).work.reads }
         ensures media_reads { (F.state flash.new).media.reads ≤ (F.state flash.old).media.reads + 1 }
