@@ -6,3 +6,5 @@ pub mod Bodies
 pub mod States
 pub mod Lifted
 pub mod Sealings
+pub mod Joins
+pub mod Writing

@@ -20,11 +20,19 @@ use Rattle.fl_var.specs.declared.var_data.VarData.{VarData}
 abbrev pub where_placed : Plan → ℕ → model.Table → BlobRef
 where_placed plan len table = record { page = start_page plan len table; offset = start_offset plan len table; length = len }
 
--- the same from memory alone: the empty blob has no page, and a full buffer is sealed first
+-- no byte more has room in the buffer
+abbrev pub is_full_in : VarData → Bool
+is_full_in v = length (waiting_in v) == room_in v
+
+-- the pages that so many bytes fill behind those in a buffer that isn't full
+abbrev pub pages_filled : VarData → ℕ → ℕ
+pages_filled v len = (length (waiting_in v) + len - 1) / room_in v
+
+-- the place from memory alone: the empty blob has no page, and a full buffer is sealed first
 abbrev pub reference_in : VarData → ℕ → BlobRef
 reference_in v len =
     if len == 0 then record { page = 0; offset = 0; length = 0 }
-    else if length (waiting_in v) == room_in v then record { page = next_in v + 1; offset = 0; length = len }
+    else if is_full_in v then record { page = next_in v + 1; offset = 0; length = len }
     else record { page = next_in v; offset = length (waiting_in v); length = len }
 
 -- All seals were done, in their order.
@@ -54,25 +62,29 @@ pub record Breaks (plan : Plan) (seals : List RingName) (table : model.Table) (r
   pub pages : IsVarRing plan ring (page_in old new)
   pub keeps : (before : Ring) → table.var ≡ Some before → KeepsPages before (page_in old old_f) ring (page_in old new)
 
+-- all of these seals were done, or one of their operations failed
+abbrev pub EndsWith : Plan → List RingName → model.Table → Bool → Device → VarData → FlashState → Result (Unit {0}) FlashFault → VarData → FlashState → Type 0
+EndsWith plan seals table rose device old old_f (Ok done) v new = Seals plan seals table rose device old old_f v new
+EndsWith plan seals table rose device old old_f (Err fault) v new = Breaks plan seals table rose device fault old old_f new
+
+-- the page that makes room
+abbrev pub room_seals : Bool → List RingName
+room_seals full = if full then VarRing ∷ [] else []
+
+-- a blob was placed where the model places it
+pub record Places (plan : Plan) (len : ℕ) (table : model.Table) (rose : Bool) (device : Device) (old : VarData) (old_f : FlashState) (at : BlobRef) (v : VarData) (new : FlashState) : Type 0 where
+  pub at_is : at ≡ where_placed plan len table
+  pub seals : Seals plan (place_seals plan len table) table rose device old old_f v new
+  pub fill : length (waiting_in v) ≡ end_fill plan len table
+
+abbrev pub PlaceEnds : Plan → ℕ → model.Table → Bool → Device → VarData → FlashState → Result BlobRef FlashFault → VarData → FlashState → Type 0
+PlaceEnds plan len table rose device old old_f (Ok at) v new = Places plan len table rose device old old_f at v new
+PlaceEnds plan len table rose device old old_f (Err fault) v new = Breaks plan (place_seals plan len table) table rose device fault old old_f new
+
 -- the bytes of a blob stand from this place on, in the pages and in the buffer
 abbrev pub HoldsBytes : Plan → VarData → FlashState → Ring → BlobRef → List ℕ → Type 0
 HoldsBytes plan v f ring at bytes =
     (entry : Entry) → entry.page ≡ at.page → entry.offset ≡ at.offset → HoldsBlob plan (extended 1 ring) (image_in v f) entry bytes
-
--- a blob was placed where the model places it, and its bytes stand there, unless its first page was given up at once
-pub record Places (plan : Plan) (bytes : List ℕ) (table : model.Table) (rose : Bool) (device : Device) (old : VarData) (old_f : FlashState) (at : BlobRef) (v : VarData) (new : FlashState) : Type 0 where
-  pub at_is : at ≡ where_placed plan (length bytes) table
-  pub seals : Seals plan (place_seals plan (length bytes) table) table rose device old old_f v new
-  pub fill : length (waiting_in v) ≡ end_fill plan (length bytes) table
-  pub holds : 0 < length bytes → oldest seals.has.ring ≤ at.page → HoldsBytes plan v new seals.has.ring at bytes
-  -- the blobs that stood stand still, but for those whose pages were given up
-  pub others : (before : Ring) (other : BlobRef) (blob : List ℕ) → table.var ≡ Some before → HoldsBytes plan old old_f before other blob →
-      oldest seals.has.ring ≤ other.page → HoldsBytes plan v new seals.has.ring other blob
-
-abbrev pub PlaceEnds : Plan → List ℕ → model.Table → Bool → Device → VarData → FlashState → Result BlobRef FlashFault → VarData → FlashState → Type 0
-PlaceEnds plan bytes table rose device old old_f (Ok at) v new = Places plan bytes table rose device old old_f at v new
-PlaceEnds plan bytes table rose device old old_f (Err fault) v new =
-    Breaks plan (place_seals plan (length bytes) table) table rose device fault old old_f new
 
 -- the buffer was sealed: the page is what the buffer was
 pub record SealsPage (plan : Plan) (table : model.Table) (rose : Bool) (device : Device) (old : VarData) (old_f : FlashState) (v : VarData) (new : FlashState) : Type 0 where

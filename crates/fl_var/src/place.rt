@@ -8,7 +8,7 @@ use fl_base::BlobRef;
 use fl_flash::{Flash, FlashFault};
 
 impl VarData {
-    ghost use Rattle.std.specs.Prelude.{ℕ, Bool, Ok, List, [], ◌∷◌, ◌*◌, ◌^◌, ◌/◌, replicate};
+    ghost use Rattle.std.specs.Prelude.{ℕ, Bool, Ok, [], ◌*◌, ◌^◌, if◌then◌else◌, replicate};
     ghost use Rattle.fl_model.specs.Record.{Plan};
     ghost use Rattle.fl_model.specs.Table as model;
     ghost use Rattle.fl_model.specs.Table.{VarRing};
@@ -16,7 +16,7 @@ impl VarData {
     ghost use Rattle.fl_ring.specs.Ring.{OutsideStands};
     ghost use Rattle.fl_ring.specs.Step.{IsWatched};
     ghost use Rattle.fl_var.specs.Memory.{is_mounted, next_in, waiting_in, room_in, var_shape, IsSamePlan, LiesOn};
-    ghost use Rattle.fl_var.specs.Placing.{reference_in, SealEnds, PlaceEnds, RestEnds};
+    ghost use Rattle.fl_var.specs.Placing.{is_full_in, room_seals, pages_filled, reference_in, EndsWith, SealEnds, PlaceEnds, RestEnds};
     ghost use Rattle.fl_var.specs.Standing.{Stands, HasRing};
 
     /// Seals the bytes in the buffer as the next page.
@@ -30,6 +30,7 @@ impl VarData {
         ensures lies { LiesOn self.new (F.state flash.new) }
         ensures mounted { is_mounted self.new ≡ is_ok result }
         ensures next { OnOk result (next_in self.new ≡ next_in self.old + 1) }
+        ensures power { OnOk result ((F.state flash.new).is_on ≡ true) }
         ensures empty { OnOk result (waiting_in self.new ≡ []) }
         ensures ends { (plan : Plan) → (table : model.Table) → (rose : Bool) → (device : Device) → IsWatched (F.state flash.old) (F.state flash.new) rose device
             → HasRing self.old (F.state flash.old) plan table → SealEnds plan table rose device self.old (F.state flash.old) result self.new (F.state flash.new) }
@@ -48,6 +49,32 @@ impl VarData {
         Ok(())
     }
 
+    /// Seals the buffer where it is full.
+    fn make_room<F: Flash>(&mut self, flash: &mut F) -> Result<(), FlashFault>
+        requires mounted { is_mounted self.old ≡ true }
+        requires lies { LiesOn self.old (F.state flash.old) }
+        requires left { next_in self.old + 1 < 2 ^ 32 }
+        ensures goes { Goes (F.state flash.old) (F.state flash.new) }
+        ensures same { IsSamePlan self.old self.new }
+        ensures lies { LiesOn self.new (F.state flash.new) }
+        ensures mounted { is_mounted self.new ≡ is_ok result }
+        ensures next { OnOk result (next_in self.new ≡ (if is_full_in self.old then next_in self.old + 1 else next_in self.old)) }
+        ensures fill { OnOk result (length (waiting_in self.new) ≡ (if is_full_in self.old then 0 else length (waiting_in self.old))) }
+        ensures room { OnOk result (length (waiting_in self.new) < room_in self.new) }
+        ensures quiet { is_full_in self.old ≡ false → (result ≡ Ok tt) × (self.new ≡ self.old) × (F.state flash.new ≡ F.state flash.old) }
+        ensures ends { (plan : Plan) → (table : model.Table) → (rose : Bool) → (device : Device) → IsWatched (F.state flash.old) (F.state flash.new) rose device
+            → HasRing self.old (F.state flash.old) plan table → EndsWith plan (room_seals (is_full_in self.old)) table rose device self.old (F.state flash.old) result self.new (F.state flash.new) }
+        ensures outside { IsTrue (F.state flash.old).media.tells → OutsideStands (var_shape self.old) (page_at (F.state flash.old)) (page_at (F.state flash.new)) }
+        ensures reads { (F.state flash.new).work.reads ≡ (F.state flash.old).work.reads }
+        ensures media_reads { (F.state flash.new).media.reads ≤ (F.state flash.old).media.reads + 1 }
+        ensures cause { IfErr result (λ e. CausedBy (F.state flash.old) e (F.state flash.new)) }
+    {
+        if !self.waiting.is_full() {
+            return Ok(());
+        }
+        self.seal(flash)
+    }
+
     /// Writes bytes into the buffer, which isn't full: it is sealed as often as more bytes come than have room.
     fn write<F: Flash>(&mut self, flash: &mut F, bytes: &[u8]) -> Result<(), FlashFault>
         requires mounted { is_mounted self.old ≡ true }
@@ -60,9 +87,14 @@ impl VarData {
         ensures same { IsSamePlan self.old self.new }
         ensures lies { LiesOn self.new (F.state flash.new) }
         ensures mounted { is_mounted self.new ≡ is_ok result }
-        ensures next { OnOk result (next_in self.new ≡ next_in self.old + (length (waiting_in self.old) + length bytes.now - 1) / room_in self.old) }
+        ensures next { OnOk result (next_in self.new ≡ next_in self.old + pages_filled self.old (length bytes.now)) }
+        ensures fill { OnOk result (length (waiting_in self.old) + length bytes.now ≡ pages_filled self.old (length bytes.now) * room_in self.old + length (waiting_in self.new)) }
+        ensures ends { (plan : Plan) → (table : model.Table) → (rose : Bool) → (device : Device) → IsWatched (F.state flash.old) (F.state flash.new) rose device
+            → HasRing self.old (F.state flash.old) plan table → EndsWith plan (replicate (pages_filled self.old (length bytes.now)) VarRing) table rose device self.old (F.state flash.old) result self.new (F.state flash.new) }
+        ensures quiet { pages_filled self.old (length bytes.now) ≡ 0 → (result ≡ Ok tt) × (F.state flash.new ≡ F.state flash.old) }
         ensures outside { IsTrue (F.state flash.old).media.tells → OutsideStands (var_shape self.old) (page_at (F.state flash.old)) (page_at (F.state flash.new)) }
         ensures reads { (F.state flash.new).work.reads ≡ (F.state flash.old).work.reads }
+        ensures media_reads { (F.state flash.new).media.reads ≤ (F.state flash.old).media.reads + pages_filled self.old (length bytes.now) }
         ensures cause { IfErr result (λ e. CausedBy (F.state flash.old) e (F.state flash.new)) }
     {
         let mut done = self.waiting.put(bytes);
@@ -90,7 +122,7 @@ impl VarData {
         ensures mounted { is_mounted self.new ≡ is_ok result }
         ensures reference { IfOk result (λ at. at ≡ reference_in self.old (length bytes.now)) }
         ensures ends { (plan : Plan) → (table : model.Table) → (rose : Bool) → (device : Device) → IsWatched (F.state flash.old) (F.state flash.new) rose device
-            → Stands self.old (F.state flash.old) plan table → PlaceEnds plan bytes.now table rose device self.old (F.state flash.old) result self.new (F.state flash.new) }
+            → Stands self.old (F.state flash.old) plan table → PlaceEnds plan (length bytes.now) table rose device self.old (F.state flash.old) result self.new (F.state flash.new) }
         ensures quiet { length (waiting_in self.old) + length bytes.now ≤ room_in self.old → IfOk result (λ at. F.state flash.new ≡ F.state flash.old) }
         ensures outside { IsTrue (F.state flash.old).media.tells → OutsideStands (var_shape self.old) (page_at (F.state flash.old)) (page_at (F.state flash.new)) }
         ensures reads { (F.state flash.new).work.reads ≡ (F.state flash.old).work.reads }
@@ -103,9 +135,7 @@ impl VarData {
                 length: 0,
             });
         }
-        if self.waiting.is_full() {
-            self.seal(flash)?;
-        }
+        self.make_room(flash)?;
         let at = BlobRef {
             page: self.next_number(),
             offset: self.waiting.content().len() as u16,

@@ -11,6 +11,7 @@ use Rattle.fl_var.specs.Content.{content_body}
 use Rattle.fl_var.specs.Memory.{next_in, waiting_in, page_in}
 use Rattle.fl_var.proofs.Sealings.{seal-breaks, seal-finishes, seal-err, ready, pages-size, next-is}
 use Rattle.fl_var.proofs.States.{state_from}
+use Rattle.fl_var.proofs.Writing.{seal-power}
 use Rattle.fl_var.proofs.var_data.VarData.seal.Goals as goal
 
 pub returns-in_err-seal-clause-ends : goal.returns-in_err-seal-clause-ends
@@ -68,3 +69,6 @@ returns-clause-ends g c = λ plan table rose device watched has.
     let done = c.in_ok-seal.ensures.seals s rose device is watched in
     let both = subst (λ (x : Shape). (p : Performed x (change x body) rose (seal_kinds x s body) device s (Ok c.in_ok-seal.field-0) h) × StandsFor c.seal.new.self p.now.state) (v.lies ring ring_is) (done.performed, done.stands) in
     seal-finishes v f h plan table has body sizes later body_is c.requires.some c.requires.left rose device c.in_ok-seal.field-0 _ c.seal.new.self both.0 both.1 refl (record { geometry = refl; place = refl }) refl
+
+pub returns-clause-power : goal.returns-clause-power
+returns-clause-power g c = seal-power (shape_of c.in-Some.ring) _ _ c.body.result.now (g.F.Flash.state c.args.flash.now) (g.F.Flash.state c.seal.new.flash) _ c.in_ok-seal.ensures.calls
