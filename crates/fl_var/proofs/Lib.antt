@@ -8,3 +8,4 @@ pub mod Lifted
 pub mod Sealings
 pub mod Joins
 pub mod Writing
+pub mod Placed

@@ -207,8 +207,8 @@ cause-later old mid new PowerLost goes (inr on) (inl off) = absurd (no (sym on �
 cause-later old mid new PowerLost goes power (inr rose) = inr (omega (arith, goes.cuts, rose))
 cause-later old mid new Media goes power rose = omega (arith, goes.faults, rose)
 
-pub cause-err : (old mid new : FlashState) (result : Result (Unit {0}) FlashFault) (e : FlashFault) → result ≡ Err e → Goes old mid → (mid ≡ old) ⊎ (mid.is_on ≡ true) → CausedBy mid e new → IfErr result (λ fault. CausedBy old fault new)
-cause-err old mid new result e is goes power cause = subst (λ (x : Result (Unit {0}) FlashFault). IfErr x (λ fault. CausedBy old fault new)) (sym is) (cause-later old mid new e goes power cause)
+pub cause-err : {T : Type 0} (old mid new : FlashState) (result : Result T FlashFault) (e : FlashFault) → result ≡ Err e → Goes old mid → (mid ≡ old) ⊎ (mid.is_on ≡ true) → CausedBy mid e new → IfErr result (λ fault. CausedBy old fault new)
+cause-err {T} old mid new result e is goes power cause = subst (λ (x : Result T FlashFault). IfErr x (λ fault. CausedBy old fault new)) (sym is) (cause-later old mid new e goes power cause)
 
 -- the power after a seal that was done
 pub seal-power : (r : Shape) (next : ℕ) (due : Bool) (body : List ℕ) (old new : FlashState) (u : Unit {0}) → SealCalls r next due body old (Ok u) new → new.is_on ≡ true

@@ -8,7 +8,7 @@ use fl_base::BlobRef;
 use fl_flash::{Flash, FlashFault};
 
 impl VarData {
-    ghost use Rattle.std.specs.Prelude.{ℕ, Bool, Ok, [], ◌*◌, ◌^◌, if◌then◌else◌, replicate};
+    ghost use Rattle.std.specs.Prelude.{ℕ, Bool, Ok, ◌⊎◌, [], ◌*◌, ◌^◌, if◌then◌else◌, replicate};
     ghost use Rattle.fl_model.specs.Record.{Plan};
     ghost use Rattle.fl_model.specs.Table as model;
     ghost use Rattle.fl_model.specs.Table.{VarRing};
@@ -60,6 +60,7 @@ impl VarData {
         ensures mounted { is_mounted self.new ≡ is_ok result }
         ensures next { OnOk result (next_in self.new ≡ (if is_full_in self.old then next_in self.old + 1 else next_in self.old)) }
         ensures fill { OnOk result (length (waiting_in self.new) ≡ (if is_full_in self.old then 0 else length (waiting_in self.old))) }
+        ensures power { OnOk result ((F.state flash.new ≡ F.state flash.old) ⊎ ((F.state flash.new).is_on ≡ true)) }
         ensures room { OnOk result (length (waiting_in self.new) < room_in self.new) }
         ensures quiet { is_full_in self.old ≡ false → (result ≡ Ok tt) × (self.new ≡ self.old) × (F.state flash.new ≡ F.state flash.old) }
         ensures ends { (plan : Plan) → (table : model.Table) → (rose : Bool) → (device : Device) → IsWatched (F.state flash.old) (F.state flash.new) rose device
