@@ -9,3 +9,4 @@ pub mod Sealings
 pub mod Joins
 pub mod Writing
 pub mod Placed
+pub mod Mountings

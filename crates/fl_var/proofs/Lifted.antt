@@ -1,5 +1,5 @@
 -- The operations of a ring of variable data are those of its table.
-use Rattle.std.proofs.Common.{◌≡◌, ℕ, ◌+◌, ◌<◌, ◌≤◌, Bool, true, false, cond, Option, Some, None, Result, Ok, Err, List, [], ◌∷◌, map, refl, sym, ◌∙◌, ap, subst, arith, IsOk, IsErrOf}
+use Rattle.std.proofs.Common.{◌≡◌, ℕ, ◌+◌, ◌<◌, ◌≤◌, Bool, true, false, cond, Option, Some, None, Result, Ok, Err, List, [], ◌∷◌, ◌++◌, map, refl, sym, ◌∙◌, ap, subst, arith, IsOk, IsErrOf}
 use Rattle.std.specs.Prelude.{option_map}
 use Rattle.fl_flash.specs.Flash.{FlashState, page_at}
 use Rattle.fl_flash.specs.declared.flash.FlashFault.{FlashFault}
@@ -33,7 +33,7 @@ AreErases (Mark ∷ kinds) = ⊥
 AreErases (VoidMark ∷ kinds) = ⊥
 
 abbrev pub BeginsMark : List Kind → Type 0
-BeginsMark [] = ⊥
+BeginsMark [] = Unit {0}
 BeginsMark (Mark ∷ kinds) = AreErases kinds
 BeginsMark (Body ∷ kinds) = ⊥
 BeginsMark (VoidMark ∷ kinds) = ⊥
@@ -74,11 +74,33 @@ erases-come plan body (Mark ∷ kinds) s small h = absurd h
 erases-come plan body (VoidMark ∷ kinds) s small h = absurd h
 
 mark-comes : (plan : Plan) (body : List ℕ) (kinds : List Kind) (s t : RingState) → s.next ≡ t.next → IsNext plan body s → BeginsMark kinds → HasCome plan body kinds t
-mark-comes plan body [] s t e m h = absurd h
+mark-comes plan body [] s t e m h = omega (arith, m.small, e)
 mark-comes plan body (Mark ∷ kinds) s t e m h = (record { has = subst (λ n. HasBody plan n body) e m.has; small = omega (arith, m.small, e) }, h)
 mark-comes plan body (Body ∷ kinds) s t e m h = absurd h
 mark-comes plan body (VoidMark ∷ kinds) s t e m h = absurd h
 mark-comes plan body (Erase ∷ kinds) s t e m h = absurd h
+
+-- the first of these operations
+erases-front : (front others : List Kind) → AreErases (front ++ others) → AreErases front
+erases-front [] others h = tt
+erases-front (Erase ∷ front) others h = erases-front front others h
+erases-front (Body ∷ front) others h = h
+erases-front (Mark ∷ front) others h = h
+erases-front (VoidMark ∷ front) others h = h
+
+begins-front : (front others : List Kind) → BeginsMark (front ++ others) → BeginsMark front
+begins-front [] others h = tt
+begins-front (Mark ∷ front) others h = erases-front front others h
+begins-front (Body ∷ front) others h = h
+begins-front (VoidMark ∷ front) others h = h
+begins-front (Erase ∷ front) others h = h
+
+pub come-front : (plan : Plan) (body : List ℕ) (front others : List Kind) (s : RingState) → HasCome plan body (front ++ others) s → HasCome plan body front s
+come-front plan body [] others s h = come-small plan body others s h
+come-front plan body (Body ∷ front) others s h = (h.0, begins-front front others h.1)
+come-front plan body (Mark ∷ front) others s h = (h.0, erases-front front others h.1)
+come-front plan body (VoidMark ∷ front) others s h = (h.0, erases-front front others h.1)
+come-front plan body (Erase ∷ front) others s h = (h.0, erases-front front others h.1)
 
 module _ (r : Shape) (plan : Plan) (body : List ℕ) (first : RingState) (shape : IsShape r) (here : model_shape r ≡ shape_of plan VarRing) where
   -- each operation keeps it
