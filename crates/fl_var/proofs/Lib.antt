@@ -10,3 +10,5 @@ pub mod Joins
 pub mod Writing
 pub mod Placed
 pub mod Mountings
+pub mod Stored
+pub mod Found

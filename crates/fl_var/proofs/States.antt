@@ -84,7 +84,7 @@ holds-same plan a b i j page e h = record {
 }
 
 -- a page with the marks of a committed one
-page-committed : (page : List ℕ) (size : ℕ) → length page ≡ size → drop (length page - 8) page ≡ replicate 4 0 ++ replicate 4 255 → page ≡ committed (take (size - 8) page)
+pub page-committed : (page : List ℕ) (size : ℕ) → length page ≡ size → drop (length page - 8) page ≡ replicate 4 0 ++ replicate 4 255 → page ≡ committed (take (size - 8) page)
 page-committed page size len marks =
     sym (take-append-drop (length page - 8) page)
     ∙ (ap (λ (l : List ℕ). take (length page - 8) page ++ l) marks
