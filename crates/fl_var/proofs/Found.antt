@@ -123,30 +123,30 @@ module _ (v : VarData) (f : FlashState) (plan : Plan) (table : model.Table) (sta
         let i = at.page - oldest ring in
         let here : oldest stands.ring.ring + (at.page - oldest stands.ring.ring) ≡ at.page = omega (arith, ge) in
         elim (count-at (at.page - oldest ring) (omega (arith, ge, gone.sealed, stands.ring.next, known))) [
-        | inl none ↦ stands-kept at.page 0 (omega (arith, gone.sealed, stands.ring.next)) ge none
-        | inr one ↦ absurd (elim gone.lost [
-              | inl lt ↦ omega (arith, lt, ge, stands.ring.oldest_is)
-              | inr not ↦ not (ap (λ n. state_of_page (page_in v f n)) (sym here) ∙ page-commits (at.page - oldest ring) one)
+          | inl none ↦ stands-kept at.page 0 (omega (arith, gone.sealed, stands.ring.next)) ge none
+          | inr one ↦ absurd (elim gone.lost [
+            | inl lt ↦ omega (arith, lt, ge, stands.ring.oldest_is)
+            | inr not ↦ not (ap (λ n. state_of_page (page_in v f n)) (sym here) ∙ page-commits (at.page - oldest ring) one)
           ])
-      ]
+        ]
   ]
 
   pub kept-stands : (at : BlobRef) → 0 < at.length → (IsGone v f at → ⊥) → page_stands stands.ring.ring at.page ≡ true
   kept-stands at some not_gone = elim (cases_lt at.page ring.next) [
     | inr ge ↦ stands-ahead at.page ge
     | inl lt ↦ elim (cases_lt at.page (oldest ring)) [
-        | inl before ↦ absurd (not_gone (record { some = some; sealed = omega (arith, lt, stands.ring.next); lost = inl (omega (arith, before, stands.ring.oldest_is)) }))
-        | inr ge ↦
-            let here : oldest stands.ring.ring + (at.page - oldest stands.ring.ring) ≡ at.page = omega (arith, ge) in
-            elim (count-at (at.page - oldest ring) (omega (arith, ge, lt, known))) [
+      | inl before ↦ absurd (not_gone (record { some = some; sealed = omega (arith, lt, stands.ring.next); lost = inl (omega (arith, before, stands.ring.oldest_is)) }))
+      | inr ge ↦
+          let here : oldest stands.ring.ring + (at.page - oldest stands.ring.ring) ≡ at.page = omega (arith, ge) in
+          elim (count-at (at.page - oldest ring) (omega (arith, ge, lt, known))) [
             | inl none ↦ absurd (not_gone (record {
-                    some = some;
-                    sealed = omega (arith, lt, stands.ring.next);
-                    lost = inr (λ k. page-voids (at.page - oldest ring) none (ap (λ n. state_of_page (page_in v f n)) here ∙ k));
-                  }))
+              some = some;
+              sealed = omega (arith, lt, stands.ring.next);
+              lost = inr (λ k. page-voids (at.page - oldest ring) none (ap (λ n. state_of_page (page_in v f n)) here ∙ k));
+            }))
             | inr one ↦ stands-kept at.page 1 lt ge one
           ]
-      ]
+    ]
   ]
 
   -- a kept page with a count has content

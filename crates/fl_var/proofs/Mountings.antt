@@ -226,8 +226,8 @@ module _ (v : VarData) (f g : FlashState) (plan : Plan) (table : Table) (at_leas
       let all = all-whole (var_shape v) plan [] numbered (shape-is v) (shape-here v plan rests.planned) l.now.end tt g l.answer in
       let left = m.performed.now.state in
       let clean : IsClean m.performed.now.state = subst IsClean (sym (performs-whole (λ kind. kind) (change (var_shape v) []) rose (repair_kinds r numbered) device numbered m.performed.now m.performed.did (answers m.performed.now.end m.performed.answer)).0)
-      (repairs-clean (var_shape v) numbered (shape-is v) on_now.ring.not_negative) in
-      (record {
+      (repairs-clean (var_shape v) numbered (shape-is v) on_now.ring.not_negative) in (
+        record {
           now = l.now;
           did = subst (λ (ops : List (RingName × Kind)). TablePerforms plan rose ops device table_now l.now) kinds-are l.did;
           whole = all.0;
@@ -250,7 +250,8 @@ module _ (v : VarData) (f g : FlashState) (plan : Plan) (table : Table) (at_leas
                 ∙ (repairs-fill plan table_now ∙ (rests.empty ∙ sym (ap length empty)));
           };
         },
-        kept m.performed.now.state m.performed.on l.is.keeps)
+        kept m.performed.now.state m.performed.on l.is.keeps,
+      )
     where
       answers : (e : PartEnd RingState) → AnswersEnd e (Ok tt) g → e ≡ Whole
       answers Whole a = refl
@@ -266,8 +267,8 @@ module _ (v : VarData) (f g : FlashState) (plan : Plan) (table : Table) (at_leas
   -- a repair failed, or a read
   pub mount-badly : (rose : Bool) (device : Device) (fault : FlashFault) (w : VarData) → RepairEnds (var_shape v) rose (repair_kinds (var_shape v) numbered) device numbered (Err fault) g → MountEnds plan table rose device v f (Err (ring_fault.Flash fault)) w g
   mount-badly rose device fault w (inl p) =
-      let l = performed-lifts (var_shape v) plan [] numbered (shape-is v) (shape-here v plan rests.planned) rose (repair_kinds r numbered) device numbered table_now (Err fault) g (begins (repair_kinds r numbered) come) p in
-      (record {
+      let l = performed-lifts (var_shape v) plan [] numbered (shape-is v) (shape-here v plan rests.planned) rose (repair_kinds r numbered) device numbered table_now (Err fault) g (begins (repair_kinds r numbered) come) p in (
+        record {
           now = l.now;
           did = inl (subst (λ (ops : List (RingName × Kind)). TablePerforms plan rose ops device table_now l.now) kinds-are l.did, fault-ends (var_shape v) plan [] numbered (shape-is v) (shape-here v plan rests.planned) l.now.end fault g l.answer);
           counts = l.counts;
@@ -275,27 +276,32 @@ module _ (v : VarData) (f g : FlashState) (plan : Plan) (table : Table) (at_leas
           ring_is = l.is.var_is;
           pages = var-ring-of (var_shape v) plan (page_at g) later_sizes (shape-is v) (shape-here v plan rests.planned) p.now.state p.on l.is.bodies (come-small plan [] l.kinds p.now.state l.is.come);
         },
-        kept p.now.state p.on l.is.keeps)
+        kept p.now.state p.on l.is.keeps,
+      )
   mount-badly rose device fault w (inr u) =
       let l = performed-lifts (var_shape v) plan [] numbered (shape-is v) (shape-here v plan rests.planned) rose u.front device numbered table_now (Ok tt) g
       (begins u.front (come-front plan [] u.front u.others numbered (subst (λ (kinds : List Kind). HasCome plan [] kinds numbered) u.split come))) u.did in
-      let all = all-whole (var_shape v) plan [] numbered (shape-is v) (shape-here v plan rests.planned) l.now.end tt g l.answer in
-      (record {
+      let all = all-whole (var_shape v) plan [] numbered (shape-is v) (shape-here v plan rests.planned) l.now.end tt g l.answer in (
+        record {
           now = l.now;
-          did = inr (record {
-                may_fail = u.risen;
-                front = map of_var u.front;
-                others = map of_var u.others;
-                split = sym kinds-are ∙ (ap (map of_var) u.split ∙ map-append u.front u.others);
-                did = l.did;
-                whole = all.0;
-              }, is_media u.is);
+          did = inr (
+            record {
+              may_fail = u.risen;
+              front = map of_var u.front;
+              others = map of_var u.others;
+              split = sym kinds-are ∙ (ap (map of_var) u.split ∙ map-append u.front u.others);
+              did = l.did;
+              whole = all.0;
+            },
+            is_media u.is,
+          );
           counts = l.counts;
           ring = counted u.did.now.state;
           ring_is = l.is.var_is;
           pages = var-ring-of (var_shape v) plan (page_at g) later_sizes (shape-is v) (shape-here v plan rests.planned) u.did.now.state u.did.on l.is.bodies (come-small plan [] l.kinds u.did.now.state l.is.come);
         },
-        kept u.did.now.state u.did.on l.is.keeps)
+        kept u.did.now.state u.did.on l.is.keeps,
+      )
     where
       is_media : ◌≡◌ {A = Result (Unit {0}) FlashFault} (Err fault) (Err Media) → fault ≡ Media
       is_media e = cc

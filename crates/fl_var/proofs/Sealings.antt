@@ -184,9 +184,10 @@ module _ (v : VarData) (f g : FlashState) (plan : Plan) (table : Table) (has : H
         let number : oldest (appended (state_from (page_in v f) v.geometry.page has.ring) (Some body)) + i ≡ next_in v = omega (arith, appended-oldest s (Some body) known, at, known, has.next) in
         let page_is : image_in v f (oldest (appended (state_from (page_in v f) v.geometry.page has.ring) (Some body)) + i) ≡ committed body =
         ap (image_in v f) number ∙ (image-next v f (next_in v) refl ∙ ap committed (sym body_is)) in
-        subst (λ (x : Option (List ℕ)). HoldsKept (var_shape v) x (image_in v f (oldest (appended (state_from (page_in v f) v.geometry.page has.ring) (Some body)) + i))) (sym (get_or_push s.kept (Some body) None i at))
-        (page_is ∙ committed_is body,
-        omega (arith, ap length body_is, body-length (v.geometry.page - 8) (next_in v) (waiting_in v) (omega (arith, small)) (omega (arith, waiting-room v, v.served.page_least)) (waiting-few v), v.served.page_least))
+        subst (λ (x : Option (List ℕ)). HoldsKept (var_shape v) x (image_in v f (oldest (appended (state_from (page_in v f) v.geometry.page has.ring) (Some body)) + i))) (sym (get_or_push s.kept (Some body) None i at)) (
+          page_is ∙ committed_is body,
+          omega (arith, ap length body_is, body-length (v.geometry.page - 8) (next_in v) (waiting_in v) (omega (arith, small)) (omega (arith, waiting-room v, v.served.page_least)) (waiting-few v), v.served.page_least),
+        )
   ]
 
   -- all were done

@@ -1,5 +1,6 @@
 -- A reader of a blob.
 use Rattle.std.specs.Prelude.{◌≡◌, ℕ, ◌+◌, ◌-◌, ◌/◌, ◌<◌, ◌≤◌, Bool, true, false, ◌==◌, if◌then◌else◌, IsTrue, Option, Some, None, Result, Ok, Err, List, [], ◌++◌, length, take, drop, slice_range}
+use base.Fml.{GName}
 use Rattle.fl_base.specs.declared.types.BlobRef.{BlobRef}
 use Rattle.fl_flash.specs.Flash.{FlashState}
 use Rattle.fl_model.specs.Query.{BlobState, Lost, Stands, blob_of}
@@ -19,6 +20,10 @@ use Rattle.fl_var.specs.declared.var_data.VarData.{VarData}
 -- the variable data that it reads
 abbrev pub data_of : BlobReader → VarData
 data_of r = r.var.now
+
+-- the buffer that it was given
+abbrev pub buffer_of : BlobReader → GName
+buffer_of r = r.buf.ghost_name
 
 -- the page on which it is
 abbrev pub page_of : BlobReader → ℕ

@@ -1,7 +1,6 @@
 //! Variable-length data: blobs in the pages of a ring of their own, and those that wait in memory for their page.
 #![tactic(auto)]
 
-mod laws;
 mod mount;
 mod open;
 mod page;

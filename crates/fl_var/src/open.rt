@@ -18,7 +18,7 @@ impl VarData {
     ghost use Rattle.fl_var.specs.Blobs.{IsGone, IsBadFirst};
     ghost use Rattle.fl_var.specs.Memory.{is_mounted, LiesOn, next_in, room_in, present, image_in, page_in};
     ghost use Rattle.fl_var.specs.Placing.{HoldsBytes};
-    ghost use Rattle.fl_var.specs.Reading.{data_of, count_left, pages_left, Opens, Finds, IfUnread, IfBad};
+    ghost use Rattle.fl_var.specs.Reading.{data_of, buffer_of, count_left, Opens, Finds, IfUnread, IfBad};
     ghost use Rattle.fl_var.specs.Standing.{Stands};
     ghost use Rattle.fl_page.specs.Header.{page_count};
 
@@ -76,6 +76,7 @@ impl VarData {
         ensures reads { OnlyReads (F.state flash.old) 1 (F.state flash.new) }
         ensures lies { LiesOn self.now (F.state flash.new) }
         ensures data { IfOk result (λ reader. IfSome reader (λ r. (data_of r ≡ self.now) × (count_left r ≡ at.length))) }
+        ensures buffer { IfOk result (λ reader. IfSome reader (λ r. buffer_of r ≡ buf.entry.ghost_name)) }
         ensures opens { IsTrue (F.state flash.old).media.tells → Opens self.now (F.state flash.old) at result }
         ensures finds { (plan : Plan) (table : model.Table) (entry : Entry) (bytes : List ℕ) → IsTrue (F.state flash.old).media.tells → Stands self.now (F.state flash.old) plan table
             → entry.kept.blob ≡ Some bytes → at ≡ record { page = entry.page; offset = entry.offset; length = length bytes }

@@ -108,11 +108,7 @@ impl VarData {
 
     /// Places a blob: its bytes are copied into the buffer, which is sealed as a page where it is full and more bytes
     /// come. The empty blob has no page. After an error it is to be mounted again.
-    pub fn append<F: Flash>(
-        &mut self,
-        flash: &mut F,
-        bytes: &[u8],
-    ) -> Result<BlobRef, FlashFault>
+    pub fn append<F: Flash>(&mut self, flash: &mut F, bytes: &[u8]) -> Result<BlobRef, FlashFault>
         requires mounted { is_mounted self.old ≡ true }
         requires lies { LiesOn self.old (F.state flash.old) }
         requires few { length bytes.now ≤ 1500 }

@@ -37,7 +37,7 @@ impl<'s, 'b> BlobReader<'s, 'b> {
     ghost use Rattle.fl_ring.specs.Looking.{OnlyReads};
     ghost use Rattle.fl_var.specs.Blobs.{IsBadLater};
     ghost use Rattle.fl_var.specs.Memory.{LiesOn};
-    ghost use Rattle.fl_var.specs.Reading.{data_of, page_of, chunk_of, count_left, pages_left, bytes_left, Reads, IsWholeIn, Steps, IfUnread, IfBad, NoneBad};
+    ghost use Rattle.fl_var.specs.Reading.{data_of, buffer_of, page_of, chunk_of, count_left, pages_left, bytes_left, Reads, IsWholeIn, Steps, IfUnread, IfBad, NoneBad};
 
     /// Turns to the next page, which has to have content, where the present one was given to its end.
     fn turn<F: Flash>(&mut self, flash: &mut F) -> Result<(), ReadFault>
@@ -46,6 +46,7 @@ impl<'s, 'b> BlobReader<'s, 'b> {
         requires empty { self.old.begin ≡ self.old.end }
         ensures reads { OnlyReads (F.state flash.old) 1 (F.state flash.new) }
         ensures data { data_of self.new ≡ data_of self.old }
+        ensures buffer { buffer_of self.new ≡ buffer_of self.old }
         ensures lies { LiesOn (data_of self.new) (F.state flash.new) }
         ensures left { count_left self.new ≡ count_left self.old }
         ensures empty { self.new.begin ≡ self.new.end }
@@ -81,6 +82,7 @@ impl<'s, 'b> BlobReader<'s, 'b> {
         requires left { 1 ≤ count_left self.old }
         requires empty { self.old.begin ≡ self.old.end }
         ensures data { data_of self.new ≡ data_of self.old }
+        ensures buffer { buffer_of self.new ≡ buffer_of self.old }
         ensures ready { (f : FlashState) → Reads self.old f → Reads self.new f }
         ensures bytes { (f : FlashState) → Reads self.old f → bytes_left self.old f ≡ chunk_of self.new ++ bytes_left self.new f }
         ensures some { 1 ≤ length (chunk_of self.new) }
@@ -99,6 +101,7 @@ impl<'s, 'b> BlobReader<'s, 'b> {
         requires lies { LiesOn (data_of self.old) (F.state flash.old) }
         ensures reads { OnlyReads (F.state flash.old) 1 (F.state flash.new) }
         ensures data { data_of self.new ≡ data_of self.old }
+        ensures buffer { buffer_of self.new ≡ buffer_of self.old }
         ensures lies { LiesOn (data_of self.new) (F.state flash.new) }
         ensures ready { Reads self.old (F.state flash.old) → Reads self.new (F.state flash.new) }
         ensures more { IfOk result (λ more. more ≡ nat_lt 0 (count_left self.old)) }

@@ -20,9 +20,10 @@ returns-in_err-used-clause-whole g c = λ reads whole.
     sym (reads.used (omega (arith, c.requires.left))) ∙ search rules in
     let is = whole (omega (arith, c.requires.left)) in
     let good = whole-good (image_in v f) (next_in v) (room_in v) r.page r.end r.left is done c.requires.left in
-    let p = err_from_is_err_and c.from_residual.result c.from_residual.ensures.1 in
-    (rw (p.1, p.2) (none-bad v f (r.page + 1) c.in_err-used.field-0.0 good.1 (c.in_err-used.ensures.bad reads.told)),
-      λ some. subst (λ (image : ℕ → List ℕ). IsWhole image (next_in v) (room_in v) r.page r.end r.left) (sym (images-same v f h 1 c.find_content.ensures.reads)) is)
+    let p = err_from_is_err_and c.from_residual.result c.from_residual.ensures.1 in (
+      rw (p.1, p.2) (none-bad v f (r.page + 1) c.in_err-used.field-0.0 good.1 (c.in_err-used.ensures.bad reads.told)),
+      λ some. subst (λ (image : ℕ → List ℕ). IsWhole image (next_in v) (room_in v) r.page r.end r.left) (sym (images-same v f h 1 c.find_content.ensures.reads)) is,
+    )
 
 pub returns-in_default-clause-whole : goal.returns-in_default-clause-whole
 returns-in_default-clause-whole g c = λ reads whole.
@@ -57,9 +58,11 @@ returns-clause-whole g c = λ reads whole.
     let done : page_count (image_in c.args.self.now.var.now (g.F.Flash.state c.args.flash.now) c.args.self.now.page) ≡ c.args.self.now.end =
     sym (reads.used (omega (arith, c.requires.left))) ∙ search rules in
     let is = whole (omega (arith, c.requires.left)) in
-    let wide : 0 < room_in c.args.self.now.var.now = omega (arith, v.served.page_least) in
-    (tt, λ some. subst (λ (image : ℕ → List ℕ). IsWhole image (next_in v) (room_in v) (r.page + 1) 0 r.left) (sym (images-same v f h 1 c.find_content.ensures.reads))
-    (whole-next (image_in v f) (next_in v) (room_in v) r.page r.end r.left is done c.requires.left wide))
+    let wide : 0 < room_in c.args.self.now.var.now = omega (arith, v.served.page_least) in (
+      tt,
+      λ some. subst (λ (image : ℕ → List ℕ). IsWhole image (next_in v) (room_in v) (r.page + 1) 0 r.left) (sym (images-same v f h 1 c.find_content.ensures.reads))
+          (whole-next (image_in v f) (next_in v) (room_in v) r.page r.end r.left is done c.requires.left wide),
+    )
 
 pub returns-clause-few : goal.returns-clause-few
 returns-clause-few g c = λ reads whole.

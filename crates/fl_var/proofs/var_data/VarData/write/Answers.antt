@@ -7,9 +7,13 @@ use Rattle.fl_var.proofs.Writing.{writes-first, writes-next, writes-fail, writes
 use Rattle.fl_var.proofs.var_data.VarData.write.Goals as goal
 
 pub loop-done-init : goal.loop-done-init
-loop-done-init g c =
-    (writes-first c.args.self.now _ (g.F.Flash.state c.args.flash.now) (length c.args.bytes.now) c.put-done.result refl (record { geometry = refl; place = refl }) c.requires.lies c.requires.mounted c.requires.room c.requires.some
-      c.put-done.ensures.count c.put-done.ensures.fill, refl, c.requires.few, c.requires.left)
+loop-done-init g c = (
+  writes-first c.args.self.now _ (g.F.Flash.state c.args.flash.now) (length c.args.bytes.now) c.put-done.result refl (record { geometry = refl; place = refl }) c.requires.lies c.requires.mounted c.requires.room c.requires.some
+      c.put-done.ensures.count c.put-done.ensures.fill,
+  refl,
+  c.requires.few,
+  c.requires.left,
+)
 
 pub returns-in_err-seal-clause-ends : goal.returns-in_err-seal-clause-ends
 returns-in_err-seal-clause-ends g c = λ plan table rose device watched has.
@@ -31,10 +35,14 @@ pub loop-done-preserved : goal.loop-done-preserved
 loop-done-preserved g c =
     let less : c.loop-done.done < length c.args.bytes.now = search rules in
     let rest : length (take (length c.args.bytes.now - c.loop-done.done) (drop c.loop-done.done c.args.bytes.now)) ≡ length c.args.bytes.now - c.loop-done.done = search (rules, places) in
-    let e = c.in_ok-seal.ensures in
-    (writes-next c.args.self.now c.loop-done.self c.seal.new.self _ (g.F.Flash.state c.args.flash.now) (g.F.Flash.state c.loop-done.flash) (g.F.Flash.state c.seal.new.flash) (length c.args.bytes.now) c.loop-done.done
-      c.put-done-in-loop-done.result c.loop-done.invariant.0 less e.goes e.same e.lies e.mounted e.next e.empty e.ends e.outside e.reads e.media_reads refl (record { geometry = refl; place = refl }) e.power
-      (length (take (length c.args.bytes.now - c.loop-done.done) (drop c.loop-done.done c.args.bytes.now))) rest c.put-done-in-loop-done.ensures.count c.put-done-in-loop-done.ensures.fill, refl, c.requires.few, c.requires.left)
+    let e = c.in_ok-seal.ensures in (
+      writes-next c.args.self.now c.loop-done.self c.seal.new.self _ (g.F.Flash.state c.args.flash.now) (g.F.Flash.state c.loop-done.flash) (g.F.Flash.state c.seal.new.flash) (length c.args.bytes.now) c.loop-done.done
+          c.put-done-in-loop-done.result c.loop-done.invariant.0 less e.goes e.same e.lies e.mounted e.next e.empty e.ends e.outside e.reads e.media_reads refl (record { geometry = refl; place = refl }) e.power
+          (length (take (length c.args.bytes.now - c.loop-done.done) (drop c.loop-done.done c.args.bytes.now))) rest c.put-done-in-loop-done.ensures.count c.put-done-in-loop-done.ensures.fill,
+      refl,
+      c.requires.few,
+      c.requires.left,
+    )
 
 pub returns-clause-fill : goal.returns-clause-fill
 returns-clause-fill g c =
