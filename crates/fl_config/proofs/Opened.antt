@@ -16,4 +16,4 @@ find-opens len head own (Ok done) old new some long tells same reads later read 
     inr (record { some = some; len_is = long; head_is = λ t. sym (read t) ∙ sym compared; same = same; tells = tells; reads = reads; later = later })
 find-opens len head own (Err Media) old new some long tells same reads later read compared = absurd compared
 find-opens len head own (Err (Other a b at)) old new some long tells same reads later read compared =
-    record { some = some; other = inr (long, λ t. subst (λ (l : List ℕ). Differs head l at a b) (read t) compared); same = same; tells = tells; later = later }
+    record { some = some; other = inr (long, λ t. subst (λ (l : List ℕ). Differs head l at a b) (read t) compared); same = same; tells = tells; reads = omega (arith, reads); later = later }

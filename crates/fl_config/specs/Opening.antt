@@ -25,10 +25,11 @@ abbrev pub Grows : {E : Type 0} → MediaState → List ℕ → Result (Unit {0}
 Grows old bytes (Ok done) new = Grown old bytes new
 Grows old bytes (Err failed) new = GrownInPart old bytes new
 
--- An empty medium was made: the header, and all else is FF.
+-- An empty medium was made, without a read: the header, and all else is FF.
 pub record IsMade (len : ℕ) (head : List ℕ) (old new : MediaState) : Type 0 where
   pub empty : old.content ≡ []
   pub tells : new.tells ≡ old.tells
+  pub reads : new.reads ≡ old.reads
   pub later : old.faults ≤ new.faults
   pub len_is : length new.content ≡ len
   pub content : IsTrue old.tells → new.content ≡ head ++ replicate (len - 1024) 255
@@ -43,10 +44,12 @@ pub record IsFound (len : ℕ) (head : List ℕ) (old new : MediaState) : Type 0
   pub reads : new.reads ≡ next_count old.reads
   pub later : old.faults ≤ new.faults
 
--- The medium failed in the call. One that wasn't empty is unchanged; one that was is no longer than it should become.
+-- The medium failed in the call. One that wasn't empty is unchanged; one that was is no longer than it should become. It
+-- was read once at most.
 pub record IsBroken (len : ℕ) (old new : MediaState) : Type 0 where
   pub rose : Rose old.faults new.faults
   pub later : old.faults ≤ new.faults
+  pub reads : new.reads ≤ old.reads + 1
   pub tells : new.tells ≡ old.tells
   pub part : old.content ≡ [] → length new.content ≤ len
   pub same : (old.content ≡ [] → ⊥) → new.content ≡ old.content
@@ -64,13 +67,15 @@ Compares wanted found (Ok done) = wanted ≡ found
 Compares wanted found (Err Media) = ⊥
 Compares wanted found (Err (Other a b at)) = Differs wanted found at a b
 
--- It has another length, of which both are told, or the length and another header, of which both bytes are told.
+-- It has another length, of which both are told, or the length and another header, of which both bytes are told. It was
+-- read once at most.
 pub record IsOther (len : ℕ) (head : List ℕ) (wanted found at : ℕ) (old new : MediaState) : Type 0 where
   pub some : old.content ≡ [] → ⊥
   pub other : ((wanted ≡ len) × (found ≡ length old.content) × (at ≡ 1024) × (wanted ≡ found → ⊥))
       ⊎ ((length old.content ≡ len) × (IsTrue old.tells → Differs head (take 1024 old.content) at wanted found))
   pub same : new.content ≡ old.content
   pub tells : new.tells ≡ old.tells
+  pub reads : new.reads ≤ old.reads + 1
   pub later : old.faults ≤ new.faults
 
 abbrev pub Opens : ℕ → List ℕ → MediaState → Result (Unit {0}) ImageRefusal → MediaState → Type 0

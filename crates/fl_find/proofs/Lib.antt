@@ -8,3 +8,4 @@ pub mod Seeking
 pub mod Entries
 pub mod Lookups
 pub mod Points
+pub mod Further

@@ -197,7 +197,7 @@ module _ (layout : RowLayout) (ring : Ring) (f : FlashState) (plan : Plan) (tabl
       IfErr result (λ e. LookFails layout ring f e new) → FindsPage knots plan table key before now result
   finds-result knots key before now new (Ok page) ok err = ok
   finds-result knots key before now new (Err (fault.Flash e)) ok err = tt
-  finds-result knots key before now new (Err (fault.BadPage bad)) ok err = no-bad bad (err holds.tells)
+  finds-result knots key before now new (Err (fault.BadPage bad)) ok err = no-bad bad (err.0 holds.tells)
 
   -- the numbers of the ring are those of the model
   at-numbers : (P : ℕ → ℕ → Type 0) → P (oldest_of ring) (next_of ring) → P (model.oldest table.rows) table.rows.next

@@ -28,7 +28,7 @@ points-suc : (number c : ℕ) (counts : List ℕ) (entries : List Entry) →
 points-suc number c counts entries =
     ap (λ (b : Bool). map (λ page. (page_key page, page.0)) (if b then pages_from (number + 1) counts entries else (number, take (suc c) entries) ∷ pages_from (number + 1) counts (drop (suc c) entries))) (eqb-suc-zero c)
 
-points-append : (number : ℕ) (xs ys : List ℕ) (entries : List Entry) → points_from number (xs ++ ys) entries ≡ points_from number xs entries ++ points_from (number + length xs) ys (drop (sum xs) entries)
+pub points-append : (number : ℕ) (xs ys : List ℕ) (entries : List Entry) → points_from number (xs ++ ys) entries ≡ points_from number xs entries ++ points_from (number + length xs) ys (drop (sum xs) entries)
 points-append number [] ys entries = ap (λ n. points_from n ys entries) (omega arith) ∙ ap (λ (l : List Entry). points_from (number + 0) ys l) (sym (drop_none entries))
 points-append number (zero ∷ xs) ys entries =
     let total = sum-cons 0 xs in

@@ -1,7 +1,8 @@
 -- What clauses see of a learned index.
-use Rattle.std.specs.Prelude.{ℕ, ◌+◌, ◌*◌, min, List, if◌then◌else◌}
+use Rattle.std.specs.Prelude.{ℕ, ◌+◌, ◌*◌, min, Bool, true, ◌&&◌, nat_lt, option_map, unwrap_or, List, if◌then◌else◌}
 use Rattle.fl_model.specs.Spline.{bits, is_covered, estimate}
 use Rattle.fl_radix.specs.Radix.{shift_of}
+use Rattle.fl_spline.specs.Points.{last_of}
 use Rattle.fl_spline.specs.Spline.{SplineOf, kept}
 use Rattle.fl_find.specs.declared.index.LearnedIndex.{LearnedIndex}
 
@@ -20,6 +21,10 @@ shift_in index = shift_of index.radix
 -- the index, with this error, of these points
 abbrev pub IndexOf : {KNOTS SLOTS : ℕ} → ℕ → List (ℕ × ℕ) → LearnedIndex KNOTS SLOTS → Type 0
 IndexOf error points index = SplineOf error points index.spline
+
+-- a point comes after the last of a list, if there is one
+abbrev pub is_further : List (ℕ × ℕ) → ℕ × ℕ → Bool
+is_further points p = unwrap_or (option_map (λ end. nat_lt end.0 p.0 && nat_lt end.1 p.1) (last_of points)) true
 
 -- the number after the last page that may be that of a covered key
 abbrev pub window_end : {KNOTS SLOTS : ℕ} → LearnedIndex KNOTS SLOTS → ℕ → ℕ → ℕ

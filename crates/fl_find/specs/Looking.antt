@@ -1,6 +1,8 @@
 -- Calls that look at pages of a ring, and why they fail.
 use Rattle.std.specs.Prelude.{◌≡◌, ℕ, ◌≤◌, ◌<◌, Option, IsTrue}
+use Rattle.fl_flash.specs.Buffer.{BufferState}
 use Rattle.fl_flash.specs.Flash.{FlashState}
+use Rattle.fl_flash.specs.declared.flash.FlashFault.TheVariants.{PowerLost, Media}
 use Rattle.fl_model.specs.Record.{RowLayout}
 use Rattle.fl_page.specs.Contents.{OnlyReads}
 use Rattle.fl_page.specs.declared.fault.BadPage.{BadPage}
@@ -9,7 +11,8 @@ use Rattle.fl_page.specs.declared.fault.ReadFault.TheVariants as fault
 use Rattle.fl_ring.specs.Looking.{ReadFails}
 use Rattle.fl_ring.specs.Place.{shape_of, next_of, oldest_of}
 use Rattle.fl_ring.specs.declared.ring.Ring.{Ring}
-use Rattle.fl_find.specs.Pages.{bytes_at, first_on, IsBadPage}
+use Rattle.fl_search.specs.Search.{RoseSome}
+use Rattle.fl_find.specs.Pages.{bytes_at, first_on, IsBadPage, IsFresh}
 
 -- pages were read, and the power is as it was
 pub record OnlyLooks (old new : FlashState) : Type 0 where
@@ -28,10 +31,12 @@ pub record HasBadPage (layout : RowLayout) (ring : Ring) (f : FlashState) (bad :
   pub kept : IsKept ring number
   pub is_bad : IsBadPage layout number (bytes_at (shape_of ring) f number) bad
 
--- why a look fails: the flash failed, or a kept page is bad, which is told where the flash tells its bytes
+-- why a look fails: the power was off and there are pages; or in a read the medium failed; or a page that was read is
+-- bad, which is told where the flash tells its bytes
 abbrev pub LookFails : RowLayout → Ring → FlashState → ReadFault → FlashState → Type 0
-LookFails layout ring old (fault.Flash e) new = ReadFails old e new
-LookFails layout ring old (fault.BadPage bad) new = IsTrue old.media.tells → HasBadPage layout ring old bad
+LookFails layout ring old (fault.Flash PowerLost) new = ReadFails old PowerLost new × (oldest_of ring < next_of ring)
+LookFails layout ring old (fault.Flash Media) new = ReadFails old Media new × RoseSome old.work.reads new.work.reads
+LookFails layout ring old (fault.BadPage bad) new = (IsTrue old.media.tells → HasBadPage layout ring old bad) × RoseSome old.work.reads new.work.reads
 
 -- a function that tells the first keys of the kept pages
 pub record Tells (layout : RowLayout) (ring : Ring) (f : FlashState) (first : ℕ → Option ℕ) : Type 0 where
@@ -39,7 +44,8 @@ pub record Tells (layout : RowLayout) (ring : Ring) (f : FlashState) (first : �
   pub each : (n : ℕ) → IsKept ring n → first n ≡ first_on layout (shape_of ring) f n
 
 -- the same pages were looked at since
-pub record Since (ring : Ring) (layout : RowLayout) (f : FlashState) (ring_now : Ring) (layout_now : RowLayout) (now : FlashState) : Type 0 where
+pub record Since (ring : Ring) (layout : RowLayout) (f : FlashState) (buf : BufferState) (ring_now : Ring) (layout_now : RowLayout) (now : FlashState) (buf_now : BufferState) : Type 0 where
   pub ring_is : ring_now ≡ ring
   pub layout_is : layout_now ≡ layout
   pub looks : OnlyLooks f now
+  pub fresh : IsFresh f buf → IsFresh now buf_now

@@ -39,6 +39,10 @@ pub record Holds (layout : RowLayout) (shape : Shape) (f : FlashState) (number :
   pub good : IsGoodPage layout number buf.bytes
   pub bytes : IsTrue f.media.tells → buf.bytes ≡ bytes_at shape f number
 
+-- a buffer that holds a flash page has its bytes, where the flash tells them
+abbrev pub IsFresh : FlashState → BufferState → Type 0
+IsFresh f buf = (p : ℕ) → IsTrue f.media.tells → buf.holds ≡ Some p → buf.bytes ≡ page_at f p
+
 -- a committed page that has another number, or no count that a page has
 pub record IsBadPage (layout : RowLayout) (number : ℕ) (page : List ℕ) (bad : BadPage) : Type 0 where
   pub committed : state_of_page page ≡ Committed

@@ -6,7 +6,7 @@ ghost use Rattle.fl_model.specs.Spline.{bits, is_pending_key, lookup_limit};
 ghost use Rattle.fl_radix.specs.Slots.{knots_in_slot};
 ghost use Rattle.fl_ring.specs.Place.{shape_of, oldest_of, next_of, LiesOn};
 ghost use Rattle.fl_schema.specs.Schema.{layout_of};
-ghost use Rattle.fl_find.specs.Pages.{rows_on, Holds};
+ghost use Rattle.fl_find.specs.Pages.{rows_on, Holds, IsFresh};
 ghost use Rattle.fl_find.specs.Looking.{OnlyLooks, LookFails};
 ghost use Rattle.fl_find.specs.Standing.{HoldsPages, HasPoints};
 ghost use Rattle.fl_find.specs.Index.{knots_in, shift_in, IndexOf};
@@ -44,7 +44,9 @@ impl<const KNOTS: usize, const SLOTS: usize> LearnedIndex<KNOTS, SLOTS> {
             is_pending_key table key ≡ false → (F.state flash.new).work.reads ≤ (F.state flash.old).work.reads + lookup_limit KNOTS plan table key }
         ensures most { (F.state flash.new).work.reads ≤ (F.state flash.old).work.reads + (next_of ring.now - oldest_of ring.now) + 1 }
         ensures holds { IfOk result (λ row. IfSome row (λ at. Holds (layout_of schema.now) (shape_of ring.now) (F.state flash.new) at.number buf.new)) }
+        ensures within { IfOk result (λ row. IfSome row (λ at. (oldest_of ring.now ≤ at.number) × (at.number < next_of ring.now))) }
         ensures row { IfOk result (λ row. IfSome row (λ at. HasKey (rows_on (layout_of schema.now) buf.new.bytes) key at.row)) }
+        ensures fresh { IsFresh (F.state flash.old) buf.old → IsFresh (F.state flash.new) buf.new }
         ensures fails { IfErr result (λ e. LookFails (layout_of schema.now) ring.now (F.state flash.old) e (F.state flash.new)) }
         ensures later { min steps.old (2 ^ 64 - 1) ≤ steps.new }
         ensures comparisons { steps.new ≤ steps.old + bits (knots_in_slot (knots_in self.now) (shift_in self.now) key) + 2 }

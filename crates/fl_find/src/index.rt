@@ -34,11 +34,11 @@ impl<const KNOTS: usize, const SLOTS: usize> LearnedIndex<KNOTS, SLOTS> {
     ghost use Rattle.fl_search.specs.Search.{IsPageOf, Ascends, RoseBy, RoseSome, looked_at, voids_in};
     ghost use Rattle.fl_spline.specs.Points.{IsFurther, last_of};
     ghost use Rattle.fl_spline.specs.Segment.{IsSegment};
-    ghost use Rattle.fl_find.specs.Pages.{first_on, Holds};
+    ghost use Rattle.fl_find.specs.Pages.{first_on, Holds, IsFresh};
     ghost use Rattle.fl_find.specs.Looking.{OnlyLooks, LookFails};
     ghost use Rattle.fl_find.specs.Standing.{HoldsPages, HasPoints};
     ghost use Rattle.fl_find.specs.Finding.{FindsPage};
-    ghost use Rattle.fl_find.specs.Index.{error_in, knots_in, shift_in, IndexOf, window_end, most_reads};
+    ghost use Rattle.fl_find.specs.Index.{error_in, knots_in, shift_in, is_further, IndexOf, window_end, most_reads};
 
     /// The index of no pages, whose lines may be off by `error` pages.
     pub fn new(error: u32) -> LearnedIndex<KNOTS, SLOTS>
@@ -73,6 +73,28 @@ impl<const KNOTS: usize, const SLOTS: usize> LearnedIndex<KNOTS, SLOTS> {
     {
         self.spline.add(first_key, number);
         self.radix.follow(&self.spline);
+    }
+
+    /// Whether a page comes after all before it: its first key and its number are greater.
+    fn is_further(&self, first_key: u64, number: u32) -> bool
+        ensures { result ≡ is_further (knots_in self.now) (first_key, number) }
+    {
+        match self.spline.as_slice().last().copied() {
+            Some((key, page)) => key < first_key && page < number,
+            None => true,
+        }
+    }
+
+    /// Adds a page with rows where it has a greater first key and a greater number than all before it, as each page of
+    /// a table has. Another page is left out.
+    pub fn add_further(&mut self, first_key: u64, number: u32)
+        ensures error { error_in self.new ≡ error_in self.old }
+        ensures points { (error : ℕ) (points : List (ℕ × ℕ)) → IndexOf error points self.old → IsFurther points (first_key, number) → IndexOf error (points ++ (first_key, number) ∷ []) self.new }
+    {
+        if !self.is_further(first_key, number) {
+            return;
+        }
+        self.add(first_key, number);
     }
 
     /// Whether the line of a segment tells where a key's page is.
@@ -147,6 +169,7 @@ impl<const KNOTS: usize, const SLOTS: usize> LearnedIndex<KNOTS, SLOTS> {
         ensures most { (F.state flash.new).work.reads ≤ (F.state flash.old).work.reads + (next_of ring.now - oldest_of ring.now) + 1 }
         ensures holds { IfOk result (λ page. IfSome page (λ number. Holds (layout_of schema.now) (shape_of ring.now) (F.state flash.new) number buf.new)) }
         ensures within { IfOk result (λ page. IfSome page (λ number. (oldest_of ring.now ≤ number) × (number < next_of ring.now))) }
+        ensures fresh { IsFresh (F.state flash.old) buf.old → IsFresh (F.state flash.new) buf.new }
         ensures fails { IfErr result (λ e. LookFails (layout_of schema.now) ring.now (F.state flash.old) e (F.state flash.new)) }
         ensures found { (plan : Plan) (table : model.Table) → HoldsPages (layout_of schema.now) ring.now (F.state flash.old) plan table → HasPoints table → IndexOf plan.error table.points self.now →
             FindsPage KNOTS plan table key (F.state flash.old).work.reads (F.state flash.new).work.reads result }

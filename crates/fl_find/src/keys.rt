@@ -40,7 +40,7 @@ impl<'r, 's, 'f, 'b, F: Flash> FirstKeys for PageKeys<'r, 's, 'f, 'b, F> {
 
     ghost faults = { λ k. k.faults };
 
-    ghost since = { λ a b. Since a.ring.now (layout_of a.schema.now) (F.state a.flash.now) b.ring.now (layout_of b.schema.now) (F.state b.flash.now) };
+    ghost since = { λ a b. Since a.ring.now (layout_of a.schema.now) (F.state a.flash.now) a.buf.now b.ring.now (layout_of b.schema.now) (F.state b.flash.now) b.buf.now };
 
     ghost fails = { λ a fault b. LookFails (layout_of a.schema.now) a.ring.now (F.state a.flash.now) fault (F.state b.flash.now) };
 

@@ -4,7 +4,7 @@ ghost use Rattle.fl_model.specs.Spline.{bits};
 ghost use Rattle.fl_ring.specs.Place.{shape_of, oldest_of, next_of, LiesOn};
 ghost use Rattle.fl_schema.specs.Schema.{layout_of};
 ghost use Rattle.fl_search.specs.Search.{IsPageOf, Ascends, RoseBy, RoseSome, looked_at, starts_by, voids_in};
-ghost use Rattle.fl_find.specs.Pages.{first_on, Holds};
+ghost use Rattle.fl_find.specs.Pages.{first_on, Holds, IsFresh};
 ghost use Rattle.fl_find.specs.Looking.{OnlyLooks, LookFails};
 
 use crate::first::read_first;
@@ -42,6 +42,7 @@ pub(crate) fn page_downwards<F: Flash>(
     ensures most { (F.state flash.new).work.reads ≤ (F.state flash.old).work.reads + (end - oldest_of ring.now) }
     ensures holds { IfOk result (λ page. IfSome page (λ number. Holds (layout_of schema.now) (shape_of ring.now) (F.state flash.new) number buf.new)) }
     ensures within { IfOk result (λ page. IfSome page (λ number. (oldest_of ring.now ≤ number) × (number < end))) }
+    ensures fresh { IsFresh (F.state flash.old) buf.old → IsFresh (F.state flash.new) buf.new }
     ensures fails { IfErr result (λ e. LookFails (layout_of schema.now) ring.now (F.state flash.old) e (F.state flash.new)) }
 {
     let oldest = ring.oldest();
@@ -83,6 +84,7 @@ fn halves<F: Flash>(
         + voids_in (first_on (layout_of schema.now) (shape_of ring.now) (F.state flash.old)) (oldest_of ring.now) (next_of ring.now) }
     ensures most { (F.state flash.new).work.reads ≤ (F.state flash.old).work.reads + (next_of ring.now - oldest_of ring.now) }
     ensures within { IfOk result (λ page. IfSome page (λ number. (oldest_of ring.now ≤ number) × (number < next_of ring.now))) }
+    ensures fresh { IsFresh (F.state flash.old) buf.old → IsFresh (F.state flash.new) buf.new }
     ensures fails { IfErr result (λ e. LookFails (layout_of schema.now) ring.now (F.state flash.old) e (F.state flash.new)) }
 {
     let mut keys = PageKeys {
@@ -130,6 +132,7 @@ pub(crate) fn page_by_halves<F: Flash>(
     ensures most { (F.state flash.new).work.reads ≤ (F.state flash.old).work.reads + (next_of ring.now - oldest_of ring.now) + 1 }
     ensures holds { IfOk result (λ page. IfSome page (λ number. Holds (layout_of schema.now) (shape_of ring.now) (F.state flash.new) number buf.new)) }
     ensures within { IfOk result (λ page. IfSome page (λ number. (oldest_of ring.now ≤ number) × (number < next_of ring.now))) }
+    ensures fresh { IsFresh (F.state flash.old) buf.old → IsFresh (F.state flash.new) buf.new }
     ensures fails { IfErr result (λ e. LookFails (layout_of schema.now) ring.now (F.state flash.old) e (F.state flash.new)) }
 {
     let Some(number) = halves(ring, schema, flash, buf, key)? else {

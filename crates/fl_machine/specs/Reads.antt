@@ -91,3 +91,22 @@ ReadsWithin config old moment = ReadsOf config old moment moment.command
 abbrev pub RunReads : Config → Machine → List Moment → Type 0
 RunReads config old [] = Unit {0}
 RunReads config old (moment ∷ moments) = ReadsWithin config old moment × RunReads config moment.after moments
+
+-- What is promised of the reads of a command: a get reads at most its limit, and a command that reads no rows reads no page.
+-- Of a mount and of the other commands that read rows nothing is promised yet.
+abbrev pub PromisedReads : Config → Machine → Moment → Command → Type 0
+PromisedReads config old moment command.Mount = Unit {0}
+PromisedReads config old moment (command.Get name key) = OnTable config old moment name (λ at. moment.reads ≤ lookup_limit config.knots at.plan at.table key)
+PromisedReads config old moment (command.Blob name key) = Unit {0}
+PromisedReads config old moment (command.Scan name range span) = Unit {0}
+PromisedReads config old moment (command.Next cursor count) = Unit {0}
+PromisedReads config old moment (command.Select name range column op value) = Unit {0}
+PromisedReads config old moment (command.Project name range columns) = Unit {0}
+PromisedReads config old moment (command.Agg name range column width) = Unit {0}
+PromisedReads config old moment (command.Join left right range) = Unit {0}
+PromisedReads config old moment _ = none_read moment
+
+-- .. in each moment of a run
+abbrev pub RunPromised : Config → Machine → List Moment → Type 0
+RunPromised config old [] = Unit {0}
+RunPromised config old (moment ∷ moments) = PromisedReads config old moment moment.command × RunPromised config moment.after moments

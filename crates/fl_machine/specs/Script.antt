@@ -7,7 +7,7 @@ use Rattle.fl_machine.specs.Machine.{Machine, begins, fresh_tables}
 use Rattle.fl_machine.specs.Step.{Moment}
 use Rattle.fl_machine.specs.Run.{Run, end_of, commands_of, written_by, risen_in}
 use Rattle.fl_machine.specs.Found.{Finds, stop_at}
-use Rattle.fl_machine.specs.Reads.{RunReads}
+use Rattle.fl_machine.specs.Reads.{RunReads, RunPromised}
 use Rattle.fl_words.specs.Grammar.{LineFault, command_of}
 use Rattle.fl_words.specs.Config.{Lines, no_lines, configured, whole, ConfigFault}
 use Rattle.fl_base.specs.Causes.{Appends, IsFront}
@@ -105,6 +105,8 @@ pub record Ran (config : Config) (old : Machine) (commands : List Command) (stan
   pub commands_are : commands_of moments ≡ commands
   pub run : Run config old moments
   pub stands_after : stands (end_of old moments)
+  -- no get reads more than its limit
+  pub reads : RunPromised config old moments
   -- the medium's faults rose in no more of them than it failed
   pub rose : RoseBy (risen_in moments) faults faults_now
   -- each mount that succeeds finds the records of each table
@@ -117,6 +119,7 @@ pub record RanInto (config : Config) (old : Machine) (commands : List Command) (
   pub commands_are : commands_of moments ≡ commands
   pub run : Run config old moments
   pub stands_after : stands (end_of old moments)
+  pub reads : RunPromised config old moments
   pub rose : RoseBy (risen_in moments) faults faults_now
   pub found : (place : ℕ) → Finds place (stop_at place old.tables) old moments
   -- the replies before those of the last are written whole

@@ -1,5 +1,4 @@
 pub mod Columns
-pub mod Ascending
 pub mod Inputs
 pub mod Select
 pub mod Project

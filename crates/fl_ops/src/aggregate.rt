@@ -40,7 +40,7 @@ impl<R: RowHere> Aggregate<R> {
     ghost use Rattle.fl_model.specs.Operators.{aggregate};
     ghost use Rattle.fl_flash.specs.Flash.{FlashState};
     ghost use Rattle.fl_page.specs.Contents.{contents_of, OnlyReads, IsCaused};
-    ghost use Rattle.fl_page.specs.Steps.{Steps};
+    ghost use Rattle.fl_page.specs.Steps.{Steps, left_after};
     ghost use Rattle.fl_page.specs.declared.fault.BadPage.{BadPage};
     ghost use Rattle.fl_ops.specs.Columns.{records_of};
     ghost use Rattle.fl_ops.specs.Inputs.{Continues};
@@ -79,7 +79,7 @@ impl<R: RowHere> Aggregate<R> {
             Steps result (ungrouped (has_row self.old) (R.present (input_of self.old)) (R.left (input_of self.old) (contents_of (F.state flash.old))))
             (R.present (input_of self.new)) (R.left (input_of self.new) (contents_of (F.state flash.old))) }
         ensures most { R.told (input_of self.old) (contents_of (F.state flash.old)) →
-            (F.state flash.new).work.reads + R.most (input_of self.new) (contents_of (F.state flash.old)) ≤ (F.state flash.old).work.reads + R.most (input_of self.old) (contents_of (F.state flash.old)) }
+            (F.state flash.new).work.reads + left_after result (R.most (input_of self.new) (contents_of (F.state flash.old))) ≤ (F.state flash.old).work.reads + R.most (input_of self.old) (contents_of (F.state flash.old)) }
         ensures least { R.told (input_of self.old) (contents_of (F.state flash.old)) → (F.state flash.new).work.reads < 2 ^ 64 - 1 →
             OnOk result ((F.state flash.old).work.reads + R.least (input_of self.old) (contents_of (F.state flash.old)) ≤ (F.state flash.new).work.reads + R.least (input_of self.new) (contents_of (F.state flash.old))) }
         ensures none_left { R.told (input_of self.old) (contents_of (F.state flash.old)) → IfOk result (λ more. OnFalse more (R.least (input_of self.new) (contents_of (F.state flash.old)) ≡ 0)) }
@@ -108,7 +108,7 @@ impl<R: RowHere> Aggregate<R> {
             GroupSteps result (groups_left self.old (R.present (input_of self.old)) (R.left (input_of self.old) (contents_of (F.state flash.old))))
             (groups_left self.new (R.present (input_of self.new)) (R.left (input_of self.new) (contents_of (F.state flash.old)))) }
         ensures most { R.told (input_of self.old) (contents_of (F.state flash.old)) →
-            (F.state flash.new).work.reads + R.most (input_of self.new) (contents_of (F.state flash.old)) ≤ (F.state flash.old).work.reads + R.most (input_of self.old) (contents_of (F.state flash.old)) }
+            (F.state flash.new).work.reads + left_after result (R.most (input_of self.new) (contents_of (F.state flash.old))) ≤ (F.state flash.old).work.reads + R.most (input_of self.old) (contents_of (F.state flash.old)) }
         ensures least { R.told (input_of self.old) (contents_of (F.state flash.old)) → (F.state flash.new).work.reads < 2 ^ 64 - 1 →
             OnOk result ((F.state flash.old).work.reads + R.least (input_of self.old) (contents_of (F.state flash.old)) ≤ (F.state flash.new).work.reads + R.least (input_of self.new) (contents_of (F.state flash.old))) }
         ensures none_left { R.told (input_of self.old) (contents_of (F.state flash.old)) → IfOk result (λ group. IfNone group (R.least (input_of self.new) (contents_of (F.state flash.old)) ≡ 0)) }

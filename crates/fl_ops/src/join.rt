@@ -18,6 +18,7 @@ impl<A: RowHere, B: RowHere> KeyJoin<A, B> {
     ghost use Rattle.fl_flash.specs.Flash.{FlashState};
     ghost use Rattle.fl_schema.specs.Schema.{layout_of_row, row_of};
     ghost use Rattle.fl_page.specs.Contents.{contents_of, OnlyReads, IsCaused};
+    ghost use Rattle.fl_page.specs.Steps.{left_after};
     ghost use Rattle.fl_page.specs.declared.fault.BadPage.{BadPage};
     ghost use Rattle.fl_ops.specs.Columns.{records_of};
     ghost use Rattle.fl_ops.specs.Inputs.{Continues, StepsOver};
@@ -73,7 +74,7 @@ impl<A: RowHere, B: RowHere> KeyJoin<A, B> {
             (key_join (records_of (A.left (left_of self.old) (contents_of (F.state flash.old)))) (records_of (B.left (right_of self.old) (contents_of (F.state flash.old)))))
             (pairs_from (A.present (left_of self.new)) (A.left (left_of self.new) (contents_of (F.state flash.old))) (B.present (right_of self.new)) (B.left (right_of self.new) (contents_of (F.state flash.old)))) }
         ensures most { A.told (left_of self.old) (contents_of (F.state flash.old)) → B.told (right_of self.old) (contents_of (F.state flash.old)) →
-            (F.state flash.new).work.reads + (A.most (left_of self.new) (contents_of (F.state flash.old)) + B.most (right_of self.new) (contents_of (F.state flash.old)))
+            (F.state flash.new).work.reads + left_after result (A.most (left_of self.new) (contents_of (F.state flash.old)) + B.most (right_of self.new) (contents_of (F.state flash.old)))
             ≤ (F.state flash.old).work.reads + (A.most (left_of self.old) (contents_of (F.state flash.old)) + B.most (right_of self.old) (contents_of (F.state flash.old))) }
     {
         if !self.left.step(flash)? {
@@ -107,7 +108,7 @@ impl<A: RowHere, B: RowHere> KeyJoin<A, B> {
             (pairs_from (A.present (left_of self.old)) (A.left (left_of self.old) (contents_of (F.state flash.old))) (B.present (right_of self.old)) (B.left (right_of self.old) (contents_of (F.state flash.old))))
             (pairs_from (A.present (left_of self.new)) (A.left (left_of self.new) (contents_of (F.state flash.old))) (B.present (right_of self.new)) (B.left (right_of self.new) (contents_of (F.state flash.old)))) }
         ensures most { A.told (left_of self.old) (contents_of (F.state flash.old)) → B.told (right_of self.old) (contents_of (F.state flash.old)) →
-            (F.state flash.new).work.reads + (A.most (left_of self.new) (contents_of (F.state flash.old)) + B.most (right_of self.new) (contents_of (F.state flash.old)))
+            (F.state flash.new).work.reads + left_after result (A.most (left_of self.new) (contents_of (F.state flash.old)) + B.most (right_of self.new) (contents_of (F.state flash.old)))
             ≤ (F.state flash.old).work.reads + (A.most (left_of self.old) (contents_of (F.state flash.old)) + B.most (right_of self.old) (contents_of (F.state flash.old))) }
     {
         let left = self.left.row().key();
@@ -138,7 +139,7 @@ impl<A: RowHere, B: RowHere> KeyJoin<A, B> {
             (pair_of (A.present (left_of self.new)) (B.present (right_of self.new)))
             (pairs_left self.new (A.left (left_of self.new) (contents_of (F.state flash.old))) (B.left (right_of self.new) (contents_of (F.state flash.old)))) }
         ensures most { A.told (left_of self.old) (contents_of (F.state flash.old)) → B.told (right_of self.old) (contents_of (F.state flash.old)) →
-            (F.state flash.new).work.reads + (A.most (left_of self.new) (contents_of (F.state flash.old)) + B.most (right_of self.new) (contents_of (F.state flash.old)))
+            (F.state flash.new).work.reads + left_after result (A.most (left_of self.new) (contents_of (F.state flash.old)) + B.most (right_of self.new) (contents_of (F.state flash.old)))
             ≤ (F.state flash.old).work.reads + (A.most (left_of self.old) (contents_of (F.state flash.old)) + B.most (right_of self.old) (contents_of (F.state flash.old))) }
     {
         if self.ended {

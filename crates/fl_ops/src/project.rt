@@ -20,6 +20,7 @@ impl<'c, R: RowHere> Project<'c, R> {
     ghost use Rattle.fl_model.specs.Operators.{column_of, project};
     ghost use Rattle.fl_flash.specs.Flash.{FlashState};
     ghost use Rattle.fl_page.specs.Contents.{contents_of, OnlyReads, IsCaused};
+    ghost use Rattle.fl_page.specs.Steps.{left_after};
     ghost use Rattle.fl_page.specs.declared.fault.BadPage.{BadPage};
     ghost use Rattle.fl_ops.specs.Columns.{record_of, records_of};
     ghost use Rattle.fl_ops.specs.Inputs.{Continues, StepsOver};
@@ -60,7 +61,7 @@ impl<'c, R: RowHere> Project<'c, R> {
             (fields_of (columns_of self.old) (R.present (input_of self.new)))
             (project (columns_of self.old) (records_of (R.left (input_of self.new) (contents_of (F.state flash.old))))) }
         ensures most { R.told (input_of self.old) (contents_of (F.state flash.old)) →
-            (F.state flash.new).work.reads + R.most (input_of self.new) (contents_of (F.state flash.old)) ≤ (F.state flash.old).work.reads + R.most (input_of self.old) (contents_of (F.state flash.old)) }
+            (F.state flash.new).work.reads + left_after result (R.most (input_of self.new) (contents_of (F.state flash.old))) ≤ (F.state flash.old).work.reads + R.most (input_of self.old) (contents_of (F.state flash.old)) }
         ensures least { R.told (input_of self.old) (contents_of (F.state flash.old)) → (F.state flash.new).work.reads < 2 ^ 64 - 1 →
             OnOk result ((F.state flash.old).work.reads + R.least (input_of self.old) (contents_of (F.state flash.old)) ≤ (F.state flash.new).work.reads + R.least (input_of self.new) (contents_of (F.state flash.old))) }
         ensures none_left { R.told (input_of self.old) (contents_of (F.state flash.old)) → IfOk result (λ more. OnFalse more (R.least (input_of self.new) (contents_of (F.state flash.old)) ≡ 0)) }

@@ -1,7 +1,7 @@
 // The rows that pass a comparison.
 ghost use Rattle.std.specs.Prelude.{◌≡◌, ◌≤◌, filter};
 ghost use Rattle.fl_ops.specs.Columns.{HasColumn, row_passes};
-ghost use Rattle.fl_ops.specs.Ascending.{Ascends-filter};
+ghost use Rattle.fl_page.specs.Ascending.{Ascends-filter};
 
 use crate::columns::{column, compares};
 use fl_base::Op;

@@ -5,3 +5,4 @@ pub mod Page
 pub mod View
 pub mod Contents
 pub mod Steps
+pub mod Ascending

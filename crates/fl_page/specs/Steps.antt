@@ -17,3 +17,8 @@ Steps (Err (BadPage bad)) before row after = ⊥
 abbrev pub Ascends : Option ℕ → List Row → Type 0
 Ascends above [] = Unit {0}
 Ascends above (row ∷ rows) = (is_above above row.key ≡ true) × Ascends (Some row.key) rows
+
+-- How many reads may follow a step with this result, where so many are left: after a fault none is promised.
+abbrev pub left_after : {Item : Type 0} → Result Item ReadFault → ℕ → ℕ
+left_after (Ok item) most = most
+left_after (Err fault) most = 0

@@ -8,7 +8,7 @@ ghost use Rattle.fl_model.specs.Query.{is_above};
 ghost use Rattle.fl_flash.specs.Flash.{FlashState};
 ghost use Rattle.fl_schema.specs.Schema.{layout_of_row, row_of};
 ghost use Rattle.fl_page.specs.Contents.{Contents, contents_of, OnlyReads, IsCaused};
-ghost use Rattle.fl_page.specs.Steps.{Steps, Ascends};
+ghost use Rattle.fl_page.specs.Steps.{Steps, Ascends, left_after};
 ghost use Rattle.fl_page.specs.declared.fault.BadPage.{BadPage};
 
 use crate::ReadFault;
@@ -56,7 +56,7 @@ pub trait Rows<F: Flash>: RowHere {
     /// Whether a step may answer this bad page.
     ghost passes: { Self → Contents → BadPage → Type 0 };
 
-    /// How many reads all steps to come make at most, and how many at least where none of them fails.
+    /// How many reads all steps to come make at most, up to the first that fails, and how many at least where none fails.
     ghost most: { Self → Contents → ℕ };
 
     ghost least: { Self → Contents → ℕ };
@@ -81,7 +81,7 @@ pub trait Rows<F: Flash>: RowHere {
         ensures steps { told self.old (contents_of (F.state flash.old)) →
             Steps result (left self.old (contents_of (F.state flash.old))) (Self.present self.new) (left self.new (contents_of (F.state flash.old))) }
         ensures most { told self.old (contents_of (F.state flash.old)) →
-            (F.state flash.new).work.reads + most self.new (contents_of (F.state flash.old)) ≤ (F.state flash.old).work.reads + most self.old (contents_of (F.state flash.old)) }
+            (F.state flash.new).work.reads + left_after result (most self.new (contents_of (F.state flash.old))) ≤ (F.state flash.old).work.reads + most self.old (contents_of (F.state flash.old)) }
         ensures least { told self.old (contents_of (F.state flash.old)) → (F.state flash.new).work.reads < 2 ^ 64 - 1 →
             OnOk result ((F.state flash.old).work.reads + least self.old (contents_of (F.state flash.old)) ≤ (F.state flash.new).work.reads + least self.new (contents_of (F.state flash.old))) }
         ensures none_left { told self.old (contents_of (F.state flash.old)) → IfOk result (λ more. OnFalse more (least self.new (contents_of (F.state flash.old)) ≡ 0)) };

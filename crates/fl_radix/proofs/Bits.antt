@@ -46,3 +46,18 @@ bits-half m n le some lt = ⊎_elim
     let even : 2 ^ bits n ≡ 2 ^ (bits n - 1) * 2 = ap (λ k. 2 ^ k) (omega arith) ∙ pow_more 2 (bits n - 1) in
     absurd (omega (arith, top, even, (digits n lt).below, (digits m (omega arith)).above)))
     (cases_lt (bits m) (bits n))
+
+-- a number that is at most one more than twice another has one digit more at most
+pub bits-twice : (m n : ℕ) → n ≤ 2 * m + 1 → m < 2 ^ 64 → n < 2 ^ 64 → bits n ≤ bits m + 1
+bits-twice m n le small lt = ⊎_elim
+    (λ more.
+    let power : 2 ^ (bits m + 1 + 1) ≤ 2 ^ bits n = pow-le-pow_right (omega arith) (omega arith) in
+    let twice : 2 ^ (bits m + 1 + 1) ≡ 2 ^ (bits m + 1) * 2 = pow_more 2 (bits m + 1) in
+    let once : 2 ^ (bits m + 1) ≡ 2 ^ bits m * 2 = pow_more 2 (bits m) in
+    absurd (omega (arith, power, twice, once, (digits m small).below, (digits n lt).above)))
+    (λ few. few)
+    (cases_lt (bits m + 1) (bits n))
+
+pub bits-one : (n : ℕ) → n ≡ 0 → bits (n + 1) ≡ 1
+unfolding lib.Count.count_leading_zeros
+bits-one n none = ap (λ k. bits (k + 1)) none

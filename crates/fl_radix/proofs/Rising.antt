@@ -6,7 +6,7 @@ use borrow.Author.Tests.{eq-eqb}
 use Rattle.std.proofs.lemmas.List.Sums.{count_by-le-length}
 use Rattle.std.proofs.lemmas.List.Recursion.{is_count_by}
 use Rattle.std.proofs.lemmas.List.{get_or-take, get_or-drop}
-use Rattle.std.proofs.lemmas.Bool.{cases_lt, le-leb}
+use Rattle.std.proofs.lemmas.Bool.{cases_lt, le-leb, lt-leb, ne_eqb}
 use Rattle.std.proofs.lemmas.Nat.{shr_below}
 use Rattle.std.proofs.Math.ListN.{get_or-append}
 use Rattle.std.proofs.Math.Seq.{get_or-append_seam}
@@ -140,6 +140,24 @@ pub count-range : (p : ℕ × ℕ → Bool) (xs : List (ℕ × ℕ)) (from to : 
 count-range p xs from to within passes =
     rw (← is_count_by (passing p) p refl (λ _ _. refl) xs) (passing-range p xs from to within passes)
 
+passing-most : (p : ℕ × ℕ → Bool) (xs : List (ℕ × ℕ)) (from to : ℕ) → ((j : ℕ) → j < from → j < length xs → p (point_at xs j) ≡ false)
+    → ((j : ℕ) → to ≤ j → j < length xs → p (point_at xs j) ≡ false) → passing p xs ≤ to - from
+passing-most p [] from to before after = omega arith
+passing-most p (x ∷ xs) from zero before after =
+    let later = passing-most p xs 0 0 (λ j lt within. absurd (omega (arith, lt))) (λ j start within. after (suc j) (omega arith) (omega (arith, within))) in
+    rw (after 0 (omega arith) (omega arith)) (omega (arith, later))
+passing-most p (x ∷ xs) zero (suc to) before after =
+    let later = passing-most p xs 0 to (λ j lt within. absurd (omega (arith, lt))) (λ j start within. after (suc j) (omega (arith, start)) (omega (arith, within))) in
+    elim (p x) as (λ b. cond b (1 + passing p xs) (passing p xs) ≤ suc to - 0) [ true ↦ omega (arith, later) | false ↦ omega (arith, later) ]
+passing-most p (x ∷ xs) (suc from) (suc to) before after =
+    let later = passing-most p xs from to (λ j lt within. before (suc j) (omega (arith, lt)) (omega (arith, within))) (λ j start within. after (suc j) (omega (arith, start)) (omega (arith, within))) in
+    rw (before 0 (omega arith) (omega arith)) (omega (arith, later))
+
+-- where no knot outside of a range passes a test, at most those of the range do
+count-most : (p : ℕ × ℕ → Bool) (xs : List (ℕ × ℕ)) (from to : ℕ) → ((j : ℕ) → j < from → j < length xs → p (point_at xs j) ≡ false)
+    → ((j : ℕ) → to ≤ j → j < length xs → p (point_at xs j) ≡ false) → count_by p xs ≤ to - from
+count-most p xs from to before after = rw (← is_count_by (passing p) p refl (λ _ _. refl) xs) (passing-most p xs from to before after)
+
 -- a bisection of the slot's knots takes no more steps than one of as many knots as fall in it
 pub few-in-slot : (ks : List (ℕ × ℕ)) (shift key from to : ℕ) → IsSlot ks shift (slot_of ks shift key) from to → first_key ks ≤ key → key ≤ last_key ks
     → length ks < 2 ^ 64 → bits (length (slice_range ks from to)) ≤ bits (knots_in_slot ks shift key)
@@ -149,6 +167,21 @@ few-in-slot ks shift key from to s low high fits =
     let count = count-range (λ knot. slot_of ks shift knot.0 == slot_of ks shift key) ks from to s.within (λ j start end. eq-eqb _ _ (s.inside j start end)) in
     rw (length-range ks from to s.within, first, last)
     (bits-le _ _ count (omega (arith, fits, count_by-le-length (λ (knot : ℕ × ℕ). slot_of ks shift knot.0 == slot_of ks shift key) ks)))
+
+-- .. and no fewer knots are bisected than fall in the slot
+pub most-in-slot : (ks : List (ℕ × ℕ)) (shift key from to : ℕ) → IsSlot ks shift (slot_of ks shift key) from to → first_key ks ≤ key → key ≤ last_key ks
+    → length ks + 1 < 2 ^ 64 → bits (knots_in_slot ks shift key + 1) ≤ bits (length (slice_range ks from to) + 1)
+most-in-slot ks shift key from to s low high fits =
+    let first : leb (first_key ks) key ≡ true = le-leb _ _ low in
+    let last : leb key (last_key ks) ≡ true = le-leb _ _ high in
+    let count = count-most (λ knot. slot_of ks shift knot.0 == slot_of ks shift key) ks from to
+    (λ j lt within. let less = s.before j lt in ne_eqb _ _ (λ same. absurd (omega (arith, less, same))))
+    (λ j start within. let more = s.after j start within in ne_eqb _ _ (λ same. absurd (omega (arith, more, same)))) in
+    rw (length-range ks from to s.within, first, last) (bits-le _ _ (omega (arith, count)) (omega (arith, fits, s.within)))
+
+-- no knot falls in the slot of a key before the first knot
+pub none-in-slot : (ks : List (ℕ × ℕ)) (shift key : ℕ) → key < first_key ks → knots_in_slot ks shift key ≡ 0
+none-in-slot ks shift key lt = let first : leb (first_key ks) key ≡ false = lt-leb _ _ lt in rw first refl
 
 -- the slots of keys up to the last knot's are few enough
 pub slot-within : (ks : List (ℕ × ℕ)) (slots shift key : ℕ) → (last_key ks - first_key ks) / 2 ^ shift < slots → key ≤ last_key ks → slot_of ks shift key < slots

@@ -76,7 +76,8 @@ impl<const SLOTS: usize> Radix<SLOTS> {
 
     /// The last knot whose key is at most the key, or none where the key isn't covered: what the spline answers.
     ///
-    /// Each comparison of the key with a knot's key is counted.
+    /// Each comparison of the key with a knot's key is counted: no fewer than a bisection of the slot's knots takes, and
+    /// at most two more. A key from the last knot's on takes two.
     pub fn segment<const KNOTS: usize>(
         &self,
         spline: &Spline<KNOTS>,
@@ -87,6 +88,8 @@ impl<const SLOTS: usize> Radix<SLOTS> {
         ensures segment { MatchOption result (is_covered (kept spline.now) key ≡ false) (λ i. IsSegment (kept spline.now) key i) }
         ensures later { min steps.old (2 ^ 64 - 1) ≤ steps.new }
         ensures few { steps.new ≤ steps.old + bits (knots_in_slot (kept spline.now) (shift_of self.now) key) + 2 }
+        ensures least { 0 < length (kept spline.now) → key < last_key (kept spline.now) → steps.new < 2 ^ 64 - 1
+            → steps.old + bits (knots_in_slot (kept spline.now) (shift_of self.now) key + 1) ≤ steps.new }
     {
         let knots = spline.as_slice();
         if knots.is_empty() {

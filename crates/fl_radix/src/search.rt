@@ -14,6 +14,7 @@ pub(crate) fn knots_up_to(knots: &[(u64, u32)], key: u64, steps: &mut Steps) -> 
     ensures after { AreBeyond knots.now key result }
     ensures later { min steps.old (2 ^ 64 - 1) ≤ steps.new }
     ensures few { steps.new ≤ steps.old + bits (length knots.now) }
+    ensures least { steps.new < 2 ^ 64 - 1 → steps.old + bits (length knots.now + 1) ≤ steps.new + 1 }
 {
     let mut low = 0;
     let mut high = knots.len();

@@ -1,7 +1,7 @@
 -- The words of a line, one after the other.
-use Rattle.std.proofs.Common.{◌≡◌, ℕ, ◌+◌, ◌<◌, ◌≤◌, Bool, true, false, not, List, [], ◌∷◌, ◌++◌, length, take, drop, filter, nat_lt, refl, sym, ap, ◌∙◌, arith, cond, eqb, suc, subst, ap₂, ◌-◌, map, eqb-true, length-take, length-drop}
+use Rattle.std.proofs.Common.{◌≡◌, ℕ, ◌+◌, ◌<◌, ◌≤◌, Bool, true, false, not, List, [], ◌∷◌, ◌++◌, length, take, drop, filter, nat_lt, refl, sym, ap, ◌∙◌, arith, cond, eqb, suc, subst, ap₂, ◌-◌, map, eqb-true, length-take, length-drop, append-nil}
 use Rattle.std.specs.List.{slice_split, onto_first, prefix_len}
-use Rattle.std.proofs.lemmas.List.{take_at, length-map}
+use Rattle.std.proofs.lemmas.List.{take_at, take_all, length-map}
 use Rattle.std.proofs.lemmas.List.Sums.{prefix_len-le-length}
 use Rattle.std.proofs.lemmas.List.Folds.{length-prefix_len}
 use Rattle.std.proofs.lemmas.Bool.Decides.{nat_tests}
@@ -104,8 +104,17 @@ first line rest word after n m e en h ew ea em =
       omega (arith, lens, less, fits, starts, l),
     )
 
-pub full : {X : Type 0} (f : X → List ℕ) (words : List X) (rest all : List (List ℕ)) → map f words ++ rest ≡ all → eqb (length words) 22 ≡ true → map f words ≡ take 22 all
-full f words rest all e h = sym (ap (take 22) (sym e) ∙ take_at (map f words) rest 22 (length-map words f ∙ eqb-true _ _ h))
+pub full : {X : Type 0} (f : X → List ℕ) (room : List X) (n : ℕ) (rest all : List (List ℕ)) → map f (take n room) ++ rest ≡ all → n ≡ 22 → length room ≡ 22 → map f (take n room) ≡ take 22 all
+full f room n rest all e h k =
+    let len : length (map f (take n room)) ≡ 22 = length-map (take n room) f ∙ (length-take n room ∙ omega (arith, h, k)) in
+    sym (ap (take 22) (sym e) ∙ take_at (map f (take n room)) rest 22 len)
+
+-- the words are all there
+pub all_there : {X : Type 0} (f : X → List ℕ) (room : List X) (n : ℕ) (rest all : List (List ℕ)) → map f (take n room) ++ rest ≡ all → rest ≡ [] → n ≤ 22 → map f (take n room) ≡ take 22 all
+all_there f room n rest all e none le =
+    let words : map f (take n room) ≡ all = sym (append-nil (map f (take n room))) ∙ (ap (λ r. map f (take n room) ++ r) (sym none) ∙ e) in
+    let len : length (map f (take n room)) ≤ 22 = omega (arith, length-map (take n room) f, length-take n room, le) in
+    sym (take_all 22 (map f (take n room)) len) ∙ ap (take 22) words
 
 return_dropped : (front : List ℕ) → without_return (front ++ 13 ∷ []) ≡ front
 return_dropped [] = refl

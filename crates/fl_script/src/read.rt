@@ -11,7 +11,7 @@ use crate::queries::{
 };
 use crate::settings::{bare_line, cut_line, device_line, name_and_key, only_name, table_line};
 use crate::word::is;
-use crate::words::{without_return, words_in};
+use crate::words::{MOST_WORDS, without_return, words_in};
 use crate::{Command, LineFault, LineRoom};
 
 /// The most bytes of a line before its newline.
@@ -27,8 +27,9 @@ pub fn read_line(bytes: &[u8], into: &mut LineRoom) -> Result<Command, LineFault
     if bytes.len() > LINE_BYTES {
         return Err(LineFault::TooLong);
     }
-    let words = words_in(without_return(bytes));
-    let Some((first, others)) = words.split_first() else {
+    let mut words: [&[u8]; MOST_WORDS] = [b""; MOST_WORDS];
+    let count = words_in(without_return(bytes), &mut words);
+    let Some((first, others)) = words[..count].split_first() else {
         return Ok(Command::Nothing);
     };
     if first.starts_with(b"#") {

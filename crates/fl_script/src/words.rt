@@ -3,8 +3,6 @@ ghost use Rattle.std.specs.Prelude.{◌≡◌, ◌<◌, ◌≤◌, ◌∷◌, []
 ghost use Rattle.std.specs.List.{All, prefix_len};
 ghost use Rattle.fl_words.specs.Grammar as grammar;
 
-use arrayvec::ArrayVec;
-
 /// One more than any line has: a put has its first word, a name, a key, 16 values, `blob` and a blob word.
 pub(crate) const MOST_WORDS: usize = 22;
 
@@ -48,19 +46,21 @@ fn first_word(line: &[u8]) -> Option<(&[u8], &[u8])>
     Some((word, rest))
 }
 
-/// The words of a line; of one with more than any line has, the first ones.
-pub(crate) fn words_in(line: &[u8]) -> ArrayVec<&[u8], MOST_WORDS>
-    ensures words { map (λ word. word.now) result.items ≡ take 22 (grammar.words_in line.now) }
-    ensures short { All (λ word. length word.now ≤ length line.now) result.items }
+/// Puts the words of a line to the front of the room, or the first ones where it has more, and tells how many.
+pub(crate) fn words_in<'a>(line: &'a [u8], room: &mut [&'a [u8]; MOST_WORDS]) -> usize
+    ensures words { map (λ word. word.now) (take result room.new) ≡ take 22 (grammar.words_in line.now) }
+    ensures short { All (λ word. length word.now ≤ length line.now) (take result room.new) }
+    ensures count { (result ≤ 22) × (result ≤ length room.new) }
 {
-    let mut words = ArrayVec::new();
+    let mut count = 0;
     let mut rest = line;
     while let Some((word, after)) = first_word(rest) {
-        if words.is_full() {
+        if count == MOST_WORDS {
             break;
         }
-        words.push(word);
+        room[count] = word;
+        count += 1;
         rest = after;
     }
-    words
+    count
 }

@@ -11,9 +11,10 @@ use Rattle.fl_machine.specs.Script.{Unended, start_line, start_from, start_of, r
 pub record AllRun (lines : List (List ℕ)) : Type 0 where
   pub accepts : (others : List (List ℕ)) → accepted (lines ++ others) ≡ accepted lines ++ accepted others
   pub refuses : (n : ℕ) (others : List (List ℕ)) → first_refused n (lines ++ others) ≡ first_refused (n + length lines) others
+  pub count : length (accepted lines) ≡ length lines
 
 pub all_run-none : AllRun []
-all_run-none = record { accepts = λ others. refl; refuses = λ n others. ap (λ m. first_refused m others) (let e : n ≡ n + 0 = omega arith in e) }
+all_run-none = record { accepts = λ others. refl; refuses = λ n others. ap (λ m. first_refused m others) (let e : n ≡ n + 0 = omega arith in e); count = refl }
 
 accepted-line : (line : List ℕ) (others : List (List ℕ)) (c : Command) → runs line ≡ Some c → accepted (line ∷ others) ≡ c ∷ accepted others
 accepted-line line others c e = ap (λ r. accepted_onto r (accepted others)) e
@@ -36,6 +37,7 @@ all_run-more lines line c h e = record {
       ∙ (h.refuses n (line ∷ others)
       ∙ (refused-line (n + length lines) line others c e
       ∙ ap (λ m. first_refused m others) (let k : n + length lines + 1 ≡ n + length (lines ++ line ∷ []) = omega (arith, length-append lines (line ∷ [])) in k)));
+  count = omega (arith, ap length (accepted-more lines line c h e), length-append (accepted lines) (c ∷ []), length-append lines (line ∷ []), h.count);
 }
 
 -- all of these lines were run

@@ -14,16 +14,16 @@ use Rattle.fl_script.specs.Written.{Written}
 use Rattle.fl_config.proofs.Names.{bytes_equal-other}
 use Rattle.std.proofs.lemmas.Bool.{eq-eqb}
 use Rattle.fl_session.specs.Answer.{Answers}
-use Rattle.fl_session.specs.Cost.{CountsReads}
+use Rattle.fl_session.specs.Cost.{CountsReads, ReadsAsStated}
 use Rattle.fl_session.specs.Execute.{Executes}
 use Rattle.fl_session.proofs.Executing.{executes-by, one-text}
 
 -- the replies were written
 pub executes-answered : (E : Type 0) (config : Config) (old : Machine) (command : Command) (stands : Machine → Type 0) (f g : FlashState) (said : List ℕ) (told told_now : Option (List ℕ)) (result : Result (Unit {0}) E) →
-    Answers config old command stands f.media.faults g.media.faults said → ((moment : Moment) → none_read moment → CountsReads f moment g command) → Written {E = E} told told_now result said →
+    Answers config old command stands f.media.faults g.media.faults said → ((moment : Moment) → none_read moment → CountsReads f moment g command) → ((moment : Moment) → none_read moment → ReadsAsStated config old moment g command) → Written {E = E} told told_now result said →
     Executes config old command stands f g told told_now result
-executes-answered E config old command stands f g said told told_now result a reads w =
-    executes-by E config old command stands f g told told_now result a.moment a.command_is a.step a.stands_after (reads a.moment a.none) a.rose (subst (λ t. Written {E = E} told told_now result t) (sym a.said_is) w)
+executes-answered E config old command stands f g said told told_now result a reads stated w =
+    executes-by E config old command stands f g told told_now result a.moment a.command_is a.step a.stands_after (reads a.moment a.none) (stated a.moment a.none) a.rose (subst (λ t. Written {E = E} told told_now result t) (sym a.said_is) w)
 
 -- a moment that says one thing and reads nothing
 abbrev pub saying : Command → List Reply → Machine → Moment

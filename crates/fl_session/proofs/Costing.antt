@@ -12,7 +12,7 @@ use Rattle.fl_machine.specs.Step.{cost_reply}
 use Rattle.fl_table.specs.declared.table.Table.{Table}
 use Rattle.fl_session.specs.Answer.{Answers}
 use Rattle.fl_session.specs.Cost.{cost_of, HasRead}
-use Rattle.fl_session.specs.declared.cost.Cost.{Cost}
+use Rattle.fl_session.specs.declared.notes.Notes.{Notes}
 use Rattle.fl_session.specs.Standing.{SessionStands}
 use Rattle.fl_session.proofs.Answering.{answers-saying, says}
 
@@ -44,8 +44,8 @@ pub read-none : (f : FlashState) (reads : ℕ) → reads ≡ 0 → HasRead f rea
 read-none f reads none = record { flash = λ _. omega (arith, none); medium = λ _ _. omega (arith, none) }
 
 -- the reply to the question for the cost
-pub cost-answers : (config : Config) (old : Machine) (t : Table) (name : List ℕ) (cost : Cost) (f : FlashState) (mounted : Bool) (faults : ℕ) (said : List ℕ) →
-    SessionStands config t name f mounted cost old → said ≡ text (cost_reply (cost_of cost)) → Answers config old command.Cost (SessionStands config t name f mounted cost) faults faults said
-cost-answers config old t name cost f mounted faults said h is =
+pub cost-answers : (config : Config) (old : Machine) (t : Table) (name : List ℕ) (notes : Notes) (f : FlashState) (mounted : Bool) (faults : ℕ) (said : List ℕ) →
+    SessionStands config t name f mounted notes old → said ≡ text (cost_reply (cost_of notes.cost)) → Answers config old command.Cost (SessionStands config t name f mounted notes) faults faults said
+cost-answers config old t name notes f mounted faults said h is =
     rw (is, ← h.cost_is)
-    (answers-saying config old command.Cost (cost_reply old.cost) old (SessionStands config t name f mounted cost) faults faults (says command.Cost (cost_reply old.cost ∷ []) old) h)
+    (answers-saying config old command.Cost (cost_reply old.cost) old (SessionStands config t name f mounted notes) faults faults (says command.Cost (cost_reply old.cost ∷ []) old) h)

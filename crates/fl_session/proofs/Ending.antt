@@ -1,8 +1,8 @@
 -- How a run ends, from how its configuration was read, how its image was opened and how its commands were run.
-use Rattle.std.proofs.Common.{◌≡◌, ℕ, ◌+◌, ◌≤◌, Bool, true, false, inl, inr, Option, Some, None, List, [], ◌∷◌, ◌++◌, length, take, drop, refl, sym, ◌∙◌, ap, subst, append_assoc, length-append, arith}
+use Rattle.std.proofs.Common.{◌≡◌, ℕ, ◌+◌, ◌<◌, ◌≤◌, Bool, true, false, inl, inr, Option, Some, None, List, [], ◌∷◌, ◌++◌, length, take, drop, refl, sym, ◌∙◌, ap, subst, append_assoc, append-nil, length-append, arith}
 use Rattle.std.specs.Prelude.{if◌then◌else◌, is_some}
 use Rattle.std.proofs.lemmas.Bool.{lt-ltb, le-ltb, ltb-false, ltb-true}
-use Rattle.std.proofs.Math.Seq.{take-append-add, drop-append-add}
+use Rattle.std.proofs.Math.Seq.{take-append-add, drop-append-add, drop-append_seam}
 use Rattle.fl_model.specs.Record.{Config}
 use Rattle.fl_flash.specs.Media.{MediaState}
 use Rattle.fl_words.specs.Command.{Command}
@@ -12,13 +12,16 @@ use Rattle.fl_machine.specs.Script.{Start, Ready, Unended, BadLine, BadConfig, s
 use Rattle.fl_session.specs.Texts.{most_bytes, whole_lines, rest_of, lines_read, lines_within, is_long}
 use Rattle.fl_session.specs.Stream.{LinesState}
 use Rattle.fl_session.specs.Execute.{Around, IsReady, StandsAlike, RanAll, RanPart}
-use Rattle.fl_session.specs.Loop.{Tail, EndsCommands}
+use Rattle.fl_session.specs.Loop.{Tail, TakesTail, TailTakes, lines_in, EndsCommands}
+use Rattle.fl_session.specs.Taken.{HasTaken, TakesFew, TakesLine, TakesBegin, IsUnended, begin_behind}
+use Rattle.std.proofs.lemmas.List.Sums.{sum_by-append}
 use Rattle.fl_script.specs.declared.command.Command as code
 use Rattle.fl_session.specs.Run.{tail_of, RunsFrom, IsOfCommands}
-use Rattle.fl_session.specs.Begin.{AtCommand, AtEnd, EndsBegin, BeginsAt, IsUnended}
+use Rattle.fl_session.specs.Begin.{AtCommand, AtEnd, EndsBegin, BeginsAt}
 use Rattle.fl_session.specs.Ends.{Told, IsUntouched, IsOwn, IsFormed, RunsAll, RunsInto, start_in, EndsEarly, EndsDone, EndsLine, EndsInto, EndsConfig, Ends, IsEarlyBy}
 use Rattle.fl_session.specs.declared.status.Status.{Status}
 use Rattle.fl_session.specs.declared.status.Status.TheVariants.{Done, Line, ScriptRead, OutWrite, Config as BadConfiguration, ScriptLong, NotYet}
+use Rattle.fl_session.proofs.Beginning.{command-takes}
 use Rattle.fl_session.proofs.Running.{ran-none, ran-seen, ran_into-seen}
 use Rattle.fl_session.proofs.Ready.{after-alike}
 
@@ -30,8 +33,8 @@ unended-untouched (BadConfig n) told u h = absurd u
 
 -- the run ends while the configuration is read
 pub ends-in_begin : (knots : ℕ) (text : List ℕ) (left : Option (List ℕ)) (told : Told) (status : Status) → EndsBegin knots text left status → told.left_now ≡ left → IsUntouched told → Ends knots text told status
-ends-in_begin knots text left told (Line n) h e u = subst (λ s. EndsLine s told n) (sym h) (refl, u)
-ends-in_begin knots text left told (BadConfiguration n) h e u = subst (λ s. EndsConfig s told n) (sym h) (refl, u)
+ends-in_begin knots text left told (Line n) h e u = (subst (λ s. EndsLine s told n) (sym h.0) (refl, u), subst (λ l. TakesLine text n l) (sym e) h.1)
+ends-in_begin knots text left told (BadConfiguration n) h e u = (subst (λ s. EndsConfig s told n) (sym h.0) (refl, u), subst (λ l. TakesBegin knots text l) (sym e) h.1)
 ends-in_begin knots text left told ScriptRead h e u = record {
   taken = h.taken;
   within = h.within;
@@ -40,18 +43,21 @@ ends-in_begin knots text left told ScriptRead h e u = record {
   left = e ∙ h.left;
   ends = unended-untouched (start_of knots (whole_lines (take h.taken text))) told h.unended u;
 }
-ends-in_begin knots text left told ScriptLong h e u = (h.0, unended-untouched (start_of knots (lines_read text)) told h.1 u)
-ends-in_begin knots text left told (NotYet n) h e u = record {
-  before = h.before;
-  line = h.line;
-  others = h.others;
-  split = h.split;
-  number_is = h.number_is;
-  command = h.command;
-  reads = h.reads;
-  unbuilt = h.unbuilt;
-  ends = unended-untouched (start_of knots h.before) told h.unended u;
-}
+ends-in_begin knots text left told ScriptLong h e u = (h.0, unended-untouched (start_of knots (lines_read text)) told h.1 u, subst (λ l. HasTaken text (most_bytes + 1) l) (sym e) h.2)
+ends-in_begin knots text left told (NotYet n) h e u = (
+  record {
+    before = h.0.before;
+    line = h.0.line;
+    others = h.0.others;
+    split = h.0.split;
+    number_is = h.0.number_is;
+    command = h.0.command;
+    reads = h.0.reads;
+    unbuilt = h.0.unbuilt;
+    ends = unended-untouched (start_of knots h.0.before) told h.0.unended u;
+  },
+  subst (λ l. TakesLine text n l) (sym e) h.1,
+)
 ends-in_begin knots text left told status h e u = absurd h
 
 start-of_lines : (knots : ℕ) (text : List ℕ) (now : Lines) (number : ℕ) (state : LinesState) (left_now : Option (List ℕ)) (config : Config) →
@@ -73,8 +79,8 @@ pub start-at_command : (knots : ℕ) (text : List ℕ) (now : Lines) (number : �
 start-at_command knots text now number state left_now config a w =
     in-of_lines knots text config number (state.line ∷ lines_within state.most (state.ahead ++ a.left)) (start-of_lines knots text now number state left_now config a w)
 
-pub start-at_end : (knots : ℕ) (text : List ℕ) (now : Lines) (number : ℕ) (config : Config) → AtEnd knots text now number → whole knots now ≡ Some config → start_in knots text ≡ Ready config number []
-start-at_end knots text now number config a w =
+pub start-at_end : (knots : ℕ) (text : List ℕ) (now : Lines) (number : ℕ) (left_now : Option (List ℕ)) (config : Config) → AtEnd knots text now number left_now → whole knots now ≡ Some config → start_in knots text ≡ Ready config number []
+start-at_end knots text now number left_now config a w =
     ap (λ b. if b then start_of knots (lines_read text) else ended (start_of knots (lines_read text))) (le-ltb most_bytes (length text) a.short)
     ∙ (ap ended a.starts ∙ ap (λ x. start_with x number []) w)
 
@@ -101,6 +107,7 @@ ran-earlier config old commands stands before mid now told told_now e h = record
   commands_are = h.commands_are;
   run = h.run;
   stands_after = h.stands_after;
+  reads = h.reads;
   rose = rose-earlier _ before mid now e h.rose;
   found = h.found;
   told_all = h.told_all;
@@ -113,6 +120,7 @@ ran_into-earlier config old commands stands before mid now told told_now e h = r
   commands_are = h.commands_are;
   run = h.run;
   stands_after = h.stands_after;
+  reads = h.reads;
   rose = rose-earlier _ before mid now e h.rose;
   found = h.found;
   before = h.before;
@@ -167,15 +175,68 @@ taken-whole knots text now number state left_now n a o = (
   ap (drop (length a.given.front + n)) (a.given.split o) ∙ drop-append-add a.given.front (state.ahead ++ a.left) n,
 )
 
+-- what was taken of the text of a tail is taken of the whole text
+tail-few : (knots : ℕ) (text : List ℕ) (now : Lines) (number : ℕ) (state : LinesState) (left_now : Option (List ℕ)) (before others : List (List ℕ)) (left : Option (List ℕ)) →
+    (a : AtCommand knots text now number state left_now) → lines_in (tail_of number state a.left) ≡ before ++ others → TakesTail (tail_of number state a.left) before left → TakesFew text (a.before ++ before) left
+tail-few knots text now number state left_now [] others left a split h =
+    let same : left ≡ left_now = h ∙ (ap Some (drop-append_seam state.ahead a.left) ∙ sym a.left_is) in
+    subst (λ ls. TakesFew text ls left) (sym (append-nil a.before)) (subst (λ l. TakesFew text a.before l) (sym same) a.few)
+tail-few knots text now number state left_now (first ∷ given) others left a split h =
+    let rest = state.ahead ++ a.left in
+    let first_is : state.line ≡ first = same_head split in
+    let behind : begin_behind (a.before ++ first ∷ given) ≡ begin_behind (a.before ++ state.line ∷ []) + begin_behind given =
+    ap begin_behind (sym (append_assoc a.before (first ∷ []) given) ∙ ap (λ l. (a.before ++ l ∷ []) ++ given) (sym first_is)) ∙ sum_by-append (λ (l : List ℕ). length l + 1) (a.before ++ state.line ∷ []) given in
+    record {
+      taken = length a.given.begin + h.taken;
+      within = omega (arith, h.within, ap length a.given.parts, length-append a.given.begin rest);
+      few = omega (arith, h.few, a.given.size, behind);
+      left = h.left ∙ ap Some (sym (ap (drop (length a.given.begin + h.taken)) a.given.parts ∙ drop-append-add a.given.begin rest h.taken));
+    }
+  where
+    same_head : {x y : List ℕ} {xs ys : List (List ℕ)} → x ∷ xs ≡ y ∷ ys → x ≡ y
+    same_head e = cc
+
+tail-line : (knots : ℕ) (text : List ℕ) (now : Lines) (number : ℕ) (state : LinesState) (left_now : Option (List ℕ)) (n : ℕ) (left : Option (List ℕ)) →
+    (a : AtCommand knots text now number state left_now) → TailTakes (tail_of number state a.left) n left → TakesLine text n left
+tail-line knots text now number state left_now n left a h = record {
+  before = a.before ++ h.before;
+  others = h.others;
+  split =
+      a.given.lines
+      ∙ (append_assoc a.before (state.line ∷ []) (lines_within state.most (state.ahead ++ a.left))
+      ∙ (ap (λ ls. a.before ++ ls) h.split ∙ sym (append_assoc a.before h.before h.others)));
+  number_is = omega (arith, h.number_is, a.numbered, length-append a.before h.before);
+  few = tail-few knots text now number state left_now h.before h.others left a h.split h.few;
+}
+
+-- .. where it is too long
+tail-over : (knots : ℕ) (text : List ℕ) (now : Lines) (number : ℕ) (state : LinesState) (left_now : Option (List ℕ)) (left : Option (List ℕ)) →
+    (a : AtCommand knots text now number state left_now) → state.most < length (state.ahead ++ a.left) → HasTaken (state.ahead ++ a.left) (state.most + 1) left → HasTaken text (most_bytes + 1) left
+tail-over knots text now number state left_now left a more h =
+    let rest = state.ahead ++ a.left in
+    let o : state.closed ≡ false = still-open state.closed (λ c. omega (arith, more, ap length (a.given.ended c))) in
+    let same : length a.given.begin ≡ length a.given.front = omega (arith, ap length a.given.parts, length-append a.given.begin rest, ap length (a.given.split o), length-append a.given.front rest) in
+    record {
+      taken = length a.given.begin + h.taken;
+      within = omega (arith, h.within, ap length a.given.parts, length-append a.given.begin rest);
+      few = omega (arith, h.few, a.given.bytes o, same);
+      left = h.left ∙ ap Some (sym (ap (drop (length a.given.begin + h.taken)) a.given.parts ∙ drop-append-add a.given.begin rest h.taken));
+    }
+  where
+    still-open : (b : Bool) → (b ≡ true → ⊥) → b ≡ false
+    still-open true h = absurd (h refl)
+    still-open false h = refl
+
 pub ends-of_commands : (knots : ℕ) (text : List ℕ) (now : Lines) (number : ℕ) (state : LinesState) (left_now : Option (List ℕ)) (config : Config) (told : Told) (around : Around) (stands stands_now : Machine → Type 0) (status : Status) →
     (a : AtCommand knots text now number state left_now) → whole knots now ≡ Some config → Over config told around stands stands_now →
     EndsCommands (tail_of number state a.left) told.left_now around stands stands_now status → Ends knots text told status
 ends-of_commands knots text now number state left_now config told around stands stands_now Done a w o h = (
   ltb-false most_bytes (length text) (a.given.long ∙ le-ltb state.most (length (state.ahead ++ a.left)) h.0),
   subst (λ s. EndsDone s told) (sym (start-at_command knots text now number state left_now config a w)) (h.1.accepts, runs-all config told around stands stands_now _ o h.1.runs),
+  h.2,
 )
 ends-of_commands knots text now number state left_now config told around stands stands_now (Line n) a w o h =
-    subst (λ s. EndsLine s told n) (sym (start-at_command knots text now number state left_now config a w)) (h.refuses, runs-all config told around stands stands_now _ o h.runs)
+    (subst (λ s. EndsLine s told n) (sym (start-at_command knots text now number state left_now config a w)) (h.0.refuses, runs-all config told around stands stands_now _ o h.0.runs), tail-line knots text now number state left_now n told.left_now a h.1)
 ends-of_commands knots text now number state left_now config told around stands stands_now ScriptRead a w o h =
     let t = taken-whole knots text now number state left_now h.taken a h.is_open in
     let count : length text ≡ length a.given.front + length (state.ahead ++ a.left) = ap length (a.given.split h.is_open) ∙ length-append a.given.front (state.ahead ++ a.left) in
@@ -194,36 +255,49 @@ ends-of_commands knots text now number state left_now config told around stands 
           (h.accepts, runs-all config told around stands stands_now _ o h.runs);
     }
 ends-of_commands knots text now number state left_now config told around stands stands_now OutWrite a w o h =
-    subst (λ s. EndsInto s told) (sym (start-at_command knots text now number state left_now config a w)) (h.commands, h.others, h.split, runs-into config told around stands stands_now h.commands o h.runs)
+    subst (λ s. EndsInto text s told) (sym (start-at_command knots text now number state left_now config a w))
+    (record {
+      commands = h.commands;
+      others = h.others;
+      split = h.split;
+      runs = runs-into config told around stands stands_now h.commands o h.runs;
+      number = h.number;
+      number_is = h.number_is;
+      takes = tail-line knots text now number state left_now h.number told.left_now a h.takes;
+    })
 ends-of_commands knots text now number state left_now config told around stands stands_now ScriptLong a w o h = (
   ltb-true most_bytes (length text) (a.given.long ∙ lt-ltb state.most (length (state.ahead ++ a.left)) h.0),
   subst (λ s. EndsEarly s told) (sym (start-of_lines knots text now number state left_now config a w)) (h.1.accepts, runs-all config told around stands stands_now _ o h.1.runs),
+  tail-over knots text now number state left_now told.left_now a h.0 h.2,
 )
-ends-of_commands knots text now number state left_now config told around stands stands_now (NotYet n) a w o h = record {
-  before = a.before ++ state.line ∷ h.before;
-  line = h.line;
-  others = h.others;
-  split =
-      a.given.lines
-      ∙ (append_assoc a.before (state.line ∷ []) (lines_within state.most (state.ahead ++ a.left))
-      ∙ (ap (λ ls. a.before ++ ls) h.split ∙ sym (append_assoc a.before (state.line ∷ h.before) (h.line ∷ h.others))));
-  number_is = omega (arith, h.number_is, a.numbered, length-append a.before (state.line ∷ h.before));
-  command = h.unbuilt.command;
-  reads = h.unbuilt.reads;
-  unbuilt = inl h.unbuilt.unbuilt;
-  ends =
-      subst (λ s. EndsEarly s told) (sym (start-behind knots text now number state left_now config h.before a w))
-      (h.accepts, runs-all config told around stands stands_now _ o h.runs);
-}
+ends-of_commands knots text now number state left_now config told around stands stands_now (NotYet n) a w o h = (
+  record {
+    before = a.before ++ state.line ∷ h.0.before;
+    line = h.0.line;
+    others = h.0.others;
+    split =
+        a.given.lines
+        ∙ (append_assoc a.before (state.line ∷ []) (lines_within state.most (state.ahead ++ a.left))
+        ∙ (ap (λ ls. a.before ++ ls) h.0.split ∙ sym (append_assoc a.before (state.line ∷ h.0.before) (h.0.line ∷ h.0.others))));
+    number_is = omega (arith, h.0.number_is, a.numbered, length-append a.before (state.line ∷ h.0.before));
+    command = h.0.unbuilt.command;
+    reads = h.0.unbuilt.reads;
+    unbuilt = inl h.0.unbuilt.unbuilt;
+    ends =
+        subst (λ s. EndsEarly s told) (sym (start-behind knots text now number state left_now config h.0.before a w))
+        (h.0.accepts, runs-all config told around stands stands_now _ o h.0.runs);
+  },
+  tail-line knots text now number state left_now n told.left_now a h.1,
+)
 ends-of_commands knots text now number state left_now config told around stands stands_now status a w o h = absurd h
 
 -- a script without commands
-pub ends-empty : (knots : ℕ) (text : List ℕ) (now : Lines) (number : ℕ) (config : Config) (told : Told) → AtEnd knots text now number → whole knots now ≡ Some config →
+pub ends-empty : (knots : ℕ) (text : List ℕ) (now : Lines) (number : ℕ) (config : Config) (told : Told) (left : Option (List ℕ)) → AtEnd knots text now number left → told.left_now ≡ left → whole knots now ≡ Some config →
     IsOwn config told.content → IsFormed config told.content_now → ((old : Machine) → StandsFor config told.content old → StandsAfter config (Some told.content_now) old) → told.faults ≤ told.faults_now → told.written_now ≡ told.written →
     Ends knots text told Done
-ends-empty knots text now number config told a w own formed stands later written = (
+ends-empty knots text now number config told left a same w own formed stands later written = (
   a.short,
-  subst (λ s. EndsDone s told) (sym (start-at_end knots text now number config a w)) (
+  subst (λ s. EndsDone s told) (sym (start-at_end knots text now number left config a w)) (
     refl,
     record {
       own = own;
@@ -234,6 +308,7 @@ ends-empty knots text now number config told a w own formed stands later written
           (ran-none config old (StandsAfter config (Some told.content_now)) told.faults_now told.written (stands old s)));
     },
   ),
+  same ∙ a.nothing,
 )
 
 all-seen : (around : Around) (s s' r r' : Machine → Type 0) (commands : List Command) → ((m : Machine) → r m → s m) → ((m : Machine) → s' m → r' m) → RanAll around s s' commands → RanAll around r r' commands
@@ -243,33 +318,39 @@ all-seen around s s' r r' commands f g h old k ready =
 -- the same commands, seen through other relations to the states before and after them
 commands-seen : (tail : Tail) (left : Option (List ℕ)) (around : Around) (s s' r r' : Machine → Type 0) (status : Status) → ((m : Machine) → r m → s m) → ((m : Machine) → s' m → r' m) →
     EndsCommands tail left around s s' status → EndsCommands tail left around r r' status
-commands-seen tail left around s s' r r' Done f g h = (h.0, record { accepts = h.1.accepts; runs = all-seen around s s' r r' _ f g h.1.runs })
-commands-seen tail left around s s' r r' (Line n) f g h = record { refuses = h.refuses; runs = all-seen around s s' r r' _ f g h.runs }
+commands-seen tail left around s s' r r' Done f g h = (h.0, record { accepts = h.1.accepts; runs = all-seen around s s' r r' _ f g h.1.runs }, h.2)
+commands-seen tail left around s s' r r' (Line n) f g h = (record { refuses = h.0.refuses; runs = all-seen around s s' r r' _ f g h.0.runs }, h.1)
 commands-seen tail left around s s' r r' ScriptRead f g h =
     record { is_open = h.is_open; taken = h.taken; within = h.within; few = h.few; short = h.short; left = h.left; accepts = h.accepts; runs = all-seen around s s' r r' _ f g h.runs }
 commands-seen tail left around s s' r r' OutWrite f g h = record {
   commands = h.commands;
   others = h.others;
   split = h.split;
+  number = h.number;
+  number_is = h.number_is;
+  takes = h.takes;
   runs = λ old k ready.
       ran_into-seen around.config old h.commands (StandsAlike s') (StandsAlike r') around.faults around.faults_now around.told around.told_now (λ m a. (a.0, g a.0 a.1, a.2)) (h.runs old (f old k) ready);
 }
-commands-seen tail left around s s' r r' ScriptLong f g h = (h.0, record { accepts = h.1.accepts; runs = all-seen around s s' r r' _ f g h.1.runs })
-commands-seen tail left around s s' r r' (NotYet n) f g h = record {
-  before = h.before;
-  line = h.line;
-  others = h.others;
-  split = h.split;
-  number_is = h.number_is;
-  unbuilt = h.unbuilt;
-  accepts = h.accepts;
-  runs = all-seen around s s' r r' _ f g h.runs;
-}
+commands-seen tail left around s s' r r' ScriptLong f g h = (h.0, record { accepts = h.1.accepts; runs = all-seen around s s' r r' _ f g h.1.runs }, h.2)
+commands-seen tail left around s s' r r' (NotYet n) f g h = (
+  record {
+    before = h.0.before;
+    line = h.0.line;
+    others = h.0.others;
+    split = h.0.split;
+    number_is = h.0.number_is;
+    unbuilt = h.0.unbuilt;
+    accepts = h.0.accepts;
+    runs = all-seen around s s' r r' _ f g h.0.runs;
+  },
+  h.1,
+)
 commands-seen tail left around s s' r r' status f g h = absurd h
 
 pub runs-seen : (first : Option code.Command) (number : ℕ) (state : LinesState) (left left_now : Option (List ℕ)) (around : Around) (s s' r r' : Machine → Type 0) (status : Status) → ((m : Machine) → r m → s m) → ((m : Machine) → s' m → r' m) →
     RunsFrom first number state left left_now around s s' status → RunsFrom first number state left left_now around r r' status
-runs-seen None number state left left_now around s s' r r' status f g h = record { done = h.done; written = h.written; goes_on = λ m k. g m (h.goes_on m (f m k)) }
+runs-seen None number state left left_now around s s' r r' status f g h = record { done = h.done; untaken = h.untaken; written = h.written; goes_on = λ m k. g m (h.goes_on m (f m k)) }
 runs-seen (Some first) number state left left_now around s s' r r' status f g h = λ l e ended. commands-seen (tail_of number state l) left_now around s s' r r' status f g (h l e ended)
 
 -- how a run ends over an image that was opened
@@ -278,15 +359,20 @@ pub ends-of_run : (knots : ℕ) (text : List ℕ) (now : Lines) (first : Option 
     RunsFrom first number state left told.left_now around stands stands_now status → Ends knots text told status
 ends-of_run knots text now None number state left config told around stands stands_now status a w o later h =
     subst (λ s. Ends knots text told s) (sym h.done)
-    (ends-empty knots text now number config told a w o.own o.formed (λ old s. o.ends old (h.goes_on old (o.begins old s).0)) later (sym o.written_now ∙ (h.written ∙ o.written)))
+    (ends-empty knots text now number config told left a h.untaken w o.own o.formed (λ old s. o.ends old (h.goes_on old (o.begins old s).0)) later (sym o.written_now ∙ (h.written ∙ o.written)))
 ends-of_run knots text now (Some first) number state left config told around stands stands_now status a w o later h =
     ends-of_commands knots text now number state left config told around stands stands_now status a w o (h a.left a.left_is a.given.ended)
 
 -- the configuration is ready
 pub begins-ready : (knots : ℕ) (text : List ℕ) (now : Lines) (first : Option code.Command) (number : ℕ) (state : LinesState) (left : Option (List ℕ)) (config : Config) → BeginsAt knots text now first number state left → whole knots now ≡ Some config →
     (n : ℕ) × (lines : List (List ℕ)) × (start_in knots text ≡ Ready config n lines)
-begins-ready knots text now None number state left config a w = (number, [], start-at_end knots text now number config a w)
+begins-ready knots text now None number state left config a w = (number, [], start-at_end knots text now number left config a w)
 begins-ready knots text now (Some first) number state left config a w = (number, state.line ∷ lines_within state.most (state.ahead ++ a.left), start-at_command knots text now number state left config a w)
+
+-- what was taken then
+pub begins-takes : (knots : ℕ) (text : List ℕ) (now : Lines) (first : Option code.Command) (number : ℕ) (state : LinesState) (left : Option (List ℕ)) → BeginsAt knots text now first number state left → TakesBegin knots text left
+begins-takes knots text now None number state left a = a.takes
+begins-takes knots text now (Some first) number state left a = command-takes knots text now number state left a
 
 pub some-of : {X : Type 0} (o : Option X) → is_some o ≡ true → (x : X) × (o ≡ Some x)
 some-of None e = cc

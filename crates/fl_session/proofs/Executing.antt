@@ -8,17 +8,17 @@ use Rattle.fl_words.specs.Reply.{Reply, text, texts}
 use Rattle.fl_machine.specs.Machine.{Machine}
 use Rattle.fl_machine.specs.Step.{Moment, Step}
 use Rattle.fl_script.specs.Written.{Written}
-use Rattle.fl_session.specs.Cost.{CountsReads}
+use Rattle.fl_session.specs.Cost.{CountsReads, ReadsAsStated}
 use Rattle.fl_session.specs.Execute.{Executes, IsAlike}
 
 pub alike-same : (m : Machine) → IsAlike m m
-alike-same m = record { tables = refl; mounted = refl; device = refl }
+alike-same m = record { cost = refl; tables = refl; mounted = refl; device = refl }
 
 -- a step whose replies were written
 pub executes-by : (E : Type 0) (config : Config) (old : Machine) (command : Command) (stands : Machine → Type 0) (f g : FlashState) (told told_now : Option (List ℕ)) (result : Result (Unit {0}) E) (moment : Moment) →
-    moment.command ≡ command → Step config old moment → stands moment.after → CountsReads f moment g command → (IsTrue moment.rose → Rose f.media.faults g.media.faults) → Written {E = E} told told_now result (texts moment.replies) →
+    moment.command ≡ command → Step config old moment → stands moment.after → CountsReads f moment g command → ReadsAsStated config old moment g command → (IsTrue moment.rose → Rose f.media.faults g.media.faults) → Written {E = E} told told_now result (texts moment.replies) →
     Executes config old command stands f g told told_now result
-executes-by E config old command stands f g told told_now (Ok done) moment is step s reads rose w = record {
+executes-by E config old command stands f g told told_now (Ok done) moment is step s reads stated rose w = record {
   moment = moment;
   command_is = is;
   step = step;
@@ -27,11 +27,12 @@ executes-by E config old command stands f g told told_now (Ok done) moment is st
   alike = alike-same moment.after;
   same = refl;
   reads = reads;
+  stated = stated;
   rose = rose;
   told_all = w;
   told_front = tt;
 }
-executes-by E config old command stands f g told told_now (Err e) moment is step s reads rose w = record {
+executes-by E config old command stands f g told told_now (Err e) moment is step s reads stated rose w = record {
   moment = moment;
   command_is = is;
   step = step;
@@ -40,6 +41,7 @@ executes-by E config old command stands f g told told_now (Err e) moment is step
   alike = alike-same moment.after;
   same = tt;
   reads = reads;
+  stated = stated;
   rose = rose;
   told_all = tt;
   told_front = w;

@@ -33,5 +33,8 @@ pub mod RowLines
 pub mod PagesListed
 pub mod Scanned
 pub mod Scanning
+pub mod Getting
+pub mod Lookups
 pub mod LoadLines
 pub mod RangeEnds
+pub mod CursorsOf

@@ -29,7 +29,7 @@ use Rattle.fl_table.specs.Outcomes.{FaultEnds, PutEnds}
 use Rattle.fl_table.specs.Standing.{Stands}
 use Rattle.fl_session.specs.Answer.{Answers, fault_reply, load_replies}
 use Rattle.fl_session.specs.Load.{load_key}
-use Rattle.fl_session.specs.declared.cost.Cost.{Cost}
+use Rattle.fl_session.specs.declared.notes.Notes.{Notes}
 use Rattle.fl_session.specs.Standing.{SessionStands}
 use Rattle.fl_session.proofs.Answering.{step-is, table-step, located-own}
 use Rattle.fl_session.proofs.Working.{has_risen, risen-rose, performs-all, stands-done, stands-broken, last_of}
@@ -39,16 +39,16 @@ abbrev pub amid : Machine → Device → List model.Table → Machine
 amid old device tables = record old { device = device; tables = tables }
 
 -- So many records were put, and what the rest of the load is to the machine, the whole is.
-pub record LoadedSoFar (config : Config) (name : List ℕ) (cost : Cost) (old : Machine) (t : Table) (f : FlashState) (rose : Bool) (count step seed loaded random : ℕ) : Type 0 where
+pub record LoadedSoFar (config : Config) (name : List ℕ) (notes : Notes) (old : Machine) (t : Table) (f : FlashState) (rose : Bool) (count step seed loaded random : ℕ) : Type 0 where
   pub device : Device
   pub tables : List model.Table
-  pub stands : SessionStands config t name f true cost (amid old device tables)
+  pub stands : SessionStands config t name f true notes (amid old device tables)
   pub whole : (moment : Moment) → moment.rose ≡ rose → LoadsFrom config old moment stands.plan 0 step seed (count - loaded) (loaded + 1) random loaded device tables →
       LoadsFrom config old moment stands.plan 0 step seed count 1 (next_random seed) 0 old.device old.tables
 
-pub loaded-none : (config : Config) (name : List ℕ) (cost : Cost) (old : Machine) (t : Table) (f : FlashState) (rose : Bool) (count step seed random : ℕ) → random ≡ next_random seed → SessionStands config t name f true cost old →
-    LoadedSoFar config name cost old t f rose count step seed 0 random
-loaded-none config name cost old t f rose count step seed random e h = record {
+pub loaded-none : (config : Config) (name : List ℕ) (notes : Notes) (old : Machine) (t : Table) (f : FlashState) (rose : Bool) (count step seed random : ℕ) → random ≡ next_random seed → SessionStands config t name f true notes old →
+    LoadedSoFar config name notes old t f rose count step seed 0 random
+loaded-none config name notes old t f rose count step seed random e h = record {
   device = old.device;
   tables = old.tables;
   stands = h;
@@ -92,8 +92,8 @@ one-plan : (plans : List Plan) (a b : Plan) → plans ≡ a ∷ [] → plans ≡
 one-plan plans a b e k = cc
 
 -- what is watched in one put of a load
-pub put-watched : (config : Config) (t : Table) (name : List ℕ) (cost : Cost) (f g : FlashState) (m : Machine) (rose : Bool) → SessionStands config t name f true cost m → (Rose f.media.faults g.media.faults → IsTrue rose) → IsWatched f g rose m.device
-put-watched config t name cost f g m rose h risen = record { told = h.medium.told; on = h.power refl; risen = risen; counts = h.device }
+pub put-watched : (config : Config) (t : Table) (name : List ℕ) (notes : Notes) (f g : FlashState) (m : Machine) (rose : Bool) → SessionStands config t name f true notes m → (Rose f.media.faults g.media.faults → IsTrue rose) → IsWatched f g rose m.device
+put-watched config t name notes f g m rose h risen = record { told = h.medium.told; on = h.power refl; risen = risen; counts = h.device }
 
 -- faults that rose in a part of a load rose in the whole
 pub rose-front : (before mid now : ℕ) → mid ≤ now → Rose before mid → Rose before now
@@ -106,11 +106,11 @@ pub rose-back : (before mid now : ℕ) → before ≤ mid → Rose mid now → R
 rose-back before mid now earlier r = omega arith
 
 -- a load that ended so
-ends-load : (config : Config) (name : List ℕ) (cost : Cost) (old : Machine) (t u : Table) (f g : FlashState) (count step seed : ℕ) (mounted : Bool) (plan : Plan) (moment : Moment) →
-    SessionStands config t name f true cost old → moment.command ≡ command.Load name count step seed → moment.rose ≡ has_risen f g → none_read moment → config.plans ≡ plan ∷ [] →
-    LoadsFrom config old moment plan 0 step seed count 1 (next_random seed) 0 old.device old.tables → SessionStands config u name g mounted cost moment.after →
-    Answers config old (command.Load name count step seed) (SessionStands config u name g mounted cost) f.media.faults g.media.faults (texts moment.replies)
-ends-load config name cost old t u f g count step seed mounted plan moment h is rose none plans loads stands =
+ends-load : (config : Config) (name : List ℕ) (notes : Notes) (old : Machine) (t u : Table) (f g : FlashState) (count step seed : ℕ) (mounted : Bool) (plan : Plan) (moment : Moment) →
+    SessionStands config t name f true notes old → moment.command ≡ command.Load name count step seed → moment.rose ≡ has_risen f g → none_read moment → config.plans ≡ plan ∷ [] →
+    LoadsFrom config old moment plan 0 step seed count 1 (next_random seed) 0 old.device old.tables → SessionStands config u name g mounted notes moment.after →
+    Answers config old (command.Load name count step seed) (SessionStands config u name g mounted notes) f.media.faults g.media.faults (texts moment.replies)
+ends-load config name notes old t u f g count step seed mounted plan moment h is rose none plans loads stands =
     let at : Located = record { place = 0; plan = h.plan; table = h.table } in
     let own = located-own config old h.plan h.table name h.plans h.tables h.named in
     let load : LoadStep config old moment count step seed at = subst (λ p. LoadsFrom config old moment p 0 step seed count 1 (next_random seed) 0 old.device old.tables) (one-plan config.plans plan h.plan plans h.plans) loads in
@@ -125,14 +125,14 @@ ends-load config name cost old t u f g count step seed mounted plan moment h is 
     }
 
 -- all records were put
-pub load-finished : (config : Config) (name : List ℕ) (cost : Cost) (old : Machine) (t u : Table) (f g : FlashState) (count step seed loaded random : ℕ) → SessionStands config t name f true cost old → loaded ≡ count →
-    LoadedSoFar config name cost old u g (has_risen f g) count step seed loaded random →
-    Answers config old (command.Load name count step seed) (SessionStands config u name g true cost) f.media.faults g.media.faults (texts (load_replies count (Ok tt)))
-load-finished config name cost old t u f g count step seed loaded random h e so_far =
+pub load-finished : (config : Config) (name : List ℕ) (notes : Notes) (old : Machine) (t u : Table) (f g : FlashState) (count step seed loaded random : ℕ) → SessionStands config t name f true notes old → loaded ≡ count →
+    LoadedSoFar config name notes old u g (has_risen f g) count step seed loaded random →
+    Answers config old (command.Load name count step seed) (SessionStands config u name g true notes) f.media.faults g.media.faults (texts (load_replies count (Ok tt)))
+load-finished config name notes old t u f g count step seed loaded random h e so_far =
     let moment : Moment = record { command = command.Load name count step seed; rose = has_risen f g; reads = 0; last = None; replies = reply.Loaded count ∷ []; after = amid old so_far.device so_far.tables } in
     let ended : LoadsFrom config old moment so_far.stands.plan 0 step seed 0 (loaded + 1) random loaded so_far.device so_far.tables = record { replies_are = ap (λ n. reply.Loaded n ∷ []) (sym e); after_is = refl; last_is = refl } in
     let loads = so_far.whole moment refl (subst (λ turns. LoadsFrom config old moment so_far.stands.plan 0 step seed turns (loaded + 1) random loaded so_far.device so_far.tables) (let k : 0 ≡ count - loaded = omega arith in k) ended) in
-    ends-load config name cost old t u f g count step seed true so_far.stands.plan moment h refl refl refl so_far.stands.plans loads so_far.stands
+    ends-load config name notes old t u f g count step seed true so_far.stands.plan moment h refl refl refl so_far.stands.plans loads so_far.stands
 
 -- an operation of a put failed
 abbrev stopped_so : Machine → Command → Bool → ℕ → List model.Table → PartProgress model.Table → FlashFault → Moment
@@ -152,8 +152,8 @@ stops-load old c rose loaded tables now fault g others (CutIn before) k h = reco
 stops-load old c rose loaded tables now fault g others (FailedIn before) k h = record { replies_are = ap (λ x. reply.Loaded loaded ∷ fault_reply x ∷ []) h.0; after_is = refl; last_is = ap (last_of tables) k }
 
 -- One put of a load.
-module _ (config : Config) (name : List ℕ) (cost : Cost) (old : Machine) (t u : Table) (f g : FlashState) (rose : Bool) (count step seed loaded random : ℕ)
-    (so_far : LoadedSoFar config name cost old t f rose count step seed loaded random) (left : loaded < count) (goes : Goes f g) (same : IsSamePlan t u) where
+module _ (config : Config) (name : List ℕ) (notes : Notes) (old : Machine) (t u : Table) (f g : FlashState) (rose : Bool) (count step seed loaded random : ℕ)
+    (so_far : LoadedSoFar config name notes old t f rose count step seed loaded random) (left : loaded < count) (goes : Goes f g) (same : IsSamePlan t u) where
   abbrev item : Record
   item = load_record so_far.stands.plan so_far.stands.table step seed (loaded + 1) random
 
@@ -170,15 +170,15 @@ module _ (config : Config) (name : List ℕ) (cost : Cost) (old : Machine) (t u 
       let h = so_far.stands in
       subst (λ r. PutEnds 0 h.plan r h.table rose so_far.device result u g)
       (made-is t f h.plan h.table step seed (loaded + 1) random key values last h.on_flash (told f 0 h.plan h.table h.on_flash) k v)
-      (ends 0 h.plan h.table rose so_far.device (put-watched config t name cost f g (amid old so_far.device so_far.tables) rose h risen) h.on_flash)
+      (ends 0 h.plan h.table rose so_far.device (put-watched config t name notes f g (amid old so_far.device so_far.tables) rose h risen) h.on_flash)
 
   -- it was done
-  pub loaded-more : EndsNext (Ok tt) → LoadedSoFar config name cost old u g rose count step seed (loaded + 1) (next_random random)
+  pub loaded-more : EndsNext (Ok tt) → LoadedSoFar config name notes old u g rose count step seed (loaded + 1) (next_random random)
   loaded-more ends =
       let h = so_far.stands in
       let fin = ends.1 in
       let after = changed_at 0 (put_record h.plan item) so_far.tables in
-      let stands : SessionStands config u name g true cost (amid old fin.now.device after) = stands-done config (amid old so_far.device so_far.tables) name cost t u f g h goes same (put_record h.plan item) fin.now.device fin.counts fin.power fin.stands in
+      let stands : SessionStands config u name g true notes (amid old fin.now.device after) = stands-done config (amid old so_far.device so_far.tables) name notes t u f g h goes same (put_record h.plan item) fin.now.device fin.counts fin.power fin.stands in
       record {
         device = fin.now.device;
         tables = after;
@@ -206,8 +206,8 @@ module _ (config : Config) (name : List ℕ) (cost : Cost) (old : Machine) (t u 
       ok k = cc
 
   -- it was refused, or an operation of it failed
-  pub load-broken : (start : Table) (before : FlashState) (fault : FlashFault) → SessionStands config start name before true cost old → rose ≡ has_risen before g → EndsNext (Err (put.Flash fault)) →
-      Answers config old (command.Load name count step seed) (SessionStands config u name g false cost) before.media.faults g.media.faults (texts (load_replies loaded (Err (put.Flash fault))))
+  pub load-broken : (start : Table) (before : FlashState) (fault : FlashFault) → SessionStands config start name before true notes old → rose ≡ has_risen before g → EndsNext (Err (put.Flash fault)) →
+      Answers config old (command.Load name count step seed) (SessionStands config u name g false notes) before.media.faults g.media.faults (texts (load_replies loaded (Err (put.Flash fault))))
   load-broken start before fault first risen ends =
       let h = so_far.stands in
       let b = ends.1 in
@@ -217,21 +217,21 @@ module _ (config : Config) (name : List ℕ) (cost : Cost) (old : Machine) (t u 
       let loads = so_far.whole moment refl
       (loads-next config old moment h.plan step seed count loaded random so_far.device so_far.tables h.table None left h.tables ends.0
       (progress_at 0 so_far.tables b.now, does, stops-load old (command.Load name count step seed) rose loaded so_far.tables b.now fault g others b.now.end refl b.answer)) in
-      ends-load config name cost old start u before g count step seed false h.plan moment first refl risen refl h.plans loads
-      (stands-broken config (amid old so_far.device so_far.tables) name cost t u f g h goes same b.now.state b.now.device b.counts b.rests)
+      ends-load config name notes old start u before g count step seed false h.plan moment first refl risen refl h.plans loads
+      (stands-broken config (amid old so_far.device so_far.tables) name notes t u f g h goes same b.now.state b.now.device b.counts b.rests)
 
-  load-refused : (start : Table) (before : FlashState) (refusal : Refusal) → SessionStands config start name before true cost old → rose ≡ has_risen before g → u ≡ t → g ≡ f → refusal_of so_far.stands.plan so_far.stands.table item ≡ Some refusal →
-      Answers config old (command.Load name count step seed) (SessionStands config u name g true cost) before.media.faults g.media.faults (texts (reply.Loaded loaded ∷ refused refusal ∷ []))
+  load-refused : (start : Table) (before : FlashState) (refusal : Refusal) → SessionStands config start name before true notes old → rose ≡ has_risen before g → u ≡ t → g ≡ f → refusal_of so_far.stands.plan so_far.stands.table item ≡ Some refusal →
+      Answers config old (command.Load name count step seed) (SessionStands config u name g true notes) before.media.faults g.media.faults (texts (reply.Loaded loaded ∷ refused refusal ∷ []))
   load-refused start before refusal first risen e k is =
       let h = so_far.stands in
       let moment : Moment = record { command = command.Load name count step seed; rose = rose; reads = 0; last = None; replies = reply.Loaded loaded ∷ refused refusal ∷ []; after = amid old so_far.device so_far.tables } in
       let loads = so_far.whole moment refl
       (loads-next config old moment h.plan step seed count loaded random so_far.device so_far.tables h.table (Some refusal) left h.tables is (record { replies_are = refl; after_is = refl; last_is = refl })) in
-      ends-load config name cost old start u before g count step seed true h.plan moment first refl risen refl h.plans loads (rw (e, k) h)
+      ends-load config name notes old start u before g count step seed true h.plan moment first refl risen refl h.plans loads (rw (e, k) h)
 
-  pub load-stopped : (start : Table) (before : FlashState) (result : Result (Unit {0}) PutRefusal) → SessionStands config start name before true cost old → rose ≡ has_risen before g → is_err result ≡ true → EndsNext result →
+  pub load-stopped : (start : Table) (before : FlashState) (result : Result (Unit {0}) PutRefusal) → SessionStands config start name before true notes old → rose ≡ has_risen before g → is_err result ≡ true → EndsNext result →
       IfErr result (λ e. RefusedSame t f e u g) →
-      Answers config old (command.Load name count step seed) (SessionStands config u name g (not (put_breaks result)) cost) before.media.faults g.media.faults (texts (load_replies loaded result))
+      Answers config old (command.Load name count step seed) (SessionStands config u name g (not (put_breaks result)) notes) before.media.faults g.media.faults (texts (load_replies loaded result))
   load-stopped start before (Ok done) first risen e ends r = absurd (ok e)
     where
       ok : false ≡ true → ⊥

@@ -1,5 +1,5 @@
 -- The loop over the commands of a script, step by step.
-use Rattle.std.proofs.Common.{◌≡◌, ℕ, ◌+◌, ◌<◌, ◌≤◌, Bool, true, false, inl, inr, Option, Some, None, Result, Ok, Err, List, [], ◌∷◌, ◌++◌, length, take, refl, sym, ◌∙◌, ap, subst, append_assoc, length-append, arith}
+use Rattle.std.proofs.Common.{◌≡◌, ℕ, ◌+◌, ◌<◌, ◌≤◌, Bool, true, false, inl, inr, Option, Some, None, Result, Ok, Err, List, [], ◌∷◌, ◌++◌, length, take, drop, refl, sym, ◌∙◌, ap, subst, append_assoc, length-append, arith}
 use Rattle.std.proofs.lemmas.Bool.{ltb-false}
 use Rattle.fl_flash.specs.Flash.{FlashState}
 use Rattle.fl_model.specs.Record.{Config}
@@ -10,17 +10,18 @@ use Rattle.fl_machine.specs.Machine.{Machine}
 use Rattle.fl_machine.specs.Script.{Ran, runs, runs_read, accepted, first_refused}
 use Rattle.fl_session.specs.Texts.{whole_lines, lines_within}
 use Rattle.fl_session.specs.Execute.{Executes, Around, RanAll}
-use Rattle.fl_session.specs.Stream.{LinesState, Gives, TakesPart}
+use Rattle.fl_session.specs.Stream.{LinesState, Gives, TakesPart, TakesAhead}
+use Rattle.std.proofs.Math.Seq.{drop-append_seam}
 use Rattle.fl_script.specs.declared.command.Command as code
 use Rattle.fl_script.specs.CommandView.{command_view}
 use Rattle.fl_session.specs.Next.{IsUnbuilt, EndsThere, NextRun}
-use Rattle.fl_session.specs.Loop.{Tail, lines_in, EndsAll, EndsBad, EndsUnbuilt, EndsInReply, EndsTaken, EndsCommands}
+use Rattle.fl_session.specs.Loop.{Tail, TakesTail, TailTakes, lines_in, EndsAll, EndsBad, EndsUnbuilt, EndsInReply, EndsTaken, EndsCommands}
 use Rattle.fl_session.specs.declared.lines.LinesFault.{LinesFault}
 use Rattle.fl_session.specs.declared.lines.LinesFault.TheVariants.{Failed, Long}
 use Rattle.fl_session.specs.declared.status.Status.{Status}
 use Rattle.fl_session.specs.declared.status.Status.TheVariants.{Line, ScriptRead, ScriptLong, NotYet}
 use Rattle.fl_session.specs.Given.{Given}
-use Rattle.fl_session.proofs.Reading.{given-none, given-line, given-last, given-all, given-taken, given-most, given-too_long, IsTooLong}
+use Rattle.fl_session.proofs.Reading.{given-few, given-over, given-none, given-line, given-last, given-all, given-taken, given-most, given-too_long, IsTooLong}
 use Rattle.fl_session.proofs.Accepting.{AllRun, all_run-none, all_run-more, all_run-all, all_run-refused, accepted-more, too_long-command}
 use Rattle.fl_session.proofs.Running.{ran-none, ran-more, ran-into}
 
@@ -40,11 +41,12 @@ pub record InHand (tail : Tail) (config : Config) (stands stands_now : Machine �
   pub numbered : number ≡ tail.number + length ran
   pub runs : RanAll (around_to config faults now told told_now) stands stands_now (accepted ran)
   pub was_open : tail.closed ≡ true → state.closed ≡ true
+  pub few : TakesTail tail ran left
 
 pub in_hand-first : (tail : Tail) (config : Config) (stands : Machine → Type 0) (faults : ℕ) (told : Option (List ℕ)) (state : LinesState) (left : List ℕ) (left_now : Option (List ℕ)) → left_now ≡ Some left → (state.closed ≡ true → state.ahead ++ left ≡ []) →
-    tail.first ≡ state.line → tail.text ≡ state.ahead ++ left → tail.most ≡ state.most → tail.closed ≡ state.closed →
+    tail.first ≡ state.line → tail.text ≡ state.ahead ++ left → tail.most ≡ state.most → tail.closed ≡ state.closed → tail.taken ≡ length state.ahead →
     InHand tail config stands stands faults faults told told tail.number state left_now
-in_hand-first tail config stands faults told state left left_now told_left ended first text most closed = record {
+in_hand-first tail config stands faults told state left left_now told_left ended first text most closed taken = record {
   ran = [];
   given = [];
   left_is = left;
@@ -57,6 +59,7 @@ in_hand-first tail config stands faults told state left left_now told_left ended
   numbered = omega arith;
   runs = λ old h ready. ran-none config old stands faults told h;
   was_open = λ e. sym closed ∙ e;
+  few = told_left ∙ ap Some (sym (ap (λ n. drop n tail.text) taken ∙ (ap (drop (length state.ahead)) text ∙ drop-append_seam state.ahead left)));
 }
 
 -- all lines that were given were run
@@ -91,7 +94,7 @@ all_done-next tail config stands stands_mid stands_now faults mid now told told_
 pub ends-in_reply : {E : Type 0} (tail : Tail) (config : Config) (stands stands_mid stands_now : Machine → Type 0) (faults : ℕ) (mid now : FlashState) (told told_mid told_now : Option (List ℕ)) (number : ℕ) (state : LinesState) (left : Option (List ℕ)) (c : Command) (error : E) →
     InHand tail config stands stands_mid faults mid.media.faults told told_mid number state left → runs state.line ≡ Some c → mid.media.faults ≤ now.media.faults →
     ((m : Machine) → stands_mid m → Executes {E = E} config m c stands_now mid now told_mid told_now (Err error)) →
-    EndsInReply tail (around_to config faults now.media.faults told told_now) stands stands_now
+    EndsInReply tail left (around_to config faults now.media.faults told told_now) stands stands_now
 ends-in_reply tail config stands stands_mid stands_now faults mid now told told_mid told_now number state left c error h e later executes =
     let more = all_run-more h.ran state.line c h.all_run e in
     let others = lines_within state.most (state.ahead ++ h.left_is) in
@@ -100,6 +103,9 @@ ends-in_reply tail config stands stands_mid stands_now faults mid now told told_
       commands = accepted h.ran ++ c ∷ [];
       others = accepted others;
       split = ap (λ cs. cs ++ accepted others) (sym (accepted-more h.ran state.line c h.all_run e)) ∙ (sym (more.accepts others) ∙ ap accepted (sym lines));
+      number = number;
+      number_is = omega (arith, h.numbered, h.all_run.count, length-append (accepted h.ran) (c ∷ []));
+      takes = record { before = h.ran; others = state.line ∷ others; split = lines ∙ append_assoc h.ran (state.line ∷ []) others; number_is = h.numbered; few = h.few };
       runs = λ old s ready. ran-into config old (accepted h.ran) c stands_mid stands_now faults mid now told told_mid told_now error ready (h.runs old s ready) later executes;
     }
 
@@ -134,11 +140,22 @@ next_line tail given old new left left_now g o (inr (inl w)) =
 next_line tail given old new left left_now g o (inr (inr w)) =
     too_long (given-too_long tail.most tail.text given old.closed old.most (old.ahead ++ left) new.line w.others g w.split w.one w.long w.fits) w.long
 
+-- what was taken with the next line
+pub tail-takes : (tail : Tail) (config : Config) (stands stands_now : Machine → Type 0) (faults now : ℕ) (told told_now : Option (List ℕ)) (number : ℕ) (old : LinesState) (left left_now : List ℕ) →
+    AllDone tail config stands stands_now faults now told told_now number old left → TakesAhead old (old.ahead ++ left) (Ok true) left_now → TailTakes tail number (Some left_now)
+tail-takes tail config stands stands_now faults now told told_now number old left left_now h t = record {
+  before = tail.first ∷ h.given;
+  others = lines_within old.most (old.ahead ++ left);
+  split = ap (λ ls. tail.first ∷ ls) h.reading.lines;
+  number_is = h.numbered;
+  few = given-few tail.most tail.text h.given old left left_now h.reading t;
+}
+
 -- the next line comes into the hand
 pub in_hand-next : (tail : Tail) (config : Config) (stands stands_now : Machine → Type 0) (faults now : ℕ) (told told_now : Option (List ℕ)) (number : ℕ) (old new : LinesState) (left left_now : List ℕ) (c : Command) →
-    AllDone tail config stands stands_now faults now told told_now number old left → command_of new.line ≡ Ok c → Gives old (old.ahead ++ left) (Ok true) new left_now →
+    AllDone tail config stands stands_now faults now told told_now number old left → command_of new.line ≡ Ok c → Gives old (old.ahead ++ left) (Ok true) new left_now → TakesAhead old (old.ahead ++ left) (Ok true) left_now →
     InHand tail config stands stands_now faults now told told_now number new (Some left_now)
-in_hand-next tail config stands stands_now faults now told told_now number old new left left_now c h reads gives =
+in_hand-next tail config stands stands_now faults now told told_now number old new left left_now c h reads gives takes =
     elim (next_line tail h.given old new left left_now h.reading h.was_open gives) [
       | fits g is_open ↦ record {
         ran = tail.first ∷ h.given;
@@ -151,6 +168,7 @@ in_hand-next tail config stands stands_now faults now told told_now number old n
         numbered = h.numbered;
         runs = h.runs;
         was_open = λ e. absurd (not_open (sym e ∙ is_open));
+        few = given-few tail.most tail.text h.given old left left_now h.reading takes;
       }
       | too_long t long ↦ absurd (not_long (sym reads ∙ too_long-command new.line long))
     ]
@@ -254,22 +272,23 @@ ends-long tail config stands stands_now faults now told told_now number old new 
 
 -- how the script ends at the next line
 pub ends-there_run : (tail : Tail) (config : Config) (stands stands_now : Machine → Type 0) (faults now : ℕ) (told told_now : Option (List ℕ)) (number : ℕ) (old new : LinesState) (left left_now : List ℕ) (given : Result Bool LinesFault) (status : Status) →
-    AllDone tail config stands stands_now faults now told told_now number old left → Gives old (old.ahead ++ left) given new left_now → EndsThere given new.line number (runs new.line ≡ None) status →
+    AllDone tail config stands stands_now faults now told told_now number old left → Gives old (old.ahead ++ left) given new left_now → TakesAhead old (old.ahead ++ left) given left_now → EndsThere given new.line number (runs new.line ≡ None) status →
     EndsCommands tail (Some left_now) (around_to config faults now told told_now) stands stands_now status
-ends-there_run tail config stands stands_now faults now told told_now number old new left left_now (Ok true) (Line n) h gives e =
-    subst (λ m. EndsBad tail (around_to config faults now told told_now) stands stands_now m) (sym e.0)
-    (ends-bad tail config stands stands_now faults now told told_now number old new left left_now h e.1 gives)
-ends-there_run tail config stands stands_now faults now told told_now number old new left left_now (Ok true) (NotYet n) h gives e =
-    subst (λ m. EndsUnbuilt tail (around_to config faults now told told_now) stands stands_now m) (sym e.0)
-    (ends-unbuilt tail config stands stands_now faults now told told_now number old new left left_now h e.1 gives)
-ends-there_run tail config stands stands_now faults now told told_now number old new left left_now (Ok true) status h gives e = absurd e
-ends-there_run tail config stands stands_now faults now told told_now number old new left left_now (Ok false) status h gives e = absurd e
-ends-there_run tail config stands stands_now faults now told told_now number old new left left_now (Err Failed) ScriptRead h gives e =
+ends-there_run tail config stands stands_now faults now told told_now number old new left left_now (Ok true) (Line n) h gives takes e =
+    subst (λ m. EndsBad tail (around_to config faults now told told_now) stands stands_now m × TailTakes tail m (Some left_now)) (sym e.0)
+    (ends-bad tail config stands stands_now faults now told told_now number old new left left_now h e.1 gives, tail-takes tail config stands stands_now faults now told told_now number old left left_now h takes)
+ends-there_run tail config stands stands_now faults now told told_now number old new left left_now (Ok true) (NotYet n) h gives takes e =
+    subst (λ m. EndsUnbuilt tail (around_to config faults now told told_now) stands stands_now m × TailTakes tail m (Some left_now)) (sym e.0)
+    (ends-unbuilt tail config stands stands_now faults now told told_now number old new left left_now h e.1 gives, tail-takes tail config stands stands_now faults now told told_now number old left left_now h takes)
+ends-there_run tail config stands stands_now faults now told told_now number old new left left_now (Ok true) status h gives takes e = absurd e
+ends-there_run tail config stands stands_now faults now told told_now number old new left left_now (Ok false) status h gives takes e = absurd e
+ends-there_run tail config stands stands_now faults now told told_now number old new left left_now (Err Failed) ScriptRead h gives takes e =
     ends-taken tail config stands stands_now faults now told told_now number old new left left_now h gives
-ends-there_run tail config stands stands_now faults now told told_now number old new left left_now (Err Failed) status h gives e = absurd e
-ends-there_run tail config stands stands_now faults now told told_now number old new left left_now (Err Long) ScriptLong h gives e =
-    ends-long tail config stands stands_now faults now told told_now number old new left gives.0 h gives.1 gives.2 gives.3
-ends-there_run tail config stands stands_now faults now told told_now number old new left left_now (Err Long) status h gives e = absurd e
+ends-there_run tail config stands stands_now faults now told told_now number old new left left_now (Err Failed) status h gives takes e = absurd e
+ends-there_run tail config stands stands_now faults now told told_now number old new left left_now (Err Long) ScriptLong h gives takes e =
+    let long = ends-long tail config stands stands_now faults now told told_now number old new left gives.0 h gives.1 gives.2 gives.3 in
+    (long.0, long.1, given-over tail.most tail.text h.given old left left_now h.reading gives.1.open_before takes)
+ends-there_run tail config stands stands_now faults now told told_now number old new left left_now (Err Long) status h gives takes e = absurd e
 
 -- a step whose result is known
 pub step-result : {E : Type 0} (config : Config) (c : Command) (stands stands_now : Machine → Type 0) (mid now : FlashState) (told_mid told_now : Option (List ℕ)) (result result_is : Result (Unit {0}) E) → result ≡ result_is →
@@ -289,15 +308,17 @@ then-in_hand tail config stands stands_now faults now told told_now number old n
     let g = n.advances.gives d.0 d.1 d.2.reading.ended in
     subst (λ l. InHand tail config stands stands_now faults now told told_now number new l) (sym g.1)
     (in_hand-next tail config stands stands_now faults now told told_now number old new d.0 g.0 (command_view c room) d.2 n.next.1.reads
-    (subst (λ r. Gives old (old.ahead ++ d.0) r new g.0) n.next.0 g.2))
+    (subst (λ r. Gives old (old.ahead ++ d.0) r new g.0) n.next.0 g.2) (subst (λ r. TakesAhead old (old.ahead ++ d.0) r g.0) n.next.0 g.3))
 
 pub then-done : (tail : Tail) (config : Config) (stands stands_now : Machine → Type 0) (faults now : ℕ) (told told_now : Option (List ℕ)) (number : ℕ) (old new : LinesState) (left left_now : Option (List ℕ)) (f f_now : ℕ) (room : List ℕ) →
     Done_so_far tail config stands stands_now faults now told told_now number old left → NextRun old left f number (Ok None) room new left_now f_now →
-    (length tail.text ≤ tail.most) × EndsAll tail (around_to config faults now told told_now) stands stands_now
+    (length tail.text ≤ tail.most) × EndsAll tail (around_to config faults now told told_now) stands stands_now × (left_now ≡ Some [])
 then-done tail config stands stands_now faults now told told_now number old new left left_now f f_now room d n =
     let g = n.advances.gives d.0 d.1 d.2.reading.ended in
     let k : old.ahead ++ d.0 ≡ [] = subst (λ r. Gives old (old.ahead ++ d.0) r new g.0) n.next g.2 in
-    ends-done tail config stands stands_now faults now told told_now number old d.0 d.2 k
+    let nothing : g.0 ≡ [] = subst (λ r. TakesAhead old (old.ahead ++ d.0) r g.0) n.next g.3 in
+    let done = ends-done tail config stands stands_now faults now told told_now number old d.0 d.2 k in
+    (done.0, done.1, g.1 ∙ ap Some nothing)
 
 pub then-ends : (tail : Tail) (config : Config) (stands stands_now : Machine → Type 0) (faults now : ℕ) (told told_now : Option (List ℕ)) (number : ℕ) (old new : LinesState) (left left_now : Option (List ℕ)) (f f_now : ℕ) (room : List ℕ) (status : Status) →
     Done_so_far tail config stands stands_now faults now told told_now number old left → NextRun old left f number (Err status) room new left_now f_now →
@@ -305,4 +326,4 @@ pub then-ends : (tail : Tail) (config : Config) (stands stands_now : Machine →
 then-ends tail config stands stands_now faults now told told_now number old new left left_now f f_now room status d n =
     let g = n.advances.gives d.0 d.1 d.2.reading.ended in
     subst (λ l. EndsCommands tail l (around_to config faults now told told_now) stands stands_now status) (sym g.1)
-    (ends-there_run tail config stands stands_now faults now told told_now number old new d.0 g.0 n.given status d.2 g.2 n.next)
+    (ends-there_run tail config stands stands_now faults now told told_now number old new d.0 g.0 n.given status d.2 g.2 g.3 n.next)

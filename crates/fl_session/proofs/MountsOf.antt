@@ -27,15 +27,17 @@ use Rattle.fl_table.specs.Memory.{IsSamePlan}
 use Rattle.fl_table.specs.Outcomes.{FaultEnds, MountsWell, MountsBadly, MountEnds}
 use Rattle.fl_table.specs.Pages.{Rests}
 use Rattle.fl_session.specs.Answer.{Answers, fault_reply, mount_reply}
-use Rattle.fl_session.specs.declared.cost.Cost.{Cost}
+use Rattle.fl_session.specs.Notes.{without_cursors}
+use Rattle.fl_session.specs.declared.notes.Notes.{Notes}
 use Rattle.fl_session.specs.Standing.{SessionStands}
 use Rattle.fl_session.proofs.Answering.{answers-saying, saying, says, step-is}
 use Rattle.fl_session.proofs.Executing.{one-text}
 use Rattle.fl_session.proofs.Working.{medium-goes, planned-same, has_risen, risen-rose, last_of}
 
 -- the power is on
-pub stands-on : (config : Config) (old : Machine) (t : Table) (name : List ℕ) (cost : Cost) (f : FlashState) → SessionStands config t name f false cost old → SessionStands config t name (record f { is_on = true }) false cost old
-stands-on config old t name cost f h = record {
+pub stands-on : (config : Config) (old : Machine) (t : Table) (name : List ℕ) (notes : Notes) (f : FlashState) → SessionStands config t name f false notes old → SessionStands config t name (record f { is_on = true }) false notes old
+stands-on config old t name notes f h = record {
+  knots = h.knots;
   medium = record { told = h.medium.told; len = h.medium.len; head = h.medium.head; start = h.medium.start; geometry = h.medium.geometry };
   plan = h.plan;
   plans = h.plans;
@@ -51,8 +53,8 @@ stands-on config old t name cost f h = record {
   power = λ t. refl;
 }
 
-pub mount-watched : (config : Config) (t : Table) (name : List ℕ) (cost : Cost) (f g : FlashState) (m : Machine) → SessionStands config t name f false cost m → f.is_on ≡ true → IsWatched f g (has_risen f g) m.device
-mount-watched config t name cost f g m h on = record { told = h.medium.told; on = on; risen = λ r. le-leb (min (f.media.faults + 1) (2 ^ 64 - 1)) g.media.faults r; counts = h.device }
+pub mount-watched : (config : Config) (t : Table) (name : List ℕ) (notes : Notes) (f g : FlashState) (m : Machine) → SessionStands config t name f false notes m → f.is_on ≡ true → IsWatched f g (has_risen f g) m.device
+mount-watched config t name notes f g m h on = record { told = h.medium.told; on = on; risen = λ r. le-leb (min (f.media.faults + 1) (2 ^ 64 - 1)) g.media.faults r; counts = h.device }
 
 -- a mount where a session is mounted, and where none is
 by-mounted : (config : Config) (old : Machine) (moment : Moment) (mounted : Bool) → old.mounted ≡ mounted →
@@ -61,15 +63,15 @@ by-mounted config old moment mounted e step =
     subst (λ b. MatchBool b (Says moment (reply.AlreadyMounted ∷ []) old) ((how : MountEnd) × Mounts config.plans moment.rose (rings_from 0 config.plans) old.device old.tables how × EndsMount config old moment how)) (sym e) step
 
 -- nothing is done where it is mounted
-pub answers-already : (config : Config) (old : Machine) (t : Table) (name : List ℕ) (cost : Cost) (f : FlashState) (faults : ℕ) → SessionStands config t name f true cost old →
-    Answers config old command.Mount (SessionStands config t name f true cost) faults faults (text reply.AlreadyMounted)
-answers-already config old t name cost f faults h =
+pub answers-already : (config : Config) (old : Machine) (t : Table) (name : List ℕ) (notes : Notes) (f : FlashState) (faults : ℕ) → SessionStands config t name f true notes old →
+    Answers config old command.Mount (SessionStands config t name f true notes) faults faults (text reply.AlreadyMounted)
+answers-already config old t name notes f faults h =
     let moment = saying command.Mount (reply.AlreadyMounted ∷ []) old in
     let step = by-mounted config old moment true h.is_mounted (says command.Mount (reply.AlreadyMounted ∷ []) old) in
-    answers-saying config old command.Mount reply.AlreadyMounted old (SessionStands config t name f true cost) faults faults step h
+    answers-saying config old command.Mount reply.AlreadyMounted old (SessionStands config t name f true notes) faults faults step h
 
 -- A session that isn't mounted, before a mount of its table and after it.
-module _ (config : Config) (old : Machine) (name : List ℕ) (cost : Cost) (t u : Table) (f g : FlashState) (h : SessionStands config t name f false cost old) (goes : Goes f g) (same : IsSamePlan t u) where
+module _ (config : Config) (old : Machine) (name : List ℕ) (notes : Notes) (t u : Table) (f g : FlashState) (h : SessionStands config t name f false notes old) (goes : Goes f g) (same : IsSamePlan t u) where
   -- what its table mounts, all tables mount
   mounts-all : (how : MountEnd) → Mounts (h.plan ∷ []) (has_risen f g) (rings_from 0 (h.plan ∷ [])) old.device old.tables how → Mounts config.plans (has_risen f g) (rings_from 0 config.plans) old.device old.tables how
   mounts-all how m = subst (λ ps. Mounts ps (has_risen f g) (rings_from 0 ps) old.device old.tables how) (sym h.plans) m
@@ -82,7 +84,7 @@ module _ (config : Config) (old : Machine) (name : List ℕ) (cost : Cost) (t u 
       step-is config old moment command.Mount is
       (by-mounted config old moment false h.is_mounted (how, subst (λ rose. Mounts config.plans rose (rings_from 0 config.plans) old.device old.tables how) (sym risen) m, e))
 
-  answers-well : (done : found.Mounted) → MountsWell 0 h.plan h.table (has_risen f g) old.device done u g → Answers config old command.Mount (SessionStands config u name g true cost) f.media.faults g.media.faults (text reply.Done)
+  answers-well : (done : found.Mounted) → MountsWell 0 h.plan h.table (has_risen f g) old.device done u g → Answers config old command.Mount (SessionStands config u name g true (without_cursors notes)) f.media.faults g.media.faults (text reply.Done)
   answers-well done w =
       let tables = with_table 0 old.tables w.now.state in
       let after : Machine = record old { device = w.now.device; tables = all_ready config.plans tables; mounted = true; cursors = no_cursors } in
@@ -96,6 +98,7 @@ module _ (config : Config) (old : Machine) (name : List ℕ) (cost : Cost) (t u 
             (mounts-all how (mounts-along (h.plan ∷ []) h.plan 0 (has_risen f g) (rings_of h.plan) [] old.device old.tables h.table (TableMounted w.now) refl here w.did how refl))
             (record { replies_are = refl; after_is = refl; last_is = refl });
         stands_after = record {
+          knots = h.knots;
           medium = medium-goes config f g goes h.medium;
           plan = h.plan;
           plans = h.plans;
@@ -114,8 +117,9 @@ module _ (config : Config) (old : Machine) (name : List ℕ) (cost : Cost) (t u 
         said_is = one-text reply.Done;
       }
 
-  stands-bad : (state : model.Table) (device : Device) → SameDevice g device → Rests g 0 h.plan state → (m : Machine) → m.tables ≡ state ∷ [] → m.mounted ≡ false → m.cursors ≡ no_cursors → m.device ≡ device → m.cost ≡ old.cost → SessionStands config u name g false cost m
+  stands-bad : (state : model.Table) (device : Device) → SameDevice g device → Rests g 0 h.plan state → (m : Machine) → m.tables ≡ state ∷ [] → m.mounted ≡ false → m.cursors ≡ no_cursors → m.device ≡ device → m.cost ≡ old.cost → SessionStands config u name g false (without_cursors notes) m
   stands-bad state device counts rests m tables off cursors is kept = record {
+    knots = h.knots;
     medium = medium-goes config f g goes h.medium;
     plan = h.plan;
     plans = h.plans;
@@ -148,7 +152,7 @@ module _ (config : Config) (old : Machine) (name : List ℕ) (cost : Cost) (t u 
   ends-stopped now fault (FailedIn before) k x = record { replies_are = ap (λ y. fault_reply y ∷ []) x.0; after_is = refl; last_is = ap (last_of old.tables) k }
 
   answers-stopped : (now : PartProgress model.Table) (fault : FlashFault) → TableMounts h.plan (has_risen f g) (rings_of h.plan) old.device h.table (TableStopped now) → FaultEnds now.end fault g → SameDevice g now.device → Rests g 0 h.plan now.state →
-      Answers config old command.Mount (SessionStands config u name g false cost) f.media.faults g.media.faults (text (fault_reply fault))
+      Answers config old command.Mount (SessionStands config u name g false (without_cursors notes)) f.media.faults g.media.faults (text (fault_reply fault))
   answers-stopped now fault did answer counts rests =
       let moment = stopped_so now fault in
       let how : MountEnd = Stopped (progress_at 0 old.tables now) in
@@ -167,7 +171,7 @@ module _ (config : Config) (old : Machine) (name : List ℕ) (cost : Cost) (t u 
 
   -- a read failed
   answers-unread : (now : PartProgress model.Table) (fault : FlashFault) → TableMounts h.plan (has_risen f g) (rings_of h.plan) old.device h.table (TableUnread now) → fault ≡ Media → SameDevice g now.device → Rests g 0 h.plan now.state →
-      Answers config old command.Mount (SessionStands config u name g false cost) f.media.faults g.media.faults (text (fault_reply fault))
+      Answers config old command.Mount (SessionStands config u name g false (without_cursors notes)) f.media.faults g.media.faults (text (fault_reply fault))
   answers-unread now fault did is counts rests =
       let after : Machine = record old { device = now.device; tables = with_table 0 old.tables now.state } in
       let moment : Moment = record { command = command.Mount; rose = has_risen f g; reads = 0; last = None; replies = reply.DeviceFault ∷ []; after = after } in
@@ -184,17 +188,17 @@ module _ (config : Config) (old : Machine) (name : List ℕ) (cost : Cost) (t u 
         said_is = one-text reply.DeviceFault ∙ ap (λ x. text (fault_reply x)) (sym is);
       }
 
-  answers-bad : (fault : FlashFault) → MountsBadly 0 h.plan h.table (has_risen f g) old.device fault g → Answers config old command.Mount (SessionStands config u name g false cost) f.media.faults g.media.faults (text (fault_reply fault))
+  answers-bad : (fault : FlashFault) → MountsBadly 0 h.plan h.table (has_risen f g) old.device fault g → Answers config old command.Mount (SessionStands config u name g false (without_cursors notes)) f.media.faults g.media.faults (text (fault_reply fault))
   answers-bad fault b = by_how b.did
     where
       by_how : (TableMounts h.plan (has_risen f g) (rings_of h.plan) old.device h.table (TableStopped b.now) × FaultEnds b.now.end fault g)
           ⊎ (TableMounts h.plan (has_risen f g) (rings_of h.plan) old.device h.table (TableUnread b.now) × (fault ≡ Media)) →
-          Answers config old command.Mount (SessionStands config u name g false cost) f.media.faults g.media.faults (text (fault_reply fault))
+          Answers config old command.Mount (SessionStands config u name g false (without_cursors notes)) f.media.faults g.media.faults (text (fault_reply fault))
       by_how (inl x) = answers-stopped b.now fault x.0 x.1 b.counts b.rests
       by_how (inr x) = answers-unread b.now fault x.0 x.1 b.counts b.rests
 
   pub mount-answers : (result : Result found.Mounted MountFault) (mounted : Bool) → mounted ≡ is_ok result → MountEnds 0 h.plan h.table (has_risen f g) old.device result u g →
-      Answers config old command.Mount (SessionStands config u name g mounted cost) f.media.faults g.media.faults (text (mount_reply name result))
+      Answers config old command.Mount (SessionStands config u name g mounted (without_cursors notes)) f.media.faults g.media.faults (text (mount_reply name result))
   mount-answers (Ok done) mounted m ends = rw m (answers-well done ends)
   mount-answers (Err (mount.Flash fault)) mounted m ends = rw m (answers-bad fault ends)
   mount-answers (Err (mount.Ring fault)) mounted m ends = absurd ends

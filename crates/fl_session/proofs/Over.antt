@@ -5,7 +5,6 @@ use Rattle.std.proofs.lemmas.Bool.{ltb-false}
 use base.Fml.{GName}
 use Rattle.fl_base.specs.declared.types.Geometry.{Geometry}
 use Rattle.fl_flash.specs.Flash.{FlashState, pages, Goes}
-use Rattle.fl_flash.specs.Buffer.{BufferState}
 use Rattle.fl_flash.specs.Media.{MediaState}
 use Rattle.fl_flash.specs.Sim.{on_medium}
 use Rattle.fl_flash.specs.Places.{extent}
@@ -21,9 +20,10 @@ use Rattle.fl_session.specs.Built.{are_built}
 use Rattle.fl_session.specs.Stream.{LinesState}
 use Rattle.fl_table.specs.declared.table.Table as code_table
 use Rattle.fl_table.specs.Memory.{IsPlanned, LiesOn}
-use Rattle.fl_session.specs.declared.cost.Cost.{Cost}
-use Rattle.fl_session.specs.declared.cost.Cost.TheVariants as code_cost
-use Rattle.fl_session.specs.Standing.{SessionStands, IsSound, RestsOn, IsNewTable}
+use Rattle.fl_session.specs.Notes.{no_notes}
+use Rattle.fl_session.specs.declared.notes.Notes.{Notes}
+use Rattle.fl_session.specs.Standing.{SessionStands, IsSound, RestsOn, IsNewTable, HasRooms}
+use Rattle.fl_session.specs.declared.buffers.Buffers.{Buffers}
 use Rattle.fl_session.specs.Run.{RunsFrom, around_of, IsOfCommands, refused_status}
 use Rattle.fl_session.specs.declared.status.Status.TheVariants.{Usage, MediaMake, OtherConfig}
 use Rattle.fl_config.specs.declared.image.ImageRefusal.{ImageRefusal}
@@ -39,7 +39,7 @@ use Rattle.fl_config.specs.Opening.{Opens}
 use Rattle.fl_config.specs.Whole.{is_whole, is_whole_of, Makes}
 use Rattle.fl_session.proofs.Running.{nothing-added}
 use Rattle.fl_session.proofs.Ready.{ready-room, stands-ready}
-use Rattle.fl_session.proofs.Ending.{runs-seen, ends-of_run, begins-ready}
+use Rattle.fl_session.proofs.Ending.{runs-seen, ends-of_run, begins-ready, begins-takes}
 use Rattle.fl_session.proofs.Rooms.{some-plan}
 use Rattle.fl_session.proofs.Rested.{IsOne, built-one, session-begins, session-ends, opened-rests, opened-formed}
 
@@ -97,27 +97,30 @@ new-lies t lines f new one device blocks fits =
     some e = cc
 
 -- a session that begins over it is sound
-pub new-sound : (t t' : code_table.Table) (lines : Lines) (f f' : FlashState) (buf buf' : BufferState) → t' ≡ t → f' ≡ f → buf' ≡ buf → IsNewTable t lines → IsTrue (is_whole lines) → are_built lines.plans ≡ true → lines.device ≡ Some f.geometry → f.blocks ≡ sum_by blocks_of lines.plans →
-    IfSome lines.device (λ geometry. too_large geometry lines.plans ≡ false) → ((geometry : Geometry) → lines.device ≡ Some geometry → length buf.bytes ≡ geometry.page) → IsSound t' f' buf'
-new-sound t t' lines f f' buf buf' t_is f_is buf_is new whole built device blocks fits page =
+pub new-sound : (t t' : code_table.Table) (lines : Lines) (f f' : FlashState) (buf buf' : Buffers) → t' ≡ t → f' ≡ f → buf' ≡ buf → IsNewTable t lines → IsTrue (is_whole lines) → are_built lines.plans ≡ true → lines.device ≡ Some f.geometry → f.blocks ≡ sum_by blocks_of lines.plans →
+    IfSome lines.device (λ geometry. too_large geometry lines.plans ≡ false) → ((geometry : Geometry) → lines.device ≡ Some geometry → HasRooms buf geometry.page) → (mounted : Bool) → mounted ≡ false → IsSound t' f' buf' mounted
+new-sound t t' lines f f' buf buf' t_is f_is buf_is new whole built device blocks fits page mounted off =
     let one = built-one lines.plans built (some-plan lines.device lines.plans whole) in
     let small : too_large f.geometry lines.plans ≡ false = subst (λ d. IfSome d (λ geometry. too_large geometry lines.plans ≡ false)) device fits in
-    rw (t_is, f_is, buf_is) (record { lies = new-lies t lines f new one device blocks small; room = page f.geometry device })
+    rw (t_is, f_is, buf_is) (record { lies = new-lies t lines f new one device blocks small; room = page f.geometry device; running = λ on. absurd (not_on (sym on ∙ off)) })
+  where
+    not_on : true ≡ false → ⊥
+    not_on e = cc
 
 -- what was run in the session was run over the medium
-pub session-runs : (config : Config) (t t' : code_table.Table) (name name' : List ℕ) (cost cost' : Cost) (f f' : FlashState) (old new : MediaState) (mounted mounted' : Bool) (geometry : Geometry) (blocks : ℕ) (origin : GName) →
+pub session-runs : (config : Config) (t t' : code_table.Table) (name name' : List ℕ) (notes notes' : Notes) (f f' : FlashState) (old new : MediaState) (mounted mounted' : Bool) (geometry : Geometry) (blocks : ℕ) (origin : GName) →
     f ≡ on_medium geometry blocks 1024 origin true None 0 (record { reads = 0; programs = 0; erases = 0 }) old → geometry ≡ config.geometry → new ≡ f'.media → IsTrue old.tells →
-    (one : IsOne config.plans) → one.plan.name ≡ name → IsPlanned t 0 one.plan → mounted ≡ false → cost ≡ code_cost.NothingYet →
+    (one : IsOne config.plans) → one.plan.name ≡ name → IsPlanned t 0 one.plan → mounted ≡ false → notes ≡ no_notes → config.knots ≡ 64 →
     (first : Option code.Command) (number : ℕ) (state : LinesState) (left left_now told told_now : Option (List ℕ)) (status : Status) →
-    RunsFrom first number state left left_now (around_of config f.media f'.media told told_now) (SessionStands config t name f mounted cost) (SessionStands config t' name' f' mounted' cost') status →
+    RunsFrom first number state left left_now (around_of config f.media f'.media told told_now) (SessionStands config t name f mounted notes) (SessionStands config t' name' f' mounted' notes') status →
     RunsFrom first number state left left_now (around_of config old new told told_now) (RestsOn config old.content) (StandsAfter config (Some new.content)) status
-session-runs config t t' name name' cost cost' f f' old new mounted mounted' geometry blocks origin is g_is media tells one named planned off fresh first number state left left_now told told_now status h =
-    let begin : (m : Machine) → RestsOn config old.content m → SessionStands config t name f mounted cost m =
-    λ m r. subst (λ b. SessionStands config t name f b cost m) (sym off)
-    (subst (λ x. SessionStands config t name x false cost m) (sym is)
-    (session-begins config t name cost (on_medium geometry blocks 1024 origin true None 0 (record { reads = 0; programs = 0; erases = 0 }) old) m fresh tells refl g_is refl refl refl one named planned r)) in
-    let end : (m : Machine) → SessionStands config t' name' f' mounted' cost' m → StandsAfter config (Some f'.media.content) m = λ m s. session-ends config t' name' cost' f' mounted' m s in
-    let seen = runs-seen first number state left left_now (around_of config f.media f'.media told told_now) (SessionStands config t name f mounted cost) (SessionStands config t' name' f' mounted' cost')
+session-runs config t t' name name' notes notes' f f' old new mounted mounted' geometry blocks origin is g_is media tells one named planned off fresh knots first number state left left_now told told_now status h =
+    let begin : (m : Machine) → RestsOn config old.content m → SessionStands config t name f mounted notes m =
+    λ m r. subst (λ b. SessionStands config t name f b notes m) (sym off)
+    (subst (λ x. SessionStands config t name x false notes m) (sym is)
+    (session-begins config t name notes (on_medium geometry blocks 1024 origin true None 0 (record { reads = 0; programs = 0; erases = 0 }) old) m fresh tells refl g_is refl refl refl one named planned knots r)) in
+    let end : (m : Machine) → SessionStands config t' name' f' mounted' notes' m → StandsAfter config (Some f'.media.content) m = λ m s. session-ends config t' name' notes' f' mounted' m s in
+    let seen = runs-seen first number state left left_now (around_of config f.media f'.media told told_now) (SessionStands config t name f mounted notes) (SessionStands config t' name' f' mounted' notes')
     (RestsOn config old.content) (StandsAfter config (Some f'.media.content)) status begin end h in
     let from : RunsFrom first number state left left_now (around_of config old f'.media told told_now) (RestsOn config old.content) (StandsAfter config (Some f'.media.content)) status =
     subst (λ (x : FlashState). RunsFrom first number state left left_now (around_of config x.media f'.media told told_now) (RestsOn config old.content) (StandsAfter config (Some f'.media.content)) status) is seen in
@@ -172,27 +175,27 @@ ends-opened knots text lines first number state left left_now told told_now conf
     (le_trans later later') h
 
 -- a run whose image wasn't opened: the medium failed, or is another's
-pub ends-half : (knots : ℕ) (text : List ℕ) (lines : Lines) (first : Option code.Command) (number : ℕ) (state : LinesState) (left left_now told : Option (List ℕ)) (config : Config) (old new : MediaState) →
-    BeginsAt knots text lines first number state left → whole knots lines ≡ Some config → IsTrue old.tells → HalfOpened config old new → Ends knots text (told_of old new left_now told told) MediaMake
-ends-half knots text lines first number state left left_now told config old new begins w tells h =
+pub ends-half : (knots : ℕ) (text : List ℕ) (lines : Lines) (first : Option code.Command) (number : ℕ) (state : LinesState) (left told : Option (List ℕ)) (config : Config) (old new : MediaState) →
+    BeginsAt knots text lines first number state left → whole knots lines ≡ Some config → IsTrue old.tells → HalfOpened config old new → Ends knots text (told_of old new left told told) MediaMake
+ends-half knots text lines first number state left told config old new begins w tells h =
     let ready = begins-ready knots text lines first number state left config begins w in
-    subst (λ s. EndsMaking s (told_of old new left_now told told)) (sym ready.2) (nothing-added told, h.kept tells, h.part tells)
+    (subst (λ s. EndsMaking s (told_of old new left told told)) (sym ready.2) (nothing-added told, h.kept tells, h.part tells), begins-takes knots text lines first number state left begins)
 
-pub ends-foreign : (knots : ℕ) (text : List ℕ) (lines : Lines) (first : Option code.Command) (number : ℕ) (state : LinesState) (left left_now told : Option (List ℕ)) (config : Config) (old new : MediaState) (wanted found at : ℕ) →
-    BeginsAt knots text lines first number state left → whole knots lines ≡ Some config → IsTrue old.tells → Foreign config old new wanted found at → Ends knots text (told_of old new left_now told told) (OtherConfig wanted found at)
-ends-foreign knots text lines first number state left left_now told config old new wanted found at begins w tells h =
+pub ends-foreign : (knots : ℕ) (text : List ℕ) (lines : Lines) (first : Option code.Command) (number : ℕ) (state : LinesState) (left told : Option (List ℕ)) (config : Config) (old new : MediaState) (wanted found at : ℕ) →
+    BeginsAt knots text lines first number state left → whole knots lines ≡ Some config → IsTrue old.tells → Foreign config old new wanted found at → Ends knots text (told_of old new left told told) (OtherConfig wanted found at)
+ends-foreign knots text lines first number state left told config old new wanted found at begins w tells h =
     let ready = begins-ready knots text lines first number state left config begins w in
-    subst (λ s. EndsOther s (told_of old new left_now told told) wanted found at) (sym ready.2) (h.other tells, record { content = h.kept tells; written = nothing-added told })
+    (subst (λ s. EndsOther s (told_of old new left told told) wanted found at) (sym ready.2) (h.other tells, record { content = h.kept tells; written = nothing-added told }), begins-takes knots text lines first number state left begins)
 
 -- the statuses of the commands
 pub commands-words : (status : Status) → IsOfCommands status → status ≡ Usage → ⊥
 commands-words status h e = subst IsOfCommands e h
 
-pub ends-refused : (knots : ℕ) (text : List ℕ) (lines : Lines) (first : Option code.Command) (number : ℕ) (state : LinesState) (left left_now told : Option (List ℕ)) (config : Config) (old new : MediaState) (refusal : ImageRefusal) →
-    BeginsAt knots text lines first number state left → whole knots lines ≡ Some config → IsTrue old.tells → OpensAs config old (Err refusal) new → Ends knots text (told_of old new left_now told told) (refused_status refusal)
-ends-refused knots text lines first number state left left_now told config old new Media begins w tells h = ends-half knots text lines first number state left left_now told config old new begins w tells h
-ends-refused knots text lines first number state left left_now told config old new (Other wanted found at) begins w tells h =
-    ends-foreign knots text lines first number state left left_now told config old new wanted found at begins w tells h
+pub ends-refused : (knots : ℕ) (text : List ℕ) (lines : Lines) (first : Option code.Command) (number : ℕ) (state : LinesState) (left told : Option (List ℕ)) (config : Config) (old new : MediaState) (refusal : ImageRefusal) →
+    BeginsAt knots text lines first number state left → whole knots lines ≡ Some config → IsTrue old.tells → OpensAs config old (Err refusal) new → Ends knots text (told_of old new left told told) (refused_status refusal)
+ends-refused knots text lines first number state left told config old new Media begins w tells h = ends-half knots text lines first number state left told config old new begins w tells h
+ends-refused knots text lines first number state left told config old new (Other wanted found at) begins w tells h =
+    ends-foreign knots text lines first number state left told config old new wanted found at begins w tells h
 
 pub early-refused : (config : Config) (old new : MediaState) (told : Option (List ℕ)) (refusal : ImageRefusal) → OpensAs config old (Err refusal) new → IsEarlyBy old new told told (refused_status refusal)
 early-refused config old new told Media h = record { written = nothing-added told; content = h.kept }

@@ -1,6 +1,7 @@
 -- The rows of pages that are listed one after another.
 use Rattle.std.proofs.Common.{◌≡◌, ℕ, suc, ◌+◌, ◌-◌, ◌≤◌, Bool, true, false, cond, nat_lt, Option, Some, Ok, Err, List, [], ◌∷◌, ◌++◌, length, take, drop, map, filter, refl, sym, ◌∙◌, ap, subst, append_assoc, length-append, arith}
 use Rattle.std.proofs.lemmas.Grind.{flat_map-append}
+use Rattle.std.proofs.lemmas.Bool.{lt-ltb}
 use Rattle.std.proofs.Math.Seq.{take-add}
 use Rattle.std.proofs.lemmas.List.{map-append, take-append-le, take_all}
 use Rattle.std.proofs.lemmas.List.Elements.{filter-append}
@@ -62,6 +63,26 @@ not-void plan table i count rows page found P is shows e at some =
   where
     one : {a b : ℕ} → Some a ≡ Some b → a ≡ b
     one e = cc
+
+-- a page that is noted as void has no lines
+pub no-rows : (range : KeyRange) (span : Option Span) (table : model.Table) (i count rows : ℕ) (told : Option (List ℕ)) → slice_get table.rows.counts i ≡ Some count → slice_get table.rows.counts i ≡ Some rows → rows ≡ 0 →
+    Appends told told (texts (lines_of range span (rows_at table i count))) × (0 ≡ length (lines_of range span (rows_at table i count)))
+no-rows range span table i count rows told e at none =
+    let void : count ≡ 0 = one (sym e ∙ at) ∙ none in
+    let front = drop (sum (take i table.rows.counts)) table.entries in
+    let lines : lines_of range span (rows_at table i count) ≡ [] = ap (λ n. lines_of range span (take n front)) void ∙ ap (lines_of range span) (nothing front) in
+    (subst (λ (l : List Reply). Appends told told (texts l)) (sym lines) (appends-none told), sym (ap length lines))
+  where
+    one : {a b : ℕ} → Some a ≡ Some b → a ≡ b
+    one e = cc
+
+    nothing : {X : Type 0} (xs : List X) → take 0 xs ≡ []
+    nothing [] = refl
+    nothing (x ∷ xs) = refl
+
+-- .. and another is one page with rows
+pub full-one : (n : ℕ) → (n ≡ 0 → ⊥) → full_pages (n ∷ []) ≡ 1
+full-one n some = rw (lt-ltb 0 n (omega (arith, some))) refl
 
 -- the rows of a page that were found
 pub found-rows : (plan : Plan) (table : model.Table) (i count : ℕ) (page : List ℕ) (found : Bool) (rows : List Row) → found ≡ true → ShowsRows plan table i count page (Ok found) →

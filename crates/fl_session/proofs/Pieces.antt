@@ -1,5 +1,5 @@
 -- The room of a stream of lines.
-use Rattle.std.proofs.Common.{◌≡◌, ℕ, suc, true, false, inl, add-one, ◌+◌, ◌-◌, ◌<◌, ◌≤◌, Bool, Option, Some, None, Ok, List, ◌∷◌, ◌++◌, length, take, drop, refl, sym, ◌∙◌, ap, subst, append_assoc, append-nil, arith}
+use Rattle.std.proofs.Common.{◌≡◌, ℕ, suc, true, false, inl, add-one, ◌+◌, ◌-◌, ◌<◌, ◌≤◌, Bool, Option, Some, None, Ok, Err, List, ◌∷◌, ◌++◌, length, take, drop, refl, sym, ◌∙◌, ap, subst, append_assoc, append-nil, length-append, arith}
 use Rattle.std.specs.List.{slice_range, copy_within}
 use Rattle.std.proofs.lemmas.List.{take-append-drop, take-append-le, take-take, length-take, length-take-le, length-drop}
 use Rattle.std.proofs.Math.Seq.{take-append-add, take-length}
@@ -9,6 +9,7 @@ use Rattle.fl_base.specs.Stream.{Reads}
 use Rattle.std.specs.Prelude.{slice_get}
 use Rattle.std.proofs.lemmas.Option.{slice_get_within, get_or_from_slice_get}
 use Rattle.std.proofs.Math.Seq.{drop-cons}
+use Rattle.fl_session.specs.declared.lines.LinesFault.TheVariants.{Long}
 use Rattle.fl_session.specs.Stream.{LinesState, Fills, Advances, IsOneLine, after_line}
 
 -- a line at the front of what is ahead
@@ -68,9 +69,9 @@ parted xs len x e =
 -- a whole line was ahead
 pub advances-line : (old mid new : LinesState) (left left_now : Option (List ℕ)) (f f_now len : ℕ) → mid.closed ≡ false → old.closed ≡ false → mid.most ≡ old.most → f ≤ f_now →
     ((l : List ℕ) → left ≡ Some l → (now : List ℕ) × (left_now ≡ Some now) × (old.ahead ++ l ≡ mid.ahead ++ now)) →
-    slice_get mid.ahead len ≡ Some 10 → IsOneLine (take len mid.ahead) → length mid.ahead ≤ mid.most → new ≡ after_line len mid →
+    slice_get mid.ahead len ≡ Some 10 → IsOneLine (take len mid.ahead) → length mid.ahead ≤ mid.most → length mid.ahead ≤ 4097 → new ≡ after_line len mid →
     Advances old left f (Ok true) new left_now f_now
-advances-line old mid new left left_now f f_now len is_open was_open most later told newline one few e =
+advances-line old mid new left left_now f f_now len is_open was_open most later told newline one few small e =
     let within : len < length mid.ahead = slice_get_within mid.ahead len 10 newline in
     let size : length (take len mid.ahead) ≡ len = length-take-le len mid.ahead (omega arith) in
     let new_line : new.line ≡ take len mid.ahead = ap (λ (s : LinesState). s.line) e in
@@ -96,5 +97,27 @@ advances-line old mid new left left_now f f_now len is_open was_open most later 
               open_before = was_open;
               open_now = ap (λ (s : LinesState). s.closed) e ∙ is_open;
             }),
+            (mid.ahead, t.2, small),
           );
     }
+
+-- as many bytes were ahead as are read, and one more came
+pub advances-over : (E : Type 0) (s : LinesState) (left left_now : Option (List ℕ)) (f f_now n : ℕ) (into : List ℕ) → length s.ahead ≡ s.most → IsOneLine s.ahead → length s.ahead ≤ 4096 → s.closed ≡ false →
+    f ≤ f_now → Reads {E = E} left left_now (Ok n) into → n ≤ length into → length into ≡ 1 → (n ≡ 0 → ⊥) → Advances s left f (Err Long) s left_now f_now
+advances-over E s None left_now f f_now n into full one short is_open later reads most size some = record { later = later; failed = λ k. cc; shrinks = λ k. cc; gives = λ l is ended. cc }
+advances-over E s (Some left) left_now f f_now n into full one short is_open later reads most size some = record {
+  later = later;
+  failed = λ k. cc;
+  shrinks = λ k. cc;
+  gives = λ l is ended.
+      let same : l ≡ left = cc in
+      rw same (
+        drop n left,
+        reads.rest,
+        (left, record { split = refl; one = one; short = short; fits = omega (arith, full); open_before = is_open }, full, omega (arith, came, length-take n left)),
+        (s.ahead ++ take n left, ap (λ r. s.ahead ++ r) (sym (take-append-drop n left)) ∙ sym (append_assoc s.ahead (take n left) (drop n left)), omega (arith, full, came, length-append s.ahead (take n left))),
+      );
+}
+  where
+    came : length (take n left) ≡ 1
+    came = sym (ap length reads.bytes) ∙ (length-take n into ∙ omega (arith, most, size, some))

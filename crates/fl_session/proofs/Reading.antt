@@ -1,6 +1,7 @@
 -- A text of which lines are read one after another.
 use Rattle.std.proofs.Common.{◌≡◌, ℕ, ◌+◌, ◌-◌, ◌<◌, ◌≤◌, Bool, true, false, nat_lt, ◌==◌, List, [], ◌∷◌, ◌++◌, length, take, drop, refl, sym, ◌∙◌, ap, subst, arith, append_assoc, append-nil, length-append}
-use Rattle.std.specs.Prelude.{if◌then◌else◌, unwrap_or, None}
+use Rattle.std.specs.Prelude.{if◌then◌else◌, unwrap_or, Some, None, Ok, Err}
+use Rattle.std.proofs.lemmas.List.Sums.{sum_by-append, sum_by-cons}
 use Rattle.std.proofs.lemmas.Bool.{lt-ltb, le-ltb, ltb-true, ne_eqb}
 use Rattle.std.proofs.Math.Seq.{take-append-add, take-append_seam, drop-append-add, drop-append_seam}
 use Rattle.std.specs.List.{onto_first, last_or}
@@ -8,14 +9,24 @@ use Rattle.std.proofs.lemmas.List.Elements.{All-head, All-tail}
 use Rattle.std.proofs.lemmas.List.Splits.{slice_split-cons_no}
 use Rattle.fl_words.specs.Grammar.{lines_of, no_empty_last}
 use Rattle.fl_session.specs.Given.{Given}
+use Rattle.fl_session.specs.Taken.{HasTaken, TakesFew, begin_behind}
+use Rattle.fl_session.specs.Stream.{LinesState, TakesAhead}
+use Rattle.fl_session.specs.declared.lines.LinesFault.TheVariants.{Long}
 use Rattle.fl_session.specs.Texts.{parts_of, all_but_last, whole_lines, rest_of, long_rest, lines_within}
 use Rattle.fl_session.proofs.Parts.{OneLine, within-line, whole-line, whole-rest, rest-line, rest-rest, lines-rest, parts-some, same_test}
+
+-- the next line begins behind one more
+pub behind-more : (given : List (List ℕ)) (line : List ℕ) → begin_behind (given ++ line ∷ []) ≡ begin_behind given + (length line + 1)
+behind-more given line = sum_by-append (λ (l : List ℕ). length l + 1) given (line ∷ []) ∙ ap (λ n. begin_behind given + n) (sum_by-cons (λ (l : List ℕ). length l + 1) line [] ∙ omega arith)
 
 pub given-none : (most : ℕ) (text : List ℕ) (closed : Bool) → (closed ≡ true → text ≡ []) → Given most text [] closed most text
 given-none most text closed ended = record {
   ended = ended;
   lines = refl;
   long = refl;
+  begin = [];
+  parts = refl;
+  size = omega arith;
   front = [];
   split = λ _. refl;
   bytes = λ _. omega arith;
@@ -37,6 +48,9 @@ given-line most text given most_now rest line rest_now g e h short =
           ∙ sym (append_assoc given (line ∷ []) (lines_within (most_now - (length line + 1)) rest_now))));
       long = g.long ∙ same_test most_now (length rest) (most_now - (length line + 1)) (length rest_now) (λ k. omega arith) (λ k. omega arith);
       ended = λ c. cc;
+      begin = g.begin ++ (line ++ 10 ∷ []);
+      parts = g.parts ∙ (ap (λ r. g.begin ++ r) e ∙ sym (append_assoc g.begin (line ++ 10 ∷ []) rest_now ∙ ap (λ ys. g.begin ++ ys) (append_assoc line (10 ∷ []) rest_now)));
+      size = omega (arith, g.size, length-append g.begin (line ++ 10 ∷ []), length-append line (10 ∷ []), behind-more given line);
       front = g.front ++ (line ++ 10 ∷ []);
       split = λ c. g.split c ∙ (ap (λ r. g.front ++ r) e ∙ sym (joined rest_now));
       bytes = λ c. omega (arith, g.bytes c, length-append g.front (line ++ 10 ∷ []), length-append line (10 ∷ []));
@@ -63,6 +77,9 @@ given-last most text given most_now most_then rest line rest_now g e none h some
           ∙ (sym (append-nil (given ++ line ∷ [])) ∙ ap (λ r. (given ++ line ∷ []) ++ r) (sym nothing))));
       long = g.long ∙ (le-ltb most_now (length rest) (omega arith) ∙ sym (le-ltb most_then (length rest_now) (omega (arith, ap length none))));
       ended = λ c. none;
+      begin = g.begin ++ line;
+      parts = g.parts ∙ (ap (λ r. g.begin ++ r) e ∙ (sym (append-nil (g.begin ++ line)) ∙ ap (λ r. (g.begin ++ line) ++ r) (sym none)));
+      size = omega (arith, g.size, length-append g.begin line, behind-more given line);
       front = [];
       split = λ c. cc;
       bytes = λ c. cc;
@@ -77,6 +94,31 @@ given-all most text given closed most_now rest g e = (
   g.lines ∙ (ap (λ r. given ++ lines_within most_now r) e ∙ (ap (λ r. given ++ r) (all_within most_now [] (omega arith)) ∙ append-nil given)),
   g.long ∙ (ap (λ r. nat_lt most_now (length r)) e ∙ le-ltb most_now 0 (omega arith)),
 )
+
+-- of what is left of a text a part was taken
+pub given-part : (most : ℕ) (text : List ℕ) (given : List (List ℕ)) (closed : Bool) (most_now : ℕ) (rest part left : List ℕ) (limit : ℕ) →
+    (g : Given most text given closed most_now rest) → rest ≡ part ++ left → length g.begin + length part ≤ limit → HasTaken text limit (Some left)
+given-part most text given closed most_now rest part left limit g e few =
+    let whole : text ≡ (g.begin ++ part) ++ left = g.parts ∙ (ap (λ r. g.begin ++ r) e ∙ sym (append_assoc g.begin part left)) in
+    record {
+      taken = length (g.begin ++ part);
+      within = omega (arith, ap length whole, length-append (g.begin ++ part) left);
+      few = omega (arith, few, length-append g.begin part);
+      left = ap Some (sym (ap (drop (length (g.begin ++ part))) whole ∙ drop-append_seam (g.begin ++ part) left));
+    }
+
+-- .. with a line
+pub given-few : (most : ℕ) (text : List ℕ) (given : List (List ℕ)) (old : LinesState) (left left_now : List ℕ) →
+    Given most text given old.closed old.most (old.ahead ++ left) → TakesAhead old (old.ahead ++ left) (Ok true) left_now → TakesFew text given (Some left_now)
+given-few most text given old left left_now g t = given-part most text given old.closed old.most (old.ahead ++ left) t.0 left_now (begin_behind given + 4097) g t.1 (omega (arith, g.size, t.2))
+
+-- .. or one byte more than is read
+pub given-over : (most : ℕ) (text : List ℕ) (given : List (List ℕ)) (old : LinesState) (left left_now : List ℕ) →
+    (g : Given most text given old.closed old.most (old.ahead ++ left)) → old.closed ≡ false → TakesAhead old (old.ahead ++ left) (Err Long) left_now → HasTaken text (most + 1) (Some left_now)
+given-over most text given old left left_now g o t =
+    let rest = old.ahead ++ left in
+    let same : length g.begin ≡ length g.front = omega (arith, ap length g.parts, length-append g.begin rest, ap length (g.split o), length-append g.front rest) in
+    given-part most text given old.closed old.most rest t.0 left_now (most + 1) g t.1 (omega (arith, g.bytes o, t.2, same))
 
 -- the source was read up to a part of a line
 pub record IsTaken (text : List ℕ) (most : ℕ) (given : List (List ℕ)) (left : List ℕ) : Type 0 where

@@ -26,8 +26,8 @@ use Rattle.fl_table.specs.Memory.{IsPlanned}
 use Rattle.fl_table.specs.Pages.{Rests, place_in}
 use Rattle.fl_session.proofs.StepsOf.{off-rests}
 use Rattle.fl_session.specs.Cost.{cost_of}
-use Rattle.fl_session.specs.declared.cost.Cost.{Cost}
-use Rattle.fl_session.specs.declared.cost.Cost.TheVariants as code_cost
+use Rattle.fl_session.specs.Notes.{no_notes}
+use Rattle.fl_session.specs.declared.notes.Notes.{Notes}
 use Rattle.fl_session.specs.Standing.{SessionStands, RestsOn}
 use Rattle.fl_table.proofs.Images.{image-rests, rests-image, blank-rests}
 
@@ -134,11 +134,12 @@ one_table config content plan [] h = absurd h
 one_table config content plan (table ∷ []) h = (table, refl, h.0)
 one_table config content plan (table ∷ next ∷ tables) h = absurd h.1
 
-pub session-begins : (config : Config) (t : code.Table) (name : List ℕ) (cost : Cost) (f : FlashState) (m : Machine) → cost ≡ code_cost.NothingYet → IsTrue f.media.tells → f.start ≡ 1024 → f.geometry ≡ config.geometry →
-    f.armed ≡ None → f.work.programs ≡ 0 → f.work.erases ≡ 0 → (one : IsOne config.plans) → one.plan.name ≡ name → IsPlanned t 0 one.plan → RestsOn config f.media.content m → SessionStands config t name f false cost m
-session-begins config t name cost f m fresh told start geometry armed programs erases one named planned h =
+pub session-begins : (config : Config) (t : code.Table) (name : List ℕ) (notes : Notes) (f : FlashState) (m : Machine) → notes ≡ no_notes → IsTrue f.media.tells → f.start ≡ 1024 → f.geometry ≡ config.geometry →
+    f.armed ≡ None → f.work.programs ≡ 0 → f.work.erases ≡ 0 → (one : IsOne config.plans) → one.plan.name ≡ name → IsPlanned t 0 one.plan → config.knots ≡ 64 → RestsOn config f.media.content m → SessionStands config t name f false notes m
+session-begins config t name notes f m fresh told start geometry armed programs erases one named planned knots h =
     let images = one_table config f.media.content one.plan h.0 (subst (λ ps. AreTableImages config f.media.content 0 ps h.0) one.plans_are h.1.tables_are) in
     record {
+      knots = knots;
       medium = record { told = told; len = h.1.len; head = h.1.head; start = start; geometry = geometry };
       plan = one.plan;
       plans = one.plans_are;
@@ -149,14 +150,14 @@ session-begins config t name cost f m fresh told start geometry armed programs e
       is_mounted = ap (λ (m : Machine). m.mounted) h.2;
       cursors = ap (λ (m : Machine). m.cursors) h.2;
       device = subst (λ (m : Machine). SameDevice f m.device) (sym h.2) (record { armed = subst (λ a. ArmsAs None a) (sym armed) refl; programs = sym programs; erases = sym erases });
-      cost_is = ap (λ (m : Machine). m.cost) h.2 ∙ ap cost_of (sym fresh);
+      cost_is = ap (λ (m : Machine). m.cost) h.2 ∙ ap (λ (n : Notes). cost_of n.cost) (sym fresh);
       on_flash = image-rests config 0 one.plan images.0 f start geometry images.2;
       power = λ k. cc;
     }
 
 -- the medium on which a session ended stands for what it had on it
-pub session-ends : (config : Config) (t : code.Table) (name : List ℕ) (cost : Cost) (f : FlashState) (mounted : Bool) (m : Machine) → SessionStands config t name f mounted cost m → StandsAfter config (Some f.media.content) m
-session-ends config t name cost f mounted m h =
+pub session-ends : (config : Config) (t : code.Table) (name : List ℕ) (notes : Notes) (f : FlashState) (mounted : Bool) (m : Machine) → SessionStands config t name f mounted notes m → StandsAfter config (Some f.media.content) m
+session-ends config t name notes f mounted m h =
     let r = off-rests t f h.plan h.table mounted h.on_flash in
     let image = rests-image config 0 h.plan (lose h.table) f h.medium.start h.medium.geometry r in
     let images : AreTableImages config f.media.content 0 (h.plan ∷ []) (lose h.table ∷ []) = (image, tt) in

@@ -1,18 +1,23 @@
 -- A run goes on by one command.
 use Rattle.std.proofs.Common.{◌≡◌, ℕ, ◌+◌, ◌-◌, ◌^◌, ◌≤◌, Bool, true, false, inl, inr, IsTrue, Option, Some, None, Ok, Err, List, [], ◌∷◌, ◌++◌, cond, refl, sym, ◌∙◌, ap, subst, append-nil, append_assoc, add-zero, arith}
+use Rattle.std.specs.Prelude.{MatchBool, MatchOption}
 use Rattle.std.proofs.lemmas.List.{map-append}
 use Rattle.std.proofs.lemmas.Grind.{flat_map-append}
 use Rattle.std.proofs.lemmas.Bool.{cases_lt}
 use Rattle.fl_base.specs.Causes.{Rose, Appends}
 use Rattle.fl_flash.specs.Flash.{FlashState}
 use Rattle.fl_model.specs.Record.{Config}
+use Rattle.fl_model.specs.Spline.{lookup_limit}
+use Rattle.fl_words.specs.Command as command
 use Rattle.fl_words.specs.Command.{Command}
 use Rattle.fl_words.specs.Reply.{texts}
 use Rattle.fl_machine.specs.Machine.{Machine}
-use Rattle.fl_machine.specs.Step.{Moment, Step}
+use Rattle.fl_machine.specs.Reads.{none_read, PromisedReads, RunPromised}
+use Rattle.fl_machine.specs.Step.{Moment, Step, Located, located}
 use Rattle.fl_machine.specs.Run.{Run, end_of, written_by, risen_in}
 use Rattle.fl_machine.specs.Script.{Ran, RanInto, RoseBy}
 use Rattle.fl_machine.proofs.Steps.{finds}
+use Rattle.fl_session.specs.Cost.{CountsReads, ReadsGet, ReadsAsStated}
 use Rattle.fl_session.specs.Execute.{Executes, IsAlike, IsReady, StandsAlike}
 
 -- a run and one more step
@@ -56,6 +61,37 @@ pub rose-more : (n before mid now : ℕ) (b : Bool) → RoseBy n before mid → 
 rose-more n before mid now true h later rose = one_more n before mid now h later (rose refl)
 rose-more n before mid now false h later rose = rw add-zero (at_end n before mid now h later)
 
+-- ---- what is promised of the reads
+
+within-at : (config : Config) (moment : Moment) (key : ℕ) (now : FlashState) (at : Option Located) → MatchOption at (none_read moment) (ReadsGet config moment key now) →
+    MatchOption at (none_read moment) (λ (x : Located). moment.reads ≤ lookup_limit config.knots x.plan x.table key)
+within-at config moment key now None h = h
+within-at config moment key now (Some at) h = h.within
+
+within-when : (config : Config) (moment : Moment) (key : ℕ) (now : FlashState) (mounted : Bool) (at : Option Located) → MatchBool mounted (MatchOption at (none_read moment) (ReadsGet config moment key now)) (none_read moment) →
+    MatchBool mounted (MatchOption at (none_read moment) (λ (x : Located). moment.reads ≤ lookup_limit config.knots x.plan x.table key)) (none_read moment)
+within-when config moment key now true at h = within-at config moment key now at h
+within-when config moment key now false at h = h
+
+promised-by : (config : Config) (old : Machine) (moment : Moment) (before now : FlashState) (c : Command) → CountsReads before moment now c → ReadsAsStated config old moment now c → PromisedReads config old moment c
+promised-by config old moment before now command.Mount h k = tt
+promised-by config old moment before now (command.Get name key) h k = within-when config moment key now old.mounted (located config old name) k
+promised-by config old moment before now (command.Blob name key) h k = tt
+promised-by config old moment before now (command.Scan name range span) h k = tt
+promised-by config old moment before now (command.Next cursor count) h k = tt
+promised-by config old moment before now (command.Select name range column op value) h k = tt
+promised-by config old moment before now (command.Project name range columns) h k = tt
+promised-by config old moment before now (command.Agg name range column width) h k = tt
+promised-by config old moment before now (command.Join left right range) h k = tt
+promised-by config old moment before now c h k = h
+
+promised : (config : Config) (old : Machine) (moment : Moment) (before now : FlashState) (c : Command) → moment.command ≡ c → CountsReads before moment now c → ReadsAsStated config old moment now c → PromisedReads config old moment moment.command
+promised config old moment before now c is h k = subst (λ x. PromisedReads config old moment x) (sym is) (promised-by config old moment before now c h k)
+
+promised-more : (config : Config) (old : Machine) (moments : List Moment) (moment : Moment) → RunPromised config old moments → PromisedReads config (end_of old moments) moment moment.command → RunPromised config old (moments ++ moment ∷ [])
+promised-more config old [] moment run reads = (reads, tt)
+promised-more config old (m ∷ moments) moment run reads = (run.0, promised-more config m.after moments moment run.1 reads)
+
 -- before any command
 pub ran-none : (config : Config) (old : Machine) (stands : Machine → Type 0) (faults : ℕ) (told : Option (List ℕ)) → stands old → Ran config old [] stands faults faults told told
 ran-none config old stands faults told h = record {
@@ -63,6 +99,7 @@ ran-none config old stands faults told h = record {
   commands_are = refl;
   run = tt;
   stands_after = h;
+  reads = tt;
   rose = inl (omega arith);
   found = λ place. tt;
   told_all = nothing-added told;
@@ -81,6 +118,7 @@ ran-more config old commands command stands stands_now faults mid now told told_
       commands_are = map-append (λ (m : Moment). m.command) h.moments (e.moment ∷ []) ∙ (ap (λ cs. cs ++ e.moment.command ∷ []) h.commands_are ∙ ap (λ c. commands ++ c ∷ []) e.command_is);
       run = run;
       stands_after = subst stands_now (e.same ∙ sym (end_of-more old h.moments e.moment)) e.stands_after;
+      reads = promised-more config old h.moments e.moment h.reads (promised config (end_of old h.moments) e.moment mid now command e.command_is e.reads e.stated);
       rose = rw risen-more (rose-more (risen_in h.moments) faults mid.media.faults now.media.faults e.moment.rose h.rose later e.rose);
       found = λ place. finds config old (h.moments ++ e.moment ∷ []) place ready.room ready.off ready.rest run;
       told_all = rw written-more (appends-more told told_mid told_now (written_by h.moments) (texts e.moment.replies) h.told_all e.told_all);
@@ -99,6 +137,7 @@ ran-into config old commands command stands stands_now faults mid now told told_
       commands_are = map-append (λ (m : Moment). m.command) h.moments (e.moment ∷ []) ∙ (ap (λ cs. cs ++ e.moment.command ∷ []) h.commands_are ∙ ap (λ c. commands ++ c ∷ []) e.command_is);
       run = run;
       stands_after = (e.after, e.stands_after, subst (λ m. IsAlike m e.after) (sym (end_of-more old h.moments e.moment)) e.alike);
+      reads = promised-more config old h.moments e.moment h.reads (promised config (end_of old h.moments) e.moment mid now command e.command_is e.reads e.stated);
       rose = rw risen-more (rose-more (risen_in h.moments) faults mid.media.faults now.media.faults e.moment.rose h.rose later e.rose);
       found = λ place. finds config old (h.moments ++ e.moment ∷ []) place ready.room ready.off ready.rest run;
       before = h.moments;
@@ -117,6 +156,7 @@ ran-seen config old commands stands stands_now faults now told told_now f h = re
   commands_are = h.commands_are;
   run = h.run;
   stands_after = f (end_of old h.moments) h.stands_after;
+  reads = h.reads;
   rose = h.rose;
   found = h.found;
   told_all = h.told_all;
@@ -129,6 +169,7 @@ ran_into-seen config old commands stands stands_now faults now told told_now f h
   commands_are = h.commands_are;
   run = h.run;
   stands_after = f (end_of old h.moments) h.stands_after;
+  reads = h.reads;
   rose = h.rose;
   found = h.found;
   before = h.before;

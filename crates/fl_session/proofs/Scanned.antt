@@ -33,17 +33,21 @@ all-lines range span table =
 pub lists-cut : (ys zs all : List Reply) (told now : Option (List ℕ)) (f h : ℕ) (fault : ListFault) → ys ++ zs ≡ all → ListsAll ys told now f h (Err fault) → ListsAll all told now f h (Err fault)
 lists-cut ys zs all told now f h fault is b = lists-stop [] ys zs all told told now f f h 0 fault is (omega arith) (appends-none told, refl) b
 
--- the lines of entries of a table without variable data
-pub lines-are : (plan : Plan) (range : KeyRange) (span : Option Span) (entries : List Entry) → has_var plan ≡ false → lines_of range span entries ≡ rows_of plan (selected range span entries)
-lines-are plan range span [] none = refl
-lines-are plan range span (entry ∷ entries) none = by_test (lines-are plan range span entries none) (matches range span entry.kept) refl
+-- the line of an entry of a table without variable data
+pub row-line : (plan : Plan) (entry : Entry) → has_var plan ≡ false → row_reply (stored_row entry) ≡ row_of plan entry
+row-line plan entry none = ap (λ n. reply.Row entry.kept.key entry.kept.values n) (sym (note entry.kept.blob))
   where
     note : (blob : Option (List ℕ)) → row_note plan blob ≡ reply.NoRing
     note None = rw none refl
     note (Some bytes) = rw none refl
 
+-- the lines of entries of a table without variable data
+pub lines-are : (plan : Plan) (range : KeyRange) (span : Option Span) (entries : List Entry) → has_var plan ≡ false → lines_of range span entries ≡ rows_of plan (selected range span entries)
+lines-are plan range span [] none = refl
+lines-are plan range span (entry ∷ entries) none = by_test (lines-are plan range span entries none) (matches range span entry.kept) refl
+  where
     one : row_reply (stored_row entry) ≡ row_of plan entry
-    one = ap (λ n. reply.Row entry.kept.key entry.kept.values n) (sym (note entry.kept.blob))
+    one = row-line plan entry none
 
     by_test : lines_of range span entries ≡ rows_of plan (selected range span entries) → (b : Bool) → matches range span entry.kept ≡ b → lines_of range span (entry ∷ entries) ≡ rows_of plan (selected range span (entry ∷ entries))
     by_test rest true e = rw e (ap (λ (l : List Reply). row_reply (stored_row entry) ∷ l) rest ∙ ap (λ (r : Reply). r ∷ rows_of plan (selected range span entries)) one)

@@ -25,7 +25,7 @@ use Rattle.fl_table.proofs.Holding.{lost-twice}
 use Rattle.fl_session.specs.Answer.{Answers}
 use Rattle.fl_session.specs.Built.{IsRunnable}
 use Rattle.fl_session.specs.Execute.{Executes}
-use Rattle.fl_session.specs.declared.cost.Cost.{Cost}
+use Rattle.fl_session.specs.declared.notes.Notes.{Notes}
 use Rattle.fl_session.specs.Standing.{SessionStands}
 use Rattle.fl_session.proofs.Answering.{answers-saying, saying, says}
 use Rattle.fl_session.proofs.Executing.{executes-by}
@@ -37,7 +37,7 @@ pub executes-nothing : (E : Type 0) (config : Config) (old : Machine) (c : Comma
 executes-nothing E config old c stands f told e s =
     let w : Written {E = E} told told (Ok tt) [] = nothing-added told in
     subst (λ x. Executes {E = E} config old x stands f f told told (Ok tt)) (sym e)
-    (executes-by E config old command.Nothing stands f f told told (Ok tt) (saying command.Nothing [] old) refl (record { replies_are = refl; after_is = refl; last_is = refl }) s refl (λ t. cc) w)
+    (executes-by E config old command.Nothing stands f f told told (Ok tt) (saying command.Nothing [] old) refl (record { replies_are = refl; after_is = refl; last_is = refl }) s refl tt (λ t. cc) w)
 
 -- a table rests where what it has in memory is lost
 planned-plain : (t : Table) (plan : Plan) → IsPlanned t 0 plan → IsPlain plan
@@ -55,10 +55,11 @@ pub off-rests : (t : Table) (f : FlashState) (plan : Plan) (table : model.Table)
 off-rests t f plan table true h = stands-rests t f plan table h
 off-rests t f plan table false h = subst (λ x. Rests f 0 plan x) h.settled.lost h
 
-pub stands-off : (config : Config) (old : Machine) (t : Table) (name : List ℕ) (cost : Cost) (f : FlashState) (mounted : Bool) → SessionStands config t name f mounted cost old → SessionStands config t name (record f { is_on = false }) false cost (stopped old)
-stands-off config old t name cost f mounted h =
+pub stands-off : (config : Config) (old : Machine) (t : Table) (name : List ℕ) (notes : Notes) (f : FlashState) (mounted : Bool) → SessionStands config t name f mounted notes old → SessionStands config t name (record f { is_on = false }) false notes (stopped old)
+stands-off config old t name notes f mounted h =
     let r = off-rests t f h.plan h.table mounted h.on_flash in
     record {
+      knots = h.knots;
       medium = record { told = h.medium.told; len = h.medium.len; head = h.medium.head; start = h.medium.start; geometry = h.medium.geometry };
       plan = h.plan;
       plans = h.plans;
@@ -80,16 +81,17 @@ answers-off config old stands faults faults_now s = answers-saying config old co
 cut-flash : (t : Table) (f : FlashState) (plan : Plan) (table : model.Table) (mounted : Bool) (n : ℕ) (kind : CutKind) →
     MatchBool mounted (Stands t f 0 plan table) (Rests f 0 plan table) →
     MatchBool mounted (Stands t (record f { armed = Some (record { left = n; tear = Kind kind }) }) 0 plan table) (Rests (record f { armed = Some (record { left = n; tear = Kind kind }) }) 0 plan table)
-cut-flash t f plan table true n kind h = record { planned = h.planned; facts = h.facts; whole = h.whole; clean = h.clean; pages = h.pages; memory = h.memory }
+cut-flash t f plan table true n kind h = record { planned = h.planned; facts = h.facts; whole = h.whole; clean = h.clean; pages = h.pages; memory = h.memory; points = h.points }
 cut-flash t f plan table false n kind h = record { settled = h.settled; pages = h.pages }
 
 -- a cut is armed
 abbrev pub cut_to_come : Machine → ℕ → CutKind → Machine
 cut_to_come old n kind = record old { device = record old.device { armed = Some (n, kind) } }
 
-pub stands-cut : (config : Config) (old : Machine) (t : Table) (name : List ℕ) (cost : Cost) (f : FlashState) (mounted : Bool) (n : ℕ) (kind : CutKind) → 1 ≤ n →
-    SessionStands config t name f mounted cost old → SessionStands config t name (record f { armed = Some (record { left = n; tear = Kind kind }) }) mounted cost (cut_to_come old n kind)
-stands-cut config old t name cost f mounted n kind counted h = record {
+pub stands-cut : (config : Config) (old : Machine) (t : Table) (name : List ℕ) (notes : Notes) (f : FlashState) (mounted : Bool) (n : ℕ) (kind : CutKind) → 1 ≤ n →
+    SessionStands config t name f mounted notes old → SessionStands config t name (record f { armed = Some (record { left = n; tear = Kind kind }) }) mounted notes (cut_to_come old n kind)
+stands-cut config old t name notes f mounted n kind counted h = record {
+  knots = h.knots;
   medium = record { told = h.medium.told; len = h.medium.len; head = h.medium.head; start = h.medium.start; geometry = h.medium.geometry };
   plan = h.plan;
   plans = h.plans;
@@ -111,27 +113,31 @@ answers-cut config old n kind stands faults faults_now s =
 
 -- a command that is run and isn't one of the others is nothing
 pub default-view : (c : code.Command) (room : List ℕ) → IsRunnable (command_view c room) → (c ≡ code.TheVariants.Mount → ⊥) → (c ≡ code.TheVariants.Off → ⊥) → ((n : ℕ) (kind : CutKind) → c ≡ code.TheVariants.Cut n kind → ⊥) →
-    ((name : _) (key : ℕ) (values : _) (blob : Bool) → c ≡ code.TheVariants.Put name key values blob → ⊥) → ((name : _) → c ≡ code.TheVariants.Flush name → ⊥) → ((name : _) → c ≡ code.TheVariants.Stat name → ⊥) → ((name : _) (range : _) (span : _) → c ≡ code.TheVariants.Scan name range span → ⊥) →
-    ((name : _) (count step seed : ℕ) → c ≡ code.TheVariants.Load name count step seed → ⊥) → (c ≡ code.TheVariants.Cost → ⊥) → command_view c room ≡ command.Nothing
-default-view code.TheVariants.Nothing room r m n k p f s l o q = refl
-default-view code.TheVariants.Mount room r m n k p f s l o q = absurd (m refl)
-default-view code.TheVariants.Off room r m n k p f s l o q = absurd (n refl)
-default-view (code.TheVariants.Cut i kind) room r m n k p f s l o q = absurd (k i kind refl)
-default-view (code.TheVariants.Put name key values blob) room r m n k p f s l o q = absurd (p name key values blob refl)
-default-view (code.TheVariants.Flush name) room r m n k p f s l o q = absurd (f name refl)
-default-view (code.TheVariants.Stat name) room r m n k p f s l o q = absurd (s name refl)
-default-view (code.TheVariants.Scan name range span) room r m n k p f s l o q = absurd (l name range span refl)
-default-view code.TheVariants.Cost room r m n k p f s l o q = absurd (q refl)
-default-view (code.TheVariants.Load name count step seed) room r m n k p f s l o q = absurd (o name count step seed refl)
-default-view (code.TheVariants.Device page block) room r m n k p f s l o q = absurd (none r.runs)
+    ((name : _) (key : ℕ) (values : _) (blob : Bool) → c ≡ code.TheVariants.Put name key values blob → ⊥) → ((name : _) → c ≡ code.TheVariants.Flush name → ⊥) → ((name : _) → c ≡ code.TheVariants.Stat name → ⊥) → ((name : _) (key : ℕ) → c ≡ code.TheVariants.Get name key → ⊥) → ((name : _) (range : _) (span : _) → c ≡ code.TheVariants.Scan name range span → ⊥) →
+    ((name : _) (count step seed : ℕ) → c ≡ code.TheVariants.Load name count step seed → ⊥) → ((cursor : ℕ) (name : _) (range : _) (span : _) → c ≡ code.TheVariants.Open cursor name range span → ⊥) → ((cursor : ℕ) → c ≡ code.TheVariants.Close cursor → ⊥) →
+    (c ≡ code.TheVariants.Cost → ⊥) → command_view c room ≡ command.Nothing
+default-view code.TheVariants.Nothing room r m n k p f s t l o u v q = refl
+default-view code.TheVariants.Mount room r m n k p f s t l o u v q = absurd (m refl)
+default-view code.TheVariants.Off room r m n k p f s t l o u v q = absurd (n refl)
+default-view (code.TheVariants.Cut i kind) room r m n k p f s t l o u v q = absurd (k i kind refl)
+default-view (code.TheVariants.Put name key values blob) room r m n k p f s t l o u v q = absurd (p name key values blob refl)
+default-view (code.TheVariants.Flush name) room r m n k p f s t l o u v q = absurd (f name refl)
+default-view (code.TheVariants.Stat name) room r m n k p f s t l o u v q = absurd (s name refl)
+default-view (code.TheVariants.Get name key) room r m n k p f s t l o u v q = absurd (t name key refl)
+default-view (code.TheVariants.Scan name range span) room r m n k p f s t l o u v q = absurd (l name range span refl)
+default-view code.TheVariants.Cost room r m n k p f s t l o u v q = absurd (q refl)
+default-view (code.TheVariants.Load name count step seed) room r m n k p f s t l o u v q = absurd (o name count step seed refl)
+default-view (code.TheVariants.Open cursor name range span) room r m n k p f s t l o u v q = absurd (u cursor name range span refl)
+default-view (code.TheVariants.Close cursor) room r m n k p f s t l o u v q = absurd (v cursor refl)
+default-view (code.TheVariants.Device page block) room r m n k p f s t l o u v q = absurd (none r.runs)
   where
     none : None ≡ Some (command.Device page block) → ⊥
     none e = cc
-default-view (code.TheVariants.Table name key rows index var bits base width error blob) room r m n k p f s l o q = absurd (none r.runs)
+default-view (code.TheVariants.Table name key rows index var bits base width error blob) room r m n k p f s t l o u v q = absurd (none r.runs)
   where
     none : None ≡ Some (command_view (code.TheVariants.Table name key rows index var bits base width error blob) room) → ⊥
     none e = cc
-default-view c room r m n k p f s l o q = absurd (unbuilt r.built)
+default-view c room r m n k p f s t l o u v q = absurd (unbuilt r.built)
   where
     unbuilt : false ≡ true → ⊥
     unbuilt e = cc

@@ -30,7 +30,7 @@ use Rattle.fl_table.specs.Outcomes.{Finishes, FaultEnds, Breaks, PutEnds, FlushE
 use Rattle.fl_table.specs.Pages.{Rests}
 use Rattle.fl_table.specs.Standing.{Stands}
 use Rattle.fl_session.specs.Answer.{Answers, fault_reply, put_reply, flush_reply}
-use Rattle.fl_session.specs.declared.cost.Cost.{Cost}
+use Rattle.fl_session.specs.declared.notes.Notes.{Notes}
 use Rattle.fl_session.specs.Standing.{SessionStands, IsOnMedium}
 use Rattle.fl_session.proofs.Answering.{answers-saying, saying, says, step-is, table-step, located-own}
 use Rattle.fl_session.proofs.Executing.{one-text}
@@ -54,6 +54,7 @@ planned-same t u first plan same h = record {
   index = h.index;
   var = h.var;
   buckets = subst (HasBuckets plan) (sym same.buckets) h.buckets;
+  error = h.error ∙ sym same.error;
 }
 
 -- whether the medium's faults rose
@@ -63,8 +64,8 @@ has_risen f g = nat_le (min (f.media.faults + 1) (2 ^ 64 - 1)) g.media.faults
 pub risen-rose : (f g : FlashState) → IsTrue (has_risen f g) → Rose f.media.faults g.media.faults
 risen-rose f g e = leb-true (min (f.media.faults + 1) (2 ^ 64 - 1)) g.media.faults e
 
-pub session-watched : (config : Config) (t : Table) (name : List ℕ) (cost : Cost) (f g : FlashState) (m : Machine) → SessionStands config t name f true cost m → IsWatched f g (has_risen f g) m.device
-session-watched config t name cost f g m h =
+pub session-watched : (config : Config) (t : Table) (name : List ℕ) (notes : Notes) (f g : FlashState) (m : Machine) → SessionStands config t name f true notes m → IsWatched f g (has_risen f g) m.device
+session-watched config t name notes f g m h =
     record { told = h.medium.told; on = h.power refl; risen = λ r. le-leb (min (f.media.faults + 1) (2 ^ 64 - 1)) g.media.faults r; counts = h.device }
 
 -- what the table performs, all tables perform
@@ -109,10 +110,11 @@ ends-broken c rose old now fault f (CutIn before) new k h = record { replies_are
 ends-broken c rose old now fault f (FailedIn before) new k h = record { replies_are = ap (λ x. fault_reply x ∷ []) h.0; after_is = refl; last_is = ap (last_of old.tables) k }
 
 -- A session before a call of its table and after it.
-module _ (config : Config) (old : Machine) (name : List ℕ) (cost : Cost) (t u : Table) (f g : FlashState) (h : SessionStands config t name f true cost old) (goes : Goes f g) (same : IsSamePlan t u) where
+module _ (config : Config) (old : Machine) (name : List ℕ) (notes : Notes) (t u : Table) (f g : FlashState) (h : SessionStands config t name f true notes old) (goes : Goes f g) (same : IsSamePlan t u) where
   pub stands-done : (after : model.Table → model.Table) (device : Device) → SameDevice g device → g.is_on ≡ true → Stands u g 0 h.plan (after h.table) →
-      SessionStands config u name g true cost (record old { device = device; tables = changed_at 0 after old.tables })
+      SessionStands config u name g true notes (record old { device = device; tables = changed_at 0 after old.tables })
   stands-done after device counts power stands = record {
+    knots = h.knots;
     medium = medium-goes config f g goes h.medium;
     plan = h.plan;
     plans = h.plans;
@@ -129,8 +131,9 @@ module _ (config : Config) (old : Machine) (name : List ℕ) (cost : Cost) (t u 
   }
 
   pub stands-broken : (state : model.Table) (device : Device) → SameDevice g device → Rests g 0 h.plan (lose state) →
-      SessionStands config u name g false cost (stopped (record old { device = device; tables = with_table 0 old.tables state }))
+      SessionStands config u name g false notes (stopped (record old { device = device; tables = with_table 0 old.tables state }))
   stands-broken state device counts rests = record {
+    knots = h.knots;
     medium = medium-goes config f g goes h.medium;
     plan = h.plan;
     plans = h.plans;
@@ -153,7 +156,7 @@ module _ (config : Config) (old : Machine) (name : List ℕ) (cost : Cost) (t u 
   answers-done : (c : Command) (rings : List RingName) (after : model.Table → model.Table) →
       Finishes 0 h.plan (seals_within h.plan rings h.table) h.table (after h.table) (has_risen f g) old.device u g →
       ((moment : Moment) → Works config old moment h.plan rings h.table (record old { tables = changed_at 0 after old.tables }) → moment.command ≡ c → Step config old moment) →
-      Answers config old c (SessionStands config u name g true cost) f.media.faults g.media.faults (text reply.Done)
+      Answers config old c (SessionStands config u name g true notes) f.media.faults g.media.faults (text reply.Done)
   answers-done c rings after fin step =
       let after_is : Machine = record old { device = fin.now.device; tables = changed_at 0 after old.tables } in
       let moment = done_so c (has_risen f g) after_is in
@@ -173,7 +176,7 @@ module _ (config : Config) (old : Machine) (name : List ℕ) (cost : Cost) (t u 
 
   answers-broken : (c : Command) (rings : List RingName) (new : Machine) (fault : FlashFault) → Breaks 0 h.plan (seals_within h.plan rings h.table) h.table (has_risen f g) old.device fault g →
       ((moment : Moment) → Works config old moment h.plan rings h.table new → moment.command ≡ c → Step config old moment) →
-      Answers config old c (SessionStands config u name g false cost) f.media.faults g.media.faults (text (fault_reply fault))
+      Answers config old c (SessionStands config u name g false notes) f.media.faults g.media.faults (text (fault_reply fault))
   answers-broken c rings new fault b step =
       let moment = broken_so c (has_risen f g) old b.now fault in
       record {
@@ -203,18 +206,18 @@ module _ (config : Config) (old : Machine) (name : List ℕ) (cost : Cost) (t u 
         step-is config old moment (command.Put name key values blob) is (table-step config old moment name (PutStep config old moment item) at_own h.is_mounted own step)
 
     put-refused : (refusal : Refusal) → u ≡ t → g ≡ f → refusal_of h.plan h.table item ≡ Some refusal →
-        Answers config old (command.Put name key values blob) (SessionStands config u name g true cost) f.media.faults g.media.faults (text (refused refusal))
+        Answers config old (command.Put name key values blob) (SessionStands config u name g true notes) f.media.faults g.media.faults (text (refused refusal))
     put-refused refusal e k is =
         let c = command.Put name key values blob in
         let own = located-own config old h.plan h.table name h.plans h.tables h.named in
         let step : PutStep config old (saying c (refused refusal ∷ []) old) item at_own = rw is (says c (refused refusal ∷ []) old) in
-        answers-saying config old c (refused refusal) old (SessionStands config u name g true cost) f.media.faults g.media.faults
+        answers-saying config old c (refused refusal) old (SessionStands config u name g true notes) f.media.faults g.media.faults
         (table-step config old (saying c (refused refusal ∷ []) old) name (PutStep config old (saying c (refused refusal ∷ []) old) item) at_own h.is_mounted own step)
         (rw (e, k) h)
 
     pub put-answers : (result : Result (Unit {0}) PutRefusal) (mounted : Bool) → mounted ≡ not (put_breaks result) →
         PutEnds 0 h.plan item h.table (has_risen f g) old.device result u g → IfErr result (λ e. RefusedSame t f e u g) →
-        Answers config old (command.Put name key values blob) (SessionStands config u name g mounted cost) f.media.faults g.media.faults (text (put_reply result))
+        Answers config old (command.Put name key values blob) (SessionStands config u name g mounted notes) f.media.faults g.media.faults (text (put_reply result))
     put-answers (Ok done) mounted m ends r =
         rw m (answers-done (command.Put name key values blob) (put_seals h.plan item h.table) (put_record h.plan item) ends.1 (put-works ends.0))
     put-answers (Err (put.Flash fault)) mounted m ends r =
@@ -233,7 +236,7 @@ module _ (config : Config) (old : Machine) (name : List ℕ) (cost : Cost) (t u 
       step-is config old moment (command.Flush name) is (table-step config old moment name (FlushStep config old moment) at_own h.is_mounted own w)
 
   pub flush-answers : (result : Result (Unit {0}) FlushFault) (mounted : Bool) → mounted ≡ not (flush_breaks result) → FlushEnds 0 h.plan h.table (has_risen f g) old.device result u g →
-      Answers config old (command.Flush name) (SessionStands config u name g mounted cost) f.media.faults g.media.faults (text (flush_reply result))
+      Answers config old (command.Flush name) (SessionStands config u name g mounted notes) f.media.faults g.media.faults (text (flush_reply result))
   flush-answers (Ok done) mounted m ends = rw m (answers-done (command.Flush name) (table_seals h.plan h.table) (flushed h.plan) ends flush-works)
   flush-answers (Err (flush.Flash fault)) mounted m ends =
       rw m (answers-broken (command.Flush name) (table_seals h.plan h.table) (record old { tables = changed_at 0 (flushed h.plan) old.tables }) fault ends flush-works)

@@ -3,8 +3,9 @@ use Rattle.std.specs.Prelude.{◌≡◌, ℕ, ◌+◌, ◌<◌, ◌≤◌, ◌^�
 use Rattle.fl_model.specs.Record.{Config}
 use Rattle.fl_words.specs.Command.{Command}
 use Rattle.fl_words.specs.Config.{Lines, whole}
-use Rattle.fl_machine.specs.Script.{Start, Ready, Unended, BadLine, BadConfig, start_with, start_line, start_of}
+use Rattle.fl_machine.specs.Script.{Start, Unended, BadLine, BadConfig, start_with, start_line, start_of}
 use Rattle.fl_session.specs.Built.{IsRunnable, is_built, is_built_config}
+use Rattle.fl_session.specs.Taken.{HasTaken, TakesFew, TakesLine, TakesBegin, IsUnended}
 use Rattle.fl_session.specs.Texts.{most_bytes, whole_lines, rest_of, lines_read}
 use Rattle.fl_session.specs.Ends.{start_in, IsUnbuiltConfig}
 use Rattle.fl_session.specs.Next.{IsToRun}
@@ -47,13 +48,6 @@ ConfiguresBy old c number (Err (BadConfiguration n)) new = (n ≡ number) × Ref
 ConfiguresBy old c number (Err (NotYet n)) new = (n ≡ number) × Unmakes old c new
 ConfiguresBy old c number (Err status) new = ⊥
 
--- the configuration doesn't end with these lines
-abbrev pub IsUnended : Start → Type 0
-IsUnended (Unended config n) = Unit {0}
-IsUnended (Ready config n lines) = ⊥
-IsUnended (BadLine n) = ⊥
-IsUnended (BadConfig n) = ⊥
-
 -- The configuration is whole, and a command ended it: its line is the last that was given.
 pub record AtCommand (knots : ℕ) (text : List ℕ) (now : Lines) (number : ℕ) (state : LinesState) (left_now : Option (List ℕ)) : Type 0 where
   pub before : List (List ℕ)
@@ -61,10 +55,14 @@ pub record AtCommand (knots : ℕ) (text : List ℕ) (now : Lines) (number : ℕ
   pub left_is : left_now ≡ Some left
   pub given : Given most_bytes text (before ++ state.line ∷ []) state.closed state.most (state.ahead ++ left)
   pub numbered : number ≡ length before + 1
+  pub unended : IsUnended (start_of knots before)
+  pub few : TakesFew text before left_now
   pub starts : (others : List (List ℕ)) → start_of knots (before ++ state.line ∷ others) ≡ start_with (whole knots now) number (state.line ∷ others)
 
 -- .. or the script ended
-pub record AtEnd (knots : ℕ) (text : List ℕ) (now : Lines) (number : ℕ) : Type 0 where
+pub record AtEnd (knots : ℕ) (text : List ℕ) (now : Lines) (number : ℕ) (left_now : Option (List ℕ)) : Type 0 where
+  pub nothing : left_now ≡ Some []
+  pub takes : TakesBegin knots text left_now
   pub short : length text ≤ most_bytes
   pub starts : start_of knots (lines_read text) ≡ Unended (whole knots now) number
 
@@ -91,14 +89,14 @@ pub record EndsBefore (knots : ℕ) (text : List ℕ) (number : ℕ) : Type 0 wh
 
 abbrev pub BeginsAt : ℕ → List ℕ → Lines → Option code.Command → ℕ → LinesState → Option (List ℕ) → Type 0
 BeginsAt knots text now (Some first) number state left_now = AtCommand knots text now number state left_now
-BeginsAt knots text now None number state left_now = AtEnd knots text now number
+BeginsAt knots text now None number state left_now = AtEnd knots text now number left_now
 
 abbrev pub EndsBegin : ℕ → List ℕ → Option (List ℕ) → Status → Type 0
-EndsBegin knots text left_now (Line n) = start_in knots text ≡ BadLine n
-EndsBegin knots text left_now (BadConfiguration n) = start_in knots text ≡ BadConfig n
+EndsBegin knots text left_now (Line n) = (start_in knots text ≡ BadLine n) × TakesLine text n left_now
+EndsBegin knots text left_now (BadConfiguration n) = (start_in knots text ≡ BadConfig n) × TakesBegin knots text left_now
 EndsBegin knots text left_now ScriptRead = EndsInConfig knots text left_now
-EndsBegin knots text left_now ScriptLong = (most_bytes < length text) × IsUnended (start_of knots (lines_read text))
-EndsBegin knots text left_now (NotYet n) = EndsBefore knots text n
+EndsBegin knots text left_now ScriptLong = (most_bytes < length text) × IsUnended (start_of knots (lines_read text)) × HasTaken text (most_bytes + 1) left_now
+EndsBegin knots text left_now (NotYet n) = EndsBefore knots text n × TakesLine text n left_now
 EndsBegin knots text left_now status = ⊥
 
 -- the first command is in hand, if there is one

@@ -1,5 +1,5 @@
 -- The forms of lines that are built. A line of another form is not executed: the run ends there.
-use Rattle.std.specs.Prelude.{◌≡◌, Bool, true, false, Some, ◌&&◌, ◌==◌, nat_le, List, length}
+use Rattle.std.specs.Prelude.{◌≡◌, Bool, true, false, Some, ◌&&◌, ◌==◌, nat_le, nat_lt, List, length}
 use Rattle.std.specs.List.{list_all}
 use Rattle.fl_model.specs.Record.{Plan, Config}
 use Rattle.fl_words.specs.Command as command
@@ -17,8 +17,12 @@ is_built command.Off = true
 is_built (command.Cut n kind) = nat_le 1 n
 is_built (command.Put name key values blob) = true
 is_built (command.Flush name) = true
+is_built (command.Get name key) = true
 is_built (command.Scan name range span) = true
 is_built (command.Stat name) = true
+-- there are four cursors
+is_built (command.Open cursor name range span) = nat_lt cursor 4
+is_built (command.Close cursor) = nat_lt cursor 4
 is_built command.Cost = true
 -- the keys of a load grow
 is_built (command.Load name count step seed) = nat_le 1 step

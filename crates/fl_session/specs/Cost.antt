@@ -1,11 +1,14 @@
 -- The cost of a command: the pages that it reads.
-use Rattle.std.specs.Prelude.{◌≡◌, ℕ, ◌+◌, ◌-◌, ◌^◌, ◌<◌}
+use Rattle.std.specs.Prelude.{◌≡◌, ℕ, ◌+◌, ◌-◌, ◌^◌, ◌<◌, ◌≤◌, false, IsTrue}
 use Rattle.fl_flash.specs.Flash.{FlashState}
+use Rattle.fl_model.specs.Record.{Config}
+use Rattle.fl_model.specs.Spline.{lookup_limit, lookup_reads}
 use Rattle.fl_words.specs.Command as command
 use Rattle.fl_words.specs.Command.{Command}
 use Rattle.fl_machine.specs.Machine as machine
-use Rattle.fl_machine.specs.Reads.{none_read}
-use Rattle.fl_machine.specs.Step.{Moment}
+use Rattle.fl_machine.specs.Machine.{Machine}
+use Rattle.fl_machine.specs.Reads.{none_read, is_unread, has_reads, OnTable}
+use Rattle.fl_machine.specs.Step.{Moment, Located}
 use Rattle.fl_session.specs.declared.cost.Cost.{Cost}
 use Rattle.fl_session.specs.declared.cost.Cost.TheVariants.{NothingYet, OfGet, OfScan}
 
@@ -33,3 +36,14 @@ CountsReads old moment new (command.Project name range columns) = HasRead old mo
 CountsReads old moment new (command.Agg name range column width) = HasRead old moment.reads new
 CountsReads old moment new (command.Join left right range) = HasRead old moment.reads new
 CountsReads old moment new _ = none_read moment
+
+-- The reads of a get: at most its limit. Of a covered key that isn't pending they are those of the definition, where no read
+-- failed and the flash's count isn't at its end.
+pub record ReadsGet (config : Config) (moment : Moment) (key : ℕ) (now : FlashState) (at : Located) : Type 0 where
+  pub within : moment.reads ≤ lookup_limit config.knots at.plan at.table key
+  pub exact : now.work.reads < 2 ^ 64 - 1 → is_unread moment ≡ false → IsTrue (has_reads config.knots at.plan at.table key) → moment.reads ≡ lookup_reads config.knots at.plan at.table key
+
+-- a command reads as many pages as is stated; of the others than a get nothing is stated yet
+abbrev pub ReadsAsStated : Config → Machine → Moment → FlashState → Command → Type 0
+ReadsAsStated config old moment now (command.Get name key) = OnTable config old moment name (ReadsGet config moment key now)
+ReadsAsStated config old moment now _ = Unit {0}

@@ -10,6 +10,7 @@ use Rattle.fl_words.specs.Medium.{header}
 use Rattle.fl_machine.specs.Machine.{Machine}
 use Rattle.fl_machine.specs.Script.{Start, Ready, Unended, BadLine, BadConfig, start_of, ended, accepted, first_refused, StandsFor, StandsAfter, Ran, RanInto}
 use Rattle.fl_session.specs.Built.{is_built, is_built_config}
+use Rattle.fl_session.specs.Taken.{HasTaken, TakesLine, TakesBegin}
 use Rattle.fl_session.specs.Texts.{most_bytes, whole_lines, rest_of, is_long, lines_read}
 use Rattle.fl_session.specs.declared.status.Status.{Status}
 use Rattle.fl_session.specs.declared.status.Status.TheVariants.{Done, Usage, Line, ScriptRead, OutWrite, MediaMake, Config as BadConfiguration, OtherConfig, ScriptLong, NoMemory, NotYet}
@@ -93,11 +94,21 @@ EndsLine (BadLine n) told line = (n ≡ line) × IsUntouched told
 EndsLine (BadConfig n) told line = ⊥
 
 -- some of the commands were run, and the sink failed in the reply of the last
-abbrev pub EndsInto : Start → Told → Type 0
-EndsInto (Ready config n lines) told = (commands : List Command) × (others : List Command) × (commands ++ others ≡ accepted lines) × RunsInto config commands told
-EndsInto (Unended config n) told = ⊥
-EndsInto (BadLine n) told = ⊥
-EndsInto (BadConfig n) told = ⊥
+pub record IntoReply (text : List ℕ) (config : Config) (n : ℕ) (lines : List (List ℕ)) (told : Told) : Type 0 where
+  pub commands : List Command
+  pub others : List Command
+  pub split : commands ++ others ≡ accepted lines
+  pub runs : RunsInto config commands told
+  -- the line of the last one was in hand
+  pub number : ℕ
+  pub number_is : number + 1 ≡ n + length commands
+  pub takes : TakesLine text number told.left_now
+
+abbrev pub EndsInto : List ℕ → Start → Told → Type 0
+EndsInto text (Ready config n lines) told = IntoReply text config n lines told
+EndsInto text (Unended config n) told = ⊥
+EndsInto text (BadLine n) told = ⊥
+EndsInto text (BadConfig n) told = ⊥
 
 -- the medium failed while the header or the blank image was read or written
 abbrev pub EndsMaking : Start → Told → Type 0
@@ -161,18 +172,19 @@ pub record EndsRead (knots : ℕ) (text : List ℕ) (told : Told) : Type 0 where
 
 -- `text` is the script
 abbrev pub Ends : ℕ → List ℕ → Told → Status → Type 0
-Ends knots text told Done = (length text ≤ most_bytes) × EndsDone (start_in knots text) told
-Ends knots text told Usage = IsUntouched told
-Ends knots text told (Line n) = EndsLine (start_in knots text) told n
+Ends knots text told Done = (length text ≤ most_bytes) × EndsDone (start_in knots text) told × (told.left_now ≡ Some [])
+Ends knots text told Usage = IsUntouched told × (told.left_now ≡ Some text)
+Ends knots text told (Line n) = EndsLine (start_in knots text) told n × TakesLine text n told.left_now
 Ends knots text told ScriptRead = EndsRead knots text told
-Ends knots text told OutWrite = EndsInto (start_in knots text) told
-Ends knots text told MediaMake = EndsMaking (start_in knots text) told
-Ends knots text told (BadConfiguration n) = EndsConfig (start_in knots text) told n
-Ends knots text told (OtherConfig wanted found at) = EndsOther (start_in knots text) told wanted found at
-Ends knots text told ScriptLong = (most_bytes < length text) × EndsEarly (start_of knots (lines_read text)) told
+Ends knots text told OutWrite = EndsInto text (start_in knots text) told
+Ends knots text told MediaMake = EndsMaking (start_in knots text) told × TakesBegin knots text told.left_now
+Ends knots text told (BadConfiguration n) = EndsConfig (start_in knots text) told n × TakesBegin knots text told.left_now
+Ends knots text told (OtherConfig wanted found at) = EndsOther (start_in knots text) told wanted found at × TakesBegin knots text told.left_now
+Ends knots text told ScriptLong = (most_bytes < length text) × EndsEarly (start_of knots (lines_read text)) told × HasTaken text (most_bytes + 1) told.left_now
 Ends knots text told NoMemory =
     Appends told.written told.written_now [] × ((told.content_now ≡ told.content) ⊎ IsNew (start_in knots text) told)
-Ends knots text told (NotYet n) = EndsAt knots (lines_read text) told n
+    × ((told.left_now ≡ Some text) ⊎ TakesBegin knots text told.left_now)
+Ends knots text told (NotYet n) = EndsAt knots (lines_read text) told n × TakesLine text n told.left_now
 
 -- what the outside told before and after
 abbrev pub told_of : MediaState → MediaState → Option (List ℕ) → Option (List ℕ) → Option (List ℕ) → Told

@@ -10,16 +10,17 @@ use Rattle.fl_machine.specs.Machine.{Machine}
 use Rattle.fl_machine.specs.Step.{Moment, Step}
 use Rattle.fl_machine.specs.Found.{HasRoom, IsAtRest}
 use Rattle.fl_machine.specs.Script.{Ran, RanInto}
-use Rattle.fl_session.specs.Cost.{CountsReads}
+use Rattle.fl_session.specs.Cost.{CountsReads, ReadsAsStated}
 
--- all but the cursors and the cost is the same
+-- all but the cursors is the same
 pub record IsAlike (a b : Machine) : Type 0 where
+  pub cost : b.cost ≡ a.cost
   pub tables : b.tables ≡ a.tables
   pub mounted : b.mounted ≡ a.mounted
   pub device : b.device ≡ a.device
 
 -- One command from a state of the machine: it goes on by a step and writes the texts of its replies. Where the
--- sink fails it writes a front of them, and only cursors and cost may be others than after the command.
+-- sink fails it writes a front of them, and only the cursors may be others than after the command.
 pub record Executes {E : Type 0} (config : Config) (old : Machine) (command : Command) (stands : Machine → Type 0) (flash flash_now : FlashState) (told told_now : Option (List ℕ)) (result : Result (Unit {0}) E) : Type 0 where
   pub moment : Moment
   pub command_is : moment.command ≡ command
@@ -29,6 +30,7 @@ pub record Executes {E : Type 0} (config : Config) (old : Machine) (command : Co
   pub alike : IsAlike moment.after after
   pub same : OnOk result (after ≡ moment.after)
   pub reads : CountsReads flash moment flash_now command
+  pub stated : ReadsAsStated config old moment flash_now command
   pub rose : IsTrue moment.rose → Rose flash.media.faults flash_now.media.faults
   pub told_all : OnOk result (Appends told told_now (texts moment.replies))
   pub told_front : OnErr result (AppendsFront told told_now (texts moment.replies))
@@ -39,7 +41,7 @@ pub record IsReady (config : Config) (old : Machine) : Type 0 where
   pub off : old.mounted ≡ false
   pub rest : AllByRecursion IsAtRest old.tables
 
--- a session stands for a state but for the cursors and the cost
+-- a session stands for a state but for the cursors
 abbrev pub StandsAlike : (Machine → Type 0) → Machine → Type 0
 StandsAlike stands machine = (after : Machine) × stands after × IsAlike machine after
 

@@ -1,6 +1,7 @@
 pub mod Words
 pub mod Built
 pub mod Texts
+pub mod Taken
 pub mod Ends
 pub mod Number
 pub mod Execute
@@ -12,8 +13,10 @@ pub mod Begin
 pub mod Opening
 pub mod Answer
 pub mod Cost
+pub mod Notes
 pub mod Standing
 pub mod Load
 pub mod Run
 pub mod Rows
 pub mod Listed
+pub mod Looked

@@ -1,8 +1,9 @@
 -- How the commands of a script are run one after another, from a first one on that was read.
-use Rattle.std.specs.Prelude.{◌≡◌, ℕ, ◌+◌, ◌<◌, ◌≤◌, Bool, false, Option, Some, None, List, ◌∷◌, ◌++◌, length, take, drop}
+use Rattle.std.specs.Prelude.{◌≡◌, ℕ, ◌+◌, ◌<◌, ◌≤◌, Bool, false, Option, Some, None, List, [], ◌∷◌, ◌++◌, length, take, drop}
 use Rattle.fl_words.specs.Command.{Command}
 use Rattle.fl_machine.specs.Machine.{Machine}
 use Rattle.fl_machine.specs.Script.{accepted, first_refused}
+use Rattle.fl_session.specs.Taken.{HasTaken, TakesFew}
 use Rattle.fl_session.specs.Texts.{whole_lines, rest_of, lines_within}
 use Rattle.fl_session.specs.Execute.{Around, RanAll, RanPart}
 use Rattle.fl_session.specs.Next.{IsUnbuilt}
@@ -15,11 +16,26 @@ pub record Tail : Type 0 where
   pub number : ℕ
   pub first : List ℕ
   pub text : List ℕ
+  -- how many bytes of the text were taken with the line
+  pub taken : ℕ
   pub most : ℕ
   pub closed : Bool
 
 abbrev pub lines_in : Tail → List (List ℕ)
 lines_in tail = tail.first ∷ lines_within tail.most tail.text
+
+-- at most 4,097 bytes were taken from the first byte of the line on that stands behind these lines of the script
+abbrev pub TakesTail : Tail → List (List ℕ) → Option (List ℕ) → Type 0
+TakesTail tail [] left_now = left_now ≡ Some (drop tail.taken tail.text)
+TakesTail tail (first ∷ given) left_now = TakesFew tail.text given left_now
+
+-- .. of the line of this number
+pub record TailTakes (tail : Tail) (number : ℕ) (left_now : Option (List ℕ)) : Type 0 where
+  pub before : List (List ℕ)
+  pub others : List (List ℕ)
+  pub split : lines_in tail ≡ before ++ others
+  pub number_is : number ≡ tail.number + length before
+  pub few : TakesTail tail before left_now
 
 -- all lines were run
 pub record EndsAll (tail : Tail) (around : Around) (stands stands_now : Machine → Type 0) : Type 0 where
@@ -43,10 +59,13 @@ pub record EndsUnbuilt (tail : Tail) (around : Around) (stands stands_now : Mach
   pub runs : RanAll around stands stands_now (accepted (tail.first ∷ before))
 
 -- .. some of the lines, and in the reply of the last of them the sink failed
-pub record EndsInReply (tail : Tail) (around : Around) (stands stands_now : Machine → Type 0) : Type 0 where
+pub record EndsInReply (tail : Tail) (left_now : Option (List ℕ)) (around : Around) (stands stands_now : Machine → Type 0) : Type 0 where
   pub commands : List Command
   pub others : List Command
   pub split : commands ++ others ≡ accepted (lines_in tail)
+  pub number : ℕ
+  pub number_is : number + 1 ≡ tail.number + length commands
+  pub takes : TailTakes tail number left_now
   pub runs : RanPart around stands stands_now commands
 
 -- .. the whole lines of what was taken from the source
@@ -61,12 +80,12 @@ pub record EndsTaken (tail : Tail) (left_now : Option (List ℕ)) (around : Arou
   pub runs : RanAll around stands stands_now (accepted (tail.first ∷ whole_lines (take taken tail.text)))
 
 abbrev pub EndsCommands : Tail → Option (List ℕ) → Around → (Machine → Type 0) → (Machine → Type 0) → Status → Type 0
-EndsCommands tail left_now around stands stands_now Done = (length tail.text ≤ tail.most) × EndsAll tail around stands stands_now
-EndsCommands tail left_now around stands stands_now (Line n) = EndsBad tail around stands stands_now n
+EndsCommands tail left_now around stands stands_now Done = (length tail.text ≤ tail.most) × EndsAll tail around stands stands_now × (left_now ≡ Some [])
+EndsCommands tail left_now around stands stands_now (Line n) = EndsBad tail around stands stands_now n × TailTakes tail n left_now
 EndsCommands tail left_now around stands stands_now ScriptRead = EndsTaken tail left_now around stands stands_now
-EndsCommands tail left_now around stands stands_now OutWrite = EndsInReply tail around stands stands_now
-EndsCommands tail left_now around stands stands_now ScriptLong = (tail.most < length tail.text) × EndsAll tail around stands stands_now
-EndsCommands tail left_now around stands stands_now (NotYet n) = EndsUnbuilt tail around stands stands_now n
+EndsCommands tail left_now around stands stands_now OutWrite = EndsInReply tail left_now around stands stands_now
+EndsCommands tail left_now around stands stands_now ScriptLong = (tail.most < length tail.text) × EndsAll tail around stands stands_now × HasTaken tail.text (tail.most + 1) left_now
+EndsCommands tail left_now around stands stands_now (NotYet n) = EndsUnbuilt tail around stands stands_now n × TailTakes tail n left_now
 EndsCommands tail left_now around stands stands_now Usage = ⊥
 EndsCommands tail left_now around stands stands_now MediaMake = ⊥
 EndsCommands tail left_now around stands stands_now (Config n) = ⊥

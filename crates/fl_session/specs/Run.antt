@@ -1,5 +1,5 @@
 -- What a session over an opened image does.
-use Rattle.std.specs.Prelude.{◌≡◌, ℕ, ◌*◌, ◌≤◌, true, Option, Some, None, List, [], ◌++◌}
+use Rattle.std.specs.Prelude.{◌≡◌, ℕ, ◌*◌, ◌≤◌, true, Option, Some, None, List, [], ◌++◌, length}
 use Rattle.fl_base.specs.declared.types.Geometry.{Geometry}
 use Rattle.fl_flash.specs.Media.{MediaState}
 use Rattle.fl_flash.specs.Room.{RoomSizes}
@@ -16,20 +16,21 @@ use Rattle.fl_session.specs.Loop.{Tail, EndsCommands}
 
 -- the lines from the command on that ended the configuration
 abbrev pub tail_of : ℕ → LinesState → List ℕ → Tail
-tail_of number state left = record { number = number; first = state.line; text = state.ahead ++ left; most = state.most; closed = state.closed }
+tail_of number state left = record { number = number; first = state.line; text = state.ahead ++ left; taken = length state.ahead; most = state.most; closed = state.closed }
 
 abbrev pub around_of : Config → MediaState → MediaState → Option (List ℕ) → Option (List ℕ) → Around
 around_of config old new told told_now = record { config = config; faults = old.faults; faults_now = new.faults; told = told; told_now = told_now }
 
 -- nothing was run
-pub record RunsNothing (around : Around) (stands stands_now : Machine → Type 0) (status : Status) : Type 0 where
+pub record RunsNothing (left left_now : Option (List ℕ)) (around : Around) (stands stands_now : Machine → Type 0) (status : Status) : Type 0 where
   pub done : status ≡ Done
+  pub untaken : left_now ≡ left
   pub written : around.told_now ≡ around.told
   pub goes_on : (m : Machine) → stands m → stands_now m
 
 -- the commands from the first on were run, if there is one and the source tells
 abbrev pub RunsFrom : Option code.Command → ℕ → LinesState → Option (List ℕ) → Option (List ℕ) → Around → (Machine → Type 0) → (Machine → Type 0) → Status → Type 0
-RunsFrom None number state left left_now around stands stands_now status = RunsNothing around stands stands_now status
+RunsFrom None number state left left_now around stands stands_now status = RunsNothing left left_now around stands stands_now status
 RunsFrom (Some first) number state left left_now around stands stands_now status =
     (l : List ℕ) → left ≡ Some l → (state.closed ≡ true → state.ahead ++ l ≡ []) → EndsCommands (tail_of number state l) left_now around stands stands_now status
 

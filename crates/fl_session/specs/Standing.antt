@@ -1,7 +1,6 @@
 -- A session, and the states of the machine for which it stands.
-use Rattle.std.specs.Prelude.{◌≡◌, ℕ, Bool, true, false, IsTrue, MatchBool, List, [], ◌∷◌, length, take, Some}
+use Rattle.std.specs.Prelude.{◌≡◌, ℕ, Bool, true, false, IsTrue, MatchBool, List, [], ◌∷◌, length, take, Some, if◌then◌else◌}
 use Rattle.fl_flash.specs.Flash.{FlashState}
-use Rattle.fl_flash.specs.Buffer.{BufferState}
 use Rattle.fl_ring.specs.Device.{SameDevice}
 use Rattle.fl_model.specs.Record.{Config, Plan}
 use Rattle.fl_model.specs.Table as model
@@ -14,7 +13,9 @@ use Rattle.fl_table.specs.Memory.{IsPlanned, LiesOn, is_running}
 use Rattle.fl_table.specs.Pages.{Rests}
 use Rattle.fl_table.specs.Standing.{Stands}
 use Rattle.fl_session.specs.Cost.{cost_of}
-use Rattle.fl_session.specs.declared.cost.Cost.{Cost}
+use Rattle.fl_session.specs.Notes.{cursors_of}
+use Rattle.fl_session.specs.declared.buffers.Buffers.{Buffers}
+use Rattle.fl_session.specs.declared.notes.Notes.{Notes}
 
 -- the header and the length of the medium are those of the configuration
 pub record IsOnMedium (config : Config) (f : FlashState) : Type 0 where
@@ -24,8 +25,10 @@ pub record IsOnMedium (config : Config) (f : FlashState) : Type 0 where
   pub start : f.start ≡ 1024
   pub geometry : f.geometry ≡ config.geometry
 
--- a session over one table, which has this name; the cost is that of the last get or scan
-pub record SessionStands (config : Config) (t : Table) (name : List ℕ) (f : FlashState) (mounted : Bool) (cost : Cost) (m : Machine) : Type 0 where
+-- a session over one table, which has this name; it notes the cost of the last get or scan and, while it is mounted, the
+-- cursors that are open
+pub record SessionStands (config : Config) (t : Table) (name : List ℕ) (f : FlashState) (mounted : Bool) (notes : Notes) (m : Machine) : Type 0 where
+  pub knots : config.knots ≡ 64
   pub medium : IsOnMedium config f
   pub plan : Plan
   pub plans : config.plans ≡ plan ∷ []
@@ -34,16 +37,21 @@ pub record SessionStands (config : Config) (t : Table) (name : List ℕ) (f : Fl
   pub table : model.Table
   pub tables : m.tables ≡ table ∷ []
   pub is_mounted : m.mounted ≡ mounted
-  pub cursors : m.cursors ≡ no_cursors
+  pub cursors : m.cursors ≡ (if mounted then cursors_of notes.cursors else no_cursors)
   pub device : SameDevice f m.device
-  pub cost_is : m.cost ≡ cost_of cost
+  pub cost_is : m.cost ≡ cost_of notes.cost
   pub on_flash : MatchBool mounted (Stands t f 0 plan table) (Rests f 0 plan table)
   pub power : IsTrue mounted → f.is_on ≡ true
 
+-- each buffer has room for a page of this size
+abbrev pub HasRooms : Buffers → ℕ → Type 0
+HasRooms buf size = (length buf.rows.bytes ≡ size) × (length buf.index.bytes ≡ size)
+
 -- what holds of a session always
-pub record IsSound (t : Table) (f : FlashState) (buf : BufferState) : Type 0 where
+pub record IsSound (t : Table) (f : FlashState) (buf : Buffers) (mounted : Bool) : Type 0 where
   pub lies : LiesOn t f
-  pub room : length buf.bytes ≡ f.geometry.page
+  pub room : HasRooms buf f.geometry.page
+  pub running : mounted ≡ true → is_running t ≡ true
 
 -- a table that was made for the one that the lines configure, and never mounted
 pub record IsNewTable (t : Table) (lines : Lines) : Type 0 where

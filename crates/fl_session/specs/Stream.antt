@@ -74,12 +74,20 @@ Gives old rest (Err Long) new left = (more : List ℕ) × TakesPart old rest new
 abbrev pub NeedsNoMore : LinesState → Type 0
 NeedsNoMore s = (s.closed ≡ true) ⊎ ((IsOneLine s.ahead → ⊥) ⊎ (4096 < length s.ahead))
 
+-- How many bytes were taken: with a line at most 4,097 that weren't given before, none are left where there is no line, and
+-- one more than are read of a text that is too long. `rest` is what was ahead and what the source had left.
+abbrev pub TakesAhead : LinesState → List ℕ → Result Bool LinesFault → List ℕ → Type 0
+TakesAhead old rest (Ok true) left = (part : List ℕ) × (rest ≡ part ++ left) × (length part ≤ 4097)
+TakesAhead old rest (Ok false) left = left ≡ []
+TakesAhead old rest (Err Failed) left = Unit {0}
+TakesAhead old rest (Err Long) left = (part : List ℕ) × (rest ≡ part ++ left) × (length part ≡ old.most + 1)
+
 -- a line is asked for
 pub record Advances (old : LinesState) (left : Option (List ℕ)) (faults : ℕ) (result : Result Bool LinesFault) (new : LinesState) (left_now : Option (List ℕ)) (faults_now : ℕ) : Type 0 where
   pub later : faults ≤ faults_now
   pub failed : result ≡ Err Failed → Rose faults faults_now
   pub shrinks : result ≡ Ok true → new.most < old.most
-  pub gives : (l : List ℕ) → left ≡ Some l → (old.closed ≡ true → old.ahead ++ l ≡ []) → (l_now : List ℕ) × (left_now ≡ Some l_now) × Gives old (old.ahead ++ l) result new l_now
+  pub gives : (l : List ℕ) → left ≡ Some l → (old.closed ≡ true → old.ahead ++ l ≡ []) → (l_now : List ℕ) × (left_now ≡ Some l_now) × Gives old (old.ahead ++ l) result new l_now × TakesAhead old (old.ahead ++ l) result l_now
 
 -- bytes are taken from the source, behind those that are ahead
 pub record FillsBy (old left : List ℕ) (n : ℕ) (new left_now : List ℕ) : Type 0 where

@@ -31,7 +31,7 @@ pub(crate) fn run_commands<T: Executor, S: Source, K: Sink>(
     requires reads { IsToRun lines.old.line (command_view first room.old) }
     ensures runs { (config : Config) (left : List ℕ) → S.left script.old ≡ Some left → (lines.old.closed ≡ true → lines.old.ahead ++ left ≡ []) →
         EndsCommands
-        (record { number = number; first = lines.old.line; text = lines.old.ahead ++ left; most = lines.old.most; closed = lines.old.closed })
+        (record { number = number; first = lines.old.line; text = lines.old.ahead ++ left; taken = length lines.old.ahead; most = lines.old.most; closed = lines.old.closed })
         (S.left script.new)
         (record { config = config; faults = (T.flash session.old).media.faults; faults_now = (T.flash session.new).media.faults; told = K.written out.old; told_now = K.written out.new })
         (T.stands session.old config) (T.stands session.new config) result }

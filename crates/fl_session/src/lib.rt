@@ -2,15 +2,19 @@
 #![tactic(auto)]
 
 mod begin;
+mod buffers;
 mod built;
 mod commands;
 mod cost;
+mod cursors;
 mod executor;
 mod generator;
 mod lines;
 mod listing;
 mod load;
+mod lookup;
 mod next;
+mod notes;
 mod replies;
 mod rows;
 mod session;

@@ -20,11 +20,13 @@ fn is_built(command: &Command) -> bool
         | Command::Off
         | Command::Put { .. }
         | Command::Flush { .. }
+        | Command::Get { .. }
         | Command::Scan { .. }
         | Command::Stat { .. }
         | Command::Cost => true,
         Command::Cut { n, .. } => 1 <= *n,
         Command::Load { step, .. } => 1 <= *step,
+        Command::Open { cursor, .. } | Command::Close { cursor } => *cursor < 4,
         _ => false,
     }
 }

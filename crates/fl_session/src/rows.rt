@@ -4,6 +4,7 @@ ghost use Rattle.fl_base.specs.Causes.{HasCause};
 ghost use Rattle.fl_words.specs.Reply.{text};
 ghost use Rattle.fl_schema.specs.Schema.{layout_of_row, row_of};
 ghost use Rattle.fl_page.specs.View.{layout_of_page, count_of, rows_of};
+ghost use Rattle.fl_script.specs.ReplyView.{reply_text};
 ghost use Rattle.fl_script.specs.Written.{Written};
 ghost use Rattle.fl_session.specs.Rows.{wants, row_reply, row_replies, Shows};
 
@@ -82,6 +83,19 @@ fn values_of(row: &RowRef<'_>, columns: usize) -> ArrayVec<i64, 8>
     values
 }
 
+/// The line of a row.
+pub(crate) fn line_of(row: &RowRef<'_>, columns: usize) -> Reply
+    requires columns { columns ≡ length (layout_of_row row.now).columns }
+    requires few { columns ≤ 8 }
+    ensures { reply_text result ≡ text (row_reply (row_of row.now)) }
+{
+    Reply::Row {
+        key: row.key(),
+        values: values_of(row, columns),
+        blob: BlobNote::NoRing,
+    }
+}
+
 /// Writes the line of a row.
 pub(crate) fn show_row<K: Sink>(
     row: &RowRef<'_>,
@@ -93,10 +107,5 @@ pub(crate) fn show_row<K: Sink>(
     ensures text { Written (K.written out.old) (K.written out.new) result (text (row_reply (row_of row.now))) }
     ensures cause { HasCause (K.faults out.old) (K.faults out.new) result }
 {
-    let reply = Reply::Row {
-        key: row.key(),
-        values: values_of(row, columns),
-        blob: BlobNote::NoRing,
-    };
-    write_reply(&reply, out)
+    write_reply(&line_of(row, columns), out)
 }

@@ -1,5 +1,5 @@
 // A session over a flash.
-ghost use Rattle.std.specs.Prelude.{◌≡◌, ◌≤◌, ℕ, false, Some, None, option_map, if◌then◌else◌};
+ghost use Rattle.std.specs.Prelude.{◌≡◌, ◌≤◌, ◌<◌, ℕ, false, Some, None, option_map, if◌then◌else◌};
 ghost use Rattle.fl_base.specs.Causes.{HasCause};
 ghost use Rattle.fl_flash.specs.Flash.{Goes};
 ghost use Rattle.fl_model.specs.Record.{Config};
@@ -12,15 +12,20 @@ ghost use Rattle.fl_script.specs.ReplyView.{reply_text};
 ghost use Rattle.fl_session.specs.Answer.{Answers, Refusal};
 ghost use Rattle.fl_session.specs.Built.{IsRunnable};
 ghost use Rattle.fl_session.specs.Execute.{Executes};
+ghost use Rattle.fl_session.specs.Notes.{no_notes};
 ghost use Rattle.fl_session.specs.Standing.{SessionStands, IsSound};
 
+use crate::buffers::Buffers;
 use crate::cost::Cost;
+use crate::cursors::open_cursor;
 use crate::executor::Executor;
 use crate::load::load;
+use crate::lookup::look_up;
+use crate::notes::{NO_CURSORS, Notes};
 use crate::replies::{cost_reply, flush_breaks, flush_reply, mount_reply, put_breaks, put_reply};
 use crate::rows::Wanted;
-use fl_base::{CutKind, Name, Sink, SinkFailed};
-use fl_flash::{Flash, Media, PageBuf, SimFlash};
+use fl_base::{CutKind, KeyRange, Name, Sink, SinkFailed, Span};
+use fl_flash::{Flash, Media, SimFlash};
 use fl_script::{Command, LineRoom, Reply, write_reply};
 use fl_table::Table;
 
@@ -29,18 +34,18 @@ pub struct Session<'m, M: Media> {
     flash: SimFlash<'m, M>,
     table: Table,
     name: Name,
-    buf: PageBuf,
+    buf: Buffers,
     mounted: bool,
-    cost: Cost,
+    notes: Notes,
 }
 
 impl<'m, M: Media> Session<'m, M> {
     /// A session that isn't mounted.
-    pub(crate) fn new(flash: SimFlash<'m, M>, table: Table, name: Name, buf: PageBuf) -> Self
+    pub(crate) fn new(flash: SimFlash<'m, M>, table: Table, name: Name, buf: Buffers) -> Self
         ensures flash { ⟦<SimFlash<'m, M> as Flash>⟧.state result.flash ≡ ⟦<SimFlash<'m, M> as Flash>⟧.state flash.entry }
         ensures rooms { (result.table ≡ table) × (result.name ≡ name) × (result.buf ≡ buf) }
         ensures off { result.mounted ≡ false }
-        ensures fresh { result.cost ≡ Cost.NothingYet }
+        ensures fresh { result.notes ≡ no_notes }
     {
         Session {
             flash,
@@ -48,7 +53,7 @@ impl<'m, M: Media> Session<'m, M> {
             name,
             buf,
             mounted: false,
-            cost: Cost::NothingYet,
+            notes: Notes::new(),
         }
     }
 
@@ -63,7 +68,7 @@ impl<'m, M: Media> Session<'m, M> {
             name: _,
             buf: _,
             mounted: _,
-            cost: _,
+            notes: _,
         } = self;
         flash.into_media()
     }
@@ -72,11 +77,11 @@ impl<'m, M: Media> Session<'m, M> {
 impl<'m, M: Media> Session<'m, M> {
     /// Ends the session: the power goes off, and what is in memory alone is lost.
     fn off(&mut self) -> Reply
-        requires { IsSound self.old.table (⟦<SimFlash<'m, M> as Flash>⟧.state self.old.flash) self.old.buf }
-        ensures sound { IsSound self.new.table (⟦<SimFlash<'m, M> as Flash>⟧.state self.new.flash) self.new.buf }
+        requires { IsSound self.old.table (⟦<SimFlash<'m, M> as Flash>⟧.state self.old.flash) self.old.buf self.old.mounted }
+        ensures sound { IsSound self.new.table (⟦<SimFlash<'m, M> as Flash>⟧.state self.new.flash) self.new.buf self.new.mounted }
         ensures goes { Goes (⟦<SimFlash<'m, M> as Flash>⟧.state self.old.flash) (⟦<SimFlash<'m, M> as Flash>⟧.state self.new.flash) }
-        ensures step { (config : Config) (old : Machine) → SessionStands config self.old.table self.old.name (⟦<SimFlash<'m, M> as Flash>⟧.state self.old.flash) self.old.mounted self.old.cost old →
-            Answers config old words.Off (SessionStands config self.new.table self.new.name (⟦<SimFlash<'m, M> as Flash>⟧.state self.new.flash) self.new.mounted self.new.cost)
+        ensures step { (config : Config) (old : Machine) → SessionStands config self.old.table self.old.name (⟦<SimFlash<'m, M> as Flash>⟧.state self.old.flash) self.old.mounted self.old.notes old →
+            Answers config old words.Off (SessionStands config self.new.table self.new.name (⟦<SimFlash<'m, M> as Flash>⟧.state self.new.flash) self.new.mounted self.new.notes)
             (⟦<SimFlash<'m, M> as Flash>⟧.state self.old.flash).media.faults (⟦<SimFlash<'m, M> as Flash>⟧.state self.new.flash).media.faults (reply_text result) }
     {
         self.flash.power_off();
@@ -87,12 +92,12 @@ impl<'m, M: Media> Session<'m, M> {
 
     /// The n-th program or erase from now on is torn.
     fn cut(&mut self, n: u64, kind: CutKind) -> Reply
-        requires sound { IsSound self.old.table (⟦<SimFlash<'m, M> as Flash>⟧.state self.old.flash) self.old.buf }
+        requires sound { IsSound self.old.table (⟦<SimFlash<'m, M> as Flash>⟧.state self.old.flash) self.old.buf self.old.mounted }
         requires counted { 1 ≤ n }
-        ensures sound { IsSound self.new.table (⟦<SimFlash<'m, M> as Flash>⟧.state self.new.flash) self.new.buf }
+        ensures sound { IsSound self.new.table (⟦<SimFlash<'m, M> as Flash>⟧.state self.new.flash) self.new.buf self.new.mounted }
         ensures goes { Goes (⟦<SimFlash<'m, M> as Flash>⟧.state self.old.flash) (⟦<SimFlash<'m, M> as Flash>⟧.state self.new.flash) }
-        ensures step { (config : Config) (old : Machine) → SessionStands config self.old.table self.old.name (⟦<SimFlash<'m, M> as Flash>⟧.state self.old.flash) self.old.mounted self.old.cost old →
-            Answers config old (words.Cut n kind) (SessionStands config self.new.table self.new.name (⟦<SimFlash<'m, M> as Flash>⟧.state self.new.flash) self.new.mounted self.new.cost)
+        ensures step { (config : Config) (old : Machine) → SessionStands config self.old.table self.old.name (⟦<SimFlash<'m, M> as Flash>⟧.state self.old.flash) self.old.mounted self.old.notes old →
+            Answers config old (words.Cut n kind) (SessionStands config self.new.table self.new.name (⟦<SimFlash<'m, M> as Flash>⟧.state self.new.flash) self.new.mounted self.new.notes)
             (⟦<SimFlash<'m, M> as Flash>⟧.state self.old.flash).media.faults (⟦<SimFlash<'m, M> as Flash>⟧.state self.new.flash).media.faults (reply_text result) }
     {
         self.flash.arm(n, kind);
@@ -101,19 +106,20 @@ impl<'m, M: Media> Session<'m, M> {
 
     /// Mounts the table: the power goes on, and what stands on the flash is found and repaired.
     fn mount(&mut self) -> Reply
-        requires sound { IsSound self.old.table (⟦<SimFlash<'m, M> as Flash>⟧.state self.old.flash) self.old.buf }
-        ensures sound { IsSound self.new.table (⟦<SimFlash<'m, M> as Flash>⟧.state self.new.flash) self.new.buf }
+        requires sound { IsSound self.old.table (⟦<SimFlash<'m, M> as Flash>⟧.state self.old.flash) self.old.buf self.old.mounted }
+        ensures sound { IsSound self.new.table (⟦<SimFlash<'m, M> as Flash>⟧.state self.new.flash) self.new.buf self.new.mounted }
         ensures goes { Goes (⟦<SimFlash<'m, M> as Flash>⟧.state self.old.flash) (⟦<SimFlash<'m, M> as Flash>⟧.state self.new.flash) }
-        ensures step { (config : Config) (old : Machine) → SessionStands config self.old.table self.old.name (⟦<SimFlash<'m, M> as Flash>⟧.state self.old.flash) self.old.mounted self.old.cost old →
-            Answers config old words.Mount (SessionStands config self.new.table self.new.name (⟦<SimFlash<'m, M> as Flash>⟧.state self.new.flash) self.new.mounted self.new.cost)
+        ensures step { (config : Config) (old : Machine) → SessionStands config self.old.table self.old.name (⟦<SimFlash<'m, M> as Flash>⟧.state self.old.flash) self.old.mounted self.old.notes old →
+            Answers config old words.Mount (SessionStands config self.new.table self.new.name (⟦<SimFlash<'m, M> as Flash>⟧.state self.new.flash) self.new.mounted self.new.notes)
             (⟦<SimFlash<'m, M> as Flash>⟧.state self.old.flash).media.faults (⟦<SimFlash<'m, M> as Flash>⟧.state self.new.flash).media.faults (reply_text result) }
     {
         if self.mounted {
             return Reply::AlreadyMounted;
         }
         self.flash.power_on();
-        let outcome = self.table.mount(&mut self.flash, &mut self.buf);
+        let outcome = self.table.mount(&mut self.flash, &mut self.buf.rows);
         self.mounted = outcome.is_ok();
+        self.notes.cursors = NO_CURSORS;
         mount_reply(self.name, outcome)
     }
 
@@ -132,11 +138,11 @@ impl<'m, M: Media> Session<'m, M> {
 
     /// Puts a record.
     fn put(&mut self, name: Name, key: u64, values: &[i64], blob: Option<&[u8]>) -> Reply
-        requires sound { IsSound self.old.table (⟦<SimFlash<'m, M> as Flash>⟧.state self.old.flash) self.old.buf }
-        ensures sound { IsSound self.new.table (⟦<SimFlash<'m, M> as Flash>⟧.state self.new.flash) self.new.buf }
+        requires sound { IsSound self.old.table (⟦<SimFlash<'m, M> as Flash>⟧.state self.old.flash) self.old.buf self.old.mounted }
+        ensures sound { IsSound self.new.table (⟦<SimFlash<'m, M> as Flash>⟧.state self.new.flash) self.new.buf self.new.mounted }
         ensures goes { Goes (⟦<SimFlash<'m, M> as Flash>⟧.state self.old.flash) (⟦<SimFlash<'m, M> as Flash>⟧.state self.new.flash) }
-        ensures step { (config : Config) (old : Machine) → SessionStands config self.old.table self.old.name (⟦<SimFlash<'m, M> as Flash>⟧.state self.old.flash) self.old.mounted self.old.cost old →
-            Answers config old (words.Put name key values.now (option_map (λ b. b.now) blob.entry)) (SessionStands config self.new.table self.new.name (⟦<SimFlash<'m, M> as Flash>⟧.state self.new.flash) self.new.mounted self.new.cost)
+        ensures step { (config : Config) (old : Machine) → SessionStands config self.old.table self.old.name (⟦<SimFlash<'m, M> as Flash>⟧.state self.old.flash) self.old.mounted self.old.notes old →
+            Answers config old (words.Put name key values.now (option_map (λ b. b.now) blob.entry)) (SessionStands config self.new.table self.new.name (⟦<SimFlash<'m, M> as Flash>⟧.state self.new.flash) self.new.mounted self.new.notes)
             (⟦<SimFlash<'m, M> as Flash>⟧.state self.old.flash).media.faults (⟦<SimFlash<'m, M> as Flash>⟧.state self.new.flash).media.faults (reply_text result) }
     {
         if let Some(refusal) = self.refusal(name) {
@@ -149,11 +155,11 @@ impl<'m, M: Media> Session<'m, M> {
 
     /// Makes a page of the rows that wait in memory.
     fn flush(&mut self, name: Name) -> Reply
-        requires sound { IsSound self.old.table (⟦<SimFlash<'m, M> as Flash>⟧.state self.old.flash) self.old.buf }
-        ensures sound { IsSound self.new.table (⟦<SimFlash<'m, M> as Flash>⟧.state self.new.flash) self.new.buf }
+        requires sound { IsSound self.old.table (⟦<SimFlash<'m, M> as Flash>⟧.state self.old.flash) self.old.buf self.old.mounted }
+        ensures sound { IsSound self.new.table (⟦<SimFlash<'m, M> as Flash>⟧.state self.new.flash) self.new.buf self.new.mounted }
         ensures goes { Goes (⟦<SimFlash<'m, M> as Flash>⟧.state self.old.flash) (⟦<SimFlash<'m, M> as Flash>⟧.state self.new.flash) }
-        ensures step { (config : Config) (old : Machine) → SessionStands config self.old.table self.old.name (⟦<SimFlash<'m, M> as Flash>⟧.state self.old.flash) self.old.mounted self.old.cost old →
-            Answers config old (words.Flush name) (SessionStands config self.new.table self.new.name (⟦<SimFlash<'m, M> as Flash>⟧.state self.new.flash) self.new.mounted self.new.cost)
+        ensures step { (config : Config) (old : Machine) → SessionStands config self.old.table self.old.name (⟦<SimFlash<'m, M> as Flash>⟧.state self.old.flash) self.old.mounted self.old.notes old →
+            Answers config old (words.Flush name) (SessionStands config self.new.table self.new.name (⟦<SimFlash<'m, M> as Flash>⟧.state self.new.flash) self.new.mounted self.new.notes)
             (⟦<SimFlash<'m, M> as Flash>⟧.state self.old.flash).media.faults (⟦<SimFlash<'m, M> as Flash>⟧.state self.new.flash).media.faults (reply_text result) }
     {
         if let Some(refusal) = self.refusal(name) {
@@ -166,8 +172,8 @@ impl<'m, M: Media> Session<'m, M> {
 
     /// How much the table holds, and the programs and erases of the whole run.
     fn stat(&self, name: Name) -> Reply
-        ensures { (config : Config) (old : Machine) → SessionStands config self.now.table self.now.name (⟦<SimFlash<'m, M> as Flash>⟧.state self.now.flash) self.now.mounted self.now.cost old →
-            Answers config old (words.Stat name) (SessionStands config self.now.table self.now.name (⟦<SimFlash<'m, M> as Flash>⟧.state self.now.flash) self.now.mounted self.now.cost)
+        ensures { (config : Config) (old : Machine) → SessionStands config self.now.table self.now.name (⟦<SimFlash<'m, M> as Flash>⟧.state self.now.flash) self.now.mounted self.now.notes old →
+            Answers config old (words.Stat name) (SessionStands config self.now.table self.now.name (⟦<SimFlash<'m, M> as Flash>⟧.state self.now.flash) self.now.mounted self.now.notes)
             (⟦<SimFlash<'m, M> as Flash>⟧.state self.now.flash).media.faults (⟦<SimFlash<'m, M> as Flash>⟧.state self.now.flash).media.faults (reply_text result) }
     {
         if let Some(refusal) = self.refusal(name) {
@@ -187,30 +193,89 @@ impl<'m, M: Media> Session<'m, M> {
 
     /// What the last get or scan cost.
     fn cost(&self) -> Reply
-        ensures { (config : Config) (old : Machine) → SessionStands config self.now.table self.now.name (⟦<SimFlash<'m, M> as Flash>⟧.state self.now.flash) self.now.mounted self.now.cost old →
-            Answers config old words.Cost (SessionStands config self.now.table self.now.name (⟦<SimFlash<'m, M> as Flash>⟧.state self.now.flash) self.now.mounted self.now.cost)
+        ensures { (config : Config) (old : Machine) → SessionStands config self.now.table self.now.name (⟦<SimFlash<'m, M> as Flash>⟧.state self.now.flash) self.now.mounted self.now.notes old →
+            Answers config old words.Cost (SessionStands config self.now.table self.now.name (⟦<SimFlash<'m, M> as Flash>⟧.state self.now.flash) self.now.mounted self.now.notes)
             (⟦<SimFlash<'m, M> as Flash>⟧.state self.now.flash).media.faults (⟦<SimFlash<'m, M> as Flash>⟧.state self.now.flash).media.faults (reply_text result) }
     {
-        cost_reply(self.cost)
+        cost_reply(self.notes.cost)
+    }
+
+    /// Opens a cursor over the rows that are asked for.
+    fn open(&mut self, cursor: u64, name: Name, range: KeyRange, span: Option<Span>) -> Reply
+        requires sound { IsSound self.old.table (⟦<SimFlash<'m, M> as Flash>⟧.state self.old.flash) self.old.buf self.old.mounted }
+        requires cursor { cursor < 4 }
+        ensures sound { IsSound self.new.table (⟦<SimFlash<'m, M> as Flash>⟧.state self.new.flash) self.new.buf self.new.mounted }
+        ensures goes { Goes (⟦<SimFlash<'m, M> as Flash>⟧.state self.old.flash) (⟦<SimFlash<'m, M> as Flash>⟧.state self.new.flash) }
+        ensures step { (config : Config) (old : Machine) → SessionStands config self.old.table self.old.name (⟦<SimFlash<'m, M> as Flash>⟧.state self.old.flash) self.old.mounted self.old.notes old →
+            Answers config old (words.Open cursor name range span) (SessionStands config self.new.table self.new.name (⟦<SimFlash<'m, M> as Flash>⟧.state self.new.flash) self.new.mounted self.new.notes)
+            (⟦<SimFlash<'m, M> as Flash>⟧.state self.old.flash).media.faults (⟦<SimFlash<'m, M> as Flash>⟧.state self.new.flash).media.faults (reply_text result) }
+    {
+        if let Some(refusal) = self.refusal(name) {
+            return refusal;
+        }
+        let mark = open_cursor(&self.table, range, span, &mut self.buf);
+        self.notes.set_cursor(cursor, Some(mark));
+        Reply::Done
+    }
+
+    /// Closes a cursor.
+    fn close(&mut self, cursor: u64) -> Reply
+        requires sound { IsSound self.old.table (⟦<SimFlash<'m, M> as Flash>⟧.state self.old.flash) self.old.buf self.old.mounted }
+        requires cursor { cursor < 4 }
+        ensures sound { IsSound self.new.table (⟦<SimFlash<'m, M> as Flash>⟧.state self.new.flash) self.new.buf self.new.mounted }
+        ensures goes { Goes (⟦<SimFlash<'m, M> as Flash>⟧.state self.old.flash) (⟦<SimFlash<'m, M> as Flash>⟧.state self.new.flash) }
+        ensures step { (config : Config) (old : Machine) → SessionStands config self.old.table self.old.name (⟦<SimFlash<'m, M> as Flash>⟧.state self.old.flash) self.old.mounted self.old.notes old →
+            Answers config old (words.Close cursor) (SessionStands config self.new.table self.new.name (⟦<SimFlash<'m, M> as Flash>⟧.state self.new.flash) self.new.mounted self.new.notes)
+            (⟦<SimFlash<'m, M> as Flash>⟧.state self.old.flash).media.faults (⟦<SimFlash<'m, M> as Flash>⟧.state self.new.flash).media.faults (reply_text result) }
+    {
+        if !self.mounted {
+            return Reply::NotMounted;
+        }
+        if self.notes.cursor(cursor).is_none() {
+            return Reply::NoCursor;
+        }
+        self.notes.set_cursor(cursor, None);
+        Reply::Done
+    }
+
+    /// Tells the record with the key. The pages that it reads, and how many they might have been, are its cost.
+    fn get<K: Sink>(&mut self, name: Name, key: u64, out: &mut K) -> Result<(), SinkFailed>
+        requires sound { IsSound self.old.table (⟦<SimFlash<'m, M> as Flash>⟧.state self.old.flash) self.old.buf self.old.mounted }
+        ensures sound { IsSound self.new.table (⟦<SimFlash<'m, M> as Flash>⟧.state self.new.flash) self.new.buf self.new.mounted }
+        ensures goes { Goes (⟦<SimFlash<'m, M> as Flash>⟧.state self.old.flash) (⟦<SimFlash<'m, M> as Flash>⟧.state self.new.flash) }
+        ensures sink { HasCause (K.faults out.old) (K.faults out.new) result }
+        ensures step { (config : Config) (old : Machine) → SessionStands config self.old.table self.old.name (⟦<SimFlash<'m, M> as Flash>⟧.state self.old.flash) self.old.mounted self.old.notes old →
+            Executes config old (words.Get name key) (SessionStands config self.new.table self.new.name (⟦<SimFlash<'m, M> as Flash>⟧.state self.new.flash) self.new.mounted self.new.notes)
+            (⟦<SimFlash<'m, M> as Flash>⟧.state self.old.flash) (⟦<SimFlash<'m, M> as Flash>⟧.state self.new.flash) (K.written out.old) (K.written out.new) result }
+    {
+        if let Some(refusal) = self.refusal(name) {
+            return write_reply(&refusal, out);
+        }
+        let limit = self.table.lookup_limit(key);
+        let before = self.flash.work().reads;
+        let reply = look_up(&self.table, key, &mut self.flash, &mut self.buf.rows);
+        let reads = self.flash.work().reads.saturating_sub(before);
+        self.notes.cost = Cost::OfGet { reads, limit };
+        write_reply(&reply, out)
     }
 
     /// Lists the rows that are asked for, and their number. The pages that it reads are its cost.
     fn scan<K: Sink>(&mut self, name: Name, wanted: Wanted, out: &mut K) -> Result<(), SinkFailed>
-        requires sound { IsSound self.old.table (⟦<SimFlash<'m, M> as Flash>⟧.state self.old.flash) self.old.buf }
-        ensures sound { IsSound self.new.table (⟦<SimFlash<'m, M> as Flash>⟧.state self.new.flash) self.new.buf }
+        requires sound { IsSound self.old.table (⟦<SimFlash<'m, M> as Flash>⟧.state self.old.flash) self.old.buf self.old.mounted }
+        ensures sound { IsSound self.new.table (⟦<SimFlash<'m, M> as Flash>⟧.state self.new.flash) self.new.buf self.new.mounted }
         ensures goes { Goes (⟦<SimFlash<'m, M> as Flash>⟧.state self.old.flash) (⟦<SimFlash<'m, M> as Flash>⟧.state self.new.flash) }
         ensures sink { HasCause (K.faults out.old) (K.faults out.new) result }
-        ensures step { (config : Config) (old : Machine) → SessionStands config self.old.table self.old.name (⟦<SimFlash<'m, M> as Flash>⟧.state self.old.flash) self.old.mounted self.old.cost old →
-            Executes config old (words.Scan name wanted.range wanted.span) (SessionStands config self.new.table self.new.name (⟦<SimFlash<'m, M> as Flash>⟧.state self.new.flash) self.new.mounted self.new.cost)
+        ensures step { (config : Config) (old : Machine) → SessionStands config self.old.table self.old.name (⟦<SimFlash<'m, M> as Flash>⟧.state self.old.flash) self.old.mounted self.old.notes old →
+            Executes config old (words.Scan name wanted.range wanted.span) (SessionStands config self.new.table self.new.name (⟦<SimFlash<'m, M> as Flash>⟧.state self.new.flash) self.new.mounted self.new.notes)
             (⟦<SimFlash<'m, M> as Flash>⟧.state self.old.flash) (⟦<SimFlash<'m, M> as Flash>⟧.state self.new.flash) (K.written out.old) (K.written out.new) result }
     {
         if let Some(refusal) = self.refusal(name) {
             return write_reply(&refusal, out);
         }
         let before = self.flash.work().reads;
-        let written = wanted.scan(&self.table, &mut self.flash, &mut self.buf, out);
+        let written = wanted.scan(&self.table, &mut self.flash, &mut self.buf.rows, out);
         let reads = self.flash.work().reads.saturating_sub(before);
-        self.cost = Cost::OfScan { reads };
+        self.notes.cost = Cost::OfScan { reads };
         written
     }
 
@@ -223,13 +288,13 @@ impl<'m, M: Media> Session<'m, M> {
         seed: u64,
         out: &mut K,
     ) -> Result<(), SinkFailed>
-        requires sound { IsSound self.old.table (⟦<SimFlash<'m, M> as Flash>⟧.state self.old.flash) self.old.buf }
+        requires sound { IsSound self.old.table (⟦<SimFlash<'m, M> as Flash>⟧.state self.old.flash) self.old.buf self.old.mounted }
         requires steps { 1 ≤ step }
-        ensures sound { IsSound self.new.table (⟦<SimFlash<'m, M> as Flash>⟧.state self.new.flash) self.new.buf }
+        ensures sound { IsSound self.new.table (⟦<SimFlash<'m, M> as Flash>⟧.state self.new.flash) self.new.buf self.new.mounted }
         ensures goes { Goes (⟦<SimFlash<'m, M> as Flash>⟧.state self.old.flash) (⟦<SimFlash<'m, M> as Flash>⟧.state self.new.flash) }
         ensures sink { HasCause (K.faults out.old) (K.faults out.new) result }
-        ensures step { (config : Config) (old : Machine) → SessionStands config self.old.table self.old.name (⟦<SimFlash<'m, M> as Flash>⟧.state self.old.flash) self.old.mounted self.old.cost old →
-            Executes config old (words.Load name count step seed) (SessionStands config self.new.table self.new.name (⟦<SimFlash<'m, M> as Flash>⟧.state self.new.flash) self.new.mounted self.new.cost)
+        ensures step { (config : Config) (old : Machine) → SessionStands config self.old.table self.old.name (⟦<SimFlash<'m, M> as Flash>⟧.state self.old.flash) self.old.mounted self.old.notes old →
+            Executes config old (words.Load name count step seed) (SessionStands config self.new.table self.new.name (⟦<SimFlash<'m, M> as Flash>⟧.state self.new.flash) self.new.mounted self.new.notes)
             (⟦<SimFlash<'m, M> as Flash>⟧.state self.old.flash) (⟦<SimFlash<'m, M> as Flash>⟧.state self.new.flash) (K.written out.old) (K.written out.new) result }
     {
         if let Some(refusal) = self.refusal(name) {
@@ -251,9 +316,9 @@ fn blob_in(room: &LineRoom, blob: bool) -> Option<&[u8]>
 impl<'m, M: Media> Executor for Session<'m, M> {
     ghost use Rattle.fl_session.specs.Standing.{SessionStands, IsSound};
 
-    ghost stands = { λ s config. SessionStands config s.table s.name (⟦<SimFlash<'m, M> as Flash>⟧.state s.flash) s.mounted s.cost };
+    ghost stands = { λ s config. SessionStands config s.table s.name (⟦<SimFlash<'m, M> as Flash>⟧.state s.flash) s.mounted s.notes };
 
-    ghost sound = { λ s. IsSound s.table (⟦<SimFlash<'m, M> as Flash>⟧.state s.flash) s.buf };
+    ghost sound = { λ s. IsSound s.table (⟦<SimFlash<'m, M> as Flash>⟧.state s.flash) s.buf s.mounted };
 
     ghost flash = { λ s. ⟦<SimFlash<'m, M> as Flash>⟧.state s.flash };
 
@@ -276,6 +341,14 @@ impl<'m, M: Media> Executor for Session<'m, M> {
             Command::Flush { name } => self.flush(*name),
             Command::Stat { name } => self.stat(*name),
             Command::Cost => self.cost(),
+            Command::Open {
+                cursor,
+                name,
+                range,
+                span,
+            } => self.open(*cursor, *name, *range, *span),
+            Command::Close { cursor } => self.close(*cursor),
+            Command::Get { name, key } => return self.get(*name, *key, out),
             Command::Scan { name, range, span } => {
                 let wanted = Wanted {
                     range: *range,

@@ -1,5 +1,5 @@
 mod loads;
-mod scans;
+mod reads;
 
 use super::*;
 use fl_base::{MemSink, MemSource};
@@ -49,12 +49,11 @@ fn run_script(
 /// Commands, each with its reply.
 type Talk = &'static [(&'static str, &'static str)];
 
-/// Whether these commands are answered so, behind as many puts as are named, each of which is answered by `ok`.
+/// Whether these commands are answered so.
 fn is_answered(
     alloc: Global,
     media: &mut MemMedia,
     before: Talk,
-    puts: u64,
     after: Talk,
 ) -> Result<bool, Fail> {
     let mut script = text(alloc, &[CONFIG])?;
@@ -62,11 +61,6 @@ fn is_answered(
     for (command, reply) in before {
         script.extend_from_slice(&text(alloc, &[*command, "\n"])?)?;
         wanted.extend_from_slice(&text(alloc, &[*reply, "\n"])?)?;
-    }
-    for key in 0..puts {
-        let line = format!(in alloc; "put t {} 0\n", key + 1)?;
-        script.extend_from_slice(line.as_bytes())?;
-        wanted.extend_from_slice(b"ok\n")?;
     }
     for (command, reply) in after {
         script.extend_from_slice(&text(alloc, &[*command, "\n"])?)?;
@@ -76,177 +70,17 @@ fn is_answered(
     Ok(status == Status::Done && sink.bytes() == wanted.as_slice())
 }
 
-const REFUSALS: Talk = &[
-    ("put t 5 1", "not mounted"),
-    ("flush t", "not mounted"),
-    ("stat t", "not mounted"),
-    ("mount", "ok"),
-    ("mount", "already mounted"),
-    ("put t 5 1", "ok"),
-    ("put t 5 1", "refused key 5"),
-    ("put t 4 1", "refused key 5"),
-    ("put x 6 1", "no table"),
-    ("flush x", "no table"),
-    ("stat x", "no table"),
-    ("put t 6 2147483648", "refused value 1"),
-    ("put t 6", "refused columns 1"),
-    ("put t 6 0 blob 00", "refused blob 0"),
-    ("put t 6 -2147483648", "ok"),
-    ("put t 18446744073709551615 1", "ok"),
-    ("put t 0 1", "refused key 18446744073709551615"),
-    ("off", "ok"),
-    ("off", "ok"),
-    ("put t 9 0", "not mounted"),
-];
-
-// What was flushed is found again, and what was pending isn't.
-const FLUSHED: Talk = &[
-    ("mount", "ok"),
-    ("put t 1 0", "ok"),
-    ("put t 2 0", "ok"),
-    (
-        "stat t",
-        "stat rows 2 pending 2 pages 0 voids 0 programs 0 erases 0",
-    ),
-    ("flush t", "ok"),
-    ("flush t", "ok"),
-    ("put t 3 0", "ok"),
-    (
-        "stat t",
-        "stat rows 3 pending 1 pages 1 voids 0 programs 2 erases 0",
-    ),
-    ("off", "ok"),
-    ("mount", "ok"),
-    (
-        "stat t",
-        "stat rows 2 pending 0 pages 1 voids 0 programs 2 erases 0",
-    ),
-    ("put t 2 0", "refused key 2"),
-    ("put t 3 0", "ok"),
-];
-
-// A torn body, and a torn mark behind a whole body, are voided by the mount.
-const TORN_BODY: Talk = &[
-    ("mount", "ok"),
-    ("put t 1 0", "ok"),
-    ("cut 1 half", "ok"),
-    ("flush t", "power lost"),
-    ("flush t", "not mounted"),
-    ("mount", "ok"),
-    (
-        "stat t",
-        "stat rows 0 pending 0 pages 1 voids 1 programs 2 erases 0",
-    ),
-];
-
-const TORN_MARK: Talk = &[
-    ("mount", "ok"),
-    ("put t 1 0", "ok"),
-    ("cut 2 half", "ok"),
-    ("flush t", "power lost"),
-    ("mount", "ok"),
-    (
-        "stat t",
-        "stat rows 0 pending 0 pages 1 voids 1 programs 3 erases 0",
-    ),
-];
-
-const WHOLE_MARK: Talk = &[
-    ("mount", "ok"),
-    ("put t 1 0", "ok"),
-    ("cut 2 after", "ok"),
-    ("flush t", "power lost"),
-    ("mount", "ok"),
-    (
-        "stat t",
-        "stat rows 1 pending 0 pages 1 voids 0 programs 2 erases 0",
-    ),
-    ("put t 1 0", "refused key 1"),
-];
-
-// A cut stays armed over the end of a session and a mount; a later one takes its place.
-const LATE_CUT: Talk = &[
-    ("cut 9 half", "ok"),
-    ("cut 1 before", "ok"),
-    ("mount", "ok"),
-    ("put t 1 0", "ok"),
-    ("off", "ok"),
-    ("mount", "ok"),
-    ("put t 1 0", "ok"),
-    ("flush t", "power lost"),
-    ("mount", "ok"),
-    (
-        "stat t",
-        "stat rows 0 pending 0 pages 0 voids 0 programs 1 erases 0",
-    ),
-];
-
-/// What commands answer over an empty medium.
-#[test]
-fn replies(rt: HostRuntime) -> Result<(), Fail> {
-    let alloc = rt.alloc();
-    let talks = [
-        REFUSALS, FLUSHED, TORN_BODY, TORN_MARK, WHOLE_MARK, LATE_CUT,
-    ];
-    for (i, talk) in talks.iter().enumerate() {
-        let mut media = empty_medium(alloc)?;
-        assert!(rt; is_answered(alloc, &mut media, *talk, 0, &[])?, "{i}");
-    }
-    Ok(())
-}
-
-/// Where the ring is full, the eleventh page gives up the first four and erases their block. A cut of that erase,
-/// and of the mounts behind it, loses nothing else.
-#[test]
-fn reclaims(rt: HostRuntime) -> Result<(), Fail> {
-    let alloc = rt.alloc();
-    let mount: Talk = &[("mount", "ok")];
-    let mut media = empty_medium(alloc)?;
-    let full: Talk = &[(
-        "stat t",
-        "stat rows 65 pending 1 pages 8 voids 0 programs 24 erases 1",
-    )];
-    assert!(rt; is_answered(alloc, &mut media, mount, 97, full)?);
-
-    // What the next run finds on that medium: the pending row is lost.
-    let found: Talk = &[
-        ("mount", "ok"),
-        (
-            "stat t",
-            "stat rows 64 pending 0 pages 8 voids 0 programs 0 erases 0",
-        ),
-        ("put t 96 0", "refused key 96"),
-    ];
-    assert!(rt; is_answered(alloc, &mut media, found, 0, &[])?);
-
-    let mut media = empty_medium(alloc)?;
-    let cut: Talk = &[("mount", "ok"), ("cut 23 noise 1", "ok")];
-    let torn: Talk = &[
-        ("put t 89 0", "power lost"),
-        ("cut 1 half", "ok"),
-        ("mount", "power lost"),
-        ("put t 89 0", "not mounted"),
-        ("mount", "ok"),
-        (
-            "stat t",
-            "stat rows 56 pending 0 pages 7 voids 0 programs 22 erases 3",
-        ),
-    ];
-    assert!(rt; is_answered(alloc, &mut media, cut, 88, torn)?);
-    Ok(())
-}
-
 /// A fault of the medium in a command is its reply, and the session goes on after a mount.
 #[test]
 fn device_faults(rt: HostRuntime) -> Result<(), Fail> {
     let alloc = rt.alloc();
     let pending: Talk = &[("mount", "ok"), ("put t 1 0", "ok")];
     let mut media = empty_medium(alloc)?;
-    assert!(rt; is_answered(alloc, &mut media, pending, 0, &[])?);
+    assert!(rt; is_answered(alloc, &mut media, pending, &[])?);
     let before = media.calls();
     let good: Talk = &[("mount", "ok"), ("put t 1 0", "ok"), ("flush t", "ok")];
     let mut media = empty_medium(alloc)?;
-    assert!(rt; is_answered(alloc, &mut media, good, 0, &[])?);
+    assert!(rt; is_answered(alloc, &mut media, good, &[])?);
 
     // A flush on a new image is two calls: the write of the body, and that of the mark.
     assert!(rt; media.calls() == before.saturating_add(2));
@@ -265,7 +99,7 @@ fn device_faults(rt: HostRuntime) -> Result<(), Fail> {
     assert!(rt; 2 <= calls);
     let mut media = empty_medium(alloc)?;
     media.fail_call(calls - 1);
-    assert!(rt; is_answered(alloc, &mut media, fails, 0, &[])?);
+    assert!(rt; is_answered(alloc, &mut media, fails, &[])?);
     Ok(())
 }
 
@@ -275,7 +109,7 @@ fn bad_image(rt: HostRuntime) -> Result<(), Fail> {
     let alloc = rt.alloc();
     let good: Talk = &[("mount", "ok"), ("put t 1 0", "ok"), ("flush t", "ok")];
     let mut media = empty_medium(alloc)?;
-    assert!(rt; is_answered(alloc, &mut media, good, 0, &[])?);
+    assert!(rt; is_answered(alloc, &mut media, good, &[])?);
 
     // The page's number doesn't fit its place.
     let mut bytes = Vec::new(alloc);
@@ -289,7 +123,7 @@ fn bad_image(rt: HostRuntime) -> Result<(), Fail> {
         ("put t 2 0", "not mounted"),
         ("mount", "bad image t"),
     ];
-    assert!(rt; is_answered(alloc, &mut media, bad, 0, &[])?);
+    assert!(rt; is_answered(alloc, &mut media, bad, &[])?);
     Ok(())
 }
 

@@ -14,10 +14,11 @@ ghost use Rattle.fl_session.specs.Words.{image_named};
 ghost use Rattle.fl_session.specs.Ends.{Ends, told_of, IsEarlyBy, IsWhole, RunsToEnd, start_in};
 ghost use Rattle.fl_session.specs.Opening.{MediaGoes, KeepsForm, IsBlankBehind};
 ghost use Rattle.fl_session.specs.Run.{RunsFrom, HasRoom, around_of, IsOfCommands, refused_status};
-ghost use Rattle.fl_session.specs.Standing.{RestsOn, IsNewTable};
+ghost use Rattle.fl_session.specs.Standing.{RestsOn, IsNewTable, HasRooms};
 ghost use Rattle.fl_machine.specs.Script.{StandsAfter};
 
 use crate::begin::{Begun, read_config};
+use crate::buffers::Buffers;
 use crate::commands::run_commands;
 use crate::executor::Executor;
 use crate::lines::Lines;
@@ -25,7 +26,7 @@ use crate::session::Session;
 use crate::{Status, image_of};
 use fl_base::{Geometry, NoMemory, Sink, Source};
 use fl_config::{Config, ImageRefusal};
-use fl_flash::{Flash, FlashRoom, Media, PageBuf, SimFlash};
+use fl_flash::{Flash, FlashRoom, Media, SimFlash};
 use fl_script::{Command, LineRoom};
 use fl_table::Table;
 use std::alloc::Global;
@@ -40,7 +41,7 @@ const HEADER: u64 = 1024;
 #[derive(Drop)]
 struct Rooms {
     table: Table,
-    buf: PageBuf,
+    buf: Buffers,
     flash: FlashRoom,
 }
 
@@ -48,7 +49,7 @@ fn make_rooms(alloc: Global, config: &Config) -> Result<Rooms, NoMemory>
     requires whole { IsTrue (is_whole config.now) }
     requires built { are_built config.now.plans ≡ true }
     ensures table { IfOk result (λ r. IsNewTable r.table config.now) }
-    ensures page { IfOk result (λ r. (g : Geometry) → config.now.device ≡ Some g → length r.buf.bytes ≡ g.page) }
+    ensures page { IfOk result (λ r. (g : Geometry) → config.now.device ≡ Some g → HasRooms r.buf g.page) }
     ensures flash { IfOk result (λ r. (g : Geometry) → config.now.device ≡ Some g → HasRoom r.flash g (sum_by blocks_of config.now.plans)) }
 {
     let geometry = config.geometry();
@@ -57,7 +58,7 @@ fn make_rooms(alloc: Global, config: &Config) -> Result<Rooms, NoMemory>
     };
     Ok(Rooms {
         table,
-        buf: PageBuf::new(alloc, geometry.page)?,
+        buf: Buffers::new(alloc, geometry.page)?,
         flash: FlashRoom::new(alloc, geometry, config.blocks())?,
     })
 }
@@ -128,9 +129,9 @@ fn run_session<M: Media, S: Source, K: Sink>(
     requires reach { (g : Geometry) → config.now.device ≡ Some g → 1024 + extent g (sum_by blocks_of config.now.plans) ≤ length (M.state media.old).content }
     requires blank { is_new ≡ true → IsTrue (M.state media.old).tells → (g : Geometry) → config.now.device ≡ Some g → IsBlankBehind g (sum_by blocks_of config.now.plans) (M.state media.old).content }
     requires table { IsNewTable rooms.table config.now }
-    requires page { (g : Geometry) → config.now.device ≡ Some g → length rooms.buf.bytes ≡ g.page }
+    requires page { (g : Geometry) → config.now.device ≡ Some g → HasRooms rooms.buf g.page }
     requires flash { (g : Geometry) → config.now.device ≡ Some g → HasRoom rooms.flash g (sum_by blocks_of config.now.plans) }
-    ensures runs { (configured : Configuration) → whole configured.knots config.now ≡ Some configured → IsTrue (M.state media.old).tells →
+    ensures runs { (configured : Configuration) → whole KNOTS config.now ≡ Some configured → IsTrue (M.state media.old).tells →
         RunsFrom begun.first begun.number lines.old (S.left script.old) (S.left script.new) (around_of configured (M.state media.old) (M.state media.new) (K.written out.old) (K.written out.new))
         (RestsOn configured (M.state media.old).content) (StandsAfter configured (Some (M.state media.new).content)) result }
     ensures form { KeepsForm (M.state media.old) (M.state media.new) }

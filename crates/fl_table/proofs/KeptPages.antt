@@ -25,9 +25,10 @@ use Rattle.fl_schema.specs.Form.{layout_with}
 use Rattle.fl_schema.specs.declared.column.ColumnType.{ColumnType}
 use Rattle.fl_schema.specs.declared.schema.KeyWidth.{KeyWidth}
 use Rattle.fl_table.specs.Pages.{bytes_in}
-use Rattle.fl_table.specs.Reading.{page_rows, rows_where, keys_fault, last_in, AreRead, last_after, rows_after, voids_after}
+use Rattle.fl_table.specs.Reading.{keys_fault, last_in, AreRead, last_after, rows_after, voids_after}
 use Rattle.fl_table.proofs.KeyOrder.{key_before, rising}
 use Rattle.fl_table.proofs.States.{shape_in, state_of, HaveSize, to-image, committed-end}
+use Rattle.fl_find.specs.Pages.{rows_on, rows_where}
 
 -- a row of a table without variable data tells its bytes
 pub stored-entry : (plan : Plan) (entry : Entry) → IsPlain plan → FitsPlan plan entry → IsStorable (row_layout plan) (stored_row entry)
@@ -106,7 +107,7 @@ module _ (page : ℕ → List ℕ) (first : ℕ) (plan : Plan) (table : Table) (
   pub record IsKept (i c : ℕ) : Type 0 where
     pub good : state_of_page (page (place (shape_in first plan) (model.oldest table.rows + i))) ≡ Committed →
         IsGoodPage (row_layout plan) (model.oldest table.rows + i) (page (place (shape_in first plan) (model.oldest table.rows + i)))
-    pub rows : page_rows (row_layout plan) (page (place (shape_in first plan) (model.oldest table.rows + i))) ≡ map stored_row (rows_at table i c)
+    pub rows : rows_on (row_layout plan) (page (place (shape_in first plan) (model.oldest table.rows + i))) ≡ map stored_row (rows_at table i c)
 
   pub kept : (i c : ℕ) → slice_get table.rows.counts i ≡ Some c → IsKept i c
   kept i c e = by_count (cases_lt 0 c)
@@ -153,7 +154,7 @@ module _ (page : ℕ → List ℕ) (first : ℕ) (plan : Plan) (table : Table) (
     pub rows : rows_after (row_layout plan) (λ number. page (place (shape_in first plan) number)) (model.oldest table.rows) n ≡ sum (take n table.rows.counts)
     pub voids : voids_after (row_layout plan) (λ number. page (place (shape_in first plan) number)) (model.oldest table.rows) n ≡ count_by (λ count. count == 0) (take n table.rows.counts)
 
-  pub length-kept : (i c : ℕ) → slice_get table.rows.counts i ≡ Some c → length (page_rows (row_layout plan) (page (place (shape_in first plan) (model.oldest table.rows + i)))) ≡ c
+  pub length-kept : (i c : ℕ) → slice_get table.rows.counts i ≡ Some c → length (rows_on (row_layout plan) (page (place (shape_in first plan) (model.oldest table.rows + i)))) ≡ c
   length-kept i c e = ap length (kept i c e).rows ∙ (length-map (rows_at table i c) stored_row ∙ as_many i c e)
 
   pub kept-read : (n : ℕ) → n ≤ length table.rows.counts → AreKeptRead n
@@ -180,13 +181,13 @@ module _ (page : ℕ → List ℕ) (first : ℕ) (plan : Plan) (table : Table) (
           h.read,
           record {
             good = k.good;
-            keys = ap (λ (l : Option ℕ). keys_fault (model.oldest table.rows + n) l (page_rows (row_layout plan) (page (place (shape_in first plan) (model.oldest table.rows + n))))) h.last
+            keys = ap (λ (l : Option ℕ). keys_fault (model.oldest table.rows + n) l (rows_on (row_layout plan) (page (place (shape_in first plan) (model.oldest table.rows + n))))) h.last
                 ∙ (ap (keys_fault (model.oldest table.rows + n) (key_before table.entries (sum (take n table.rows.counts)))) k.rows ∙ up.0);
           },
         );
-        last = ap (λ (l : Option ℕ). last_in l (page_rows (row_layout plan) (page (place (shape_in first plan) (model.oldest table.rows + n))))) h.last
+        last = ap (λ (l : Option ℕ). last_in l (rows_on (row_layout plan) (page (place (shape_in first plan) (model.oldest table.rows + n))))) h.last
             ∙ (ap (last_in (key_before table.entries (sum (take n table.rows.counts)))) k.rows ∙ (up.1 ∙ ap (key_before table.entries) (omega (arith, as_many n at_n.0 at_n.1, more))));
         rows = omega (arith, h.rows, many, more);
-        voids = ap (λ m. m + cond (length (page_rows (row_layout plan) (page (place (shape_in first plan) (model.oldest table.rows + n)))) == 0) 1 0) h.voids
+        voids = ap (λ m. m + cond (length (rows_on (row_layout plan) (page (place (shape_in first plan) (model.oldest table.rows + n)))) == 0) 1 0) h.voids
             ∙ (ap (λ m. count_by (λ count. count == 0) (take n table.rows.counts) + cond (m == 0) 1 0) many ∙ sym (sum-next (λ (m : ℕ). cond (m == 0) 1 0) table.rows.counts n at_n.0 at_n.1));
       }

@@ -25,7 +25,6 @@ use Rattle.fl_ring.specs.declared.ring.Ring.{Ring}
 use Rattle.fl_schema.specs.Schema.{layout_of, types_of}
 use Rattle.fl_table.specs.Kept.{place_of, IsFound, ShowsRows}
 use Rattle.fl_table.specs.Memory.{LiesOn}
-use Rattle.fl_table.specs.Reading.{page_rows, rows_where}
 use Rattle.fl_table.specs.Standing.{Stands}
 use Rattle.fl_table.specs.declared.table.Table.{Table}
 use Rattle.fl_table.proofs.Holding.{plain-on}
@@ -33,6 +32,7 @@ use Rattle.fl_table.proofs.KeptPages.{kept, length-kept, sum-next}
 use Rattle.fl_table.proofs.KeyRows.{length-rows_from}
 use Rattle.fl_table.proofs.SealAnswers.{planned-plain, planned-ring, planned-large, lies-size}
 use Rattle.fl_table.proofs.States.{shape_in}
+use Rattle.fl_find.specs.Pages.{rows_on, rows_where}
 
 -- where a number stands
 pub ring-place : (t : Table) (ring : Ring) (number : ℕ) → t.ring ≡ Some ring → place_of t number ≡ place (shape_of ring) number
@@ -50,7 +50,7 @@ has-rows layout page Torn other = refl
 has-rows layout page Void other = refl
 
 -- the entries of a page are written ones
-rows-lose : (table : model.Table) (i c : ℕ) → slice_get table.rows.counts i ≡ Some c → sum table.rows.counts + table.pending ≡ length table.entries → rows_at (lose table) i c ≡ rows_at table i c
+pub rows-lose : (table : model.Table) (i c : ℕ) → slice_get table.rows.counts i ≡ Some c → sum table.rows.counts + table.pending ≡ length table.entries → rows_at (lose table) i c ≡ rows_at table i c
 rows-lose table i c e counted =
     let s = sum (take i table.rows.counts) in
     let m = length table.entries - table.pending in
@@ -79,12 +79,12 @@ module _ (t : Table) (f : FlashState) (first : ℕ) (plan : Plan) (table : model
   size-is : plan.geometry.page ≡ t.geometry.page
   size-is = ap (λ g. g.page) stands.planned.geometry
 
-  record IsShown : Type 0 where
-    good : state_of_page page ≡ Committed → IsGoodPage (row_layout plan) (rings.oldest table.rows + i) page
-    rows : page_rows (row_layout plan) page ≡ map stored_row (rows_at (lose table) i c)
-    many : length (page_rows (row_layout plan) page) ≡ c
+  pub record IsShown : Type 0 where
+    pub good : state_of_page page ≡ Committed → IsGoodPage (row_layout plan) (rings.oldest table.rows + i) page
+    pub rows : rows_on (row_layout plan) page ≡ map stored_row (rows_at (lose table) i c)
+    pub many : length (rows_on (row_layout plan) page) ≡ c
 
-  shown : IsShown
+  pub shown : IsShown
   shown =
       let sizes = lies-size t f first plan stands.planned lies.geometry lies.within reaches in
       let large = planned-large t first plan stands.planned in

@@ -9,9 +9,10 @@ use Rattle.fl_mark.specs.Mark.{state_of_page}
 use Rattle.fl_mark.specs.declared.page_state.PageState.TheVariants.{Committed}
 use Rattle.fl_page.specs.Header.{page_count}
 use Rattle.fl_page.specs.Page.{rows_from, IsGoodPage}
-use Rattle.fl_table.specs.Reading.{rises, keys_fault, last_in, page_rows, rows_where}
+use Rattle.fl_table.specs.Reading.{rises, keys_fault, last_in}
 use Rattle.fl_table.specs.declared.faults.MountFault.TheVariants.{BadKeys}
 use Rattle.fl_table.proofs.Writers.{few-rows}
+use Rattle.fl_find.specs.Pages.{rows_on, rows_where}
 
 pub drop-row : (rows : List Row) (i : ℕ) (row : Row) → slice_get rows i ≡ Some row → drop i rows ≡ row ∷ drop (i + 1) rows
 drop-row rows i row e = at i rows e ∙ ap (λ n. row ∷ drop n rows) (let s : suc i ≡ i + 1 = omega arith in s)
@@ -63,7 +64,7 @@ length-rows_from zero layout bytes = refl
 length-rows_from (suc n) layout bytes = ap suc (length-rows_from n layout (drop (layout_len layout) bytes))
 
 -- a committed page has as many rows as it says
-pub page-length : (layout : RowLayout) (page : List ℕ) → state_of_page page ≡ Committed → length (page_rows layout page) ≡ page_count page
+pub page-length : (layout : RowLayout) (page : List ℕ) → state_of_page page ≡ Committed → length (rows_on layout page) ≡ page_count page
 page-length layout page e = ap (λ s. length (rows_where s layout page)) e ∙ length-rows_from (page_count page) layout (drop 16 page)
 
 pub good-few : (layout : RowLayout) (number : ℕ) (page : List ℕ) → IsGoodPage layout number page → 24 ≤ length page → length page ≤ 4096 → 1 ≤ layout_len layout → page_count page < 65536

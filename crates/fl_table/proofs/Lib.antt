@@ -15,9 +15,11 @@ pub mod Putting
 pub mod PutAnswers
 pub mod KeyRows
 pub mod Refused
+pub mod PointsRead
 pub mod PagesRead
 pub mod KeyOrder
 pub mod KeptPages
+pub mod PointsHeld
 pub mod Looks
 pub mod KeptRead
 pub mod StillStands
@@ -26,3 +28,9 @@ pub mod MountRead
 pub mod MountEnded
 pub mod MountCalls
 pub mod MountReads
+pub mod Pointed
+pub mod PendingKey
+pub mod PendingRows
+pub mod Finds
+pub mod VoidPages
+pub mod Slots

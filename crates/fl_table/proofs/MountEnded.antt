@@ -36,7 +36,9 @@ use Rattle.fl_table.specs.Causes.{of_ring, IfFlash, IfPage, is_of_pages}
 use Rattle.fl_table.specs.Memory.{IsPlanned, LiesOn}
 use Rattle.fl_table.specs.Outcomes.{FaultEnds, MountsBadly, MountEnds, mounted_of}
 use Rattle.fl_table.specs.Pages.{Rests}
-use Rattle.fl_table.specs.Reading.{AreRefused, AreNoted, last_after, rows_after, voids_after, pages_of}
+use Rattle.fl_find.specs.Index.{IndexOf}
+use Rattle.fl_find.proofs.Points.{mounts-points}
+use Rattle.fl_table.specs.Reading.{AreRefused, AreNoted, last_after, rows_after, voids_after, pages_of, points_after}
 use Rattle.fl_table.specs.Standing.{Stands}
 use Rattle.fl_table.specs.declared.counts.Mounted.{Mounted}
 use Rattle.fl_table.specs.declared.faults.MountFault.{MountFault}
@@ -223,8 +225,10 @@ module _ (first : ℕ) (plan : Plan) (table : Table) (rose : Bool) (device : Dev
     pub started-stands : (t : code.Table) → IsPlanned t first plan → place.shape_of ring ≡ shape_in first plan → t.ring ≡ Some ring → ((layout : RowLayout) → Gathers layout [] t.writer) → t.bitmap ≡ 0 →
         t.last_key ≡ last_after (layout_of t.schema) (pages_of ring mid) (oldest_of ring) (next_of ring - oldest_of ring) →
         (next_of ring - oldest_of ring ≤ length t.counts.items → AreNoted (layout_of t.schema) (pages_of ring mid) (oldest_of ring) (next_of ring - oldest_of ring) t.counts.items) →
+        IndexOf plan.error (points_after (layout_of t.schema) (pages_of ring mid) (oldest_of ring) (next_of ring - oldest_of ring)) t.index →
+        t.voids ≡ voids_after (layout_of t.schema) (pages_of ring mid) (oldest_of ring) (next_of ring - oldest_of ring) →
         Stands t new first plan (ready plan l.now.state)
-    started-stands t planned is ring_is empty bitmap last noted =
+    started-stands t planned is ring_is empty bitmap last noted index voids =
         let st = l.now.state in
         let h = reads-hold t planned is in
         let old : oldest_of ring ≡ model.oldest st.rows = l.stands.oldest ∙ state-oldest plan (lose l.now.state) in
@@ -250,9 +254,12 @@ module _ (first : ℕ) (plan : Plan) (table : Table) (rose : Bool) (device : Dev
                 ap (λ (k : ℕ). get_or t.counts.items (k % (plan.data_blocks * plan.geometry.block)) 0) (let s : model.oldest st.rows + i ≡ oldest_of ring + i = omega (arith, old) in s)
                 ∙ (ap (λ (k : ℕ). get_or t.counts.items ((oldest_of ring + i) % k) 0) (sym room)
                 ∙ (are i (omega (arith, many, slice_get-short st.rows.counts i c e)) ∙ h.each i c e));
+            voids = voids ∙ h.voids;
+            index = subst (λ (points : List (ℕ × ℕ)). IndexOf plan.error points t.index) h.points index;
             no_fill = l.idle.fill;
             idle = idle_now;
           };
+          points = mounts-points plan l.now.state;
         }
 
     -- what it answers

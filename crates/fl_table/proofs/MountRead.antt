@@ -6,17 +6,20 @@ use Rattle.std.specs.List.{slice_get, sum, count_by}
 use Rattle.fl_model.specs.Record.{Plan, RowLayout, row_layout, row_len}
 use Rattle.fl_model.specs.Ring as model
 use Rattle.fl_model.specs.Table.{Table, Entry, last_entry}
-use Rattle.fl_model.specs.Spline.{voids_of}
+use Rattle.fl_model.specs.Spline.{voids_of, points_of}
 use Rattle.fl_model.proofs.Plain.{IsPlain, IsPlainTable}
 use Rattle.fl_ring.specs.Ring.{OnRing, place}
 use Rattle.fl_schema.specs.Form.{layout_with}
 use Rattle.fl_schema.specs.declared.column.ColumnType.{ColumnType}
 use Rattle.fl_schema.specs.declared.schema.KeyWidth.{KeyWidth}
-use Rattle.fl_table.specs.Reading.{page_rows, rows_where, keys_fault, IsRead, IsRefused, AreRead, AreRefused, last_after, rows_after, voids_after}
+use Rattle.fl_table.specs.Reading.{keys_fault, IsRead, IsRefused, AreRead, AreRefused, last_after, rows_after, voids_after, points_after}
 use Rattle.fl_table.specs.declared.faults.MountFault.{MountFault}
-use Rattle.fl_table.proofs.KeptPages.{kept-read, length-kept}
+use Rattle.fl_find.proofs.Firsts.{points_from}
+use Rattle.fl_table.proofs.KeptPages.{kept, kept-read, length-kept}
+use Rattle.fl_table.proofs.PointsHeld.{points-held}
 use Rattle.fl_table.proofs.KeyOrder.{key_before, key-last}
 use Rattle.fl_table.proofs.States.{shape_in, state_of, HaveSize}
+use Rattle.fl_find.specs.Pages.{rows_on, rows_where}
 
 -- all of them are read, and have the rows of the table
 pub record HoldRows (table : Table) (layout : RowLayout) (page : ℕ → List ℕ) (number n : ℕ) : Type 0 where
@@ -24,7 +27,8 @@ pub record HoldRows (table : Table) (layout : RowLayout) (page : ℕ → List �
   pub last : last_after layout page number n ≡ option_map (λ (entry : Entry). entry.kept.key) (last_entry table)
   pub rows : rows_after layout page number n ≡ length table.entries
   pub voids : voids_after layout page number n ≡ voids_of table
-  pub each : (i c : ℕ) → slice_get table.rows.counts i ≡ Some c → length (page_rows layout (page (number + i))) ≡ c
+  pub points : points_after layout page number n ≡ points_of table
+  pub each : (i c : ℕ) → slice_get table.rows.counts i ≡ Some c → length (rows_on layout (page (number + i))) ≡ c
 
 pub hold-rows : (page : ℕ → List ℕ) (first : ℕ) (plan : Plan) (table : Table) (key : KeyWidth) (types : List ColumnType) (blobs : Bool) → layout_with key types blobs ≡ row_layout plan →
     IsPlain plan → IsPlainTable plan table → table.pending ≡ 0 → 64 ≤ plan.geometry.page → row_len plan + 24 ≤ plan.geometry.page → 1 ≤ row_len plan → plan.geometry.page ≤ 4096 →
@@ -39,6 +43,10 @@ hold-rows page first plan table key types blobs same plain facts none large room
       last = k.last ∙ (ap (key_before table.entries) total ∙ key-last table.entries);
       rows = k.rows ∙ total;
       voids = k.voids ∙ ap (count_by (λ (count : ℕ). count == 0)) all;
+      points = points-held (row_layout plan) (λ number. page (place (shape_in first plan) number)) (model.oldest table.rows) table.rows.counts table.entries
+          (λ i c e. (kept page first plan table key types blobs same plain facts none large room some short sizes on i c e).rows)
+          (λ i c e. length-kept page first plan table key types blobs same plain facts none large room some short sizes on i c e) (length table.rows.counts) (omega arith)
+          ∙ ap (λ (l : List ℕ). points_from (model.oldest table.rows) l table.entries) all;
       each = λ i c e. length-kept page first plan table key types blobs same plain facts none large room some short sizes on i c e;
     }
 

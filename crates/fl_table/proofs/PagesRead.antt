@@ -5,7 +5,13 @@ use Rattle.std.proofs.lemmas.Bool.{cases_lt, eqb-true}
 use Rattle.fl_model.specs.Record.{RowLayout}
 use Rattle.fl_ring.proofs.Modulo.{apart}
 use Rattle.fl_table.specs.Causes.{IfPage}
-use Rattle.fl_table.specs.Reading.{page_rows, last_in, IsRead, IsRefused, AreRead, AreRefused, last_after, rows_after, voids_after, AreNoted}
+use Rattle.fl_table.specs.Reading.{last_in, IsRead, IsRefused, AreRead, AreRefused, last_after, rows_after, voids_after, point_of, points_after, AreNoted}
+use Rattle.fl_table.proofs.PointsRead.{further-read}
+use Rattle.fl_find.specs.Index.{IndexOf}
+use Rattle.fl_find.specs.Pages.{first_key, rows_on}
+use Rattle.fl_find.specs.declared.index.LearnedIndex.{LearnedIndex}
+use Rattle.fl_spline.specs.Points.{IsFurther}
+use Rattle.std.specs.Prelude.{IfSome, option_map, unwrap_or, [], ◌∷◌, ◌++◌}
 use Rattle.fl_table.specs.declared.faults.MountFault.{MountFault}
 use Rattle.fl_table.specs.declared.faults.MountFault.TheVariants.{Flash, Ring, BadPage, BadKeys, BadIndex, BadBlob}
 
@@ -48,26 +54,41 @@ module _ (layout : RowLayout) (page : ℕ → List ℕ) (number n at m : ℕ) (h
   pub read-more : (last : Option ℕ) → last ≡ last_after layout page number n → AreRead layout page number n → IsRead layout at bytes last → AreRead layout page number m
   read-more last e h one = subst (AreRead layout page number) (sym more) (h, is_here last e one)
 
-  pub last-more : (last after : Option ℕ) → last ≡ last_after layout page number n → after ≡ last_in last (page_rows layout bytes) → after ≡ last_after layout page number m
+  pub last-more : (last after : Option ℕ) → last ≡ last_after layout page number n → after ≡ last_in last (rows_on layout bytes) → after ≡ last_after layout page number m
   last-more last after e is =
-      is ∙ (ap (λ (l : Option ℕ). last_in l (page_rows layout bytes)) e ∙ (ap (λ (b : List ℕ). last_in (last_after layout page number n) (page_rows layout b)) at_here ∙ ap (last_after layout page number) (sym more)))
+      is ∙ (ap (λ (l : Option ℕ). last_in l (rows_on layout bytes)) e ∙ (ap (λ (b : List ℕ). last_in (last_after layout page number n) (rows_on layout b)) at_here ∙ ap (last_after layout page number) (sym more)))
 
-  rows_here : (rows : ℕ) → rows ≡ length (page_rows layout bytes) → rows ≡ length (page_rows layout (page (number + n)))
-  rows_here rows is = is ∙ ap (λ (b : List ℕ). length (page_rows layout b)) at_here
+  pub points-more : (last first : Option ℕ) (error : ℕ) (index new : LearnedIndex 64 64) → last ≡ last_after layout page number n → AreRead layout page number n → IsRead layout at bytes last → first ≡ first_key (rows_on layout bytes) →
+      IndexOf error (points_after layout page number n) index →
+      ((error : ℕ) (points : List (ℕ × ℕ)) → IndexOf error points index → IfSome first (λ key. IsFurther points (key, at)) → IndexOf error (points ++ unwrap_or (option_map (λ key. (key, at) ∷ []) first) []) new) →
+      IndexOf error (points_after layout page number m) new
+  points-more last first error index new e h one is of add =
+      let key : first ≡ first_key (rows_on layout (page (number + n))) = is ∙ ap (λ (b : List ℕ). first_key (rows_on layout b)) at_here in
+      let past = further-read layout page number n h (is_here last e one) in
+      let past_at : IfSome first (λ key. IsFurther (points_after layout page number n) (key, at)) =
+      subst (λ (o : Option ℕ). IfSome o (λ key. IsFurther (points_after layout page number n) (key, at))) (sym key)
+      (subst (λ k. IfSome (first_key (rows_on layout (page (number + n)))) (λ key. IsFurther (points_after layout page number n) (key, k))) (sym here) past) in
+      let joined : points_after layout page number n ++ unwrap_or (option_map (λ key. (key, at) ∷ []) first) [] ≡ points_after layout page number m =
+      ap (λ (o : Option ℕ). points_after layout page number n ++ unwrap_or (option_map (λ key. (key, at) ∷ []) o) []) key
+      ∙ (ap (λ k. points_after layout page number n ++ point_of k (rows_on layout (page (number + n)))) here ∙ ap (points_after layout page number) (sym more)) in
+      subst (λ (l : List (ℕ × ℕ)). IndexOf error l new) joined (add error (points_after layout page number n) of past_at)
 
-  pub rows-more : (rows before : ℕ) → before ≡ rows_after layout page number n → rows ≡ length (page_rows layout bytes) → before + rows ≡ rows_after layout page number m
-  rows-more rows before e is = let k = rows_here rows is in (let s : before + rows ≡ rows_after layout page number n + length (page_rows layout (page (number + n))) = omega (arith, e, k) in s) ∙ ap (rows_after layout page number) (sym more)
+  rows_here : (rows : ℕ) → rows ≡ length (rows_on layout bytes) → rows ≡ length (rows_on layout (page (number + n)))
+  rows_here rows is = is ∙ ap (λ (b : List ℕ). length (rows_on layout b)) at_here
 
-  pub voids-more : (rows before : ℕ) → before ≡ voids_after layout page number n → rows ≡ length (page_rows layout bytes) → before + cond (rows == 0) 1 0 ≡ voids_after layout page number m
+  pub rows-more : (rows before : ℕ) → before ≡ rows_after layout page number n → rows ≡ length (rows_on layout bytes) → before + rows ≡ rows_after layout page number m
+  rows-more rows before e is = let k = rows_here rows is in (let s : before + rows ≡ rows_after layout page number n + length (rows_on layout (page (number + n))) = omega (arith, e, k) in s) ∙ ap (rows_after layout page number) (sym more)
+
+  pub voids-more : (rows before : ℕ) → before ≡ voids_after layout page number n → rows ≡ length (rows_on layout bytes) → before + cond (rows == 0) 1 0 ≡ voids_after layout page number m
   voids-more rows before e is =
       ap (λ k. k + cond (rows == 0) 1 0) e ∙ (ap (λ k. voids_after layout page number n + cond (k == 0) 1 0) (rows_here rows is) ∙ ap (voids_after layout page number) (sym more))
 
-  pub noted-more : (counts : List ℕ) (rows : ℕ) → m ≤ length counts → rows ≡ length (page_rows layout bytes) → AreNoted layout page number n counts →
+  pub noted-more : (counts : List ℕ) (rows : ℕ) → m ≤ length counts → rows ≡ length (rows_on layout bytes) → AreNoted layout page number n counts →
       AreNoted layout page number m (set counts (at % length counts) rows)
   noted-more counts rows fits is were i lt =
       ap (λ k. get_or (set counts (at % length counts) rows) ((number + i) % k) 0) (length-set counts (at % length counts) rows) ∙ by_place (cases_lt i n)
     where
-      by_place : (i < n) ⊎ (n ≤ i) → get_or (set counts (at % length counts) rows) ((number + i) % length counts) 0 ≡ length (page_rows layout (page (number + i)))
+      by_place : (i < n) ⊎ (n ≤ i) → get_or (set counts (at % length counts) rows) ((number + i) % length counts) 0 ≡ length (rows_on layout (page (number + i)))
       by_place (inl less) =
           let ne : (number + i) % length counts ≢ at % length counts = apart (length counts) (number + i) at (omega (arith, here, less)) (omega (arith, here, less, fits, more)) in
           get_or-set_other counts (at % length counts) ((number + i) % length counts) rows 0 ne ∙ were i less
@@ -76,7 +97,7 @@ module _ (layout : RowLayout) (page : ℕ → List ℕ) (number n at m : ℕ) (h
           let k : number + i ≡ at = omega (arith, here, e) in
           let some : at % length counts < length counts = mod-lt at (omega (arith, fits, more)) in
           ap (λ j. get_or (set counts (at % length counts) rows) (j % length counts) 0) k
-          ∙ (get_or-set_same counts (at % length counts) rows 0 some ∙ (rows_here rows is ∙ ap (λ j. length (page_rows layout (page (number + j)))) e))
+          ∙ (get_or-set_same counts (at % length counts) rows 0 some ∙ (rows_here rows is ∙ ap (λ j. length (rows_on layout (page (number + j)))) e))
 
   pub refused-at : (last : Option ℕ) (all : ℕ) (fault : MountFault) → n < all → last ≡ last_after layout page number n → AreRead layout page number n → IsRefused layout at bytes last fault → AreRefused layout page number all fault
   refused-at last all fault lt e h one = record {

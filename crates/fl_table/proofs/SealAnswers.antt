@@ -50,6 +50,7 @@ planned-same old new first plan h same = record {
   index = h.index;
   var = h.var;
   buckets = subst (HasBuckets plan) (sym same.buckets) h.buckets;
+  error = h.error ∙ sym same.error;
 }
 
 pub counts-room : (t : code.Table) (first : ℕ) (plan : Plan) → IsPlanned t first plan → length t.counts.items ≡ plan.data_blocks * plan.geometry.block

@@ -9,3 +9,4 @@ pub mod Reading
 pub mod Mounting
 pub mod Look
 pub mod Kept
+pub mod Finding

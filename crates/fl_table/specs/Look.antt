@@ -1,9 +1,11 @@
 -- What a table in memory tells of itself, and the same in the model.
-use Rattle.std.specs.Prelude.{ℕ, ◌+◌, ◌-◌, ◌%◌, ◌==◌, Option, option_map, unwrap_or, List, length, map, sum, count_by, slice_index, vec_len}
+use Rattle.std.specs.Prelude.{ℕ, ◌+◌, ◌-◌, ◌%◌, ◌==◌, Option, option_map, unwrap_or, List, length, drop, map, sum, count_by, slice_index, vec_len}
 use Rattle.std.specs.List.{range_with_len}
 use Rattle.fl_model.specs.Record.{RowLayout}
+use Rattle.fl_model.specs.Row.{Row}
 use Rattle.fl_model.specs.Spline.{voids_of}
 use Rattle.fl_model.specs.Table as model
+use Rattle.fl_page.specs.Page.{rows_from}
 use Rattle.fl_ring.specs.Place.{oldest_of}
 use Rattle.fl_schema.specs.Schema.{layout_of}
 use Rattle.fl_table.specs.declared.table.Table.{Table}
@@ -21,6 +23,10 @@ last_key_in t = t.last_key
 -- the number of the oldest kept page of a running table
 abbrev pub oldest_in : Table → ℕ
 oldest_in t = unwrap_or (option_map (λ ring. oldest_of ring) t.ring) 0
+
+-- the pending rows, by their bytes in the page buffer
+abbrev pub buffered_rows : Table → List Row
+buffered_rows t = rows_from (pending_in t) (layout_in t) (drop 16 t.writer.body)
 
 -- how many rows the kept page with this number has
 abbrev pub rows_noted : Table → ℕ → ℕ

@@ -3,10 +3,12 @@ use Rattle.std.specs.Prelude.{◌≡◌, ℕ, ◌+◌, ◌*◌, ◌%◌, ◌^◌
 use Rattle.std.specs.Option.{ForSome}
 use Rattle.fl_bitmap.specs.Bucket.{AreBucketsOf, with_value}
 use Rattle.fl_bitmap.specs.declared.buckets.Buckets.{Buckets}
+use Rattle.fl_find.specs.Index.{IndexOf, error_in}
 use Rattle.fl_flash.specs.Flash.{FlashState, pages}
 use Rattle.fl_model.specs.Record.{Plan, row_layout, layout_len}
 use Rattle.fl_model.specs.Ring as rings
 use Rattle.fl_model.specs.Row.{stored_row}
+use Rattle.fl_model.specs.Spline.{voids_of}
 use Rattle.fl_model.specs.Layout.{bitmap_of}
 use Rattle.fl_model.specs.Table as model
 use Rattle.fl_model.specs.Table.{pending_entries, last_entry}
@@ -66,6 +68,7 @@ pub record IsPlanned (t : Table) (first : ℕ) (plan : Plan) : Type 0 where
   pub index : plan.index_blocks ≡ 0
   pub var : plan.var_blocks ≡ 0
   pub buckets : HasBuckets plan t.buckets
+  pub error : plan.error ≡ error_in t.index
 
 -- what no call changes
 pub record IsSamePlan (old new : Table) : Type 0 where
@@ -73,6 +76,7 @@ pub record IsSamePlan (old new : Table) : Type 0 where
   pub layout : layout_of new.schema ≡ layout_of old.schema
   pub place : new.place ≡ old.place
   pub buckets : new.buckets ≡ old.buckets
+  pub error : error_in new.index ≡ error_in old.index
 
 -- a flash on which the table lies
 pub record LiesOn (t : Table) (f : FlashState) : Type 0 where
@@ -92,5 +96,7 @@ pub record InMemory (t : Table) (plan : Plan) (table : model.Table) : Type 0 whe
   pub last : t.last_key ≡ option_map (λ entry. entry.kept.key) (last_entry table)
   pub counts : (i count : ℕ) → slice_get table.rows.counts i ≡ Some count →
       slice_index t.counts.items ((rings.oldest table.rows + i) % (plan.data_blocks * plan.geometry.block)) ≡ count
+  pub voids : t.voids ≡ voids_of table
+  pub index : IndexOf plan.error table.points t.index
   pub no_fill : table.fill ≡ 0
   pub idle : table.waiting ≡ 0

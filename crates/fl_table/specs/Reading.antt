@@ -1,9 +1,9 @@
 -- What a mount reads in the kept pages, over any bytes.
-use Rattle.std.specs.Prelude.{◌≡◌, ◌⊎◌, ℕ, zero, suc, ◌+◌, ◌%◌, ◌<◌, Bool, true, nat_lt, ◌==◌, Option, Some, None, unwrap_or, List, [], ◌∷◌, length, slice_index, if◌then◌else◌}
+use Rattle.std.specs.Prelude.{◌≡◌, ◌⊎◌, ℕ, zero, suc, ◌+◌, ◌%◌, ◌<◌, Bool, true, nat_lt, ◌==◌, Option, Some, None, option_map, unwrap_or, List, [], ◌∷◌, ◌++◌, length, slice_index, if◌then◌else◌}
+use Rattle.fl_find.specs.Pages.{first_key, rows_on}
 use Rattle.fl_flash.specs.Flash.{FlashState, page_at}
 use Rattle.fl_mark.specs.Mark.{state_of_page}
-use Rattle.fl_mark.specs.declared.page_state.PageState.{PageState}
-use Rattle.fl_mark.specs.declared.page_state.PageState.TheVariants.{Blank, Torn, Committed, Void}
+use Rattle.fl_mark.specs.declared.page_state.PageState.TheVariants.{Committed}
 use Rattle.fl_model.specs.Record.{RowLayout}
 use Rattle.fl_model.specs.Row.{Row}
 use Rattle.fl_page.specs.Page.{IsGoodPage, bad_page, rows_in}
@@ -12,16 +12,6 @@ use Rattle.fl_ring.specs.Ring.{place}
 use Rattle.fl_ring.specs.declared.ring.Ring.{Ring}
 use Rattle.fl_table.specs.declared.faults.MountFault.{MountFault}
 use Rattle.fl_table.specs.declared.faults.MountFault.TheVariants.{BadPage, BadKeys}
-
--- the rows of a page in this state; a page that isn't committed has none
-abbrev pub rows_where : PageState → RowLayout → List ℕ → List Row
-rows_where Committed layout page = rows_in layout page
-rows_where Blank layout page = []
-rows_where Torn layout page = []
-rows_where Void layout page = []
-
-abbrev pub page_rows : RowLayout → List ℕ → List Row
-page_rows layout page = rows_where (state_of_page page) layout page
 
 -- a key that may follow the last one
 abbrev pub rises : Option ℕ → ℕ → Bool
@@ -42,7 +32,7 @@ keys_fault number last (row ∷ rows) =
 -- a page that may stand at this number, after this last key
 pub record IsRead (layout : RowLayout) (number : ℕ) (page : List ℕ) (last : Option ℕ) : Type 0 where
   pub good : state_of_page page ≡ Committed → IsGoodPage layout number page
-  pub keys : keys_fault number last (page_rows layout page) ≡ None
+  pub keys : keys_fault number last (rows_on layout page) ≡ None
 
 -- why another may not: it is committed, and has another number, no count that a page has, or keys that don't rise
 pub record IsRefused (layout : RowLayout) (number : ℕ) (page : List ℕ) (last : Option ℕ) (fault : MountFault) : Type 0 where
@@ -57,7 +47,7 @@ pages_of ring f number = page_at f (place (shape_of ring) number)
 -- the last key of so many pages
 abbrev pub last_after : RowLayout → (ℕ → List ℕ) → ℕ → ℕ → Option ℕ
 last_after layout page number zero = None
-last_after layout page number (suc n) = last_in (last_after layout page number n) (page_rows layout (page (number + n)))
+last_after layout page number (suc n) = last_in (last_after layout page number n) (rows_on layout (page (number + n)))
 
 -- so many pages from this number on may stand there
 abbrev pub AreRead : RowLayout → (ℕ → List ℕ) → ℕ → ℕ → Type 0
@@ -75,14 +65,23 @@ pub record AreRefused (layout : RowLayout) (page : ℕ → List ℕ) (number n :
 -- the rows in all, and the pages without rows
 abbrev pub rows_after : RowLayout → (ℕ → List ℕ) → ℕ → ℕ → ℕ
 rows_after layout page number zero = 0
-rows_after layout page number (suc n) = rows_after layout page number n + length (page_rows layout (page (number + n)))
+rows_after layout page number (suc n) = rows_after layout page number n + length (rows_on layout (page (number + n)))
 
 abbrev pub voids_after : RowLayout → (ℕ → List ℕ) → ℕ → ℕ → ℕ
 voids_after layout page number zero = 0
 voids_after layout page number (suc n) =
-    voids_after layout page number n + (if length (page_rows layout (page (number + n))) == 0 then 1 else 0)
+    voids_after layout page number n + (if length (rows_on layout (page (number + n))) == 0 then 1 else 0)
+
+-- the point of a page with rows: its first key and its number
+abbrev pub point_of : ℕ → List Row → List (ℕ × ℕ)
+point_of number rows = unwrap_or (option_map (λ key. (key, number) ∷ []) (first_key rows)) []
+
+-- the points of so many pages
+abbrev pub points_after : RowLayout → (ℕ → List ℕ) → ℕ → ℕ → List (ℕ × ℕ)
+points_after layout page number zero = []
+points_after layout page number (suc n) = points_after layout page number n ++ point_of (number + n) (rows_on layout (page (number + n)))
 
 -- how many rows each page has is noted at its place
 abbrev pub AreNoted : RowLayout → (ℕ → List ℕ) → ℕ → ℕ → List ℕ → Type 0
 AreNoted layout page number n counts =
-    (i : ℕ) → i < n → slice_index counts ((number + i) % length counts) ≡ length (page_rows layout (page (number + i)))
+    (i : ℕ) → i < n → slice_index counts ((number + i) % length counts) ≡ length (rows_on layout (page (number + i)))

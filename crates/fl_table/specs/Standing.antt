@@ -1,5 +1,6 @@
 -- A mounted table, and the state of the model for which it stands with its flash.
 use Rattle.std.specs.Prelude.{◌≡◌, ℕ, false}
+use Rattle.fl_find.specs.Standing.{HasPoints}
 use Rattle.fl_flash.specs.Flash.{FlashState, page_at}
 use Rattle.fl_model.specs.Record.{Plan}
 use Rattle.fl_model.specs.Table as model
@@ -18,3 +19,5 @@ pub record Stands (t : Table) (f : FlashState) (first : ℕ) (plan : Plan) (tabl
   -- pending rows are in memory alone
   pub pages : HoldsTable (page_at f) first plan (lose table)
   pub memory : InMemory t plan table
+  -- the index goes with the pages
+  pub points : HasPoints table

@@ -1,6 +1,7 @@
 // The kept pages of a table, read one at a time.
 ghost use Rattle.std.specs.Prelude.{◌≡◌, ◌<◌, ◌≤◌, ◌-◌, Some, length, IsTrue, IfErr, OnOk};
 ghost use Rattle.fl_flash.specs.Flash.{page_at};
+ghost use Rattle.fl_flash.specs.Media.{next_count};
 ghost use Rattle.fl_page.specs.Contents as contents;
 ghost use Rattle.fl_ring.specs.Looking.{OnlyReads, ReadFails};
 
@@ -34,6 +35,7 @@ impl Table {
         requires room { length buf.old.bytes ≡ (F.state flash.old).geometry.page }
         ensures reads { OnlyReads (F.state flash.old) 1 (F.state flash.new) }
         ensures counts { contents.OnlyReads (F.state flash.old) (F.state flash.new) }
+        ensures one { OnOk result ((F.state flash.new).work.reads ≡ next_count (F.state flash.old).work.reads) }
         ensures room { length buf.new.bytes ≡ length buf.old.bytes }
         ensures found { IsFound (layout_in self.now) number buf.new.bytes result }
         ensures page { IfRead result (IsTrue (F.state flash.old).media.tells → buf.new.bytes ≡ page_at (F.state flash.old) (place_of self.now number)) }

@@ -3,10 +3,12 @@
 
 mod counts;
 mod faults;
+mod find;
 mod kept;
 mod look;
 mod misfit;
 mod mount;
+mod pending;
 mod plan;
 mod put;
 mod reading;
@@ -19,4 +21,5 @@ mod tests;
 
 pub use counts::{Mounted, TableCounts};
 pub use faults::{FlushFault, MountFault, PutRefusal};
+pub use find::RowAt;
 pub use table::Table;

@@ -13,7 +13,7 @@ impl Table {
     ghost use Rattle.fl_model.specs.Table as model;
     ghost use Rattle.fl_model.specs.Table.{last_entry, pending_entries};
     ghost use Rattle.fl_schema.specs.Schema.{layout_of, layout_of_row, row_of};
-    ghost use Rattle.fl_table.specs.Look.{layout_in, last_key_in, oldest_in, rows_noted};
+    ghost use Rattle.fl_table.specs.Look.{layout_in, last_key_in, oldest_in, rows_noted, buffered_rows};
     ghost use Rattle.fl_table.specs.Memory.{next_in, pending_in, IsPlanned};
     ghost use Rattle.fl_table.specs.Standing.{Stands};
 
@@ -89,6 +89,7 @@ impl Table {
     pub fn pending_row(&self, i: usize) -> RowRef<'_>
         requires within { i < pending_in self.now }
         ensures layout { layout_of_row result ≡ layout_in self.now }
+        ensures row { slice_get (buffered_rows self.now) i ≡ Some (row_of result) }
         ensures stands { (f : FlashState) → (first : ℕ) → (plan : Plan) → (table : model.Table) → Stands self.now f first plan table →
             slice_get (map stored_row (pending_entries table)) i ≡ Some (row_of result) }
     {

@@ -14,6 +14,7 @@ impl Table {
     ghost use Rattle.fl_model.specs.Record.{Plan, RowLayout};
     ghost use Rattle.fl_model.specs.Table as model;
     ghost use Rattle.fl_model.specs.Work.{Device};
+    ghost use Rattle.fl_find.specs.Index.{error_in, IndexOf};
     ghost use Rattle.fl_page.specs.Writer.{Gathers};
     ghost use Rattle.fl_ring.specs.Ring.{OutsideStands, room};
     ghost use Rattle.fl_ring.specs.Step.{IsWatched};
@@ -29,12 +30,15 @@ impl Table {
         ensures none { self.new.writer.count ≡ 0 }
         ensures empty { (layout : RowLayout) → Gathers layout [] self.new.writer }
         ensures bits { self.new.bitmap ≡ 0 }
+        ensures index { IndexOf (error_in self.old.index) [] self.new.index }
     {
         self.ring = None;
         self.stopped = false;
         self.writer.clear();
         self.bitmap = 0;
         self.last_key = None;
+        self.voids = 0;
+        self.index.clear();
     }
 
     /// Mounts the table: the ring is repaired, and each kept page is read once. After an error it isn't mounted.
@@ -64,8 +68,16 @@ impl Table {
     {
         self.forget();
         let ring = Ring::mount(flash, self.place, 0, buf)?;
-        let (mounted, last) = read_pages(&self.schema, &ring, &mut self.counts, flash, buf)?;
+        let (mounted, last) = read_pages(
+            &self.schema,
+            &ring,
+            &mut self.counts,
+            &mut self.index,
+            flash,
+            buf,
+        )?;
         self.last_key = last;
+        self.voids = mounted.voids;
         self.ring = Some(ring);
         Ok(mounted)
     }

@@ -10,6 +10,7 @@ ghost use Rattle.fl_schema.specs.Schema.{layout_of, types_of};
 ghost use Rattle.fl_table.specs.Memory.{is_running, is_stopped, IsPlanned, LiesOn};
 
 use crate::table::Table;
+use fl_find::LearnedIndex;
 use fl_page::PageWriter;
 use fl_plan::{ConfigRefusal, TableConfig};
 use fl_schema::Schema;
@@ -61,6 +62,8 @@ impl Table {
             bitmap: 0,
             last_key: None,
             counts,
+            voids: 0,
+            index: LearnedIndex::new(config.error),
         })
     }
 }

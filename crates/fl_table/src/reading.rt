@@ -1,5 +1,7 @@
 // What a mount reads: the kept pages, each once.
-ghost use Rattle.std.specs.Prelude.{◌≡◌, ◌+◌, ◌-◌, ◌*◌, ◌<◌, ◌≤◌, ◌≢◌, ℕ, true, false, Some, None, List, length, IsTrue, IfOk, IfErr, OnOk};
+ghost use Rattle.std.specs.Prelude.{◌≡◌, ◌+◌, ◌-◌, ◌*◌, ◌<◌, ◌≤◌, ◌≢◌, ℕ, true, false, Some, None, List, [], ◌∷◌, ◌++◌, length, option_map, unwrap_or, IsTrue, IfSome, IfOk, IfErr, OnOk};
+ghost use Rattle.fl_find.specs.Index.{error_in, IndexOf};
+ghost use Rattle.fl_find.specs.Pages.{first_key, rows_on};
 ghost use Rattle.fl_flash.specs.Flash.{pages, page_at};
 ghost use Rattle.fl_model.specs.Record.{layout_len};
 ghost use Rattle.fl_ring.specs.Looking.{OnlyReads, ReadFails};
@@ -7,21 +9,24 @@ ghost use Rattle.fl_ring.specs.Place.{shape_of, next_of, oldest_of, LiesOn};
 ghost use Rattle.fl_ring.specs.Ring.{place, room};
 ghost use Rattle.fl_page.specs.View.{page_of, layout_of_page, count_of, rows_of};
 ghost use Rattle.fl_schema.specs.Schema.{layout_of};
+ghost use Rattle.fl_spline.specs.Points.{IsFurther};
 ghost use Rattle.fl_table.specs.Causes.{IfFlash, IfPage, is_of_pages};
-ghost use Rattle.fl_table.specs.Reading.{page_rows, last_in, keys_fault, IsRead, IsRefused, AreRead, AreRefused, last_after, rows_after, voids_after, AreNoted, pages_of};
+ghost use Rattle.fl_table.specs.Reading.{last_in, keys_fault, IsRead, IsRefused, AreRead, AreRefused, last_after, rows_after, voids_after, points_after, AreNoted, pages_of};
 
 use crate::seal::note;
 use crate::{MountFault, Mounted};
+use fl_find::LearnedIndex;
 use fl_flash::{Flash, PageBuf};
 use fl_mark::{PageState, state_of};
 use fl_page::PageView;
 use fl_ring::Ring;
 use fl_schema::Schema;
 
-/// How many rows a page has, and the last key up to them.
+/// How many rows a page has, the first key of them, and the last key up to them.
 #[derive(Clone, Copy)]
 pub(crate) struct PageRows {
     rows: u32,
+    first: Option<u64>,
     last: Option<u64>,
 }
 
@@ -33,6 +38,7 @@ fn rows_of_view(
 ) -> Result<PageRows, MountFault>
     requires { count_of view < 65536 }
     ensures rows { IfOk result (λ page. (keys_fault number last (rows_of view.entry) ≡ None) × (page.rows ≡ count_of view.entry) × (page.last ≡ last_in last (rows_of view.entry))) }
+    ensures first { IfOk result (λ page. page.first ≡ first_key (rows_of view.entry)) }
     ensures fault { IfErr result (λ e. keys_fault number last (rows_of view.entry) ≡ Some e) }
 {
     let mut so_far = last;
@@ -51,6 +57,7 @@ fn rows_of_view(
     }
     Ok(PageRows {
         rows: view.rows() as u32,
+        first: Some(view.row(0).key()),
         last: so_far,
     })
 }
@@ -66,12 +73,17 @@ fn rows_in(
     requires most { length bytes.now ≤ 4096 }
     requires row { 1 ≤ layout_len (layout_of schema.now) }
     ensures read { IfOk result (λ page. IsRead (layout_of schema.now) number bytes.now last) }
-    ensures rows { IfOk result (λ page. (page.rows ≡ length (page_rows (layout_of schema.now) bytes.now)) × (page.rows < 65536)) }
-    ensures last { IfOk result (λ page. page.last ≡ last_in last (page_rows (layout_of schema.now) bytes.now)) }
+    ensures rows { IfOk result (λ page. (page.rows ≡ length (rows_on (layout_of schema.now) bytes.now)) × (page.rows < 65536)) }
+    ensures last { IfOk result (λ page. page.last ≡ last_in last (rows_on (layout_of schema.now) bytes.now)) }
+    ensures first { IfOk result (λ page. page.first ≡ first_key (rows_on (layout_of schema.now) bytes.now)) }
     ensures fault { IfErr result (λ e. IsRefused (layout_of schema.now) number bytes.now last e) }
 {
     let PageState::Committed = state_of(bytes) else {
-        return Ok(PageRows { rows: 0, last });
+        return Ok(PageRows {
+            rows: 0,
+            first: None,
+            last,
+        });
     };
     match PageView::of(bytes, number, schema) {
         Ok(view) => rows_of_view(view, number, last),
@@ -95,8 +107,9 @@ fn read_page<F: Flash>(
     ensures room { length buf.new.bytes ≡ length buf.old.bytes }
     ensures none { buf.new.holds ≡ None }
     ensures read { IfOk result (λ page. IsTrue (F.state flash.old).media.tells → IsRead (layout_of schema.now) number (page_at (F.state flash.old) at) last) }
-    ensures rows { IfOk result (λ page. IsTrue (F.state flash.old).media.tells → page.rows ≡ length (page_rows (layout_of schema.now) (page_at (F.state flash.old) at))) }
-    ensures last { IfOk result (λ page. IsTrue (F.state flash.old).media.tells → page.last ≡ last_in last (page_rows (layout_of schema.now) (page_at (F.state flash.old) at))) }
+    ensures rows { IfOk result (λ page. IsTrue (F.state flash.old).media.tells → page.rows ≡ length (rows_on (layout_of schema.now) (page_at (F.state flash.old) at))) }
+    ensures last { IfOk result (λ page. IsTrue (F.state flash.old).media.tells → page.last ≡ last_in last (rows_on (layout_of schema.now) (page_at (F.state flash.old) at))) }
+    ensures first { IfOk result (λ page. IsTrue (F.state flash.old).media.tells → page.first ≡ first_key (rows_on (layout_of schema.now) (page_at (F.state flash.old) at))) }
     ensures few { IfOk result (λ page. page.rows < 65536) }
     ensures fault { IfErr result (IfPage (λ e. IsTrue (F.state flash.old).media.tells → IsRefused (layout_of schema.now) number (page_at (F.state flash.old) at) last e)) }
     ensures fails { IfErr result (IfFlash (λ e. ReadFails (F.state flash.old) e (F.state flash.new))) }
@@ -109,11 +122,25 @@ fn read_page<F: Flash>(
     page
 }
 
-/// Reads the kept pages of a ring, from the oldest on, and notes how many rows each has.
+/// Adds the page with this number and first key, where it has rows.
+fn add_page(index: &mut LearnedIndex<64, 64>, first: Option<u64>, number: u32)
+    ensures error { error_in index.new ≡ error_in index.old }
+    ensures points { (error : ℕ) (points : List (ℕ × ℕ)) → IndexOf error points index.old → IfSome first (λ key. IsFurther points (key, number)) →
+        IndexOf error (points ++ unwrap_or (option_map (λ key. (key, number) ∷ []) first) []) index.new }
+{
+    let Some(first_key) = first else {
+        return;
+    };
+    index.add_further(first_key, number);
+}
+
+/// Reads the kept pages of a ring, from the oldest on, notes how many rows each has, and adds those with rows to an
+/// index of no pages.
 pub(crate) fn read_pages<F: Flash>(
     schema: &Schema<8>,
     ring: &Ring,
     counts: &mut [u16],
+    index: &mut LearnedIndex<64, 64>,
     flash: &mut F,
     buf: &mut PageBuf,
 ) -> Result<(Mounted, Option<u64>), MountFault>
@@ -126,6 +153,9 @@ pub(crate) fn read_pages<F: Flash>(
     ensures room { length buf.new.bytes ≡ length buf.old.bytes }
     ensures none { buf.new.holds ≡ None }
     ensures counts { length counts.new ≡ length counts.old }
+    ensures error { error_in index.new ≡ error_in index.old }
+    ensures index { OnOk result (IsTrue (F.state flash.old).media.tells → (error : ℕ) → IndexOf error [] index.old →
+        IndexOf error (points_after (layout_of schema.now) (pages_of ring.now (F.state flash.old)) (oldest_of ring.now) (next_of ring.now - oldest_of ring.now)) index.new) }
     ensures read { OnOk result (IsTrue (F.state flash.old).media.tells →
         AreRead (layout_of schema.now) (pages_of ring.now (F.state flash.old)) (oldest_of ring.now) (next_of ring.now - oldest_of ring.now)) }
     ensures noted { OnOk result (next_of ring.now - oldest_of ring.now ≤ length counts.old → IsTrue (F.state flash.old).media.tells →
@@ -154,6 +184,7 @@ pub(crate) fn read_pages<F: Flash>(
     for number in oldest..next {
         let page = read_page(schema, flash, ring.place_of(number), number, last, buf)?;
         note(counts, number, page.rows);
+        add_page(index, page.first, number);
         last = page.last;
         mounted.rows += u64::from(page.rows);
         if page.rows == 0 {

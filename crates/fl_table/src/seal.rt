@@ -1,5 +1,6 @@
 // The seal of the pending rows.
-ghost use Rattle.std.specs.Prelude.{◌≡◌, ◌≤◌, ◌+◌, ◌<◌, ◌%◌, true, false, length, slice_set, IsTrue, OnOk, OnErr, IfErr};
+ghost use Rattle.std.specs.Prelude.{◌≡◌, ◌≤◌, ◌+◌, ◌-◌, ◌<◌, ◌%◌, ◌==◌, true, false, length, map, count_by, slice_index, slice_set, IsTrue, OnOk, OnErr, IfErr};
+ghost use Rattle.std.specs.List.{range_with_len};
 ghost use Rattle.fl_flash.specs.Flash.{Goes, page_at};
 ghost use Rattle.fl_ring.specs.Causes.{CausedBy};
 
@@ -41,17 +42,36 @@ impl Table {
             unreachable!()
         };
         let number = ring.next_number();
+        let oldest = ring.oldest();
+        let first_key = self.writer.row(&self.schema, 0).key();
         self.writer.finish(number, self.bitmap);
         if let Err(fault) = ring.seal(flash, self.writer.body()) {
             self.stopped = true;
             return Err(fault);
         }
+        let gone = voids_among(&self.counts, oldest, ring.oldest());
+        self.voids = self.voids.saturating_sub(gone);
         note(&mut self.counts, number, self.writer.count());
+        self.index.add_further(first_key, number);
         self.writer.clear();
         self.bitmap = 0;
         self.ring = Some(ring);
         Ok(())
     }
+}
+
+/// How many of the pages from one number to before another are void.
+fn voids_among(counts: &[u16], from: u32, to: u32) -> u32
+    requires { 1 ≤ length counts.now }
+    ensures { result ≡ count_by (λ count. count == 0) (map (λ n. slice_index counts.now (n % length counts.now)) (range_with_len from (to - from))) }
+{
+    let mut voids = 0;
+    for number in from..to {
+        if counts[number as usize % counts.len()] == 0 {
+            voids += 1;
+        }
+    }
+    voids
 }
 
 /// The page with this number has so many rows.

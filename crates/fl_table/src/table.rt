@@ -10,6 +10,7 @@ ghost use Rattle.fl_ring.specs.Place.{next_of, shape_of};
 
 use fl_base::{Geometry, RingPlace};
 use fl_bitmap::Buckets;
+use fl_find::LearnedIndex;
 use fl_page::PageWriter;
 use fl_ring::Ring;
 use fl_schema::Schema;
@@ -33,6 +34,10 @@ pub struct Table {
     pub(crate) last_key: Option<u64>,
     /// How many rows each kept page holds, by its place in the ring.
     pub(crate) counts: Vec<u16>,
+    /// How many of the kept pages are void.
+    pub(crate) voids: u32,
+    /// Where the pages of keys are.
+    pub(crate) index: LearnedIndex<64, 64>,
     ghost served: { IsGeometry geometry },
     ghost some_blocks: { 3 ≤ place.blocks },
     ghost few_blocks: { place.blocks ≤ 16384 },

@@ -1,13 +1,13 @@
 // Records that are put, flushed, cut and mounted again, and images made by hand.
-ghost use Rattle.std.specs.Prelude.{◌≡◌, ◌≤◌, ◌<◌, ◌+◌, length, vec_len, IfOk};
+ghost use Rattle.std.specs.Prelude.{◌≡◌, ◌≤◌, ◌<◌, ◌+◌, true, length, vec_len, IfOk};
 ghost use Rattle.fl_flash.specs.Flash.{FlashState, Goes};
-ghost use Rattle.fl_table.specs.Memory.{LiesOn};
+ghost use Rattle.fl_table.specs.Memory.{LiesOn, is_running};
 
 use crate::{FlushFault, MountFault, Mounted, PutRefusal, Table};
 use arrayvec::ArrayVec;
-use fl_base::{CutKind, Geometry, NoMemory, RingPlace, put_u16, put_u32, put_u64};
+use fl_base::{CutKind, Geometry, NoMemory, RingPlace, Steps, put_u16, put_u32, put_u64};
 use fl_flash::{Flash, FlashFault, MemMedia, PageBuf, SimFlash};
-use fl_page::BadPage;
+use fl_page::{BadPage, ReadFault};
 use fl_plan::{ConfigRefusal, TableConfig};
 use fl_ring::RingFault;
 use fl_schema::{ColumnType, KeyWidth};
@@ -383,5 +383,99 @@ fn records_are_refused(rt: HostRuntime) -> Result<(), Fail> {
     assert_eq!(rt; value, Err(PutRefusal::Value { column: 1 }));
     assert_eq!(rt; blob, Err(PutRefusal::Blob { limit: 0 }));
     assert_eq!(rt; fits, Ok(()));
+    Ok(())
+}
+
+// The key of the row that is found, how many pages were read for it and how many may be, and the page of the key.
+type Lookup = (Option<u64>, u64, u64, Option<u32>);
+
+fn look_up<F: Flash>(
+    table: &Table,
+    flash: &mut F,
+    buf: &mut PageBuf,
+    key: u64,
+) -> Result<Lookup, ReadFault>
+    requires running { is_running table.now ≡ true }
+    requires lies { LiesOn table.now (F.state flash.old) }
+    requires room { length buf.old.bytes ≡ (F.state flash.old).geometry.page }
+    ensures lies { LiesOn table.now (F.state flash.new) }
+    ensures goes { Goes (F.state flash.old) (F.state flash.new) }
+    ensures room { length buf.new.bytes ≡ length buf.old.bytes }
+{
+    let before = flash.work().reads;
+    let mut steps = Steps::new();
+    let row = match table.find(flash, key, buf, &mut steps)? {
+        Some(place) => Some(table.row_at(buf, place).key()),
+        None => None,
+    };
+    let reads = flash.work().reads.saturating_sub(before);
+    let page = table.page_of(flash, key, buf, &mut steps)?;
+    Ok((row, reads, table.lookup_limit(key), page))
+}
+
+// The first keys that are looked up as they are to be.
+fn looked_up<F: Flash>(
+    lookups: &[(u64, Lookup)],
+    table: &Table,
+    flash: &mut F,
+    buf: &mut PageBuf,
+) -> usize
+    requires lies { LiesOn table.now (F.state flash.old) }
+    requires room { length buf.old.bytes ≡ (F.state flash.old).geometry.page }
+{
+    if !table.is_running() {
+        return 0;
+    }
+    for i in 0..lookups.len() {
+        let (key, want) = lookups[i];
+        if look_up(table, flash, buf, key) != Ok(want) {
+            return i;
+        }
+    }
+    lookups.len()
+}
+
+// Two pages of two rows and one, a void page, and a page of one row.
+fn pages_with_a_void_one(alloc: Global) -> Result<Vec<u8>, NoMemory>
+    ensures { IfOk result (λ v. vec_len v ≡ 512) }
+{
+    let mut bytes = image(alloc, (0, 2, [10, 20]), Some((1, 1, [40, 0])))?;
+    bytes[256..320].fill(0);
+    bytes[312..316].fill(255);
+    write_page((3, 1, [60, 0]), &mut bytes[320..384]);
+    Ok(bytes)
+}
+
+fn look_all_up(alloc: Global, lookups: &[(u64, Lookup)]) -> Result<[usize; 2], ConfigRefusal> {
+    let mut media = MemMedia::new(alloc, pages_with_a_void_one(alloc)?, 512)?;
+    let mut buf = PageBuf::new(alloc, 64)?;
+    let mut table = table(alloc)?;
+    let mut flash = SimFlash::new(alloc, &mut media, GEOMETRY, 4, 0)?;
+    let steps = [(Mount, found(4, 4, 1)), (Put(70), TAKEN), (Put(80), TAKEN)];
+    let done = answered(&steps, &mut table, &mut flash, &mut buf);
+    let found = looked_up(lookups, &table, &mut flash, &mut buf);
+    let _media = flash.into_media();
+    Ok([done, found])
+}
+
+#[test]
+fn keys_are_looked_up(rt: HostRuntime) -> Result<(), Fail> {
+    let lookups = [
+        // Not covered: by halves.
+        (5, (None, 3, 5, None)),
+        // From the estimate and the error of 1 down to the page of the key, past the void one.
+        (10, (Some(10), 2, 5, Some(0))),
+        (20, (Some(20), 2, 5, Some(0))),
+        (30, (None, 3, 5, Some(0))),
+        (40, (Some(40), 2, 5, Some(1))),
+        (60, (Some(60), 1, 5, Some(3))),
+        (65, (None, 1, 5, Some(3))),
+        // At least the first pending key.
+        (70, (Some(70), 0, 0, Some(3))),
+        (75, (None, 0, 0, Some(3))),
+        (80, (Some(80), 0, 0, Some(3))),
+        (90, (None, 0, 0, Some(3))),
+    ];
+    assert_eq!(rt; look_all_up(rt.alloc(), &lookups)?, [3, lookups.len()]);
     Ok(())
 }

@@ -1,5 +1,5 @@
 use Rattle.fl_ring.proofs.Exists.{lies_exists}
-use Rattle.fl_find.proofs.Looks.{looks-read}
+use Rattle.fl_find.proofs.Looks.{looks-read, fresh-read}
 use Rattle.fl_find.proofs.first.read_first.Goals as goal
 
 pub read-requires-clause-exists : goal.read-requires-clause-exists
@@ -13,3 +13,12 @@ returns-in-Ok-clause-looks g c = looks-read _ _ _ _ _ _ c.read.ensures
 
 pub returns-in-Err-first_in-clause-looks : goal.returns-in-Err-first_in-clause-looks
 returns-in-Err-first_in-clause-looks g c = looks-read _ _ _ _ _ _ c.read.ensures
+
+pub returns-in-Err-clause-fresh : goal.returns-in-Err-clause-fresh
+returns-in-Err-clause-fresh g c = fresh-read _ _ _ _ _ _ c.read.ensures
+
+pub returns-in-Ok-clause-fresh : goal.returns-in-Ok-clause-fresh
+returns-in-Ok-clause-fresh g c = fresh-read _ _ _ _ _ _ c.read.ensures
+
+pub returns-in-Err-first_in-clause-fresh : goal.returns-in-Err-first_in-clause-fresh
+returns-in-Err-first_in-clause-fresh g c = fresh-read _ _ _ _ _ _ c.read.ensures

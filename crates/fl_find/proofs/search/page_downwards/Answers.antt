@@ -1,9 +1,10 @@
 use Rattle.std.proofs.Common.{rules, ◌≡◌, ◌+◌, ◌-◌, refl, sym, subst, arith}
 use Rattle.std.proofs.lemmas.Result.{IfOk-weaker, IfErr-weaker}
+use Rattle.fl_flash.specs.Buffer.{BufferState}
 use Rattle.fl_flash.specs.Flash.{FlashState}
 use Rattle.fl_ring.specs.Place.{shape_of, oldest_of}
 use Rattle.fl_schema.specs.Schema.{layout_of}
-use Rattle.fl_find.specs.Pages.{first_on}
+use Rattle.fl_find.specs.Pages.{first_on, IsFresh}
 use Rattle.fl_find.specs.Looking.{OnlyLooks, LookFails}
 use Rattle.fl_find.proofs.Looks.{since-same}
 use Rattle.fl_find.proofs.Moves.{lies-looked, room-looked, holds-moved, if-some, page-moved}
@@ -11,21 +12,21 @@ use Rattle.fl_find.proofs.search.page_downwards.Goals as goal
 
 pub returns-clause-looks : goal.returns-clause-looks
 returns-clause-looks g c =
-    let since = c.near.ensures.since (record { ring = c.args.ring; schema = c.args.schema; flash = c.args.flash; buf = c.args.buf; faults = 0; lies = c.requires.lies; room = c.requires.room }) (since-same _ _ _) in
+    let since = c.near.ensures.since (record { ring = c.args.ring; schema = c.args.schema; flash = c.args.flash; buf = c.args.buf; faults = 0; lies = c.requires.lies; room = c.requires.room }) (since-same _ _ _ _) in
     let same : g.F.Flash.state c.flash-1.given.0 ≡ g.F.Flash.state c.near.new.keys.flash.now = search rules in
     let looks : OnlyLooks (g.F.Flash.state c.args.flash.now) (g.F.Flash.state c.flash-1.given.0) = subst (λ (f : FlashState). OnlyLooks (g.F.Flash.state c.args.flash.now) f) (sym same) since.looks in
     looks
 
 pub returns-clause-lies : goal.returns-clause-lies
 returns-clause-lies g c =
-    let since = c.near.ensures.since (record { ring = c.args.ring; schema = c.args.schema; flash = c.args.flash; buf = c.args.buf; faults = 0; lies = c.requires.lies; room = c.requires.room }) (since-same _ _ _) in
+    let since = c.near.ensures.since (record { ring = c.args.ring; schema = c.args.schema; flash = c.args.flash; buf = c.args.buf; faults = 0; lies = c.requires.lies; room = c.requires.room }) (since-same _ _ _ _) in
     let same : g.F.Flash.state c.flash-1.given.0 ≡ g.F.Flash.state c.near.new.keys.flash.now = search rules in
     let looks : OnlyLooks (g.F.Flash.state c.args.flash.now) (g.F.Flash.state c.flash-1.given.0) = subst (λ (f : FlashState). OnlyLooks (g.F.Flash.state c.args.flash.now) f) (sym same) since.looks in
     lies-looked _ _ _ c.requires.lies looks
 
 pub returns-clause-room : goal.returns-clause-room
 returns-clause-room g c =
-    let since = c.near.ensures.since (record { ring = c.args.ring; schema = c.args.schema; flash = c.args.flash; buf = c.args.buf; faults = 0; lies = c.requires.lies; room = c.requires.room }) (since-same _ _ _) in
+    let since = c.near.ensures.since (record { ring = c.args.ring; schema = c.args.schema; flash = c.args.flash; buf = c.args.buf; faults = 0; lies = c.requires.lies; room = c.requires.room }) (since-same _ _ _ _) in
     let same : g.F.Flash.state c.flash-1.given.0 ≡ g.F.Flash.state c.near.new.keys.flash.now = search rules in
     let looks : OnlyLooks (g.F.Flash.state c.args.flash.now) (g.F.Flash.state c.flash-1.given.0) = subst (λ (f : FlashState). OnlyLooks (g.F.Flash.state c.args.flash.now) f) (sym same) since.looks in
     let here : c.buf-1.given.0 ≡ c.near.new.keys.buf.now = search rules in
@@ -40,7 +41,7 @@ returns-clause-page g c = λ told.
 
 pub returns-clause-holds : goal.returns-clause-holds
 returns-clause-holds g c =
-    let since = c.near.ensures.since (record { ring = c.args.ring; schema = c.args.schema; flash = c.args.flash; buf = c.args.buf; faults = 0; lies = c.requires.lies; room = c.requires.room }) (since-same _ _ _) in
+    let since = c.near.ensures.since (record { ring = c.args.ring; schema = c.args.schema; flash = c.args.flash; buf = c.args.buf; faults = 0; lies = c.requires.lies; room = c.requires.room }) (since-same _ _ _ _) in
     let same : g.F.Flash.state c.flash-1.given.0 ≡ g.F.Flash.state c.near.new.keys.flash.now = search rules in
     let looks : OnlyLooks (g.F.Flash.state c.args.flash.now) (g.F.Flash.state c.flash-1.given.0) = subst (λ (f : FlashState). OnlyLooks (g.F.Flash.state c.args.flash.now) f) (sym same) since.looks in
     let here : c.buf-1.given.0 ≡ c.near.new.keys.buf.now = search rules in
@@ -48,6 +49,13 @@ returns-clause-holds g c =
 
 pub returns-clause-fails : goal.returns-clause-fails
 returns-clause-fails g c =
-    let fails = c.near.ensures.fails (record { ring = c.args.ring; schema = c.args.schema; flash = c.args.flash; buf = c.args.buf; faults = 0; lies = c.requires.lies; room = c.requires.room }) (since-same _ _ _) in
+    let fails = c.near.ensures.fails (record { ring = c.args.ring; schema = c.args.schema; flash = c.args.flash; buf = c.args.buf; faults = 0; lies = c.requires.lies; room = c.requires.room }) (since-same _ _ _ _) in
     let same : g.F.Flash.state c.flash-1.given.0 ≡ g.F.Flash.state c.near.new.keys.flash.now = search rules in
     IfErr-weaker c.near.result _ _ (λ e h. subst (λ (f : FlashState). LookFails (layout_of c.args.schema.now) c.args.ring.now (g.F.Flash.state c.args.flash.now) e f) (sym same) h) fails
+
+pub returns-clause-fresh : goal.returns-clause-fresh
+returns-clause-fresh g c = λ fresh.
+    let since = c.near.ensures.since (record { ring = c.args.ring; schema = c.args.schema; flash = c.args.flash; buf = c.args.buf; faults = 0; lies = c.requires.lies; room = c.requires.room }) (since-same _ _ _ _) in
+    let same : g.F.Flash.state c.flash-1.given.0 ≡ g.F.Flash.state c.near.new.keys.flash.now = search rules in
+    let here : c.buf-1.given.0 ≡ c.near.new.keys.buf.now = search rules in
+    subst (λ (f : FlashState). IsFresh f c.buf-1.given.0) (sym same) (subst (λ (b : BufferState). IsFresh (g.F.Flash.state c.near.new.keys.flash.now) b) (sym here) (since.fresh fresh))

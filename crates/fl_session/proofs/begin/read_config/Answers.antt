@@ -41,7 +41,7 @@ pub returns-in-Ok-None-clause-ends : goal.returns-in-Ok-None-clause-ends
 returns-in-Ok-None-clause-ends g c =
     let n = rw c.in-Ok-None.field-0-is at c.in-Ok-None.ensures in
     finish-ends _ _ _ _ c.finish-in-Ok-None.ensures.incomplete
-    (λ none knots text told. ends-empty knots text _ _ (at-end knots text _ _ _ _ _ _ _ _ _ (c.lines.invariant.configured knots text told) n) (none knots))
+    (λ none knots text told. ends-empty knots text _ _ _ (at-end knots text _ _ _ _ _ _ _ _ _ (c.lines.invariant.configured knots text told) n) (none knots))
 
 pub returns-in-Err-clause-ends : goal.returns-in-Err-clause-ends
 returns-in-Err-clause-ends g c = λ knots text told.

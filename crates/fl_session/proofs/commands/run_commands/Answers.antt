@@ -12,7 +12,7 @@ lines-init g c = record {
   sink_later = omega arith;
   sound = c.requires.sound;
   goes = goes-same _;
-  runs = λ config left e ended. in_hand-first _ _ _ _ _ _ left _ e ended refl refl refl refl;
+  runs = λ config left e ended. in_hand-first _ _ _ _ _ _ left _ e ended refl refl refl refl refl;
 }
 
 pub returns-in-Err-clause-runs : goal.returns-in-Err-clause-runs

@@ -1,4 +1,4 @@
-use Rattle.std.proofs.Common.{◌≡◌, ℕ, ◌+◌, ◌^◌, ◌<◌, ◌≤◌, List, [], ◌++◌, Some, true}
+use Rattle.std.proofs.Common.{◌≡◌, ℕ, ◌+◌, ◌^◌, ◌<◌, ◌≤◌, List, [], ◌++◌, length, Some, true}
 use Rattle.fl_model.specs.Record.{Config}
 use Rattle.fl_flash.specs.Flash.{Goes}
 use Rattle.fl_script.specs.CommandView.{command_view}
@@ -20,7 +20,7 @@ invariant-lines g l =
       goes : Goes (T.flash l.fn.session) (T.flash l.session);
       runs : (config : Config) (left : List ℕ) → S.left l.fn.script ≡ Some left → (l.fn.lines.closed ≡ true → l.fn.lines.ahead ++ left ≡ []) →
           InHand
-          (record { number = l.fn.number; first = l.fn.lines.line; text = l.fn.lines.ahead ++ left; most = l.fn.lines.most; closed = l.fn.lines.closed })
+          (record { number = l.fn.number; first = l.fn.lines.line; text = l.fn.lines.ahead ++ left; taken = length l.fn.lines.ahead; most = l.fn.lines.most; closed = l.fn.lines.closed })
           config (T.stands l.fn.session config) (T.stands l.session config) (T.flash l.fn.session).media.faults (T.flash l.session).media.faults (K.written l.fn.out) (K.written l.out)
           l.line l.lines (S.left l.script);
     }

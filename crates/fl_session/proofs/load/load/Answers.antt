@@ -1,15 +1,20 @@
-use Rattle.std.proofs.Common.{◌≡◌, ◌+◌, refl, ap, sym, ◌∙◌, subst, arith}
+use Rattle.std.proofs.Common.{◌≡◌, ◌+◌, not, ◌&&◌, refl, ap, sym, ◌∙◌, subst, arith}
 use Rattle.std.specs.Prelude.{unwrap_or}
 use Rattle.fl_model.specs.Record.{RowLayout}
 use Rattle.fl_session.specs.Load.{StandsBefore, load_key, random_of}
 use Rattle.fl_session.proofs.Going.{goes-same, goes-on}
 use Rattle.fl_session.proofs.Loading.{LoadedSoFar, loaded-none, loaded-more, ends-next, ends-done, load-finished, load-stopped, rose-front, rose-back, rose-risen}
 use Rattle.fl_session.proofs.Working.{has_risen}
+use Rattle.fl_session.proofs.LoadLines.{unbroken}
+use Rattle.std.proofs.Math.Bool.{and-true}
+use Rattle.fl_table.specs.Causes.{put_breaks}
+use Rattle.fl_table.specs.Memory.{is_running}
 use Rattle.fl_session.proofs.load.load.Goals as goal
 
 pub loop-loaded-init : goal.loop-loaded-init
 loop-loaded-init g c = record {
   lies = c.requires.lies;
+  running = refl;
   goes = goes-same _;
   makes = c.new-records.ensures.stands;
   step_is = c.new-records.ensures.step;
@@ -39,6 +44,7 @@ loop-loaded-preserved g c =
     let key = c.next-record.ensures.key ∙ ap (λ s. load_key (unwrap_or c.last_key.result 0) s (random_of c.loop-loaded.records)) i.step_is in
     record {
       lies = p.lies;
+      running = p.running ∙ (ap (λ b. is_running c.loop-loaded.table && not b) (unbroken c.put-outcome.result (sym c.is_err.ensures.value ∙ c.if-is_err.false)) ∙ (and-true (is_running c.loop-loaded.table) ∙ i.running));
       goes = goes-on _ _ _ i.goes p.goes;
       makes = subst (λ (l : RowLayout). StandsBefore l.columns c.args.seed (c.loop-loaded.loaded + 1 + 1) c.next-record.new.self) (sym p.same.layout) (c.next-record.ensures.stands _ _ _ i.makes);
       step_is = c.next-record.ensures.step ∙ i.step_is;
@@ -50,6 +56,12 @@ loop-loaded-preserved g c =
           subst (λ s. LoadedSoFar config name cost old c.put-outcome.new.self n rose c.args.count c.args.step c.args.seed (c.loop-loaded.loaded + 1) s) (sym c.next-record.ensures.random)
           (loaded-more config name cost old _ _ m n rose _ _ _ _ _ so_far c.loop-loaded-test.true p.goes p.same done);
     }
+
+pub returns-then-is_err-clause-running : goal.returns-then-is_err-clause-running
+returns-then-is_err-clause-running g c = c.put-outcome.ensures.running ∙ ap (λ b. b && not (put_breaks c.put-outcome.result)) c.loop-loaded.invariant.running
+
+pub returns-clause-running : goal.returns-clause-running
+returns-clause-running g c = c.loop-loaded.invariant.running ∙ sym (and-true (is_running c.args.table.now))
 
 pub returns-clause-answers : goal.returns-clause-answers
 returns-clause-answers g c = λ config name cost old h.

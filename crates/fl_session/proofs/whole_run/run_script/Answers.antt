@@ -1,9 +1,8 @@
-use Rattle.std.proofs.Common.{◌≡◌, [], IsTrue, Ok, Err, refl, sym, ◌∙◌, ap, subst}
-use Rattle.fl_words.specs.Config.{whole}
+use Rattle.std.proofs.Common.{◌≡◌, inl, inr, [], IsTrue, Ok, Err, refl, sym, ◌∙◌, subst}
 use Rattle.fl_words.specs.Medium.{header}
 use Rattle.fl_model.specs.Image.{medium_len}
 use Rattle.fl_session.proofs.Running.{nothing-added}
-use Rattle.fl_session.proofs.Ending.{ends-in_begin, commands-early}
+use Rattle.fl_session.proofs.Ending.{begins-takes, ends-in_begin, commands-early}
 use Rattle.fl_session.proofs.Over.{whole-parts, reach-of, ends-opened, whole-of, makes-of, opens-as, opens-goes, media-goes_on, ends-refused, early-refused, make-refused, commands-words}
 use Rattle.fl_session.proofs.Fresh.{new-blank, none-of}
 use Rattle.fl_session.proofs.whole_run.run_script.Goals as goal
@@ -37,7 +36,7 @@ returns-in-Ok-open_image-clause-ends g c = λ text told l.
     ends-opened 64 text lines c.in-Ok-read_config.begun.first c.in-Ok-read_config.begun.number _ _ _ _ _ w.0
     (g.M.Media.state c.args.media.now) (g.M.Media.state c.open_image.new.media) (g.M.Media.state c.run_session.new.media) c.args.media.ghost_name _
     (c.in-Ok-read_config.ensures.begins 64 text l) w.1 c.in-Ok-read_config.ensures.built told (opens-as w.0 (g.M.Media.state c.args.media.now) (Ok tt) (g.M.Media.state c.open_image.new.media) (c.in-Ok-open_image.ensures w.0 (makes-of 64 lines w.0 w.1))) c.run_session.ensures.form goes.tells goes.faults c.run_session.ensures.goes.faults
-    (c.run_session.ensures.runs w.0 (ap (λ n. whole n lines) (whole-parts 64 lines w.0 w.1).knots_are ∙ w.1) (subst IsTrue (sym goes.tells) told))
+    (c.run_session.ensures.runs w.0 w.1 (subst IsTrue (sym goes.tells) told))
 
 pub returns-in-Ok-open_image-clause-words : goal.returns-in-Ok-open_image-clause-words
 returns-in-Ok-open_image-clause-words g c = commands-words _ c.run_session.ensures.statuses
@@ -50,7 +49,7 @@ returns-clause-ends g c = λ text told l.
     let lines = c.read_config.new.config in
     let w = whole-of 64 lines c.in-Ok-read_config.ensures.whole in
     rw c.status_of.ensures
-    (ends-refused 64 text lines c.in-Ok-read_config.begun.first c.in-Ok-read_config.begun.number _ _ _ _ w.0 (g.M.Media.state c.args.media.now) (g.M.Media.state c.open_image.new.media)
+    (ends-refused 64 text lines c.in-Ok-read_config.begun.first c.in-Ok-read_config.begun.number _ _ _ w.0 (g.M.Media.state c.args.media.now) (g.M.Media.state c.open_image.new.media)
     c.in-Err-open_image.refusal (c.in-Ok-read_config.ensures.begins 64 text l) w.1 told (opens-as w.0 (g.M.Media.state c.args.media.now) (Err c.in-Err-open_image.refusal) (g.M.Media.state c.open_image.new.media) (c.in-Err-open_image.ensures w.0 (makes-of 64 lines w.0 w.1))))
 
 pub returns-clause-make : goal.returns-clause-make
@@ -73,3 +72,6 @@ pub returns-clause-goes : goal.returns-clause-goes
 returns-clause-goes g c =
     let w = whole-of 0 c.read_config.new.config c.in-Ok-read_config.ensures.whole in
     opens-goes (medium_len w.0) (header w.0) (g.M.Media.state c.args.media.now) (Err c.in-Err-open_image.refusal) (g.M.Media.state c.open_image.new.media) (c.in-Err-open_image.ensures w.0 (makes-of 0 c.read_config.new.config w.0 w.1))
+
+pub returns-in-Err-make_rooms-clause-ends : goal.returns-in-Err-make_rooms-clause-ends
+returns-in-Err-make_rooms-clause-ends g c = λ text told l. (nothing-added _, inl refl, inr (begins-takes 64 text _ _ _ _ _ (c.in-Ok-read_config.ensures.begins 64 text l)))

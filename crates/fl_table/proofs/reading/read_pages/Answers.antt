@@ -1,13 +1,14 @@
-use Rattle.std.proofs.Common.{◌≡◌, ◌%◌, ◌==◌, cond, length, length-set, ◌+◌, ◌-◌, suc, IsTrue, arith, sym, ◌∙◌, ap, subst, refl}
+use Rattle.std.proofs.Common.{rules, ◌≡◌, ◌%◌, ◌==◌, cond, length, length-set, ◌+◌, ◌-◌, suc, IsTrue, arith, sym, ◌∙◌, ap, subst, refl}
 use Rattle.std.proofs.lemmas.Result.{err_from_is_err_and}
 use Rattle.fl_flash.specs.Flash.{page_at}
 use Rattle.fl_ring.specs.Looking.{OnlyReads}
 use Rattle.fl_ring.specs.Place.{next_of, oldest_of}
 use Rattle.fl_schema.specs.Schema.{layout_of}
-use Rattle.fl_table.specs.Reading.{pages_of, IsRefused, AreRefused, AreNoted}
+use Rattle.fl_find.specs.Index.{IndexOf}
+use Rattle.fl_table.specs.Reading.{pages_of, points_after, IsRefused, AreRefused, AreNoted}
 use Rattle.fl_ring.proofs.Exists.{page_exists}
 use Rattle.fl_ring.proofs.Readings.{more_reads, told_still, same_page}
-use Rattle.fl_table.proofs.PagesRead.{if-page, read-more, last-more, rows-more, voids-more, noted-more, refused-at, is-void, not-void, voids_few}
+use Rattle.fl_table.proofs.PagesRead.{if-page, read-more, last-more, rows-more, voids-more, noted-more, points-more, refused-at, is-void, not-void, voids_few}
 use Rattle.fl_table.specs.declared.counts.Mounted.{Mounted}
 use Rattle.fl_table.proofs.reading.read_pages.Goals as goal
 use Rattle.fl_table.proofs.reading.read_pages.Goals.{then-page-eq0, else-page-eq0}
@@ -31,6 +32,13 @@ returns-in_err-page-clause-fault g c =
     (λ e h told. refused-at layout (pages_of ring old) (oldest_of ring) n number (suc n) (omega (arith, inv.from)) refl (page_at flash c.place_of.result)
     (same_page old flash n c.place_of.result inv.reads ∙ ap (page_at old) c.place_of.ensures.place)
     c.loop-number.last (next_of ring - oldest_of ring) e (omega (arith, inv.from, c.loop-number-test.true)) (inv.last told) (inv.read told) (h (told_still old flash n inv.reads told))) c.in_err-page.ensures.fault)
+
+pub returns-clause-index : goal.returns-clause-index
+returns-clause-index g c = λ told error empty.
+    let old = g.F.Flash.state c.args.flash.now in
+    let ring = c.args.ring.now in
+    let last : c.loop-number.number - oldest_of ring ≡ next_of ring - oldest_of ring = search (rules, arith) in
+    subst (λ n. IndexOf error (points_after (layout_of c.args.schema.now) (pages_of ring old) (oldest_of ring) n) c.loop-number.index) last (c.loop-number.invariant.index told error empty)
 
 pub loop-number-preserved : goal.loop-number-preserved
 loop-number-preserved g c =
@@ -70,6 +78,9 @@ loop-number-preserved g c =
       room = c.in_ok-page.ensures.room ∙ inv.room;
       none = c.in_ok-page.ensures.none;
       counts = counts_len;
+      error = c.add_page.ensures.error ∙ inv.error;
+      index = λ told error empty. points-more layout pages first n number m here more bytes same c.loop-number.last page.first error c.loop-number.index c.add_page.new.index (inv.last told) (inv.read told)
+          (c.in_ok-page.ensures.read (told_still old flash n inv.reads told)) (c.in_ok-page.ensures.first (told_still old flash n inv.reads told)) (inv.index told error empty) c.add_page.ensures.points;
       read = λ told. read-more layout pages first n number m here more bytes same c.loop-number.last (inv.last told) (inv.read told) (c.in_ok-page.ensures.read (told_still old flash n inv.reads told));
       noted = λ fits told. subst (AreNoted layout pages first m) (sym c.note.ensures)
           (noted-more layout pages first n number m here more bytes same c.loop-number.counts page.rows (omega (arith, fits, inv.counts))

@@ -1,8 +1,9 @@
-use Rattle.std.proofs.Common.{◌≡◌, ◌≤◌, ◌-◌, ◌*◌, None, length, IsTrue}
+use Rattle.std.proofs.Common.{◌≡◌, ◌≤◌, ◌-◌, ◌*◌, ℕ, None, [], length, IsTrue}
+use Rattle.fl_find.specs.Index.{error_in, IndexOf}
 use Rattle.fl_ring.specs.Looking.{OnlyReads}
 use Rattle.fl_ring.specs.Place.{oldest_of, next_of}
 use Rattle.fl_schema.specs.Schema.{layout_of}
-use Rattle.fl_table.specs.Reading.{AreRead, AreNoted, last_after, rows_after, voids_after, pages_of}
+use Rattle.fl_table.specs.Reading.{AreRead, AreNoted, last_after, rows_after, voids_after, points_after, pages_of}
 use Rattle.fl_table.proofs.reading.read_pages.Given as goal
 
 abbrev pub invariant-loop-number : goal.invariant-loop-number
@@ -12,6 +13,8 @@ invariant-loop-number g l = record {
   room : length l.buf.bytes ≡ length l.initial.buf.bytes;
   none : l.buf.holds ≡ None;
   counts : length l.counts ≡ length l.initial.counts;
+  error : error_in l.index ≡ error_in l.initial.index;
+  index : IsTrue (g.F.Flash.state l.initial.flash).media.tells → (error : ℕ) → IndexOf error [] l.initial.index → IndexOf error (points_after (layout_of l.schema) (pages_of l.ring (g.F.Flash.state l.initial.flash)) (oldest_of l.ring) (l.number - oldest_of l.ring)) l.index;
   read : IsTrue (g.F.Flash.state l.initial.flash).media.tells → AreRead (layout_of l.schema) (pages_of l.ring (g.F.Flash.state l.initial.flash)) (oldest_of l.ring) (l.number - oldest_of l.ring);
   noted : l.number - oldest_of l.ring ≤ length l.initial.counts → IsTrue (g.F.Flash.state l.initial.flash).media.tells → AreNoted (layout_of l.schema) (pages_of l.ring (g.F.Flash.state l.initial.flash)) (oldest_of l.ring) (l.number - oldest_of l.ring) l.counts;
   last : IsTrue (g.F.Flash.state l.initial.flash).media.tells → l.last ≡ last_after (layout_of l.schema) (pages_of l.ring (g.F.Flash.state l.initial.flash)) (oldest_of l.ring) (l.number - oldest_of l.ring);

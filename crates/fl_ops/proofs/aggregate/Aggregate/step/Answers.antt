@@ -49,7 +49,7 @@ loop-self-init g c =
       count = rw above (omega (arith, one, from));
       bounds = rw above bounds;
       rest = λ told. refl;
-      most = c.begin.ensures.most;
+      most = search rules;
       least = search rules;
     }
 

@@ -1,7 +1,10 @@
-use Rattle.std.proofs.Common.{arith, rules, ◌<◌, length}
+use Rattle.std.proofs.Common.{arith, rules, subst, ◌<◌, ◌-◌, length}
 use Rattle.fl_spline.specs.Points.{Rises}
+use Rattle.fl_spline.specs.Segment.{IsSegment}
+use Rattle.fl_spline.specs.Spline.{kept}
 use Rattle.fl_radix.specs.Radix.{IsTableOf, shift_of}
-use Rattle.fl_radix.proofs.Rising.{segment-in-slot, few-in-slot, length-range, rises-range}
+use Rattle.fl_radix.proofs.Bits.{bits-one}
+use Rattle.fl_radix.proofs.Rising.{segment-in-slot, few-in-slot, most-in-slot, none-in-slot, length-range, rises-range}
 use Rattle.fl_radix.proofs.radix.Radix.segment.Goals as goal
 
 pub knots_near-from-requires : goal.knots_near-from-requires
@@ -50,3 +53,29 @@ returns-clause-few g c =
     let few = few-in-slot ks (shift_of c.args.self.now) c.args.key c.knots_near-from.result.0 c.knots_near-from.result.1 c.knots_near-from.ensures
     (omega (arith, table.first)) (omega arith) (omega arith) in
     rw (← c.as_slice-knots.ensures.knots) (omega (arith, few, c.knots_up_to.ensures.few))
+
+pub returns-clause-least : goal.returns-clause-least
+returns-clause-least g c = λ known. λ below. λ less.
+    let ks = c.as_slice-knots.result.now in
+    let some : 0 < length c.as_slice-knots.result.now = search rules in
+    let table : IsTableOf c.as_slice-knots.result.now c.args.self.now
+    = rw c.as_slice-knots.ensures.knots (c.requires (rw c.as_slice-knots.ensures.knots at some)) in
+    let most = most-in-slot ks (shift_of c.args.self.now) c.args.key c.knots_near-from.result.0 c.knots_near-from.result.1 c.knots_near-from.ensures
+    (omega (arith, table.first)) (omega arith) (omega arith) in
+    rw (← c.as_slice-knots.ensures.knots) (omega (arith, most, c.knots_up_to.ensures.least less))
+
+pub returns-then-key-self-clause-least : goal.returns-then-key-self-clause-least
+returns-then-key-self-clause-least g c = λ known. λ below. λ less.
+    let table : IsTableOf (kept c.args.spline.now) c.args.self.now = c.requires known in
+    let one = bits-one _ (none-in-slot (kept c.args.spline.now) (shift_of c.args.self.now) c.args.key (omega (arith, table.first, c.if-key-self.true))) in
+    omega (arith, one, less)
+
+pub returns-then-knots-key-clause-segment : goal.returns-then-knots-key-clause-segment
+returns-then-knots-key-clause-segment g c =
+    let some : 0 < length c.as_slice-knots.result.now = search rules in
+    let last : IsSegment c.as_slice-knots.result.now c.args.key (length c.as_slice-knots.result.now - 1) = record {
+      within = omega (arith, some);
+      at_most = c.if-knots-key.true;
+      last = λ j start end. absurd (omega (arith, start, end));
+    } in
+    subst (λ ks. IsSegment ks c.args.key (length c.as_slice-knots.result.now - 1)) c.as_slice-knots.ensures.knots last

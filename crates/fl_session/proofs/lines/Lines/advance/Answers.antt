@@ -15,6 +15,7 @@ returns-in-Some-clause-advances g c =
     (subst (λ a. slice_get a c.in-Some.len ≡ Some 10) v h.1)
     (subst (λ a. IsOneLine (take c.in-Some.len a)) v h.2)
     (subst (λ a. length a ≤ c.bytes.self.most) v c.ahead-ahead.ensures.few)
+    (subst (λ a. length a ≤ 4097) v c.ahead-ahead.ensures.room)
     c.give_line.ensures
 
 pub returns-in-Some-clause-alone : goal.returns-in-Some-clause-alone

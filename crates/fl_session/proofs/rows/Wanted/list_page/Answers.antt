@@ -13,7 +13,9 @@ use Rattle.fl_words.specs.Reply.{Reply, texts}
 use Rattle.fl_base.specs.Causes.{AppendsFront}
 use Rattle.fl_table.proofs.Looks.{oldest-is, next-is}
 use Rattle.fl_session.specs.Rows.{lines_of}
-use Rattle.fl_session.proofs.PagesListed.{unread, shown-lists, not-void, found-rows, found-lines}
+use Rattle.fl_ring.specs.Looking.{OnlyReads}
+use Rattle.fl_table.specs.Look.{rows_noted}
+use Rattle.fl_session.proofs.PagesListed.{no-rows, full-one, unread, shown-lists, not-void, found-rows, found-lines}
 use Rattle.fl_session.proofs.RangeEnds.{page-ends}
 use Rattle.fl_session.proofs.rows.Wanted.list_page.Goals as goal
 
@@ -54,3 +56,15 @@ returns-clause-last g c = λ first plan t count told stands e yes.
     let at = subst (λ (rs : List Row). slice_get rs (c.rows.result - 1) ≡ Some (row_of c.row.result)) are c.row.ensures.row in
     let le = leb-true c.args.self.now.range.high c.key-last.result yes in
     page-ends c.args.self.now.range t i count (c.rows.result - 1) (row_of c.row.result) stands.facts.ascending e at (omega (arith, le, c.key-last.ensures))
+
+pub returns-then-rows_of-eq0-clause-lists : goal.returns-then-rows_of-eq0-clause-lists
+returns-then-rows_of-eq0-clause-lists g c = λ first plan t count told on stands e.
+    let f = g.F.Flash.state c.args.flash.now in
+    let low : oldest t.rows ≤ c.args.number = omega (arith, c.requires.kept, oldest-is c.args.table.now f first plan t stands) in
+    let high : c.args.number < t.rows.next = omega (arith, c.requires.kept, next-is c.args.table.now f first plan t stands) in
+    no-rows c.args.self.now.range c.args.self.now.span t (c.args.number - oldest t.rows) count c.rows_of.result _ e (c.rows_of.ensures.stands f first plan t stands low high) c.if-rows_of-eq0.true
+
+pub returns-clause-reads : goal.returns-clause-reads
+returns-clause-reads g c =
+    let one = full-one (rows_noted c.args.table.now c.args.number) (λ e. c.if-rows_of-eq0.false (c.rows_of.ensures.exact ∙ e)) in
+    subst (λ n. OnlyReads (g.F.Flash.state c.args.flash.now) n (g.F.Flash.state c.read_page.new.flash)) (sym one) c.read_page.ensures.reads

@@ -15,6 +15,7 @@ use Rattle.fl_table.proofs.StillStands.{stands-still}
 use Rattle.fl_session.specs.Listed.{ListsAll}
 use Rattle.fl_session.specs.Rows.{lines_of}
 use Rattle.fl_session.proofs.PagesListed.{lines_before, lists-then, lists-stop, page-lines, written-lines, all-before, reads-most, full-next, full-most, none-listed}
+use Rattle.fl_session.proofs.RowLines.{appends-none}
 use Rattle.fl_session.proofs.RangeEnds.{ends-lines}
 use Rattle.fl_session.proofs.rows.Wanted.list_pages.Goals as goal
 
@@ -152,3 +153,16 @@ returns-then-page-clause-counts g c = OnlyReads-then _ _ _ c.loop-number.invaria
 
 pub returns-in_err-page-clause-counts : goal.returns-in_err-page-clause-counts
 returns-in_err-page-clause-counts g c = OnlyReads-then _ _ _ c.loop-number.invariant.counts c.in_err-page.ensures.counts
+
+pub returns-then-passes_pages-clause-lists : goal.returns-then-passes_pages-clause-lists
+returns-then-passes_pages-clause-lists g c = λ first plan table told on stands.
+    let none = c.passes_pages.ensures (g.F.Flash.state c.args.flash.now) first plan table stands c.if-passes_pages.true in
+    rw none (appends-none _, refl)
+
+pub returns-clause-reads : goal.returns-clause-reads
+returns-clause-reads g c =
+    let t = c.args.table.now in
+    let inv = c.loop-number.invariant in
+    let end = c.loop-number.auto.number-end (omega (arith, c.oldest-number.ensures.exact, c.next_number-number-end.ensures.ordered)) in
+    let most = full-most (rows_noted t) (oldest_in t) (c.loop-number.number - oldest_in t) (next_in t - oldest_in t) (omega (arith, end, c.next_number-number-end.ensures.exact)) in
+    reads-most (g.F.Flash.state c.args.flash.now) (g.F.Flash.state c.loop-number.flash) _ (full_pages (kept_counts t)) most inv.reads

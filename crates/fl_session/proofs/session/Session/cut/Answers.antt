@@ -5,6 +5,6 @@ use Rattle.fl_session.proofs.session.Session.cut.Goals as goal
 
 pub returns-clause-step : goal.returns-clause-step
 returns-clause-step g c = λ config old h.
-    let s = stands-cut config old c.args.self.now.table c.args.self.now.name c.args.self.now.cost _ c.args.self.now.mounted c.args.n c.args.kind c.requires.counted h in
+    let s = stands-cut config old c.args.self.now.table c.args.self.now.name c.args.self.now.notes _ c.args.self.now.mounted c.args.n c.args.kind c.requires.counted h in
     answers-cut config old c.args.n c.args.kind _ _ _
-    (subst (λ f. SessionStands config c.args.self.now.table c.args.self.now.name f c.args.self.now.mounted c.args.self.now.cost (cut_to_come old c.args.n c.args.kind)) (sym c.arm.ensures) s)
+    (subst (λ f. SessionStands config c.args.self.now.table c.args.self.now.name f c.args.self.now.mounted c.args.self.now.notes (cut_to_come old c.args.n c.args.kind)) (sym c.arm.ensures) s)

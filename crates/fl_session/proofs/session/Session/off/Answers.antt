@@ -6,5 +6,5 @@ use Rattle.fl_session.proofs.session.Session.off.Goals as goal
 
 pub returns-clause-step : goal.returns-clause-step
 returns-clause-step g c = λ config old h.
-    let s = stands-off config old c.args.self.now.table c.args.self.now.name c.args.self.now.cost _ c.args.self.now.mounted h in
-    answers-off config old _ _ _ (subst (λ f. SessionStands config c.args.self.now.table c.args.self.now.name f false c.args.self.now.cost (stopped old)) (sym c.power_off.ensures) s)
+    let s = stands-off config old c.args.self.now.table c.args.self.now.name c.args.self.now.notes _ c.args.self.now.mounted h in
+    answers-off config old _ _ _ (subst (λ f. SessionStands config c.args.self.now.table c.args.self.now.name f false c.args.self.now.notes (stopped old)) (sym c.power_off.ensures) s)

@@ -12,7 +12,11 @@ returns-in-Some-clause-step g c = λ config old h. scan-refused _ config old _ _
 pub returns-clause-sound : goal.returns-clause-sound
 returns-clause-sound g c = record {
   lies = lies-still _ _ _ _ c.scan-written.ensures.reads c.requires.sound.lies;
-  room = c.scan-written.ensures.room ∙ (c.requires.sound.room ∙ ap (λ (x : Geometry). x.page) (sym c.scan-written.ensures.reads.goes.geometry));
+  room = (
+    c.scan-written.ensures.room ∙ (c.requires.sound.room.0 ∙ ap (λ (x : Geometry). x.page) (sym c.scan-written.ensures.reads.goes.geometry)),
+    c.requires.sound.room.1 ∙ ap (λ (x : Geometry). x.page) (sym c.scan-written.ensures.reads.goes.geometry),
+  );
+  running = c.requires.sound.running;
 }
 
 pub returns-clause-step : goal.returns-clause-step

@@ -4,7 +4,7 @@ use Rattle.fl_session.proofs.Going.{goes-same}
 use Rattle.fl_session.proofs.StepsOf.{default-view, executes-nothing}
 use Rattle.fl_session.proofs.Answering.{executes-answered}
 use Rattle.fl_session.proofs.session.SessionExecutor.execute.Goals as goal
-use Rattle.fl_session.proofs.session.SessionExecutor.execute.Goals.{in-Mount, in-Off, in-Cut, in-Put, in-Flush, in-Stat, in-Cost}
+use Rattle.fl_session.proofs.session.SessionExecutor.execute.Goals.{in-Mount, in-Off, in-Cut, in-Put, in-Flush, in-Stat, in-Open, in-Close, in-Cost}
 
 pub returns-in_default : goal.returns-in_default
 returns-in_default g c = record {
@@ -13,17 +13,45 @@ returns-in_default g c = record {
   sink = record { later = omega arith; failed = tt };
   step = λ config old h.
       executes-nothing SinkFailed config old _ _ _ _ (default-view c.args.command.now c.args.room.now c.requires.runnable c.in_default.not-Mount c.in_default.not-Off (λ n kind e. c.in_default.not-Cut n kind e)
-      (λ name key values blob e. c.in_default.not-Put name key values blob e) (λ name e. c.in_default.not-Flush name e) (λ name e. c.in_default.not-Stat name e) (λ name range span e. c.in_default.not-Scan name range span e)
-      (λ name count step seed e. c.in_default.not-Load name count step seed e) c.in_default.not-Cost) h;
+      (λ name key values blob e. c.in_default.not-Put name key values blob e) (λ name e. c.in_default.not-Flush name e) (λ name e. c.in_default.not-Stat name e) (λ name key e. c.in_default.not-Get name key e) (λ name range span e. c.in_default.not-Scan name range span e)
+      (λ name count step seed e. c.in_default.not-Load name count step seed e) (λ cursor name range span e. c.in_default.not-Open cursor name range span e) (λ cursor e. c.in_default.not-Close cursor e) c.in_default.not-Cost) h;
 }
 
 pub returns-clause-step : goal.returns-clause-step
 returns-clause-step g c = λ config old h. elim c.match-command.branch [
-  | in-Mount w ↦ rw (w.self-is, w.in-Mount.is) (executes-answered SinkFailed config old _ _ _ _ _ _ _ c.write_reply.result (w.mount-reply.ensures.step config old h) (λ moment none. tt) (rw w.reply-is at c.write_reply.ensures.text))
-  | in-Off w ↦ rw (w.self-is, w.in-Off.is) (executes-answered SinkFailed config old _ _ _ _ _ _ _ c.write_reply.result (w.off-reply.ensures.step config old h) (λ moment none. none) (rw w.reply-is at c.write_reply.ensures.text))
-  | in-Cut w ↦ rw (w.self-is, w.in-Cut.is) (executes-answered SinkFailed config old _ _ _ _ _ _ _ c.write_reply.result (w.cut-reply.ensures.step config old h) (λ moment none. none) (rw w.reply-is at c.write_reply.ensures.text))
-  | in-Put w ↦ rw (w.self-is, w.in-Put.is, sym w.as_slice.ensures.value, sym w.blob_in.ensures) (executes-answered SinkFailed config old _ _ _ _ _ _ _ c.write_reply.result (w.put-reply.ensures.step config old h) (λ moment none. none) (rw w.reply-is at c.write_reply.ensures.text))
-  | in-Flush w ↦ rw (w.self-is, w.in-Flush.is) (executes-answered SinkFailed config old _ _ _ _ _ _ _ c.write_reply.result (w.flush-reply.ensures.step config old h) (λ moment none. none) (rw w.reply-is at c.write_reply.ensures.text))
-  | in-Stat w ↦ rw (w.self-is, w.in-Stat.is) (executes-answered SinkFailed config old _ _ _ _ _ _ _ c.write_reply.result (w.stat-reply.ensures config old h) (λ moment none. none) (rw w.reply-is at c.write_reply.ensures.text))
-  | in-Cost w ↦ rw (w.self-is, w.in-Cost.is) (executes-answered SinkFailed config old _ _ _ _ _ _ _ c.write_reply.result (w.cost-reply.ensures config old h) (λ moment none. none) (rw w.reply-is at c.write_reply.ensures.text))
+  | in-Mount w ↦ rw (w.self-is, w.in-Mount.is) (executes-answered SinkFailed config old _ _ _ _ _ _ _ c.write_reply.result (w.mount-reply.ensures.step config old h) (λ moment none. tt) (λ moment none. tt) (rw w.reply-is at c.write_reply.ensures.text))
+  | in-Off w ↦ rw (w.self-is, w.in-Off.is) (executes-answered SinkFailed config old _ _ _ _ _ _ _ c.write_reply.result (w.off-reply.ensures.step config old h) (λ moment none. none) (λ moment none. tt) (rw w.reply-is at c.write_reply.ensures.text))
+  | in-Cut w ↦ rw (w.self-is, w.in-Cut.is) (executes-answered SinkFailed config old _ _ _ _ _ _ _ c.write_reply.result (w.cut-reply.ensures.step config old h) (λ moment none. none) (λ moment none. tt) (rw w.reply-is at c.write_reply.ensures.text))
+  | in-Put w ↦ rw (w.self-is, w.in-Put.is, sym w.as_slice.ensures.value, sym w.blob_in.ensures) (executes-answered SinkFailed config old _ _ _ _ _ _ _ c.write_reply.result (w.put-reply.ensures.step config old h) (λ moment none. none) (λ moment none. tt) (rw w.reply-is at c.write_reply.ensures.text))
+  | in-Flush w ↦ rw (w.self-is, w.in-Flush.is) (executes-answered SinkFailed config old _ _ _ _ _ _ _ c.write_reply.result (w.flush-reply.ensures.step config old h) (λ moment none. none) (λ moment none. tt) (rw w.reply-is at c.write_reply.ensures.text))
+  | in-Stat w ↦ rw (w.self-is, w.in-Stat.is) (executes-answered SinkFailed config old _ _ _ _ _ _ _ c.write_reply.result (w.stat-reply.ensures config old h) (λ moment none. none) (λ moment none. tt) (rw w.reply-is at c.write_reply.ensures.text))
+  | in-Open w ↦ rw (w.self-is, w.in-Open.is) (executes-answered SinkFailed config old _ _ _ _ _ _ _ c.write_reply.result (w.open-reply.ensures.step config old h) (λ moment none. none) (λ moment none. tt) (rw w.reply-is at c.write_reply.ensures.text))
+  | in-Close w ↦ rw (w.self-is, w.in-Close.is) (executes-answered SinkFailed config old _ _ _ _ _ _ _ c.write_reply.result (w.close-reply.ensures.step config old h) (λ moment none. none) (λ moment none. tt) (rw w.reply-is at c.write_reply.ensures.text))
+  | in-Cost w ↦ rw (w.self-is, w.in-Cost.is) (executes-answered SinkFailed config old _ _ _ _ _ _ _ c.write_reply.result (w.cost-reply.ensures config old h) (λ moment none. none) (λ moment none. tt) (rw w.reply-is at c.write_reply.ensures.text))
+]
+
+pub returns-clause-sound : goal.returns-clause-sound
+returns-clause-sound g c = elim c.match-command.branch [
+  | in-Mount w ↦ rw w.self-is (w.mount-reply.ensures.sound)
+  | in-Off w ↦ rw w.self-is (w.off-reply.ensures.sound)
+  | in-Cut w ↦ rw w.self-is (w.cut-reply.ensures.sound)
+  | in-Put w ↦ rw w.self-is (w.put-reply.ensures.sound)
+  | in-Flush w ↦ rw w.self-is (w.flush-reply.ensures.sound)
+  | in-Stat w ↦ rw w.self-is (c.requires.sound)
+  | in-Open w ↦ rw w.self-is (w.open-reply.ensures.sound)
+  | in-Close w ↦ rw w.self-is (w.close-reply.ensures.sound)
+  | in-Cost w ↦ rw w.self-is (c.requires.sound)
+]
+
+pub returns-clause-goes : goal.returns-clause-goes
+returns-clause-goes g c = elim c.match-command.branch [
+  | in-Mount w ↦ rw w.self-is (w.mount-reply.ensures.goes)
+  | in-Off w ↦ rw w.self-is (w.off-reply.ensures.goes)
+  | in-Cut w ↦ rw w.self-is (w.cut-reply.ensures.goes)
+  | in-Put w ↦ rw w.self-is (w.put-reply.ensures.goes)
+  | in-Flush w ↦ rw w.self-is (w.flush-reply.ensures.goes)
+  | in-Stat w ↦ rw w.self-is (goes-same _)
+  | in-Open w ↦ rw w.self-is (w.open-reply.ensures.goes)
+  | in-Close w ↦ rw w.self-is (w.close-reply.ensures.goes)
+  | in-Cost w ↦ rw w.self-is (goes-same _)
 ]

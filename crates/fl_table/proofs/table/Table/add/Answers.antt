@@ -1,4 +1,4 @@
-use Rattle.std.proofs.Common.{rules, ◌≡◌, List, None, map, option_map, get_or, sym, ◌∙◌, ap, subst, pos}
+use Rattle.std.proofs.Common.{rules, arith, ◌≡◌, List, None, map, option_map, get_or, sym, ◌∙◌, ap, subst, pos}
 use Rattle.std.proofs.lemmas.Int.{to_z-of_z}
 use Rattle.std.proofs.lemmas.List.{map-append}
 use Rattle.fl_model.specs.Record.{layout_len}
@@ -9,6 +9,7 @@ use Rattle.fl_schema.specs.Schema.{layout_of, types_of}
 use Rattle.fl_schema.proofs.RoundTrip.{length-bytes_of_row}
 use Rattle.fl_table.specs.Memory.{bitmap_with}
 use Rattle.fl_table.proofs.Writers.{rest-push}
+use Rattle.fl_table.proofs.Pointed.{points-added}
 use Rattle.fl_table.proofs.Putting.{added}
 use Rattle.fl_table.proofs.table.Table.add.Goals as goal
 
@@ -36,6 +37,7 @@ returns-clause-stands c = λ f first plan table stands ok.
         index = stands.planned.index;
         var = stands.planned.var;
         buckets = stands.planned.buckets;
+        error = stands.planned.error;
       };
       facts = a.facts;
       whole = stands.whole;
@@ -50,7 +52,10 @@ returns-clause-stands c = λ f first plan table stands ok.
         bitmap = bits ∙ a.bits;
         last = sym (ap (option_map (λ (entry : model.Entry). entry.kept.key)) a.last);
         counts = memory.counts;
+        voids = memory.voids;
+        index = memory.index;
         no_fill = memory.no_fill;
         idle = memory.idle;
       };
+      points = points-added plan (record { key = c.args.key; values = c.args.values.now; blob = None }) table (omega (arith, stands.facts.counted)) stands.points;
     }

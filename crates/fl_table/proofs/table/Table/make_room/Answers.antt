@@ -32,6 +32,7 @@ returns-then-not-is_full-clause-ends g c = λ first plan table rose device watch
           index = stands.planned.index;
           var = stands.planned.var;
           buckets = stands.planned.buckets;
+          error = stands.planned.error;
         };
         facts = stands.facts;
         whole = stands.whole;
@@ -46,9 +47,12 @@ returns-then-not-is_full-clause-ends g c = λ first plan table rose device watch
           bitmap = memory.bitmap;
           last = memory.last;
           counts = memory.counts;
+          voids = memory.voids;
+          index = memory.index;
           no_fill = memory.no_fill;
           idle = memory.idle;
         };
+        points = stands.points;
       };
     })
 

@@ -1,9 +1,11 @@
-use Rattle.std.proofs.Common.{◌-◌, ◌≤◌, ℕ, List, Ok, Err, length, arith, refl, sym, ◌∙◌, ap, subst, IsTrue}
+use Rattle.std.proofs.Common.{◌-◌, ◌≤◌, ℕ, List, [], Ok, Err, length, arith, refl, sym, ◌∙◌, ap, subst, IsTrue}
 use Rattle.std.proofs.lemmas.Result.{err_from_is_err_and}
+use Rattle.fl_find.specs.Index.{IndexOf}
 use Rattle.fl_ring.specs.Mounting.{shape_at}
 use Rattle.fl_ring.specs.Place.{next_of, oldest_of}
 use Rattle.fl_schema.specs.Schema.{layout_of}
 use Rattle.fl_table.specs.Reading.{AreNoted, pages_of}
+use Rattle.fl_table.specs.declared.counts.Mounted.{Mounted}
 use Rattle.fl_table.proofs.MountCalls.{same-shape, watched-front, risen-later, outside-stands, refuses-ring, refuses-page, finds-pages, ring-cause, pages-cause}
 use Rattle.fl_table.proofs.MountEnded.{mounting-of, ring-fails, ring-ends, ring-mounts, reads-end, same_device, started-stands, mount-answer}
 use Rattle.fl_table.proofs.MountReads.{few-first, few-all}
@@ -119,10 +121,12 @@ returns-clause-ends g c = λ first plan table rose device watched planned rests.
       counts = same_device first plan table rose device old is ring mid new n l reads sizes;
       power = reads.power ∙ l.power;
       stands = started-stands first plan table rose device old is ring mid new n l reads sizes _
-          (record { geometry = planned1.geometry; layout = planned1.layout; begins = planned1.begins; blocks = planned1.blocks; index = planned1.index; var = planned1.var; buckets = planned1.buckets }) here refl
+          (record { geometry = planned1.geometry; layout = planned1.layout; begins = planned1.begins; blocks = planned1.blocks; index = planned1.index; var = planned1.var; buckets = planned1.buckets; error = planned1.error ∙ sym ensures.error }) here refl
           c.forget.ensures.empty c.forget.ensures.bits (ensures.last still)
           (λ fits. subst (λ (cs : List ℕ). AreNoted (layout_of t1.schema) (pages_of ring mid) (oldest_of ring) (next_of ring - oldest_of ring) cs) (sym back)
-          (ensures.noted (subst (λ k. next_of ring - oldest_of ring ≤ k) (ap length back ∙ ensures.counts) fits) still));
+          (ensures.noted (subst (λ k. next_of ring - oldest_of ring ≤ k) (ap length back ∙ ensures.counts) fits) still))
+          (ensures.index still plan.error (subst (λ e. IndexOf e [] t1.index) (sym planned.error) c.forget.ensures.index))
+          (ap (λ (m : Mounted). m.voids) (ensures.mounted still));
       answer = mount-answer first plan table rose device old is ring mid new n l reads sizes t1 c.in_ok-mounted.mounted planned1 here (ensures.mounted still);
     }
 

@@ -3,11 +3,16 @@ use Rattle.fl_flash.specs.Flash.{page_at}
 use Rattle.fl_model.specs.Ring as rings
 use Rattle.fl_page.specs.declared.fault.ReadFault.TheVariants.{BadPage}
 use Rattle.fl_page.proofs.Reading.{OnlyReads-read}
+use Rattle.fl_ring.proofs.Exists.{lies_exists}
 use Rattle.fl_table.specs.Kept.{place_of, IsFound}
 use Rattle.fl_table.specs.Look.{layout_in}
 use Rattle.fl_table.proofs.KeptRead.{ring-place, shows-rows}
 use Rattle.fl_table.proofs.Looks.{oldest-is}
 use Rattle.fl_table.proofs.table.Table.read_page.Goals as goal
+
+pub read-requires-clause-exists : goal.read-requires-clause-exists
+read-requires-clause-exists g c =
+    lies_exists c.in-Some.ring (g.F.Flash.state c.args.flash.now) c.place_of.result (c.requires.lies.ring c.in-Some.ring c.in-Some.is) c.place_of.ensures.within
 
 pub returns-in_default-state_of-clause-stands : goal.returns-in_default-state_of-clause-stands
 returns-in_default-state_of-clause-stands g c = λ first plan table count told stands e.

@@ -10,10 +10,12 @@ use Rattle.fl_ring.specs.Operations.{change, seal_kinds}
 use Rattle.fl_ring.specs.Place.{shape_of, StandsFor}
 use Rattle.fl_ring.specs.Ring.{Shape, OutsideStands}
 use Rattle.fl_ring.specs.Sealing.{Performed, Seals}
-use Rattle.fl_schema.specs.Schema.{layout_of}
+use Rattle.fl_schema.specs.Schema.{layout_of, row_of}
 use Rattle.fl_table.proofs.States.{shape_in, state_of, HaveSize}
 use Rattle.fl_table.proofs.Writers.{rest-finish, rest-clear, gathers-none, few-rows, some-room}
-use Rattle.fl_table.proofs.SealAnswers.{planned-ring, lies-size, sealing-of, seal-ready, writer-count, ring-next, counts-room, note-same, written-back}
+use Rattle.fl_table.proofs.Pointed.{first-key, index-sealed, points-sealed}
+use Rattle.fl_table.proofs.SealAnswers.{planned-ring, planned-shape, lies-size, sealing-of, seal-ready, writer-count, ring-next, counts-room, note-same, written-back}
+use Rattle.fl_table.proofs.VoidPages.{voids-told}
 use Rattle.fl_table.proofs.Sealings.{IsSealing, seal-breaks, seal-finishes}
 use Rattle.fl_table.proofs.table.Table.seal.Goals as goal
 
@@ -26,6 +28,14 @@ pub note-requires-clause-some : goal.note-requires-clause-some
 note-requires-clause-some g c =
     let t = c.args.self.now in
     omega (arith, c.deref_mut.ensures.len, t.counted, some-room t.place.blocks t.geometry.block t.some_blocks t.served.block_least)
+
+pub voids_among-gone-requires : goal.voids_among-gone-requires
+voids_among-gone-requires g c =
+    let t = c.args.self.now in
+    omega (arith, c.deref.ensures.len, t.counted, some-room t.place.blocks t.geometry.block t.some_blocks t.served.block_least)
+
+pub invariant_of-self-2-clause-room_for_row : goal.invariant_of-self-2-clause-room_for_row
+invariant_of-self-2-clause-room_for_row g c = c.args.self.now.room_for_row
 
 pub note-requires-clause-few : goal.note-requires-clause-few
 note-requires-clause-few g c =
@@ -98,6 +108,8 @@ returns-clause-ends g c = λ first plan table rose device watched stands.
     let back = written-back t.counts.items c.note.new.counts t.counts.len size t.counts.ok.0 in
     let sealed = seal-finishes first plan table body rose device new is sizes_now u after t.counts.items both.0 both.1 room stands.memory.counts in
     let memory = stands.memory in
+    let first_key : model.first_pending table ≡ Some c.key-first_key.result =
+    first-key table (row_of c.row.result) (c.row.ensures.row (map stored_row (model.pending_entries table)) memory.gathers) ∙ ap (λ k. Some k) (sym c.key-first_key.ensures) in
     record {
       now = sealed.now;
       did = sealed.did;
@@ -113,6 +125,7 @@ returns-clause-ends g c = λ first plan table rose device watched stands.
           index = stands.planned.index;
           var = stands.planned.var;
           buckets = stands.planned.buckets;
+          error = stands.planned.error ∙ sym c.add_further.ensures.error;
         };
         facts = sealed.facts;
         whole = sealed.untorn;
@@ -128,9 +141,13 @@ returns-clause-ends g c = λ first plan table rose device watched stands.
           bitmap = sealed.no_bits;
           last = memory.last ∙ ap (option_map (λ (entry : model.Entry). entry.kept.key)) sealed.last;
           counts = λ i count e. ap (λ (cs : List ℕ). get_or cs ((rings.oldest (after_seal plan DataRing table).rows + i) % (plan.data_blocks * plan.geometry.block)) 0) (back ∙ noted) ∙ sealed.counts_are i count e;
+          voids = voids-told t old first plan table stands ring c.deref.result.now c.oldest-oldest.result c.oldest.result c.voids_among-gone.result c.saturating_sub-self.result has c.oldest-oldest.ensures
+              (c.oldest.ensures ∙ sealed.oldest_is) (planned-shape t first plan stands.planned) (omega (arith, c.requires.some, writer-count t old first plan table stands)) c.deref.ensures.value c.voids_among-gone.ensures c.saturating_sub-self.ensures;
+          index = index-sealed plan table t.index c.add_further.new.self c.key-first_key.result c.next_number-number.result stands.facts stands.points memory.index first_key number c.add_further.ensures.points;
           no_fill = memory.no_fill;
           idle = sealed.idle;
         };
+        points = points-sealed plan table stands.facts (planned-shape t first plan stands.planned) stands.points (omega (arith, c.requires.some, writer-count t old first plan table stands));
       };
     }
 

@@ -1,0 +1,182 @@
+-- A cursor that finds the page of the lowest key.
+use Rattle.std.proofs.Common.{◌≡◌, ℕ, suc, ◌+◌, ◌-◌, ◌^◌, ◌<◌, ◌≤◌, Bool, true, false, cond, ◌==◌, nat_le, Option, Some, None, option_map, unwrap_or, List, [], ◌∷◌, ◌++◌, length, drop, refl, sym, ◌∙◌, ap, subst, append_assoc, arith}
+use Rattle.std.specs.Borrow.{MutBor}
+use Rattle.std.specs.List.{slice_get, list_any}
+use Rattle.std.proofs.lemmas.Bool.{leb-true, false_from_ne_true, eqb-true}
+use Rattle.fl_find.specs.Pages.{first_key}
+use Rattle.fl_flash.specs.Buffer.{BufferState}
+use Rattle.fl_model.specs.Row.{Row}
+use Rattle.fl_page.specs.Contents.{Contents}
+use Rattle.fl_page.specs.Page.{IsGoodPage, rows_in}
+use Rattle.fl_page.specs.Steps.{Ascends}
+use Rattle.fl_search.specs.Search.{IsPageOf}
+use Rattle.fl_table.specs.Look.{layout_in, oldest_in, rows_noted, buffered_rows}
+use Rattle.fl_table.specs.Memory.{is_running, next_in}
+use Rattle.fl_table.specs.declared.table.Table.{Table}
+use Rattle.fl_table.proofs.KeyRows.{drop-row}
+use Rattle.fl_cursor.specs.Asked.{is_asked, lowest_of}
+use Rattle.fl_cursor.specs.Cursor.{table_of, asked_of, buffer_of, rows_behind, Passes, IsPlaced, IsTold}
+use Rattle.fl_cursor.specs.Going.{Goes, Fails}
+use Rattle.fl_cursor.specs.Listed.{bytes_at, rows_on, rows_over, rows_from, rows_of}
+use Rattle.fl_cursor.specs.Reads.{begins_by, has_last, start_of, most_to_find, pages_to_last, pages_asked, raised, most_from, least_from}
+use Rattle.fl_cursor.specs.declared.cursor.Cursor.{Cursor}
+use Rattle.fl_cursor.specs.declared.place.Place.{Place}
+use Rattle.fl_cursor.specs.declared.place.Place.TheVariants.{Start, Pages, InPage}
+use Rattle.fl_cursor.proofs.Beginning.{start-is, over-split, asked-split, raised-below, raised-fewer, lowest-from}
+use Rattle.fl_cursor.proofs.Passing.{passes-same, each-weaker}
+use Rattle.fl_cursor.proofs.Starting.{starts-behind, ascends-front}
+use Rattle.fl_cursor.proofs.Turning.{turns}
+
+-- the first row of rows that begin by a key
+record Begins (key : ℕ) (rows : List Row) : Type 0 where
+  row : Row
+  first : slice_get rows 0 ≡ Some row
+  up_to : row.key ≤ key
+
+begins : (key : ℕ) (rows : List Row) → begins_by key rows ≡ true → Begins key rows
+begins key [] e = absurd (no e)
+  where
+    no : false ≡ true → ⊥
+    no e = cc
+begins key (row ∷ rows) e = record { row = row; first = refl; up_to = leb-true row.key key e }
+
+first-front : (xs ys : List Row) (row : Row) → slice_get xs 0 ≡ Some row → slice_get (xs ++ ys) 0 ≡ Some row
+first-front [] ys row e = absurd (none e)
+  where
+    none : ◌≡◌ {A = Option Row} None (Some row) → ⊥
+    none e = cc
+first-front (x ∷ xs) ys row e = e
+
+module _ (old : Cursor) (here_is : old.place ≡ Start) (buf : MutBor BufferState) (contents : Contents) (reads reads_now : ℕ) (named : buf.ghost_name ≡ old.rows_buf.ghost_name) (room : length buf.now.bytes ≡ length old.rows_buf.now.bytes)
+    (later : reads_now < 2 ^ 64 - 1 → reads ≤ reads_now) (few : IsTold old contents → reads_now ≤ reads + most_to_find (table_of old) (lowest_of (asked_of old))) where
+  abbrev low : ℕ
+  low = lowest_of (asked_of old)
+
+  abbrev pages : ℕ
+  pages = next_in old.table.now - oldest_in old.table.now
+
+  passes-here : IsTold old contents → Passes (asked_of old) (rows_of (table_of old) contents) (rows_of (table_of old) contents)
+  passes-here told = passes-same (asked_of old) (rows_of (table_of old) contents) (rows_behind (table_of old) contents (buffer_of old) old.place) (rows_of (table_of old) contents) (ap (rows_behind (table_of old) contents (buffer_of old)) here_is) told.passes
+
+  most-here : most_from (table_of old) contents (asked_of old) (buffer_of old) old.place
+      ≡ most_to_find (table_of old) low + pages_to_last (table_of old) contents (asked_of old).top (start_of (table_of old) contents low) (next_in (table_of old) - start_of (table_of old) contents low)
+  most-here = ap (most_from (table_of old) contents (asked_of old) (buffer_of old)) here_is
+
+  least-here : least_from (table_of old) contents (asked_of old) old.place ≡ pages_asked (table_of old) contents (raised (asked_of old)) (oldest_in (table_of old)) pages
+  least-here = ap (least_from (table_of old) contents (asked_of old)) here_is
+
+  -- the search failed
+  pub start-fails : Fails contents reads old reads_now (record old { rows_buf = buf })
+  start-fails = record {
+    keeps = record { table = refl; rows_name = named; rows_room = room; index = refl };
+    notes = refl;
+    ready = λ held h. record {
+      flash = h.flash;
+      same = h.same;
+      lies = h.lies;
+      rows_room = room ∙ h.rows_room;
+      index_room = h.index_room;
+      placed = subst (IsPlaced (table_of old) buf.now.bytes) (sym here_is) (subst (IsPlaced (table_of old) (buffer_of old)) here_is h.placed);
+    };
+    told = λ told. record {
+      standing = told.standing;
+      ascends = told.ascends;
+      passes = passes-same (asked_of old) (rows_of (table_of old) contents) (rows_of (table_of old) contents) (rows_behind (table_of old) contents buf.now.bytes old.place)
+          (sym (ap (rows_behind (table_of old) contents buf.now.bytes) here_is)) (passes-here told);
+    };
+    most = λ told. let le = few told in omega (arith, le, most-here);
+  }
+
+  -- no page begins by the key, so that the oldest one comes next
+  pub start-none : (first : ℕ) → first ≡ oldest_in (table_of old) → oldest_in (table_of old) ≤ next_in (table_of old) →
+      (IsTold old contents → IsPageOf (λ n. first_key (rows_on (table_of old) contents n)) (oldest_in (table_of old)) (next_in (table_of old)) low None) →
+      Goes false contents reads old reads_now (record old { rows_buf = buf; place = Pages first })
+  start-none first is_oldest ordered is =
+      subst (λ n. Goes false contents reads old reads_now (record old { rows_buf = buf; place = Pages n })) (sym is_oldest)
+      (turns old buf (Pages (oldest_in (table_of old))) contents reads reads_now named room (omega arith, ordered) later
+      passes-here
+      (λ told.
+      let le = few told in
+      let start = start-is (table_of old) contents low None (is told) in
+      let same : pages_to_last (table_of old) contents (asked_of old).top (start_of (table_of old) contents low) (next_in (table_of old) - start_of (table_of old) contents low)
+      ≡ pages_to_last (table_of old) contents (asked_of old).top (oldest_in (table_of old)) pages =
+      ap (λ n. pages_to_last (table_of old) contents (asked_of old).top n (next_in (table_of old) - n)) start in
+      omega (arith, le, most-here, same))
+      (λ told lt.
+      let le = later lt in
+      let fewer = raised-fewer (table_of old) contents (asked_of old) pages (oldest_in (table_of old)) (lowest-from (asked_of old)) in
+      omega (arith, le, least-here, fewer)))
+
+  module _ (number : ℕ) (from : oldest_in (table_of old) ≤ number) (before : number < next_in (table_of old)) (good : IsGoodPage (layout_in (table_of old)) number buf.now.bytes)
+      (some : IsTold old contents → reads_now < 2 ^ 64 - 1 → reads + 1 ≤ reads_now) (bytes : IsTold old contents → buf.now.bytes ≡ bytes_at (table_of old) contents number)
+      (is : IsTold old contents → IsPageOf (λ n. first_key (rows_on (table_of old) contents n)) (oldest_in (table_of old)) (next_in (table_of old)) low (Some number)) where
+    abbrev front : List Row
+    front = rows_over old.table.now contents (oldest_in old.table.now) (number - oldest_in old.table.now)
+
+    abbrev behind : List Row
+    behind = rows_from old.table.now contents (number + 1)
+
+    parts : pages ≡ (number - oldest_in (table_of old)) + suc (next_in (table_of old) - (number + 1))
+    parts = omega (arith, from, before)
+
+    at : oldest_in (table_of old) + (number - oldest_in (table_of old)) ≡ number
+    at = omega (arith, from)
+
+    rows-split : rows_of (table_of old) contents ≡ front ++ (rows_on (table_of old) contents number ++ behind)
+    rows-split =
+        ap (λ k. rows_over (table_of old) contents (oldest_in (table_of old)) k ++ buffered_rows (table_of old)) parts
+        ∙ (ap (λ (xs : List Row). xs ++ buffered_rows (table_of old)) (over-split (table_of old) contents (number - oldest_in (table_of old)) (suc (next_in (table_of old) - (number + 1))) (oldest_in (table_of old)))
+        ∙ (ap (λ k. (front ++ rows_over (table_of old) contents k (suc (next_in (table_of old) - (number + 1)))) ++ buffered_rows (table_of old)) at
+        ∙ (append_assoc front (rows_over (table_of old) contents number (suc (next_in (table_of old) - (number + 1)))) (buffered_rows (table_of old))
+        ∙ ap (λ (xs : List Row). front ++ xs) (append_assoc (rows_on (table_of old) contents number) (rows_over (table_of old) contents (number + 1) (next_in (table_of old) - (number + 1))) (buffered_rows (table_of old))))))
+
+    first : IsTold old contents → Begins low (rows_on (table_of old) contents number)
+    first told = begins low (rows_on (table_of old) contents number) (is told).here
+
+    noted : IsTold old contents → (rows_noted (table_of old) number == 0) ≡ false
+    noted told = false_from_ne_true (rows_noted (table_of old) number == 0) (λ b.
+        none (sym (ap (λ (xs : List Row). slice_get xs 0) (ap (λ b. cond b [] (rows_in (layout_in (table_of old)) (bytes_at (table_of old) contents number))) b)) ∙ (first told).first))
+      where
+        none : {row : Row} → ◌≡◌ {A = Option Row} None (Some row) → ⊥
+        none e = cc
+
+    rows-here : IsTold old contents → rows_on (table_of old) contents number ≡ rows_in (layout_in (table_of old)) buf.now.bytes
+    rows-here told = ap (λ b. cond b [] (rows_in (layout_in (table_of old)) (bytes_at (table_of old) contents number))) (noted told) ∙ ap (rows_in (layout_in (table_of old))) (sym (bytes told))
+
+    pub start-some : Goes false contents reads old reads_now (record old { rows_buf = buf; place = InPage number 0 })
+    start-some =
+        turns old buf (InPage number 0) contents reads reads_now named room (from, before, good, omega arith) later
+        (λ told.
+        let b = first told in
+        subst (λ (all : List Row). Passes (asked_of old) all (rows_in (layout_in (table_of old)) buf.now.bytes ++ behind)) (sym rows-split)
+        (passes-same (asked_of old) (front ++ (rows_on (table_of old) contents number ++ behind)) (rows_on (table_of old) contents number ++ behind) (rows_in (layout_in (table_of old)) buf.now.bytes ++ behind)
+        (ap (λ (xs : List Row). xs ++ behind) (rows-here told))
+        (starts-behind (asked_of old) front (rows_on (table_of old) contents number ++ behind) b.row (first-front (rows_on (table_of old) contents number) behind b.row b.first) b.up_to (subst (Ascends None) rows-split told.ascends))))
+        (λ told.
+        let le = few told in
+        let start : start_of (table_of old) contents low ≡ number = start-is (table_of old) contents low (Some number) (is told) in
+        let same : pages_to_last (table_of old) contents (asked_of old).top (start_of (table_of old) contents low) (next_in (table_of old) - start_of (table_of old) contents low)
+        ≡ 1 + cond (has_last (asked_of old).top (rows_in (layout_in (table_of old)) buf.now.bytes)) 0 (pages_to_last (table_of old) contents (asked_of old).top (number + 1) (next_in (table_of old) - (number + 1))) =
+        ap (λ n. pages_to_last (table_of old) contents (asked_of old).top n (next_in (table_of old) - n)) start
+        ∙ (ap (pages_to_last (table_of old) contents (asked_of old).top number) (let one : next_in (table_of old) - number ≡ suc (next_in (table_of old) - (number + 1)) = omega (arith, before) in one)
+        ∙ (ap (λ b. cond b (pages_to_last (table_of old) contents (asked_of old).top (number + 1) (next_in (table_of old) - (number + 1)))
+        (1 + cond (has_last (asked_of old).top (rows_on (table_of old) contents number)) 0 (pages_to_last (table_of old) contents (asked_of old).top (number + 1) (next_in (table_of old) - (number + 1))))) (noted told)
+        ∙ ap (λ (xs : List Row). 1 + cond (has_last (asked_of old).top xs) 0 (pages_to_last (table_of old) contents (asked_of old).top (number + 1) (next_in (table_of old) - (number + 1)))) (rows-here told))) in
+        omega (arith, le, most-here, same))
+        (λ told lt.
+        let b = first told in
+        let one = some told lt in
+        let is_first : rows_on (table_of old) contents number ++ behind ≡ b.row ∷ drop 1 (rows_on (table_of old) contents number ++ behind) =
+        drop-row (rows_on (table_of old) contents number ++ behind) 0 b.row (first-front (rows_on (table_of old) contents number) behind b.row b.first) in
+        let lesser = ascends-front None front b.row (drop 1 (rows_on (table_of old) contents number ++ behind)) (subst (λ (xs : List Row). Ascends None (front ++ xs)) is_first (subst (Ascends None) rows-split told.ascends)) in
+        let none = raised-below (table_of old) contents (asked_of old) (number - oldest_in (table_of old)) (oldest_in (table_of old)) (each-weaker (λ x. x.key < b.row.key) (λ x. x.key < low) front (λ x lt. omega (arith, lt, b.up_to)) lesser) in
+        let split = ap (pages_asked (table_of old) contents (raised (asked_of old)) (oldest_in (table_of old))) parts
+        ∙ (asked-split (table_of old) contents (raised (asked_of old)) (number - oldest_in (table_of old)) (suc (next_in (table_of old) - (number + 1))) (oldest_in (table_of old))
+        ∙ ap (λ k. pages_asked (table_of old) contents (raised (asked_of old)) (oldest_in (table_of old)) (number - oldest_in (table_of old)) + pages_asked (table_of old) contents (raised (asked_of old)) k (suc (next_in (table_of old) - (number + 1)))) at) in
+        let few_here = at-most-one (list_any (is_asked (raised (asked_of old))) (rows_on (table_of old) contents number)) in
+        let fewer = raised-fewer (table_of old) contents (asked_of old) (next_in (table_of old) - (number + 1)) (number + 1) (lowest-from (asked_of old)) in
+        omega (arith, one, least-here, split, none, few_here, fewer))
+      where
+        at-most-one : (b : Bool) → cond b 1 0 ≤ 1
+        at-most-one true = omega arith
+        at-most-one false = omega arith

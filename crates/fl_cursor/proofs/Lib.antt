@@ -1,0 +1,14 @@
+pub mod Searching
+pub mod Passing
+pub mod Walks
+pub mod Taking
+pub mod InPage
+pub mod AmongPending
+pub mod Stood
+pub mod Starting
+pub mod Turning
+pub mod Whole
+pub mod Stepping
+pub mod Beginning
+pub mod Finding
+pub mod Selected

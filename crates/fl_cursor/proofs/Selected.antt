@@ -1,0 +1,64 @@
+-- What a cursor that begins has left: all that matches.
+use Rattle.std.proofs.Common.{◌≡◌, ℕ, ◌≤◌, ◌<◌, min, Bool, true, false, ◌&&◌, cond, nat_le, Option, Some, None, option_map, List, [], ◌∷◌, map, filter, refl, sym, ◌∙◌, ap, subst, arith}
+use Rattle.std.specs.List.{slice_get, last_or, AllByRecursion}
+use Rattle.std.proofs.lemmas.Bool.{leb-true, le-leb, ltb-true}
+use Rattle.fl_base.specs.declared.types.KeyRange.{KeyRange}
+use Rattle.fl_base.specs.declared.types.Span.{Span}
+use Rattle.fl_model.specs.Query.{begin, left_of, selected, matches, in_range, in_span, is_up_to, is_above}
+use Rattle.fl_model.specs.Row.{stored_row}
+use Rattle.fl_model.specs.Table.{Table, Entry, last_entry}
+use Rattle.fl_page.specs.Steps.{Ascends}
+use Rattle.fl_cursor.specs.Ascending.{both}
+
+some-same : {a b : Entry} → Some a ≡ Some b → a ≡ b
+some-same e = cc
+
+-- no key is above the last one
+record UpTo (last first : Entry) (entries : List Entry) : Type 0 where
+  first_too : first.kept.key ≤ last.kept.key
+  others : AllByRecursion (λ (e : Entry). e.kept.key ≤ last.kept.key) entries
+
+up-to-last : (last first : Entry) (entries : List Entry) → last_or (Some first) entries ≡ Some last → Ascends (Some first.kept.key) (map stored_row entries) → UpTo last first entries
+up-to-last last first [] is ascends = record { first_too = let e = ap (λ (x : Entry). x.kept.key) (some-same is) in omega (arith, e); others = tt }
+up-to-last last first (e ∷ entries) is ascends =
+    let h = up-to-last last e entries is ascends.1 in
+    let lt = ltb-true first.kept.key e.kept.key ascends.0 in
+    record { first_too = omega (arith, lt, h.first_too); others = (h.first_too, h.others) }
+
+same-test : (range : KeyRange) (span : Option Span) (last : ℕ) (entry : Entry) → entry.kept.key ≤ last →
+    ((matches range span entry.kept && true) && nat_le entry.kept.key (min range.high last)) ≡ matches range span entry.kept
+same-test range span last entry le = by_match (matches range span entry.kept) refl
+  where
+    by_match : (b : Bool) → matches range span entry.kept ≡ b → ((b && true) && nat_le entry.kept.key (min range.high last)) ≡ b
+    by_match false is = refl
+    by_match true is =
+        let range_part = (both (in_range range entry.kept.key) (in_span span (slice_get entry.kept.values 0)) is).0 in
+        let high = leb-true entry.kept.key range.high (both (nat_le range.low entry.kept.key) (nat_le entry.kept.key range.high) range_part).1 in
+        le-leb entry.kept.key (min range.high last) (omega (arith, high, le))
+
+same-rows : (range : KeyRange) (span : Option Span) (last : ℕ) (entries : List Entry) → AllByRecursion (λ (e : Entry). e.kept.key ≤ last) entries →
+    filter (λ entry. (matches range span entry.kept && true) && nat_le entry.kept.key (min range.high last)) entries ≡ selected range span entries
+same-rows range span last [] h = refl
+same-rows range span last (e ∷ entries) h =
+    ap (λ b. cond b (e ∷ filter (λ entry. (matches range span entry.kept && true) && nat_le entry.kept.key (min range.high last)) entries)
+    (filter (λ entry. (matches range span entry.kept && true) && nat_le entry.kept.key (min range.high last)) entries)) (same-test range span last e h.0)
+    ∙ ap (λ (xs : List Entry). cond (matches range span e.kept) (e ∷ xs) xs) (same-rows range span last entries h.1)
+
+pub begins-selected : (range : KeyRange) (span : Option Span) (table : Table) → Ascends None (map stored_row table.entries) → left_of (begin range span table) table.entries ≡ selected range span table.entries
+begins-selected range span table ascends = by_entries table.entries refl ascends
+  where
+    with_last : (first last : Entry) (entries : List Entry) → table.entries ≡ first ∷ entries → last_or (Some first) entries ≡ Some last → Ascends (Some first.kept.key) (map stored_row entries) →
+        left_of (begin range span table) table.entries ≡ selected range span table.entries
+    with_last first last entries are is ascends =
+        let h = up-to-last last first entries is ascends in
+        let top : last_entry table ≡ Some last = ap (last_or None) are ∙ is in
+        ap (λ (o : Option Entry). filter (λ entry. (matches range span entry.kept && true) && is_up_to (option_map (λ (l : Entry). min range.high l.kept.key) o) entry.kept.key) table.entries) top
+        ∙ same-rows range span last.kept.key table.entries (subst (AllByRecursion (λ (e : Entry). e.kept.key ≤ last.kept.key)) (sym are) (h.first_too, h.others))
+
+    last-some : (first : Entry) (entries : List Entry) → (last : Entry) × (last_or (Some first) entries ≡ Some last)
+    last-some first [] = (first, refl)
+    last-some first (e ∷ entries) = last-some e entries
+
+    by_entries : (entries : List Entry) → table.entries ≡ entries → Ascends None (map stored_row entries) → left_of (begin range span table) table.entries ≡ selected range span table.entries
+    by_entries [] are ascends = ap (left_of (begin range span table)) are ∙ sym (ap (selected range span) are)
+    by_entries (first ∷ entries) are ascends = let l = last-some first entries in with_last first l.0 entries are l.1 ascends.1

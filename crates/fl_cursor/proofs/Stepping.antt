@@ -1,0 +1,55 @@
+-- A step as the step of rows.
+use Rattle.std.proofs.Common.{◌≡◌, ℕ, true, false, Bool, [], filter, Result, Ok, Err, OnErr, IfOk, IfErr, refl, ◌∙◌, ap}
+use Rattle.std.specs.Bool.{OnFalse}
+use Rattle.std.specs.Borrow.{Bor}
+use Rattle.fl_page.specs.Contents.{Contents}
+use Rattle.fl_page.specs.Steps.{Steps}
+use Rattle.fl_page.specs.declared.fault.ReadFault.{ReadFault}
+use Rattle.fl_page.specs.declared.fault.ReadFault.TheVariants.{Flash, BadPage}
+use Rattle.fl_table.specs.declared.table.Table.{Table}
+use Rattle.fl_cursor.specs.Asked.{asked_by, is_left}
+use Rattle.fl_cursor.specs.Cursor.{table_of, asked_of, buffer_of, present_of, left_of, is_end, has_ended, rows_behind, IsTold, IfBad, MayBeBad}
+use Rattle.fl_cursor.specs.Going.{Goes, Fails}
+use Rattle.fl_cursor.specs.Listed.{rows_of}
+use Rattle.fl_cursor.specs.declared.bookmark.Bookmark.{Bookmark}
+use Rattle.fl_cursor.specs.declared.cursor.Cursor.{Cursor}
+use Rattle.fl_cursor.specs.declared.place.Place.{Place}
+use Rattle.fl_cursor.specs.declared.place.Place.TheVariants.{Start, Pages, InPage, Pending, Ended}
+use Rattle.fl_cursor.proofs.Passing.{passes-left}
+use Rattle.fl_cursor.proofs.Stood.{standing-good, standing-tells}
+use Rattle.fl_cursor.proofs.Whole.{goes-steps}
+
+no : false ≡ true → ⊥
+no e = cc
+
+end-is : (place : Place) → is_end place ≡ true → place ≡ Ended
+end-is Ended e = refl
+end-is Start e = absurd (no e)
+end-is (Pages next) e = absurd (no e)
+end-is (InPage number row) e = absurd (no e)
+end-is (Pending row) e = absurd (no e)
+
+-- at the end no row is left
+pub ended-none : (cursor : Cursor) (contents : Contents) → IsTold cursor contents → has_ended cursor ≡ true → left_of cursor contents ≡ []
+ended-none cursor contents told e =
+    passes-left (asked_of cursor) (rows_of (table_of cursor) contents) (rows_behind (table_of cursor) contents (buffer_of cursor) cursor.place) told.passes
+    ∙ ap (λ (p : Place). filter (is_left (asked_of cursor)) (rows_behind (table_of cursor) contents (buffer_of cursor) p)) (end-is cursor.place e)
+
+module _ (old new : Cursor) (contents : Contents) (reads reads_now : ℕ) where
+  pub told-after : (result : Result Bool ReadFault) → IfOk result (λ more. Goes more contents reads old reads_now new) → OnErr result (Fails contents reads old reads_now new) → IsTold old contents → IsTold new contents
+  told-after (Ok more) goes fails told = goes.told told
+  told-after (Err fault) goes fails told = fails.told told
+
+  same-left : Fails contents reads old reads_now new → left_of new contents ≡ left_of old contents
+  same-left fails =
+      ap (λ (m : Bookmark). filter (is_left (asked_by m)) (rows_of (table_of new) contents)) fails.notes
+      ∙ ap (λ (t : Bor Table). filter (is_left (asked_of old)) (rows_of t.now contents)) fails.keeps.table
+
+  pub steps-after : (result : Result Bool ReadFault) → IfOk result (λ more. Goes more contents reads old reads_now new) → OnErr result (Fails contents reads old reads_now new) → IfErr result (IfBad (MayBeBad (table_of old) contents)) →
+      IfOk result (λ more. OnFalse more (has_ended new ≡ true)) → IsTold old contents → Steps result (left_of old contents) (present_of new) (left_of new contents)
+  steps-after (Ok true) goes fails bad end told = goes.gives told
+  steps-after (Ok false) goes fails bad end told = goes-steps false (left_of old contents) (present_of new) (left_of new contents) (goes.gives told) (ended-none new contents (goes.told told) end)
+  steps-after (Err (Flash fault)) goes fails bad end told = same-left fails
+  steps-after (Err (BadPage page)) goes fails bad end told =
+      let is = bad (standing-tells (table_of old) contents told.standing) in
+      is.not_good (standing-good (table_of old) contents told.standing page.wanted is.from is.before is.committed)

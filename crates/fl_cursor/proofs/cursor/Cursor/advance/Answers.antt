@@ -1,0 +1,140 @@
+use Rattle.std.proofs.Common.{rules, ◌≡◌, true, false, Ok, refl, sym, ◌∙◌, ap, subst, arith}
+use Rattle.std.specs.Borrow.{Bor}
+use Rattle.std.proofs.lemmas.Result.{err_from_is_err_and}
+use Rattle.fl_page.specs.Contents.{Contents, contents_of}
+use Rattle.fl_page.proofs.Reading.{OnlyReads-then}
+use Rattle.fl_table.specs.declared.table.Table.{Table}
+use Rattle.fl_cursor.specs.Cursor.{is_end}
+use Rattle.fl_cursor.specs.Going.{Goes, Fails, pages_left}
+use Rattle.fl_cursor.proofs.Whole.{goes-then, fails-then, goes-nowhere, here-after, behind-pages}
+use Rattle.fl_cursor.proofs.cursor.Cursor.advance.Goals as goal
+
+no : true ≡ false → ⊥
+no e = cc
+
+pub returns-in_err-find_start-clause-fails : goal.returns-in_err-find_start-clause-fails
+returns-in_err-find_start-clause-fails g c =
+    let held = contents_of (g.F.Flash.state c.args.flash.now) in
+    let reads = (g.F.Flash.state c.args.flash.now).work.reads in
+    let p = err_from_is_err_and c.from_residual.result c.from_residual.ensures.1 in
+    rw p.1 (fails-then held reads reads (g.F.Flash.state c.find_start.new.flash).work.reads c.args.self.now _ c.find_start.new.self (goes-nowhere c.args.self.now held reads) c.in_err-find_start.ensures.fails)
+
+pub step_in_page-requires-clause-placed : goal.step_in_page-requires-clause-placed
+step_in_page-requires-clause-placed g c =
+    let held = contents_of (g.F.Flash.state c.args.flash.now) in
+    (c.in_ok-find_start.ensures.goes.ready held ((goes-nowhere c.args.self.now held 0).ready held c.requires)).placed
+
+pub returns-then-step_in_page-clause-here : goal.returns-then-step_in_page-clause-here
+returns-then-step_in_page-clause-here g c = (c.if-step_in_page.ensures.goes (contents_of (g.F.Flash.state c.args.flash.now)) 0).notes.2
+
+pub returns-then-step_in_page-clause-goes : goal.returns-then-step_in_page-clause-goes
+returns-then-step_in_page-clause-goes g c =
+    let held = contents_of (g.F.Flash.state c.args.flash.now) in
+    let reads = (g.F.Flash.state c.args.flash.now).work.reads in
+    let mid = (g.F.Flash.state c.find_start.new.flash).work.reads in
+    goes-then true held reads mid mid c.args.self.now c.find_start.new.self c.step_in_page.new.self
+    (goes-then false held reads reads mid c.args.self.now _ c.find_start.new.self (goes-nowhere c.args.self.now held reads) c.in_ok-find_start.ensures.goes)
+    (c.if-step_in_page.ensures.goes held mid)
+
+pub loop-self-init : goal.loop-self-init
+loop-self-init g c =
+    let held = contents_of (g.F.Flash.state c.args.flash.now) in
+    let reads = (g.F.Flash.state c.args.flash.now).work.reads in
+    let mid = (g.F.Flash.state c.find_start.new.flash).work.reads in
+    record {
+      reads_only = c.find_start.ensures.reads_only;
+      goes = goes-then false held reads mid mid c.args.self.now c.find_start.new.self c.step_in_page.new.self
+          (goes-then false held reads reads mid c.args.self.now _ c.find_start.new.self (goes-nowhere c.args.self.now held reads) c.in_ok-find_start.ensures.goes)
+          (c.if-step_in_page.ensures.goes held mid);
+      here = c.if-step_in_page.ensures.here ∙ c.find_start.ensures.here;
+      begun = c.if-step_in_page.ensures.begun;
+      outside = c.if-step_in_page.ensures.outside;
+      ended = λ e. let was = c.in_ok-find_start.ensures.stays_ended e in ((c.if-step_in_page.ensures.stays_ended was.0).1, was.1);
+      end = search rules;
+    }
+
+pub returns-in_err-read_page-clause-reads_only : goal.returns-in_err-read_page-clause-reads_only
+returns-in_err-read_page-clause-reads_only g c = OnlyReads-then _ _ _ c.loop-self.invariant.reads_only c.read_page.ensures.reads_only
+
+pub returns-in_err-read_page-clause-fails : goal.returns-in_err-read_page-clause-fails
+returns-in_err-read_page-clause-fails g c =
+    let held = contents_of (g.F.Flash.state c.args.flash.now) in
+    let p = err_from_is_err_and c.from_residual-in_err-read_page.result c.from_residual-in_err-read_page.ensures.1 in
+    rw p.1 (fails-then held (g.F.Flash.state c.args.flash.now).work.reads (g.F.Flash.state c.loop-self.flash).work.reads (g.F.Flash.state c.read_page.new.flash).work.reads c.args.self.now c.loop-self.self c.read_page.new.self c.loop-self.invariant.goes
+    (subst (λ (k : Contents). Fails k (g.F.Flash.state c.loop-self.flash).work.reads c.loop-self.self (g.F.Flash.state c.read_page.new.flash).work.reads c.read_page.new.self) c.loop-self.invariant.reads_only.contents c.in_err-read_page.ensures.fails))
+
+pub step_in_page-requires-in-Pages-clause-placed : goal.step_in_page-requires-in-Pages-clause-placed
+step_in_page-requires-in-Pages-clause-placed g c =
+    let held = contents_of (g.F.Flash.state c.args.flash.now) in
+    (c.in_ok-read_page.ensures.goes.ready held (c.loop-self.invariant.goes.ready held c.requires)).placed
+
+pub returns-then-step_in_page-2-clause-reads_only : goal.returns-then-step_in_page-2-clause-reads_only
+returns-then-step_in_page-2-clause-reads_only g c = OnlyReads-then _ _ _ c.loop-self.invariant.reads_only c.read_page.ensures.reads_only
+
+pub returns-then-step_in_page-2-clause-here : goal.returns-then-step_in_page-2-clause-here
+returns-then-step_in_page-2-clause-here g c = (c.if-step_in_page-2.ensures.goes (contents_of (g.F.Flash.state c.args.flash.now)) 0).notes.2
+
+pub returns-then-step_in_page-2-clause-goes : goal.returns-then-step_in_page-2-clause-goes
+returns-then-step_in_page-2-clause-goes g c =
+    let held = contents_of (g.F.Flash.state c.args.flash.now) in
+    let reads = (g.F.Flash.state c.args.flash.now).work.reads in
+    let mid = (g.F.Flash.state c.loop-self.flash).work.reads in
+    let now = (g.F.Flash.state c.read_page.new.flash).work.reads in
+    let page = subst (λ (k : Contents). Goes false k (g.F.Flash.state c.loop-self.flash).work.reads c.loop-self.self (g.F.Flash.state c.read_page.new.flash).work.reads c.read_page.new.self) c.loop-self.invariant.reads_only.contents c.in_ok-read_page.ensures.goes in
+    goes-then true held reads now now c.args.self.now c.read_page.new.self c.step_in_page-in-Pages.new.self (goes-then false held reads mid now c.args.self.now c.loop-self.self c.read_page.new.self c.loop-self.invariant.goes page)
+    (c.if-step_in_page-2.ensures.goes held now)
+
+pub loop-self-smaller : goal.loop-self-smaller
+loop-self-smaller g c =
+    let held = contents_of (g.F.Flash.state c.args.flash.now) in
+    let first = c.in_ok-read_page.ensures.fewer in
+    let second = c.step_in_page-in-Pages.ensures.fewer in
+    let table = c.in_ok-read_page.ensures.goes.keeps.table in
+    let table_then = (c.if-step_in_page-2.ensures.goes held 0).keeps.table in
+    let same = ap (λ (t : Bor Table). pages_left t.now c.step_in_page-in-Pages.new.self.place) table_then in
+    let same_first = ap (λ (t : Bor Table). pages_left t.now c.step_in_page-in-Pages.new.self.place) table in
+    let same_second = ap (λ (t : Bor Table). pages_left t.now c.read_page.new.self.place) table in
+    omega (arith, first, second, same, same_first, same_second)
+
+pub loop-self-preserved : goal.loop-self-preserved
+loop-self-preserved g c =
+    let held = contents_of (g.F.Flash.state c.args.flash.now) in
+    let reads = (g.F.Flash.state c.args.flash.now).work.reads in
+    let mid = (g.F.Flash.state c.loop-self.flash).work.reads in
+    let now = (g.F.Flash.state c.read_page.new.flash).work.reads in
+    let page = subst (λ (k : Contents). Goes false k (g.F.Flash.state c.loop-self.flash).work.reads c.loop-self.self (g.F.Flash.state c.read_page.new.flash).work.reads c.read_page.new.self) c.loop-self.invariant.reads_only.contents c.in_ok-read_page.ensures.goes in
+    record {
+      reads_only = OnlyReads-then _ _ _ c.loop-self.invariant.reads_only c.read_page.ensures.reads_only;
+      goes = goes-then false held reads now now c.args.self.now c.read_page.new.self c.step_in_page-in-Pages.new.self (goes-then false held reads mid now c.args.self.now c.loop-self.self c.read_page.new.self c.loop-self.invariant.goes page)
+          (c.if-step_in_page-2.ensures.goes held now);
+      here = c.if-step_in_page-2.ensures.here ∙ (c.read_page.ensures.here ∙ c.loop-self.invariant.here);
+      begun = c.if-step_in_page-2.ensures.begun;
+      outside = c.if-step_in_page-2.ensures.outside;
+      ended = λ e. absurd (no (sym (c.loop-self.invariant.ended e).0 ∙ ap is_end c.in-Pages.is));
+      end = c.loop-self.invariant.end;
+    }
+
+pub step_pending-requires : goal.step_pending-requires
+step_pending-requires g c =
+    let held = contents_of (g.F.Flash.state c.args.flash.now) in
+    record {
+      placed = (c.loop-self.invariant.goes.ready held c.requires).placed;
+      behind = behind-pages c.loop-self.self.place c.loop-self.invariant.begun c.loop-self.invariant.outside c.in_default.not-Pages;
+    }
+
+pub returns : goal.returns
+returns g c =
+    let held = contents_of (g.F.Flash.state c.args.flash.now) in
+    let reads = (g.F.Flash.state c.args.flash.now).work.reads in
+    let mid = (g.F.Flash.state c.loop-self.flash).work.reads in
+    let goes = c.step_pending.ensures.goes held (g.F.Flash.state c.loop-self.flash).work.reads in
+    record {
+      reads_only = c.loop-self.invariant.reads_only;
+      cause = tt;
+      bad_page = tt;
+      here = here-after c.step_pending.result c.loop-self.self c.step_pending.new.self goes.notes c.step_pending.ensures.here c.loop-self.invariant.here;
+      goes = goes-then c.step_pending.result held reads mid mid c.args.self.now c.loop-self.self c.step_pending.new.self c.loop-self.invariant.goes goes;
+      fails = tt;
+      end = c.step_pending.ensures.end;
+      stays_ended = λ e. let was = c.loop-self.invariant.ended e in (ap (λ b. Ok b) (c.step_pending.ensures.stays_ended was.0), was.1);
+    }

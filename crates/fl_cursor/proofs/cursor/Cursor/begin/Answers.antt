@@ -1,0 +1,25 @@
+use Rattle.std.proofs.Common.{◌≡◌, ℕ, Option, None, List, map, filter, refl, ◌∙◌, ap, subst}
+use Rattle.fl_model.specs.Query as query
+use Rattle.fl_model.specs.Row.{Row, stored_row}
+use Rattle.fl_page.specs.Contents.{contents_of}
+use Rattle.fl_page.specs.Steps.{Ascends}
+use Rattle.fl_table.specs.declared.table.Table.{Table}
+use Rattle.fl_cursor.specs.Asked.{asked_by, is_left}
+use Rattle.fl_cursor.specs.Cursor.{table_of, asked_of, IsStanding}
+use Rattle.fl_cursor.specs.Listed.{rows_of}
+use Rattle.fl_cursor.proofs.Selected.{begins-selected}
+use Rattle.fl_cursor.proofs.Stood.{standing-rows, standing-ascends, left-entries}
+use Rattle.fl_cursor.proofs.cursor.Cursor.begin.Goals as goal
+
+pub returns-clause-left : goal.returns-clause-left
+returns-clause-left c = λ f first plan t tells reaches lies stands.
+    let range = c.args.range in
+    let span = c.args.span in
+    let h : IsStanding c.args.table.now (contents_of f) = record { flash = f; same = refl; tells = tells; reaches = reaches; lies = lies; first = first; plan = plan; table = t; stands = stands } in
+    let asked : asked_of c.resume.result ≡ query.begin c.args.range c.args.span t =
+    ap asked_by c.resume.ensures.mark ∙ ap (λ (top : Option ℕ). record { range = c.args.range; span = c.args.span; after = None; top = top }) (c.last_wanted-top.ensures.stands f first plan t stands) in
+    ap (λ (a : query.Cursor). filter (is_left a) (rows_of (table_of c.resume.result) (contents_of f))) asked
+    ∙ (ap (λ (tb : Table). filter (is_left (query.begin c.args.range c.args.span t)) (rows_of tb (contents_of f))) c.resume.ensures.table
+    ∙ (ap (filter (is_left (query.begin c.args.range c.args.span t))) (standing-rows c.args.table.now (contents_of f) h)
+    ∙ (left-entries (query.begin c.args.range c.args.span t) t.entries
+    ∙ ap (map stored_row) (begins-selected range span t (subst (Ascends None) (standing-rows c.args.table.now (contents_of f) h) (standing-ascends c.args.table.now (contents_of f) h))))))

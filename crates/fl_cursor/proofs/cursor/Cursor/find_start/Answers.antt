@@ -1,0 +1,79 @@
+use Rattle.std.proofs.Common.{rules, ◌≡◌, ℕ, ◌+◌, ◌-◌, ◌^◌, ◌<◌, ◌≤◌, true, false, Bool, Option, Some, None, List, length, Ok, OnErr, IfSome, refl, sym, ◌∙◌, ap, subst, arith, IsTrue}
+use Rattle.std.specs.Borrow.{MutBor}
+use Rattle.std.proofs.lemmas.Result.{err_from_is_err_and}
+use Rattle.fl_find.specs.Pages.{first_key}
+use Rattle.fl_flash.specs.Places.{page_of}
+use Rattle.fl_page.specs.Contents.{Contents, contents_of}
+use Rattle.fl_page.proofs.Reading.{OnlyReads-reads}
+use Rattle.fl_search.specs.Search.{IsPageOf, RoseSome}
+use Rattle.fl_table.specs.Finding.{HoldsKept}
+use Rattle.fl_table.specs.Kept.{place_of}
+use Rattle.fl_table.specs.Look.{oldest_in}
+use Rattle.fl_table.specs.Memory.{next_in}
+use Rattle.fl_cursor.specs.Asked.{asked_by, lowest_of}
+use Rattle.fl_cursor.specs.Cursor.{IsTold}
+use Rattle.fl_cursor.specs.Going.{Goes, Fails}
+use Rattle.fl_cursor.specs.Listed.{rows_on, bytes_at}
+use Rattle.fl_cursor.specs.Reads.{most_to_find}
+use Rattle.fl_cursor.specs.declared.cursor.Cursor.{Cursor}
+use Rattle.fl_cursor.specs.declared.place.Place.TheVariants.{Pages}
+use Rattle.fl_cursor.proofs.Beginning.{stands-moved, standing-start, few-reads}
+use Rattle.fl_cursor.proofs.Finding.{start-fails, start-none, start-some}
+use Rattle.fl_cursor.proofs.Stood.{standing-tells}
+use Rattle.fl_cursor.proofs.cursor.Cursor.find_start.Goals as goal
+
+pub returns-in_err-number-clause-fails : goal.returns-in_err-number-clause-fails
+returns-in_err-number-clause-fails g c =
+    let f = g.F.Flash.state c.args.flash.now in
+    let held = contents_of (g.F.Flash.state c.args.flash.now) in
+    let reads = (g.F.Flash.state c.args.flash.now).work.reads in
+    let now = (g.F.Flash.state c.page_of.new.flash).work.reads in
+    let t = c.args.self.now.table.now in
+    let p = err_from_is_err_and c.from_residual.result c.from_residual.ensures.1 in
+    rw p.1 (start-fails c.args.self.now c.in-Start.is _ held reads now refl c.page_of.ensures.room (OnlyReads-reads f (g.F.Flash.state c.page_of.new.flash) c.page_of.ensures.counts)
+    (λ told. subst (λ k. (g.F.Flash.state c.page_of.new.flash).work.reads ≤ (g.F.Flash.state c.args.flash.now).work.reads + most_to_find c.args.self.now.table.now k) c.lowest-lowest.ensures
+    (few-reads t held told.standing c.lowest-lowest.result reads now c.page_of.ensures.most
+    (c.page_of.ensures.reads told.standing.first told.standing.plan told.standing.table (standing-tells t held told.standing) (stands-moved t f told.standing)))))
+
+pub returns-in_default-2-clause-goes : goal.returns-in_default-2-clause-goes
+returns-in_default-2-clause-goes g c =
+    let f = g.F.Flash.state c.args.flash.now in
+    let held = contents_of (g.F.Flash.state c.args.flash.now) in
+    let reads = (g.F.Flash.state c.args.flash.now).work.reads in
+    let now = (g.F.Flash.state c.page_of.new.flash).work.reads in
+    let t = c.args.self.now.table.now in
+    start-none c.args.self.now c.in-Start.is _ held reads now refl c.page_of.ensures.room (OnlyReads-reads f (g.F.Flash.state c.page_of.new.flash) c.page_of.ensures.counts)
+    (λ told. subst (λ k. (g.F.Flash.state c.page_of.new.flash).work.reads ≤ (g.F.Flash.state c.args.flash.now).work.reads + most_to_find c.args.self.now.table.now k) c.lowest-lowest.ensures
+    (few-reads t held told.standing c.lowest-lowest.result reads now c.page_of.ensures.most
+    (c.page_of.ensures.reads told.standing.first told.standing.plan told.standing.table (standing-tells t held told.standing) (stands-moved t f told.standing))))
+    c.oldest.result c.oldest.ensures.exact c.requires.ordered
+    (λ told.
+    let finds = c.in_ok-number.ensures.finds told.standing.first told.standing.plan told.standing.table (standing-tells t held told.standing) (stands-moved t f told.standing) in
+    subst (λ k. IsPageOf (λ n. first_key (rows_on c.args.self.now.table.now (contents_of (g.F.Flash.state c.args.flash.now)) n)) (oldest_in c.args.self.now.table.now) (next_in c.args.self.now.table.now) k None) c.lowest-lowest.ensures
+    (subst (λ (page : Option ℕ). IsPageOf (λ n. first_key (rows_on c.args.self.now.table.now (contents_of (g.F.Flash.state c.args.flash.now)) n)) (oldest_in c.args.self.now.table.now) (next_in c.args.self.now.table.now) c.lowest-lowest.result page)
+    (sym finds.page_is ∙ c.in_default-2.is) (standing-start t held told.standing c.lowest-lowest.result)))
+
+pub returns-clause-goes : goal.returns-clause-goes
+returns-clause-goes g c =
+    let f = g.F.Flash.state c.args.flash.now in
+    let held = contents_of (g.F.Flash.state c.args.flash.now) in
+    let reads = (g.F.Flash.state c.args.flash.now).work.reads in
+    let now = (g.F.Flash.state c.page_of.new.flash).work.reads in
+    let t = c.args.self.now.table.now in
+    let kept : HoldsKept c.args.self.now.table.now (g.F.Flash.state c.page_of.new.flash) c.in-Some.number c.page_of.new.buf =
+    subst (λ (page : Option ℕ). IfSome page (λ number. HoldsKept c.args.self.now.table.now (g.F.Flash.state c.page_of.new.flash) number c.page_of.new.buf)) c.in-Some.is c.in_ok-number.ensures.holds in
+    start-some c.args.self.now c.in-Start.is _ held reads now refl c.page_of.ensures.room (OnlyReads-reads f (g.F.Flash.state c.page_of.new.flash) c.page_of.ensures.counts)
+    (λ told. subst (λ k. (g.F.Flash.state c.page_of.new.flash).work.reads ≤ (g.F.Flash.state c.args.flash.now).work.reads + most_to_find c.args.self.now.table.now k) c.lowest-lowest.ensures
+    (few-reads t held told.standing c.lowest-lowest.result reads now c.page_of.ensures.most
+    (c.page_of.ensures.reads told.standing.first told.standing.plan told.standing.table (standing-tells t held told.standing) (stands-moved t f told.standing))))
+    c.in-Some.number kept.kept.0 kept.kept.1 kept.good
+    (λ told.
+    let finds = c.in_ok-number.ensures.finds told.standing.first told.standing.plan told.standing.table (standing-tells t held told.standing) (stands-moved t f told.standing) in
+    subst (λ (page : Option ℕ). IfSome page (λ number. RoseSome (g.F.Flash.state c.args.flash.now).work.reads (g.F.Flash.state c.page_of.new.flash).work.reads)) c.in-Some.is finds.some)
+    (λ told. kept.bytes (subst (λ (k : Contents). IsTrue k.tells) (sym c.page_of.ensures.counts.contents) (standing-tells t held told.standing))
+    ∙ ap (λ (k : Contents). page_of k.bytes k.start k.geometry.page (place_of c.args.self.now.table.now c.in-Some.number)) c.page_of.ensures.counts.contents)
+    (λ told.
+    let finds = c.in_ok-number.ensures.finds told.standing.first told.standing.plan told.standing.table (standing-tells t held told.standing) (stands-moved t f told.standing) in
+    subst (λ k. IsPageOf (λ n. first_key (rows_on c.args.self.now.table.now (contents_of (g.F.Flash.state c.args.flash.now)) n)) (oldest_in c.args.self.now.table.now) (next_in c.args.self.now.table.now) k (Some c.in-Some.number)) c.lowest-lowest.ensures
+    (subst (λ (page : Option ℕ). IsPageOf (λ n. first_key (rows_on c.args.self.now.table.now (contents_of (g.F.Flash.state c.args.flash.now)) n)) (oldest_in c.args.self.now.table.now) (next_in c.args.self.now.table.now) c.lowest-lowest.result page)
+    (sym finds.page_is ∙ c.in-Some.is) (standing-start t held told.standing c.lowest-lowest.result)))

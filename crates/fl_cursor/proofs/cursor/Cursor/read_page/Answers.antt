@@ -1,0 +1,54 @@
+use Rattle.std.proofs.Common.{rules, ◌≡◌, ◌<◌, refl, ◌∙◌, subst, arith}
+use Rattle.std.proofs.lemmas.Result.{err_from_is_err_and}
+use Rattle.fl_mark.specs.Mark.{state_of_page}
+use Rattle.fl_mark.specs.declared.page_state.PageState.TheVariants.{Committed}
+use Rattle.fl_page.specs.Contents.{contents_of}
+use Rattle.fl_page.specs.Page.{IsGoodPage}
+use Rattle.fl_table.specs.Look.{layout_in, rows_noted}
+use Rattle.fl_table.specs.Memory.{next_in}
+use Rattle.fl_cursor.specs.Cursor.{IsPlaced}
+use Rattle.fl_cursor.proofs.Stood.{standing-tells}
+use Rattle.fl_cursor.proofs.Turning.{pages-end, page-skipped, page-entered, page-void, page-fails}
+use Rattle.fl_cursor.proofs.cursor.Cursor.read_page.Goals as goal
+
+pub returns-then-next-end-clause-goes : goal.returns-then-next-end-clause-goes
+returns-then-next-end-clause-goes g c =
+    pages-end c.args.self.now c.args.next c.requires.next (c.if-next-end.true ∙ c.requires.end) (contents_of (g.F.Flash.state c.args.flash.now)) (g.F.Flash.state c.args.flash.now).work.reads
+
+pub returns-then-rows_of-eq0-clause-goes : goal.returns-then-rows_of-eq0-clause-goes
+returns-then-rows_of-eq0-clause-goes g c =
+    let placed = subst (IsPlaced c.args.self.now.table.now c.args.self.now.rows_buf.now.bytes) c.requires.next c.requires.ready.placed in
+    let before : c.args.next < next_in c.args.self.now.table.now = omega (arith, placed.1, c.if-next-end.false, c.requires.end) in
+    let none : rows_noted c.args.self.now.table.now c.args.next ≡ 0 = search rules in
+    page-skipped c.args.self.now c.args.next c.requires.next placed.0 before (contents_of (g.F.Flash.state c.args.flash.now)) (g.F.Flash.state c.args.flash.now).work.reads none
+
+pub returns-then-not-branch-clause-goes : goal.returns-then-not-branch-clause-goes
+returns-then-not-branch-clause-goes g c =
+    let t = c.args.self.now.table.now in
+    let f = g.F.Flash.state c.args.flash.now in
+    let placed = subst (IsPlaced c.args.self.now.table.now c.args.self.now.rows_buf.now.bytes) c.requires.next c.requires.ready.placed in
+    let before : c.args.next < next_in c.args.self.now.table.now = omega (arith, placed.1, c.if-next-end.false, c.requires.end) in
+    let some : rows_noted c.args.self.now.table.now c.args.next ≡ 0 → ⊥ = λ none. c.if-rows_of-eq0.false (c.rows_of.ensures.exact ∙ none) in
+    let one = c.in_ok-read_page.ensures.one in
+    let other : state_of_page c.read_page.new.buf.bytes ≡ Committed → ⊥ = search rules in
+    page-void c.args.self.now c.args.next c.requires.next placed.0 before (contents_of (g.F.Flash.state c.args.flash.now)) (g.F.Flash.state c.args.flash.now).work.reads _ (g.F.Flash.state c.read_page.new.flash).work.reads refl
+    c.read_page.ensures.room some c.read_page.ensures.reads.reads (λ lt. omega (arith, one, lt)) (λ told. c.in_ok-read_page.ensures.page (standing-tells c.args.self.now.table.now (contents_of (g.F.Flash.state c.args.flash.now)) told.standing)) other
+
+pub returns-clause-goes : goal.returns-clause-goes
+returns-clause-goes g c =
+    let placed = subst (IsPlaced c.args.self.now.table.now c.args.self.now.rows_buf.now.bytes) c.requires.next c.requires.ready.placed in
+    let before : c.args.next < next_in c.args.self.now.table.now = omega (arith, placed.1, c.if-next-end.false, c.requires.end) in
+    let some : rows_noted c.args.self.now.table.now c.args.next ≡ 0 → ⊥ = λ none. c.if-rows_of-eq0.false (c.rows_of.ensures.exact ∙ none) in
+    let one = c.in_ok-read_page.ensures.one in
+    let good : IsGoodPage (layout_in c.args.self.now.table.now) c.args.next c.read_page.new.buf.bytes = search rules in
+    page-entered c.args.self.now c.args.next c.requires.next placed.0 before (contents_of (g.F.Flash.state c.args.flash.now)) (g.F.Flash.state c.args.flash.now).work.reads _ (g.F.Flash.state c.read_page.new.flash).work.reads refl
+    c.read_page.ensures.room some c.read_page.ensures.reads.reads (λ lt. omega (arith, one, lt)) (λ told. c.in_ok-read_page.ensures.page (standing-tells c.args.self.now.table.now (contents_of (g.F.Flash.state c.args.flash.now)) told.standing)) good
+
+pub returns-in_err-read_page-clause-fails : goal.returns-in_err-read_page-clause-fails
+returns-in_err-read_page-clause-fails g c =
+    let placed = subst (IsPlaced c.args.self.now.table.now c.args.self.now.rows_buf.now.bytes) c.requires.next c.requires.ready.placed in
+    let before : c.args.next < next_in c.args.self.now.table.now = omega (arith, placed.1, c.if-next-end.false, c.requires.end) in
+    let some : rows_noted c.args.self.now.table.now c.args.next ≡ 0 → ⊥ = λ none. c.if-rows_of-eq0.false (c.rows_of.ensures.exact ∙ none) in
+    let p = err_from_is_err_and c.from_residual.result c.from_residual.ensures.1 in
+    rw p.1 (page-fails c.args.self.now c.args.next c.requires.next placed.0 before (contents_of (g.F.Flash.state c.args.flash.now)) (g.F.Flash.state c.args.flash.now).work.reads _ (g.F.Flash.state c.read_page.new.flash).work.reads refl
+    c.read_page.ensures.room some c.read_page.ensures.reads.reads)

@@ -1,0 +1,76 @@
+use Rattle.std.proofs.Common.{rules, ◌≡◌, ◌+◌, ◌^◌, ◌<◌, true, Some, List, length, drop, sym, ◌∙◌, ap, subst, arith}
+use Rattle.std.specs.List.{slice_get}
+use Rattle.fl_model.specs.Row.{Row}
+use Rattle.fl_page.specs.Header.{page_count}
+use Rattle.fl_page.specs.Page.{rows_in}
+use Rattle.fl_page.specs.View.{rows_of, count_of, page_of, layout_of_page}
+use Rattle.fl_schema.specs.Schema.{row_of}
+use Rattle.fl_table.specs.Look.{layout_in}
+use Rattle.fl_table.proofs.KeyRows.{length-rows_from}
+use Rattle.fl_cursor.specs.Asked.{asked_by}
+use Rattle.fl_cursor.specs.Cursor.{IsPlaced}
+use Rattle.fl_cursor.specs.Going.{Goes, took}
+use Rattle.fl_cursor.specs.Sought.{first_left}
+use Rattle.fl_cursor.specs.declared.cursor.Cursor.{Cursor}
+use Rattle.fl_cursor.specs.declared.place.Here.TheVariants.{PageRow}
+use Rattle.fl_cursor.specs.declared.place.Place.TheVariants.{InPage}
+use Rattle.fl_cursor.specs.declared.search.Sought.TheVariants.{Row as At, Behind, Nowhere}
+use Rattle.fl_cursor.proofs.InPage.{page-taken, page-behind, page-nowhere}
+use Rattle.fl_cursor.proofs.Walks.{found-within}
+use Rattle.fl_cursor.proofs.cursor.Cursor.step_in_page.Goals as goal
+
+pub first_in_page-requires-clause-within : goal.first_in_page-requires-clause-within
+first_in_page-requires-clause-within c =
+    let t = c.args.self.now.table.now in
+    let page = c.args.self.now.rows_buf.now.bytes in
+    let view = c.view-view.result in
+    let placed = subst (IsPlaced t page) c.in-InPage.is c.requires.placed in
+    let many : length (rows_of view) ≡ length (rows_in (layout_in t) page) = ap (λ (rows : List Row). length rows) c.view-view.ensures.rows in
+    omega (arith, placed.3, many, length-rows_from (count_of view) (layout_of_page view) (drop 16 (page_of view)), length-rows_from (page_count page) (layout_in t) (drop 16 page))
+
+pub row-requires : goal.row-requires
+row-requires c =
+    let view = c.view-view.result in
+    let sought : At c.in-Row.row ≡ first_left (asked_by c.args.self.now.mark) (drop c.in-InPage.row (rows_of view)) c.in-InPage.row = sym c.in-Row.is ∙ c.first_in_page.ensures in
+    let within = found-within (asked_by c.args.self.now.mark) (rows_of view) c.in-InPage.row c.in-Row.row sought in
+    (omega arith, omega (arith, within, length-rows_from (count_of view) (layout_of_page view) (drop 16 (page_of view))))
+
+pub overflow_add-self : goal.overflow_add-self
+overflow_add-self c =
+    let placed = subst (IsPlaced c.args.self.now.table.now c.args.self.now.rows_buf.now.bytes) c.in-InPage.is c.requires.placed in
+    omega (arith, placed.1, c.requires.few)
+
+pub returns-in-Row-clause-goes : goal.returns-in-Row-clause-goes
+returns-in-Row-clause-goes c = λ contents reads.
+    let old : Cursor = c.args.self.now in
+    let t = c.args.self.now.table.now in
+    let page = c.args.self.now.rows_buf.now.bytes in
+    let placed = subst (IsPlaced t page) c.in-InPage.is c.requires.placed in
+    let found = row_of c.row.result in
+    let here : slice_get (rows_in (layout_in t) page) c.in-Row.row ≡ Some found = ap (λ (rows : List Row). slice_get rows c.in-Row.row) (sym c.view-view.ensures.rows) ∙ c.row.ensures.row in
+    let sought : At c.in-Row.row ≡ first_left (asked_by c.args.self.now.mark) (drop c.in-InPage.row (rows_in (layout_in t) page)) c.in-InPage.row =
+    sym c.in-Row.is ∙ (c.first_in_page.ensures ∙ ap (λ (rows : List Row). first_left (asked_by c.args.self.now.mark) (drop c.in-InPage.row rows) c.in-InPage.row) c.view-view.ensures.rows) in
+    let key : c.key-key.result ≡ found.key = search rules in
+    let fits : c.key-key.result < 2 ^ 64 = search rules in
+    let small : found.key < 2 ^ 64 = omega (arith, fits, key) in
+    subst (λ (new : Cursor). Goes true contents reads old reads new)
+    (sym (c.take.ensures ∙ ap (λ k. took k (PageRow c.in-InPage.number c.in-Row.row) (InPage c.in-InPage.number (c.in-Row.row + 1)) old) key))
+    (page-taken old c.in-InPage.number c.in-InPage.row c.in-InPage.is placed contents reads c.requires.short c.in-Row.row found here sought small)
+
+pub returns-in-Behind-clause-goes : goal.returns-in-Behind-clause-goes
+returns-in-Behind-clause-goes c = λ contents reads.
+    let t = c.args.self.now.table.now in
+    let page = c.args.self.now.rows_buf.now.bytes in
+    let placed = subst (IsPlaced t page) c.in-InPage.is c.requires.placed in
+    let sought : Behind ≡ first_left (asked_by c.args.self.now.mark) (drop c.in-InPage.row (rows_in (layout_in t) page)) c.in-InPage.row =
+    sym c.in-Behind.is ∙ (c.first_in_page.ensures ∙ ap (λ (rows : List Row). first_left (asked_by c.args.self.now.mark) (drop c.in-InPage.row rows) c.in-InPage.row) c.view-view.ensures.rows) in
+    page-behind c.args.self.now c.in-InPage.number c.in-InPage.row c.in-InPage.is placed contents reads sought
+
+pub returns-in-Nowhere-clause-goes : goal.returns-in-Nowhere-clause-goes
+returns-in-Nowhere-clause-goes c = λ contents reads.
+    let t = c.args.self.now.table.now in
+    let page = c.args.self.now.rows_buf.now.bytes in
+    let placed = subst (IsPlaced t page) c.in-InPage.is c.requires.placed in
+    let sought : Nowhere ≡ first_left (asked_by c.args.self.now.mark) (drop c.in-InPage.row (rows_in (layout_in t) page)) c.in-InPage.row =
+    sym c.in-Nowhere.is ∙ (c.first_in_page.ensures ∙ ap (λ (rows : List Row). first_left (asked_by c.args.self.now.mark) (drop c.in-InPage.row rows) c.in-InPage.row) c.view-view.ensures.rows) in
+    page-nowhere c.args.self.now c.in-InPage.number c.in-InPage.row c.in-InPage.is placed contents reads sought

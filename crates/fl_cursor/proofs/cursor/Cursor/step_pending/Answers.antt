@@ -1,0 +1,43 @@
+use Rattle.std.proofs.Common.{rules, ◌≡◌, ◌+◌, ◌^◌, ◌<◌, true, drop, sym, ◌∙◌, ap, subst, arith}
+use Rattle.fl_table.specs.Look.{buffered_rows}
+use Rattle.fl_schema.specs.Schema.{row_of}
+use Rattle.fl_cursor.specs.Asked.{asked_by}
+use Rattle.fl_cursor.specs.Going.{Goes, took}
+use Rattle.fl_cursor.specs.Sought.{first_left}
+use Rattle.fl_cursor.specs.declared.cursor.Cursor.{Cursor}
+use Rattle.fl_cursor.specs.declared.place.Here.TheVariants.{PendingRow}
+use Rattle.fl_cursor.specs.declared.place.Place.TheVariants.{Pending}
+use Rattle.fl_cursor.specs.declared.search.Sought.TheVariants.{Row as At}
+use Rattle.fl_cursor.proofs.AmongPending.{pending-taken, pending-ends, length-buffered, few-pending}
+use Rattle.fl_cursor.proofs.Walks.{found-within}
+use Rattle.fl_cursor.proofs.cursor.Cursor.step_pending.Goals as goal
+
+pub pending_row-requires : goal.pending_row-requires
+pending_row-requires c =
+    let t = c.args.self.now.table.now in
+    let sought : At c.in-Row.row ≡ first_left (asked_by c.args.self.now.mark) (drop c.in-Pending.row (buffered_rows t)) c.in-Pending.row = sym c.in-Row.is ∙ c.first_pending.ensures in
+    let within = found-within (asked_by c.args.self.now.mark) (buffered_rows t) c.in-Pending.row c.in-Row.row sought in
+    record { within = omega (arith, within, length-buffered t) }
+
+pub returns-in-Row-clause-goes : goal.returns-in-Row-clause-goes
+returns-in-Row-clause-goes c = λ contents reads.
+    let old : Cursor = c.args.self.now in
+    let t = c.args.self.now.table.now in
+    let found = row_of c.pending_row.result in
+    let sought : At c.in-Row.row ≡ first_left (asked_by c.args.self.now.mark) (drop c.in-Pending.row (buffered_rows t)) c.in-Pending.row = sym c.in-Row.is ∙ c.first_pending.ensures in
+    let key : c.key-key.result ≡ found.key = search rules in
+    let fits : c.key-key.result < 2 ^ 64 = search rules in
+    let small : found.key < 2 ^ 64 = omega (arith, fits, key) in
+    subst (λ (new : Cursor). Goes true contents reads old reads new)
+    (sym (c.take.ensures ∙ ap (λ k. took k (PendingRow c.in-Row.row) (Pending (c.in-Row.row + 1)) old) key))
+    (pending-taken old c.in-Pending.row c.in-Pending.is contents reads c.in-Row.row found c.pending_row.ensures.row sought small)
+
+pub overflow_add-row : goal.overflow_add-row
+overflow_add-row c =
+    let sought : At c.in-Row.row ≡ first_left (asked_by c.args.self.now.mark) (drop c.in-Pending.row (buffered_rows c.args.self.now.table.now)) c.in-Pending.row = sym c.in-Row.is ∙ c.first_pending.ensures in
+    let within = found-within (asked_by c.args.self.now.mark) (buffered_rows c.args.self.now.table.now) c.in-Pending.row c.in-Row.row sought in
+    omega (arith, within, length-buffered c.args.self.now.table.now, few-pending c.args.self.now.table.now)
+
+pub returns-in-Behind-clause-goes : goal.returns-in-Behind-clause-goes
+returns-in-Behind-clause-goes c = λ contents reads.
+    pending-ends c.args.self.now c.in-Pending.row c.in-Pending.is contents reads c.in-Behind.is c.first_pending.ensures

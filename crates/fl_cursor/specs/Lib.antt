@@ -1,0 +1,7 @@
+pub mod Asked
+pub mod Listed
+pub mod Sought
+pub mod Cursor
+pub mod Reads
+pub mod Going
+pub mod Ascending

@@ -1,0 +1,339 @@
+-- The operations on the index ring are those of its table.
+use Rattle.std.proofs.Common.{◌≡◌, ℕ, suc, ◌+◌, ◌-◌, ◌*◌, ◌^◌, ◌<◌, ◌≤◌, ◌⊎◌, inl, inr, Bool, true, false, cond, ◌&&◌, Option, Some, None, IfSome, Result, Ok, Err, List, [], ◌∷◌, ◌++◌, map, length, take, drop, get_or, refl, sym, ◌∙◌, ap, subst, arith, IsOk, IsErrOf, IsTrue}
+use Rattle.std.proofs.lemmas.List.{append-nil}
+use Rattle.std.specs.List.{slice_get, last_or}
+use Rattle.std.specs.Option.{option_map, unwrap_or}
+use Rattle.fl_flash.specs.Flash.{FlashState, page_at}
+use Rattle.fl_flash.specs.declared.flash.FlashFault.{FlashFault}
+use Rattle.fl_flash.specs.declared.flash.FlashFault.TheVariants.{PowerLost, Media}
+use Rattle.fl_model.specs.Record.{Plan, entries_per_page}
+use Rattle.fl_model.specs.Ring as model
+use Rattle.fl_model.specs.Table.{Table, RingName, IndexRing, shape_of, full_pages, with_ring, seal_page, seal_buffer, after_seal, is_dirty}
+use Rattle.fl_model.specs.Layout.{committed, index_body, bitmap_of}
+use Rattle.fl_model.specs.Image.{HoldsBitmaps, rows_at}
+use Rattle.fl_model.specs.Work.{Kind, Body, Mark, VoidMark, Erase, effect, Device, PartEnd, Whole, CutIn, FailedIn, PartProgress}
+use Rattle.fl_model.specs.Within.{seal_within, effect_within, TablePerforms}
+use Rattle.fl_model.proofs.Lists.{slice_get-last, last_or-push}
+use Rattle.fl_model.proofs.Performs.{performs-along, performs-map, performs-whole, EndsAlong, Somewhere}
+use Rattle.fl_model.proofs.Among.{seal-all_done}
+use Rattle.fl_ring.specs.Device.{SameDevice}
+use Rattle.fl_ring.specs.Operations.{change, seal_kinds}
+use Rattle.fl_ring.specs.Ring.{RingState, OnRing, sealed, voided, begun, erased}
+use Rattle.fl_ring.specs.Sealing.{Performed, AnswersEnd}
+use Rattle.fl_index.specs.Standing.{HasIndex}
+use Rattle.fl_index.proofs.Firsts.{full-one, full-last}
+use Rattle.fl_index.proofs.Lists.{end_after, ascend-push}
+use Rattle.fl_index.proofs.State.{shape_in, full_count, IsStateOf, holds-moved}
+use Rattle.fl_index.proofs.Steps.{with_index, state-kept, last-shifted}
+
+-- an operation of the index ring
+abbrev pub of_index : Kind → RingName × Kind
+of_index kind = (IndexRing, kind)
+
+-- a full list of bitmaps waits that makes this body, and no block waits for its erase
+pub record MakesBody (plan : Plan) (body : List ℕ) (table : Table) (ring : model.Ring) : Type 0 where
+  pub full : table.waiting ≡ entries_per_page plan
+  pub some : 0 < entries_per_page plan
+  pub bitmaps : List ℕ
+  pub length_is : length bitmaps ≡ entries_per_page plan
+  pub body_is : body ≡ index_body plan ring.next (table.rows.next - entries_per_page plan) bitmaps
+  pub each : (j n : ℕ) → j < entries_per_page plan → table.rows.next - entries_per_page plan + j ≡ model.oldest table.rows + n → IfSome (slice_get table.rows.counts n) (λ rows. 0 < rows →
+      slice_get bitmaps j ≡ Some (bitmap_of plan (rows_at table n rows)))
+  pub clean : ring.dirty ≡ false
+  pub left : ring.next + 1 < 2 ^ 32
+
+some_same : {X : Type 0} {a b : X} → ◌≡◌ {A = Option X} (Some a) (Some b) → a ≡ b
+some_same e = cc
+
+-- a page is begun
+pub begun-state : (plan : Plan) (table : Table) (s : RingState) (is : IsStateOf plan table s) → is.ring.dirty ≡ false → is.ring.next + 1 < 2 ^ 32 → IsStateOf plan (with_ring IndexRing model.begun table) (begun s)
+begun-state plan table s is clean left = record {
+  ring = model.begun is.ring;
+  facts = record {
+    ring_is = ap (option_map model.begun) is.facts.ring_is;
+    is_ring = record {
+      not_negative = is.facts.is_ring.not_negative;
+      whole_blocks = is.facts.is_ring.whole_blocks;
+      whole_rounds = is.facts.is_ring.whole_rounds;
+      kept = is.facts.is_ring.kept;
+      kept_at_end = is.facts.is_ring.kept_at_end;
+      dirty_at_end = is.facts.is_ring.dirty_at_end;
+      not_both = λ d. no (sym clean ∙ d);
+    };
+    counts = is.facts.counts;
+    first_each = is.facts.first_each;
+    firsts = is.facts.firsts;
+    waiting = is.facts.waiting;
+    listed = is.facts.listed;
+    counted = is.facts.counted;
+    number = left;
+    rows_number = is.facts.rows_number;
+  };
+  counts = ap model.begun is.counts;
+  bodies = λ i body lt at. holds-moved plan table (with_ring IndexRing model.begun table) is.ring (model.begun is.ring) i i (entries_per_page plan) (committed body) refl (λ n rows e. refl) refl (λ f e. e) (is.bodies i body lt at);
+}
+  where
+    no : ◌≡◌ {A = Bool} false true → ⊥
+    no e = cc
+
+-- the block ahead is erased
+pub erased-state : (plan : Plan) (table : Table) (s : RingState) → IsStateOf plan table s → IsStateOf plan (with_ring IndexRing model.erased table) (erased s)
+erased-state plan table s is = record {
+  ring = model.erased is.ring;
+  facts = record {
+    ring_is = ap (option_map model.erased) is.facts.ring_is;
+    is_ring = record {
+      not_negative = is.facts.is_ring.not_negative;
+      whole_blocks = is.facts.is_ring.whole_blocks;
+      whole_rounds = is.facts.is_ring.whole_rounds;
+      kept = is.facts.is_ring.kept;
+      kept_at_end = is.facts.is_ring.kept_at_end;
+      dirty_at_end = λ d. absurd (no d);
+      not_both = λ d. both is.ring.torn d;
+    };
+    counts = is.facts.counts;
+    first_each = is.facts.first_each;
+    firsts = is.facts.firsts;
+    waiting = is.facts.waiting;
+    listed = is.facts.listed;
+    counted = is.facts.counted;
+    number = is.facts.number;
+    rows_number = is.facts.rows_number;
+  };
+  counts = ap model.erased is.counts;
+  bodies = λ i body lt at. holds-moved plan table (with_ring IndexRing model.erased table) is.ring (model.erased is.ring) i i (entries_per_page plan) (committed body) refl (λ n rows e. refl) refl (λ f e. e) (is.bodies i body lt at);
+}
+  where
+    no : ◌≡◌ {A = Bool} false true → ⊥
+    no e = cc
+
+    both : (t : Bool) → (t && false) ≡ true → ⊥
+    both true e = cc
+    both false e = cc
+
+-- a page that is sealed holds the bitmaps that waited
+sealed-page : (plan : Plan) (body : List ℕ) (table : Table) (s : RingState) (is : IsStateOf plan table s) → MakesBody plan body table is.ring → (body' : List ℕ) → Some body ≡ Some body' →
+    HoldsBitmaps plan (with_index table (model.extended (entries_per_page plan) is.ring) (table.firsts ++ (table.rows.next - entries_per_page plan) ∷ [])) (model.extended (entries_per_page plan) is.ring) (length is.ring.counts) (entries_per_page plan) (committed body')
+sealed-page plan body table s is m body' e = record {
+  first = table.rows.next - entries_per_page plan;
+  bitmaps = m.bitmaps;
+  listed = ap (slice_get (table.firsts ++ (table.rows.next - entries_per_page plan) ∷ [])) (full-last is.ring.counts (entries_per_page plan ∷ []) ∙ sym is.facts.first_each)
+      ∙ slice_get-last table.firsts (table.rows.next - entries_per_page plan);
+  length = m.length_is;
+  bytes = ap committed (sym (some_same e) ∙ m.body_is) ∙ ap (λ n. committed (index_body plan n (table.rows.next - entries_per_page plan) m.bitmaps)) here;
+  each = m.each;
+}
+  where
+    pushed_length : (xs : List ℕ) (y : ℕ) → length (xs ++ y ∷ []) ≡ length xs + 1
+    pushed_length [] y = refl
+    pushed_length (x ∷ xs) y = let k = pushed_length xs y in omega (arith, k)
+
+    here : is.ring.next ≡ is.ring.next + 1 - length (is.ring.counts ++ entries_per_page plan ∷ []) + length is.ring.counts
+    here = let k : length (is.ring.counts ++ entries_per_page plan ∷ []) ≡ length is.ring.counts + 1 = pushed_length is.ring.counts (entries_per_page plan) in omega (arith, k, is.facts.is_ring.not_negative)
+
+-- the page is sealed
+pub sealed-state : (first : ℕ) (plan : Plan) (body : List ℕ) (table : Table) (s : RingState) (is : IsStateOf plan table s) → model.IsShape (shape_of plan IndexRing) → MakesBody plan body table is.ring →
+    IsStateOf plan (seal_buffer plan IndexRing table) (sealed (shape_in first plan) s body)
+sealed-state first plan body table s is shape m =
+    subst (λ (t : Table). IsStateOf plan t (sealed (shape_in first plan) s body)) (sym table_is)
+    (state-kept first plan shape table s is m.clean (Some body) (entries_per_page plan) refl ((table.rows.next - entries_per_page plan) ∷ []) (inr refl) (sym (full-one (entries_per_page plan) m.some)) m.left
+    (ascend-push (entries_per_page plan) (table.rows.next - entries_per_page plan) table.firsts is.facts.firsts (omega (arith, is.facts.listed, m.full)))
+    (let e = ap (λ (o : Option ℕ). unwrap_or (option_map (λ p. p + entries_per_page plan) o) 0) (last_or-push None table.firsts (table.rows.next - entries_per_page plan)) in
+    omega (arith, e, is.facts.listed, m.full))
+    (sealed-page plan body table s is m))
+  where
+    table_is : seal_buffer plan IndexRing table ≡ with_index table (model.sealed (shape_of plan IndexRing) (entries_per_page plan) is.ring)
+        (drop (full_pages (model.given_up (shape_of plan IndexRing) (entries_per_page plan) is.ring)) table.firsts ++ (table.rows.next - entries_per_page plan) ∷ [])
+    table_is = ap (λ (o : Option model.Ring). record table {
+      firsts = drop (full_pages (unwrap_or (option_map (model.given_up (shape_of plan IndexRing) (entries_per_page plan)) o) [])) table.firsts ++ (table.rows.next - entries_per_page plan) ∷ [];
+      index = option_map (model.sealed (shape_of plan IndexRing) (entries_per_page plan)) o;
+      waiting = 0;
+    }) is.facts.ring_is
+
+-- .. and where its pages stood before
+pub record IndexShift (plan : Plan) (table : Table) (ring : model.Ring) : Type 0 where
+  pub by : ℕ
+  pub counts : (i : ℕ) → slice_get (model.sealed (shape_of plan IndexRing) (entries_per_page plan) ring).counts i ≡ slice_get (ring.counts ++ entries_per_page plan ∷ []) (by + i)
+  pub old : (i : ℕ) → model.oldest (model.sealed (shape_of plan IndexRing) (entries_per_page plan) ring) + i ≡ model.oldest ring + (by + i)
+  pub listed : (i : ℕ) → slice_get (drop (full_pages (model.given_up (shape_of plan IndexRing) (entries_per_page plan) ring)) table.firsts ++ (table.rows.next - entries_per_page plan) ∷ []) (full_pages (take i (model.sealed (shape_of plan IndexRing) (entries_per_page plan) ring).counts))
+      ≡ slice_get (table.firsts ++ (table.rows.next - entries_per_page plan) ∷ []) (full_pages (take (by + i) (ring.counts ++ entries_per_page plan ∷ [])))
+
+pub index-shift : (first : ℕ) (plan : Plan) (body : List ℕ) (table : Table) (s : RingState) (is : IsStateOf plan table s) → model.IsShape (shape_of plan IndexRing) → MakesBody plan body table is.ring → IndexShift plan table is.ring
+index-shift first plan body table s is shape m =
+    let l = last-shifted first plan shape table s is m.clean (Some body) (entries_per_page plan) refl ((table.rows.next - entries_per_page plan) ∷ []) (inr refl) (sym (full-one (entries_per_page plan) m.some)) m.left
+    (ascend-push (entries_per_page plan) (table.rows.next - entries_per_page plan) table.firsts is.facts.firsts (omega (arith, is.facts.listed, m.full)))
+    (let e = ap (λ (o : Option ℕ). unwrap_or (option_map (λ p. p + entries_per_page plan) o) 0) (last_or-push None table.firsts (table.rows.next - entries_per_page plan)) in
+    omega (arith, e, is.facts.listed, m.full))
+    (sealed-page plan body table s is m) in
+    record { by = l.by; counts = l.counts; old = l.old; listed = l.listed }
+
+-- a torn page is given up, where none waits
+pub voided-state : (first : ℕ) (plan : Plan) (table : Table) (s : RingState) (is : IsStateOf plan table s) → model.IsShape (shape_of plan IndexRing) → table.waiting ≡ 0 → is.ring.torn ≡ true →
+    IsStateOf plan (seal_page plan IndexRing 0 table) (voided (shape_in first plan) s)
+voided-state first plan table s is shape idle torn =
+    subst (λ (t : Table). IsStateOf plan t (voided (shape_in first plan) s)) (sym table_is)
+    (state-kept first plan shape table s is (clean is.ring.torn is.ring.dirty torn is.facts.is_ring.not_both) None 0 refl [] (inl refl) refl (left is.ring.torn torn is.facts.number)
+    (λ i j a b lt e f. is.facts.firsts i j a b lt (ap (λ (fs : List ℕ). slice_get fs i) (sym (append-nil table.firsts)) ∙ e) (ap (λ (fs : List ℕ). slice_get fs j) (sym (append-nil table.firsts)) ∙ f))
+    (let e = ap (end_after (entries_per_page plan)) (append-nil table.firsts) in omega (arith, e, is.facts.listed))
+    (λ body e. absurd (none body e)))
+  where
+    none : (body : List ℕ) → ◌≡◌ {A = Option (List ℕ)} None (Some body) → ⊥
+    none body e = cc
+
+    clean : (t d : Bool) → t ≡ true → (IsTrue (t && d) → ⊥) → d ≡ false
+    clean true true e h = absurd (h refl)
+    clean true false e h = refl
+    clean false d e h = cc
+
+    left : (t : Bool) → t ≡ true → is.ring.next + cond t 1 0 < 2 ^ 32 → is.ring.next + 1 < 2 ^ 32
+    left true e h = h
+    left false e h = cc
+
+    table_is : seal_page plan IndexRing 0 table ≡ with_index table (model.sealed (shape_of plan IndexRing) 0 is.ring) (drop (full_pages (model.given_up (shape_of plan IndexRing) 0 is.ring)) table.firsts ++ [])
+    table_is =
+        ap (λ (o : Option model.Ring). record table {
+          firsts = drop (full_pages (unwrap_or (option_map (model.given_up (shape_of plan IndexRing) 0) o) [])) table.firsts;
+          index = option_map (model.sealed (shape_of plan IndexRing) 0) o;
+        }) is.facts.ring_is
+        ∙ (ap (λ (fs : List ℕ). record table { firsts = fs; index = Some (model.sealed (shape_of plan IndexRing) 0 is.ring) }) (sym (append-nil (drop (full_pages (model.given_up (shape_of plan IndexRing) 0 is.ring)) table.firsts)))
+        ∙ ap (λ (n : ℕ). record table { firsts = drop (full_pages (model.given_up (shape_of plan IndexRing) 0 is.ring)) table.firsts ++ []; index = Some (model.sealed (shape_of plan IndexRing) 0 is.ring); waiting = n }) idle)
+
+-- how the operations of a table ended, by the answer
+abbrev pub TableAnswers : PartEnd Table → Result (Unit {0}) FlashFault → FlashState → Type 0
+TableAnswers Whole result new = IsOk result × (new.is_on ≡ true)
+TableAnswers (CutIn before) result new = IsErrOf result PowerLost × (new.is_on ≡ false)
+TableAnswers (FailedIn before) result new = IsErrOf result Media × (new.is_on ≡ true)
+
+-- operations of the index ring were done in order, until one failed, and the flash stands for the index that this leaves
+pub record IndexPerformed (Q : Table → Type 0) (plan : Plan) (operations : List (RingName × Kind)) (table : Table) (rose : Bool) (device : Device) (result : Result (Unit {0}) FlashFault) (new : FlashState) (left : RingState) : Type 0 where
+  pub now : PartProgress Table
+  pub did : TablePerforms plan rose operations device table now
+  pub answer : TableAnswers now.end result new
+  pub counts : SameDevice new now.device
+  pub left_is : IsStateOf plan now.state left
+  pub more : Q now.state
+
+-- the same operations of the ring and of its table, where each keeps a relation between their states
+module _ (Q : Table → Type 0) (first : ℕ) (plan : Plan) (body : List ℕ) (R : List Kind → RingState → Table → Type 0)
+    (step : (kind : Kind) (kinds : List Kind) (s : RingState) (table : Table) → R (kind ∷ kinds) s table → R kinds (change (shape_in first plan) body kind s) (effect plan IndexRing kind table))
+    (known : (kinds : List Kind) (s : RingState) (table : Table) → R kinds s table → IsStateOf plan table s × Q table) where
+  pub performed-lifts : (rose : Bool) (kinds : List Kind) (device : Device) (s : RingState) (table : Table) (result : Result (Unit {0}) FlashFault) (new : FlashState) → R kinds s table →
+      (h : Performed (shape_in first plan) (change (shape_in first plan) body) rose kinds device s result new) →
+      IndexPerformed Q plan (map of_index kinds) table rose device result new h.now.state
+  performed-lifts rose kinds device s table result new r h =
+      let along = performs-along R (λ kind. kind) (change (shape_in first plan) body) (effect plan IndexRing) step rose kinds device s table h.now r h.did in
+      let e = ends h.now.end along.other.end h.now.state along.other.state along.ends h.answer in
+      record {
+        now = along.other;
+        did = performs-map (λ (o : RingName × Kind). o.1) (effect_within plan) of_index rose kinds device table along.other along.performs;
+        answer = e.2;
+        more = e.1;
+        counts = subst (λ (d : Device). SameDevice new d) (sym along.device_is) h.counts;
+        left_is = e.0;
+      }
+    where
+      ends : (a : PartEnd RingState) (b : PartEnd Table) (x : RingState) (t : Table) → EndsAlong R a b x t → AnswersEnd a result new → IsStateOf plan t x × Q t × TableAnswers b result new
+      ends Whole Whole x t e a = let k = known [] x t e in (k.0, k.1, a)
+      ends (CutIn s') (CutIn t') x t e a = let k = known e.1.0 x t e.1.1 in (k.0, k.1, a)
+      ends (FailedIn s') (FailedIn t') x t e a = let k = known e.1.0 x t e.1.1 in (k.0, k.1, a)
+      ends Whole (CutIn t') x t e a = absurd e
+      ends Whole (FailedIn t') x t e a = absurd e
+      ends (CutIn s') Whole x t e a = absurd e
+      ends (CutIn s') (FailedIn t') x t e a = absurd e
+      ends (FailedIn s') Whole x t e a = absurd e
+      ends (FailedIn s') (CutIn t') x t e a = absurd e
+
+-- what is left of a seal's operations
+abbrev pub AreErases : List Kind → Type 0
+AreErases [] = Unit {0}
+AreErases (Erase ∷ kinds) = AreErases kinds
+AreErases (Body ∷ kinds) = ⊥
+AreErases (Mark ∷ kinds) = ⊥
+AreErases (VoidMark ∷ kinds) = ⊥
+
+abbrev pub BeginsMark : List Kind → Type 0
+BeginsMark [] = ⊥
+BeginsMark (Mark ∷ kinds) = AreErases kinds
+BeginsMark (Body ∷ kinds) = ⊥
+BeginsMark (VoidMark ∷ kinds) = ⊥
+BeginsMark (Erase ∷ kinds) = ⊥
+
+abbrev pub HasCome : Plan → List ℕ → List Kind → Table → model.Ring → Type 0
+HasCome plan body [] table ring = Unit {0}
+HasCome plan body (Body ∷ kinds) table ring = MakesBody plan body table ring × BeginsMark kinds
+HasCome plan body (Mark ∷ kinds) table ring = MakesBody plan body table ring × AreErases kinds
+HasCome plan body (VoidMark ∷ kinds) table ring = ⊥
+HasCome plan body (Erase ∷ kinds) table ring = AreErases kinds
+
+-- the ring's state is that of the table, of which these operations are left
+pub record IsRingOf (plan : Plan) (body : List ℕ) (kinds : List Kind) (s : RingState) (table : Table) : Type 0 where
+  pub state : IsStateOf plan table s
+  pub come : HasCome plan body kinds table state.ring
+
+erases_come : (plan : Plan) (body : List ℕ) (kinds : List Kind) (table : Table) (ring : model.Ring) → AreErases kinds → HasCome plan body kinds table ring
+erases_come plan body [] table ring h = tt
+erases_come plan body (Erase ∷ kinds) table ring h = h
+erases_come plan body (Body ∷ kinds) table ring h = absurd h
+erases_come plan body (Mark ∷ kinds) table ring h = absurd h
+erases_come plan body (VoidMark ∷ kinds) table ring h = absurd h
+
+mark_comes : (plan : Plan) (body : List ℕ) (kinds : List Kind) (table : Table) (ring : model.Ring) → MakesBody plan body table ring → BeginsMark kinds → HasCome plan body kinds table ring
+mark_comes plan body [] table ring m h = absurd h
+mark_comes plan body (Mark ∷ kinds) table ring m h = (m, h)
+mark_comes plan body (Body ∷ kinds) table ring m h = absurd h
+mark_comes plan body (VoidMark ∷ kinds) table ring m h = absurd h
+mark_comes plan body (Erase ∷ kinds) table ring m h = absurd h
+
+-- each operation keeps it
+step-along : (first : ℕ) (plan : Plan) (body : List ℕ) → model.IsShape (shape_of plan IndexRing) → (kind : Kind) (kinds : List Kind) (s : RingState) (table : Table) →
+    IsRingOf plan body (kind ∷ kinds) s table → IsRingOf plan body kinds (change (shape_in first plan) body kind s) (effect plan IndexRing kind table)
+unfolding begun-state
+step-along first plan body shape Body kinds s table r =
+    let m = r.come.0 in
+    record {
+      state = begun-state plan table s r.state m.clean m.left;
+      come = mark_comes plan body kinds (with_ring IndexRing model.begun table) (model.begun r.state.ring)
+          (record { full = m.full; some = m.some; bitmaps = m.bitmaps; length_is = m.length_is; body_is = m.body_is; each = m.each; clean = m.clean; left = m.left }) r.come.1;
+    }
+step-along first plan body shape Mark kinds s table r =
+    let state = sealed-state first plan body table s r.state shape r.come.0 in
+    record { state = state; come = erases_come plan body kinds (seal_buffer plan IndexRing table) state.ring r.come.1 }
+step-along first plan body shape VoidMark kinds s table r = absurd r.come
+step-along first plan body shape Erase kinds s table r =
+    let state = erased-state plan table s r.state in
+    record { state = state; come = erases_come plan body kinds (with_ring IndexRing model.erased table) state.ring r.come }
+
+-- the seal of an index page
+pub seal-lifts : (first : ℕ) (plan : Plan) (body : List ℕ) (table : Table) (s : RingState) (is : IsStateOf plan table s) (rose : Bool) (device : Device) (result : Result (Unit {0}) FlashFault) (new : FlashState) →
+    model.IsShape (shape_of plan IndexRing) → MakesBody plan body table is.ring →
+    (h : Performed (shape_in first plan) (change (shape_in first plan) body) rose (seal_kinds (shape_in first plan) s body) device s result new) →
+    IndexPerformed (λ _. Unit {0}) plan (seal_within plan IndexRing table) table rose device result new h.now.state
+seal-lifts first plan body table s is rose device result new shape makes h =
+    subst (λ (ops : List (RingName × Kind)). IndexPerformed (λ _. Unit {0}) plan ops table rose device result new h.now.state) (kinds_are (sealed (shape_in first plan) s body).dirty refl)
+    (performed-lifts (λ _. Unit {0}) first plan body (IsRingOf plan body) (step-along first plan body shape) (λ kinds s t r. (r.state, tt)) rose
+    (seal_kinds (shape_in first plan) s body) device s table result new
+    (record { state = is; come = (makes, erases (sealed (shape_in first plan) s body).dirty) }) h)
+  where
+    erases : (b : Bool) → AreErases (cond b (Erase ∷ []) [])
+    erases true = tt
+    erases false = tt
+
+    same_dirt : (sealed (shape_in first plan) s body).dirty ≡ is_dirty IndexRing (seal_buffer plan IndexRing table)
+    same_dirt =
+        let after = sealed-state first plan body table s is shape makes in
+        ap (λ (r : model.Ring). r.dirty) (sym after.counts) ∙ ap (λ (o : Option model.Ring). unwrap_or (option_map (λ r. r.dirty) o) false) (sym after.facts.ring_is)
+
+    kinds_are : (b : Bool) → (sealed (shape_in first plan) s body).dirty ≡ b →
+        map of_index (Body ∷ Mark ∷ (cond b (Erase ∷ []) [])) ≡ seal_within plan IndexRing table
+    kinds_are b e =
+        by_dirt b ∙ ap (λ (d : Bool). (IndexRing, Body) ∷ (IndexRing, Mark) ∷ (cond d ((IndexRing, Erase) ∷ []) [])) (sym e ∙ same_dirt)
+      where
+        by_dirt : (b : Bool) → map of_index (Body ∷ Mark ∷ (cond b (Erase ∷ []) [])) ≡ (IndexRing, Body) ∷ (IndexRing, Mark) ∷ (cond b ((IndexRing, Erase) ∷ []) [])
+        by_dirt true = refl
+        by_dirt false = refl
+
+-- where all of it was done, the index page is sealed
+pub seal-whole : (plan : Plan) (table : Table) (rose : Bool) (device : Device) (now : PartProgress Table) → TablePerforms plan rose (seal_within plan IndexRing table) device table now → now.end ≡ Whole →
+    now.state ≡ after_seal plan IndexRing table
+seal-whole plan table rose device now h whole =
+    (performs-whole (λ operation. operation.1) (effect_within plan) rose (seal_within plan IndexRing table) device table now h whole).0 ∙ seal-all_done plan IndexRing table

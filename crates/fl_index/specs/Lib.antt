@@ -1,0 +1,7 @@
+pub mod Page
+pub mod Headers
+pub mod Memory
+pub mod Standing
+pub mod Outcomes
+pub mod Finding
+pub mod Looking

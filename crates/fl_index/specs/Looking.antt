@@ -1,0 +1,102 @@
+-- A lookup of a data page's bitmap, over any bytes and for a table of the model.
+use Rattle.std.specs.Prelude.{◌≡◌, ◌⊎◌, ℕ, ◌+◌, ◌-◌, ◌*◌, ◌<◌, ◌≤◌, Bool, true, false, nat_lt, Option, Some, None, IfSome, is_some, unwrap_or, Result, Ok, Err, List, count_by, slice_get, if◌then◌else◌}
+use Rattle.std.specs.List.{range_with_len}
+use Rattle.fl_flash.specs.Buffer.{BufferState}
+use Rattle.fl_flash.specs.Flash.{FlashState, page_at}
+use Rattle.fl_flash.specs.declared.flash.FlashFault.{FlashFault}
+use Rattle.fl_mark.specs.Mark.{state_of_page}
+use Rattle.fl_mark.specs.declared.page_state.PageState.TheVariants.{Committed}
+use Rattle.fl_model.specs.Image.{rows_at}
+use Rattle.fl_model.specs.Layout.{bitmap_of}
+use Rattle.fl_model.specs.Limits.{is_indexed}
+use Rattle.fl_model.specs.Record.{Plan, entries_per_page}
+use Rattle.fl_model.specs.Ring as rings
+use Rattle.fl_model.specs.Table.{Table}
+use Rattle.fl_page.specs.declared.fault.BadPage.{BadPage as Refusal}
+use Rattle.fl_page.specs.declared.fault.ReadFault.{ReadFault}
+use Rattle.fl_page.specs.declared.fault.ReadFault.TheVariants.{Flash, BadPage}
+use Rattle.fl_index.specs.declared.index.Index.{Index}
+use Rattle.fl_index.specs.Memory.{oldest_in, next_in, place_in, per_page, width_in, first_in, listing_in, is_waiting, waiting_at, first_waiting}
+use Rattle.fl_index.specs.Page.{page_number, page_entries, entry_at, IsGoodPage}
+
+-- a buffer holds the kept index page with this number
+pub record IsHeld (index : Index) (number : ℕ) (buf : BufferState) : Type 0 where
+  pub kept : (oldest_in index ≤ number) × (number < next_in index)
+  pub place : buf.holds ≡ Some (place_in index number)
+  pub number_is : page_number buf.bytes ≡ number
+
+-- a kept index page that a buffer holds has the bytes that stand on the flash, as after a read since the last mount
+abbrev pub IsFresh : Index → FlashState → BufferState → Type 0
+IsFresh index f buf = (number : ℕ) → IsHeld index number buf → buf.bytes ≡ page_at f (place_in index number)
+
+-- the place of a data page among those that a kept index page lists
+abbrev pub entry_of : Index → ℕ → ℕ → ℕ
+entry_of index listing number = number - unwrap_or (first_in index listing) 0
+
+abbrev pub bad_page : ℕ → List ℕ → Refusal
+bad_page number page = record { wanted = number; found = page_number page; count = page_entries page }
+
+-- what the bytes of the index page that lists a data page say: a page that isn't committed lists none, and one that is
+-- committed has to have its number and its count
+abbrev pub IsFound : Index → ℕ → ℕ → List ℕ → Result (Option ℕ) ReadFault → Type 0
+IsFound index listing number page (Ok None) = state_of_page page ≡ Committed → ⊥
+IsFound index listing number page (Ok (Some bitmap)) =
+    (state_of_page page ≡ Committed) × IsGoodPage (per_page index) listing page × (bitmap ≡ entry_at (width_in index) page (entry_of index listing number))
+IsFound index listing number page (Err (BadPage bad)) =
+    (state_of_page page ≡ Committed) × (IsGoodPage (per_page index) listing page → ⊥) × (bad ≡ bad_page listing page)
+IsFound index listing number page (Err (Flash fault)) = Unit {0}
+
+-- what holds where no read failed, and why a read failed
+abbrev pub IfRead : Result (Option ℕ) ReadFault → Type 0 → Type 0
+IfRead (Ok found) P = P
+IfRead (Err (BadPage bad)) P = P
+IfRead (Err (Flash fault)) P = Unit {0}
+
+abbrev pub IfUnread : (FlashFault → Type 0) → ReadFault → Type 0
+IfUnread P (Flash fault) = P fault
+IfUnread P (BadPage bad) = Unit {0}
+
+-- the index page to be looked at, where there is one: the bitmap doesn't wait, and a kept index page lists the data page
+abbrev pub looked_at : Index → ℕ → Option ℕ
+looked_at index number = if is_waiting index number then None else listing_in index number
+
+-- Nothing was read, and this was answered: the bitmap where it waits.
+pub record ByMemory (index : Index) (number : ℕ) (old : FlashState) (before : BufferState) (result : Result (Option ℕ) ReadFault) (new : FlashState) (after : BufferState) : Type 0 where
+  pub answer : result ≡ Ok (if is_waiting index number then Some (waiting_at index (number - first_waiting index)) else None)
+  pub flash : new ≡ old
+  pub buffer : after ≡ before
+
+-- For a table of the model: None exactly where the data page isn't indexed, and else the bitmap of its rows, where it
+-- has any. No page is bad.
+abbrev pub ShowsBitmap : Plan → Table → ℕ → Result (Option ℕ) ReadFault → Type 0
+ShowsBitmap plan table number (Ok found) =
+    (is_some found ≡ is_indexed plan table number)
+    × ((n rows : ℕ) → number ≡ rings.oldest table.rows + n → slice_get table.rows.counts n ≡ Some rows → 0 < rows →
+    IfSome found (λ bitmap. bitmap ≡ bitmap_of plan (rows_at table n rows)))
+ShowsBitmap plan table number (Err (Flash fault)) = Unit {0}
+ShowsBitmap plan table number (Err (BadPage bad)) = ⊥
+
+-- the data pages that an index page lists end above a number
+abbrev pub ends_above : ℕ → ℕ → Option ℕ → Bool
+ends_above per_page number None = false
+ends_above per_page number (Some first) = nat_lt number (first + per_page)
+
+-- of the kept index pages from one on those that end above a number
+abbrev pub unread : Index → ℕ → ℕ → ℕ
+unread index number from = count_by (λ n. ends_above (per_page index) number (first_in index n)) (range_with_len from (next_in index - from))
+
+-- the buffer holds a kept index page, and each kept index page before that ends at or below a number
+pub record HoldsLast (index : Index) (number held : ℕ) (buf : BufferState) : Type 0 where
+  pub is_held : IsHeld index held buf
+  pub before : (k : ℕ) → oldest_in index ≤ k → k < held → ends_above (per_page index) number (first_in index k) ≡ false
+
+-- a scan has come to a number: the buffer holds no page, or such a one, and index pages from `from` on may still be read
+abbrev pub IsScanning : Index → ℕ → ℕ → BufferState → Type 0
+IsScanning index number from buf =
+    ((buf.holds ≡ None) × (from ≡ oldest_in index)) ⊎ ((held : ℕ) × (from ≡ held + 1) × HoldsLast index number held buf)
+
+-- the scan goes on, and what was read isn't read again
+pub record ScansOn (index : Index) (number from : ℕ) (old new : FlashState) (after : BufferState) : Type 0 where
+  pub next : ℕ
+  pub scanning : IsScanning index number next after
+  pub once : new.work.reads + unread index number next ≤ old.work.reads + unread index number from

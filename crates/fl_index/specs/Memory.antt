@@ -1,0 +1,103 @@
+-- What clauses see of an index in memory.
+use Rattle.std.specs.Prelude.{◌≡◌, ℕ, zero, suc, ◌+◌, ◌-◌, ◌*◌, ◌/◌, ◌%◌, ◌^◌, ◌<◌, ◌≤◌, Bool, false, ◌&&◌, nat_lt, nat_le, Option, Some, None, is_some, option_map, unwrap_or, List, length, take, drop, slice_index_or, vec_len, if◌then◌else◌}
+use Rattle.std.specs.List.{flat_map}
+use Rattle.std.specs.Option.{ForSome}
+use Rattle.fl_flash.specs.Flash.{FlashState, pages}
+use Rattle.fl_model.specs.Record.{Plan}
+use Rattle.fl_model.specs.Row.{le}
+use Rattle.fl_ring.specs.Mounting.{shape_at}
+use Rattle.fl_ring.specs.Place.{next_of, oldest_of}
+use Rattle.fl_ring.specs.Place as place
+use Rattle.fl_ring.specs.Ring as rings
+use Rattle.fl_ring.specs.Ring.{Shape}
+use Rattle.fl_index.specs.declared.index.Index.{Index}
+use Rattle.fl_index.specs.Page.{entry_at}
+
+-- the last mount succeeded, and no seal failed since
+abbrev pub is_running : Index → Bool
+is_running index = is_some index.ring
+
+-- the bytes of a bitmap
+abbrev pub width_in : Index → ℕ
+width_in index = index.bits / 8
+
+-- how many bitmaps an index page holds
+abbrev pub per_page : Index → ℕ
+per_page index = (index.geometry.page - 24) / width_in index
+
+-- the number of the next index page, and of the oldest kept one
+abbrev pub next_in : Index → ℕ
+next_in index = unwrap_or (option_map (λ ring. next_of ring) index.ring) 0
+
+abbrev pub oldest_in : Index → ℕ
+oldest_in index = unwrap_or (option_map (λ ring. oldest_of ring) index.ring) 0
+
+-- how many bitmaps wait, the data page of the first of them, and the j-th of them
+abbrev pub waiting_in : Index → ℕ
+waiting_in index = index.waiting
+
+abbrev pub first_waiting : Index → ℕ
+first_waiting index = index.first
+
+abbrev pub waiting_at : Index → ℕ → ℕ
+waiting_at index j = entry_at (width_in index) index.body.items j
+
+-- these bitmaps wait, one after another
+abbrev pub Gathers : Index → List ℕ → Type 0
+Gathers index bitmaps = take (length bitmaps * width_in index) (drop 16 index.body.items) ≡ flat_map (λ bits. le (width_in index) bits) bitmaps
+
+-- the bitmap of a data page waits
+abbrev pub is_waiting : Index → ℕ → Bool
+is_waiting index number = nat_le (first_waiting index) number && nat_lt number (first_waiting index + waiting_in index)
+
+-- the first data page that the kept index page with this number lists, as it is remembered; a void page lists none
+abbrev pub first_in : Index → ℕ → Option ℕ
+first_in index number = slice_index_or index.firsts.items (number % vec_len index.firsts) None
+
+-- an index page with this first data page lists a data page
+abbrev pub lists : ℕ → ℕ → Option ℕ → Bool
+lists per_page number None = false
+lists per_page number (Some first) = nat_le first number && nat_lt number (first + per_page)
+
+-- the first of so many index pages from one on that lists a data page
+abbrev pub listing_from : ℕ → (ℕ → Option ℕ) → ℕ → ℕ → ℕ → Option ℕ
+listing_from per_page first number from zero = None
+listing_from per_page first number from (suc n) =
+    if lists per_page number (first from) then Some from else listing_from per_page first number (from + 1) n
+
+-- the kept index page that lists a data page
+abbrev pub listing_in : Index → ℕ → Option ℕ
+listing_in index number = listing_from (per_page index) (first_in index) number (oldest_in index) (next_in index - oldest_in index)
+
+-- where the ring of an index stands
+abbrev pub ring_shape : Index → Shape
+ring_shape index = shape_at index.place index.geometry
+
+-- the flash page at which the number of an index page stands
+abbrev pub place_in : Index → ℕ → ℕ
+place_in index number = rings.place (ring_shape index) number
+
+-- the index of a table of this plan, whose blocks begin at `first`
+pub record IsPlanned (index : Index) (first : ℕ) (plan : Plan) : Type 0 where
+  pub geometry : plan.geometry ≡ index.geometry
+  pub begins : index.place.first_block ≡ first
+  pub blocks : plan.index_blocks ≡ index.place.blocks
+  pub bits : plan.bits ≡ index.bits
+
+-- what no call changes
+pub record IsSamePlan (old new : Index) : Type 0 where
+  pub geometry : new.geometry ≡ old.geometry
+  pub place : new.place ≡ old.place
+  pub bits : new.bits ≡ old.bits
+
+-- .. and what no call changes that leaves the ring
+pub record IsSameRing (old new : Index) : Type 0 where
+  pub ring : new.ring ≡ old.ring
+  pub firsts : new.firsts ≡ old.firsts
+
+-- a flash on which the index lies
+pub record LiesOn (index : Index) (f : FlashState) : Type 0 where
+  pub geometry : f.geometry ≡ index.geometry
+  pub within : index.place.first_block + index.place.blocks ≤ f.blocks
+  pub few : pages f < 2 ^ 32
+  pub ring : ForSome index.ring (λ r. place.LiesOn r f)

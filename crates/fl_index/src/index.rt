@@ -1,0 +1,125 @@
+// An index in memory: its ring, and the bitmaps that wait for their page.
+ghost use Rattle.std.specs.Prelude.{◌≡◌, ◌+◌, ◌-◌, ◌*◌, ◌/◌, ◌^◌, ◌<◌, ◌≤◌, false, length, drop, replicate, vec_len, IsTrue, IfOk};
+ghost use Rattle.std.specs.Option.{ForSome};
+ghost use Rattle.fl_bitmap.specs.Widths.{is_bits};
+ghost use Rattle.fl_flash.specs.Places.{IsGeometry};
+ghost use Rattle.fl_ring.specs.Mounting.{shape_at};
+ghost use Rattle.fl_ring.specs.Place.{shape_of};
+
+use fl_base::{Geometry, NoMemory, RingPlace};
+use fl_ring::Ring;
+use std::alloc::Global;
+
+/// The value bitmaps of the sealed data pages of a table. A full list of them becomes a page of a ring of index pages.
+/// It is mounted before its first use; each call that takes a flash is given the one on which it was mounted.
+#[derive(Drop)]
+pub struct Index {
+    pub(crate) geometry: Geometry,
+    /// The blocks of the index ring.
+    pub(crate) place: RingPlace,
+    /// Of a bitmap.
+    pub(crate) bits: u32,
+    /// The index ring, where the index is mounted and no seal failed since.
+    pub(crate) ring: Option<Ring>,
+    /// The first data page that each index page lists, by its place in the ring; none for a void page.
+    pub(crate) firsts: Vec<Option<u32>>,
+    /// The body of the next index page, where the waiting bitmaps stand.
+    pub(crate) body: Vec<u8>,
+    /// The data page of the first waiting bitmap, and how many wait.
+    pub(crate) first: u32,
+    pub(crate) waiting: u32,
+    ghost served: { IsGeometry geometry },
+    ghost some_blocks: { 3 ≤ place.blocks },
+    ghost few_blocks: { place.blocks ≤ 16384 },
+    ghost some_bits: { IsTrue (is_bits bits) },
+    ghost remembered: { vec_len firsts ≡ place.blocks * geometry.block },
+    ghost page: { length body.items + 8 ≡ geometry.page },
+    ghost blank_rest: { drop (16 + (geometry.page - 24) / (bits / 8) * (bits / 8)) body.items ≡ replicate (length body.items - (16 + (geometry.page - 24) / (bits / 8) * (bits / 8))) 255 },
+    ghost few: { waiting ≤ (geometry.page - 24) / (bits / 8) },
+    ghost left: { first + waiting < 2 ^ 32 },
+    ghost lies: { ForSome ring (λ r. shape_of r ≡ shape_at place geometry) },
+}
+
+impl Index {
+    ghost use Rattle.std.specs.Prelude.{ℕ};
+    ghost use Rattle.fl_flash.specs.Flash.{FlashState, pages};
+    ghost use Rattle.fl_model.specs.Record.{Plan};
+    ghost use Rattle.fl_model.specs.Table as model;
+    ghost use Rattle.fl_index.specs.Memory.{is_running, waiting_in, next_in, oldest_in, per_page, width_in, IsPlanned, LiesOn};
+    ghost use Rattle.fl_index.specs.Standing.{StandsForRing, Stands};
+
+    /// The index of these blocks, with bitmaps of so many bits. It isn't mounted.
+    pub fn plan(
+        alloc: Global,
+        geometry: Geometry,
+        place: RingPlace,
+        bits: u32,
+    ) -> Result<Index, NoMemory>
+        requires geometry { IsGeometry geometry }
+        requires blocks { 3 ≤ place.blocks }
+        requires few { place.blocks ≤ 16384 }
+        requires bits { IsTrue (is_bits bits) }
+        ensures planned { IfOk result (λ index. (plan : Plan) → plan.geometry ≡ geometry → plan.index_blocks ≡ place.blocks → plan.bits ≡ bits → IsPlanned index place.first_block plan) }
+        ensures entries { IfOk result (λ index. per_page index ≡ (geometry.page - 24) / (bits / 8)) }
+        ensures lies { IfOk result (λ index. (f : FlashState) → f.geometry ≡ geometry → place.first_block + place.blocks ≤ f.blocks → pages f < 2 ^ 32 → LiesOn index f) }
+        ensures fresh { IfOk result (λ index. (is_running index ≡ false) × (waiting_in index ≡ 0)) }
+    {
+        let pages = place.blocks as usize * geometry.block as usize;
+        Ok(Index {
+            geometry,
+            place,
+            bits,
+            ring: None,
+            firsts: vec![in alloc; None; pages]?,
+            body: vec![in alloc; 0xff; geometry.page as usize - 8]?,
+            first: 0,
+            waiting: 0,
+        })
+    }
+
+    /// How many bitmaps wait for their page.
+    pub fn waiting(&self) -> u32
+        ensures exact { result ≡ waiting_in self.now }
+        ensures stands { (f : FlashState) → (first : ℕ) → (plan : Plan) → (table : model.Table) → Stands self.now f first plan table → result ≡ table.waiting }
+    {
+        self.waiting
+    }
+
+    /// How many index pages are kept, the void ones among them. An index that isn't mounted keeps none.
+    pub fn pages(&self) -> u32
+        ensures exact { result ≡ next_in self.now - oldest_in self.now }
+        ensures stands { (f : FlashState) → (first : ℕ) → (plan : Plan) → (table : model.Table) → (s : StandsForRing self.now f first plan table) → result ≡ length s.ring.counts }
+    {
+        match &self.ring {
+            Some(ring) => ring.next_number() - ring.oldest(),
+            None => 0,
+        }
+    }
+
+    /// The number of the next index page. An index that isn't mounted answers 0.
+    pub fn next_number(&self) -> u32
+        ensures exact { result ≡ next_in self.now }
+        ensures stands { (f : FlashState) → (first : ℕ) → (plan : Plan) → (table : model.Table) → (s : StandsForRing self.now f first plan table) → result ≡ s.ring.next }
+    {
+        match &self.ring {
+            Some(ring) => ring.next_number(),
+            None => 0,
+        }
+    }
+
+    /// The bytes of a bitmap.
+    pub(crate) fn width(&self) -> usize
+        ensures exact { result ≡ width_in self.now }
+        ensures some { 1 ≤ result }
+        ensures few { result ≤ 8 }
+    {
+        self.bits as usize / 8
+    }
+
+    /// How many bitmaps an index page holds.
+    pub(crate) fn capacity(&self) -> u32
+        ensures { result ≡ per_page self.now }
+    {
+        (self.geometry.page - 24) / (self.bits / 8)
+    }
+}

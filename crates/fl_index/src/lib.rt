@@ -1,0 +1,13 @@
+//! An index of value bitmaps: those of sealed data pages gather in memory, and stand in pages of a ring of their own.
+#![tactic(auto)]
+
+mod index;
+mod lookup;
+mod mount;
+mod page;
+mod seal;
+#[cfg(test)]
+mod tests;
+mod waiting;
+
+pub use index::Index;

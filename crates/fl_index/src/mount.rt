@@ -1,0 +1,175 @@
+// The mount of an index: its ring is mounted, and the headers of its pages are read.
+ghost use Rattle.std.specs.Prelude.{◌≡◌, ◌+◌, ◌-◌, ◌*◌, ◌%◌, ◌^◌, ◌<◌, ◌≤◌, None, Some, Ok, Err, false, true, is_ok, length, vec_len, slice_index_or, option_map, IsTrue, IfSome, IfOk, IfErr, OnOk, OnErr, MatchOption};
+ghost use Rattle.fl_flash.specs.Flash.{Goes, page_at, pages};
+ghost use Rattle.fl_ring.specs.Causes.{CausedBy, IfFlash};
+ghost use Rattle.fl_ring.specs.Looking.{OnlyReads, ReadFails};
+ghost use Rattle.fl_ring.specs.Place.{shape_of, next_of, oldest_of, LiesOn as LiesIn};
+ghost use Rattle.fl_ring.specs.Ring.{room, place};
+ghost use Rattle.fl_ring.specs.declared.fault.RingFault.{RingFault};
+ghost use Rattle.fl_flash.specs.declared.flash.FlashFault.{FlashFault};
+ghost use Rattle.fl_index.specs.Headers.{IsHeader, IsNewest, AreRemembered, kept_page};
+ghost use Rattle.fl_index.specs.Page.{newest_of};
+
+use crate::index::Index;
+use crate::page::{count_in, first_in};
+use fl_flash::{Flash, FlashFault, PageBuf};
+use fl_mark::{PageState, state_of};
+use fl_ring::{Ring, RingFault};
+
+/// The newest committed index page: where it stands, and what its header says.
+#[derive(Clone, Copy)]
+pub(crate) struct Newest {
+    pub(crate) page: u32,
+    pub(crate) first: u32,
+    pub(crate) count: u32,
+}
+
+impl Index {
+    ghost use Rattle.std.specs.Prelude.{ℕ, Bool};
+    ghost use Rattle.fl_model.specs.Record.{Plan};
+    ghost use Rattle.fl_model.specs.Table as model;
+    ghost use Rattle.fl_model.specs.Work.{Device};
+    ghost use Rattle.fl_ring.specs.Ring.{OutsideStands};
+    ghost use Rattle.fl_ring.specs.Step.{IsWatched};
+    ghost use Rattle.fl_index.specs.Finding.{FewReads, FewRepairs, FindsIndex, RefusesIndex};
+    ghost use Rattle.fl_index.specs.Memory.{is_running, waiting_in, per_page, ring_shape, IsPlanned, IsSamePlan, LiesOn};
+    ghost use Rattle.fl_index.specs.Outcomes.{MountEnds};
+    ghost use Rattle.fl_index.specs.Standing.{Rests};
+
+    // As it was before its first mount.
+    fn forget(&mut self)
+        ensures same { IsSamePlan self.old self.new }
+        ensures down { is_running self.new ≡ false }
+        ensures none { waiting_in self.new ≡ 0 }
+    {
+        self.ring = None;
+        self.first = 0;
+        self.waiting = 0;
+    }
+
+    /// Mounts the index: the ring is repaired, and each kept page is read once. It answers the number after the data
+    /// pages that its newest committed page lists, and none where there is no such page. No bitmap waits afterwards, and
+    /// the buffer holds no page. After an error it isn't mounted.
+    pub fn mount<F: Flash>(
+        &mut self,
+        flash: &mut F,
+        buf: &mut PageBuf,
+    ) -> Result<Option<u32>, RingFault>
+        requires lies { LiesOn self.old (F.state flash.old) }
+        requires room { length buf.old.bytes ≡ (F.state flash.old).geometry.page }
+        ensures goes { Goes (F.state flash.old) (F.state flash.new) }
+        ensures same { IsSamePlan self.old self.new }
+        ensures lies { LiesOn self.new (F.state flash.new) }
+        ensures room { length buf.new.bytes ≡ length buf.old.bytes }
+        ensures holds { buf.new.holds ≡ None }
+        ensures ends { (first : ℕ) → (plan : Plan) → (table : model.Table) → (rose : Bool) → (device : Device) → IsWatched (F.state flash.old) (F.state flash.new) rose device
+            → IsPlanned self.old first plan → Rests (F.state flash.old) first plan table → MountEnds first plan table rose device result self.new (F.state flash.new) }
+        ensures running { is_running self.new ≡ is_ok result }
+        ensures idle { waiting_in self.new ≡ 0 }
+        ensures found { IfOk result (λ end. IsTrue (F.state flash.old).media.tells → FindsIndex self.old (F.state flash.old) end self.new (F.state flash.new)) }
+        ensures refused { IfErr result (λ e. IsTrue (F.state flash.old).media.tells → RefusesIndex self.old (F.state flash.old) e (F.state flash.new)) }
+        ensures outside { IsTrue (F.state flash.old).media.tells → OutsideStands (ring_shape self.old) (page_at (F.state flash.old)) (page_at (F.state flash.new)) }
+        ensures reads { IsTrue (F.state flash.old).media.tells → FewReads (4 * room (ring_shape self.old)) (F.state flash.old) (F.state flash.new) }
+        ensures repairs { FewRepairs (F.state flash.old) (F.state flash.new) }
+        ensures cause { IfErr result (λ e. IfFlash (λ fault. CausedBy (F.state flash.old) fault (F.state flash.new)) e) }
+        ensures off { (F.state flash.old).is_on ≡ false → (result ≡ Err (RingFault.Flash FlashFault.PowerLost)) × ((F.state flash.new) ≡ F.state flash.old) }
+        ensures power { OnOk result ((F.state flash.new).is_on ≡ true) }
+    {
+        self.forget();
+        let ring = Ring::mount(flash, self.place, 0, buf)?;
+        let newest = read_firsts(&ring, &mut self.firsts, flash, buf)?;
+        let end = self.end_of(newest)?;
+        self.ring = Some(ring);
+        Ok(end)
+    }
+
+    /// The number after the data pages that the newest page lists.
+    fn end_of(&self, newest: Option<Newest>) -> Result<Option<u32>, RingFault>
+        ensures end { IfOk result (λ end. MatchOption newest (end ≡ None) (λ n. (n.count ≡ per_page self.now) × (n.first + per_page self.now < 2 ^ 32) × (end ≡ Some (n.first + per_page self.now)))) }
+        ensures bad { IfErr result (λ e. IfSome newest (λ n. ((n.count ≡ per_page self.now → n.first + per_page self.now < 2 ^ 32 → ⊥) × (e ≡ RingFault.BadPage n.page (per_page self.now) n.count)))) }
+        ensures some { OnErr result (newest ≡ None → ⊥) }
+    {
+        let Some(newest) = newest else {
+            return Ok(None);
+        };
+        let wanted = self.capacity();
+        if newest.count != wanted || newest.first > u32::MAX - wanted {
+            return Err(RingFault::BadPage {
+                page: newest.page,
+                wanted,
+                found: newest.count,
+            });
+        }
+        Ok(Some(newest.first + wanted))
+    }
+}
+
+/// Reads a page, and gives its header where it is committed. The buffer holds no page afterwards.
+fn read_header<F: Flash>(
+    flash: &mut F,
+    page: u32,
+    buf: &mut PageBuf,
+) -> Result<Option<Newest>, FlashFault>
+    requires exists { page < pages (F.state flash.old) }
+    requires room { length buf.old.bytes ≡ (F.state flash.old).geometry.page }
+    ensures reads { OnlyReads (F.state flash.old) 1 (F.state flash.new) }
+    ensures room { length buf.new.bytes ≡ length buf.old.bytes }
+    ensures none { buf.new.holds ≡ None }
+    ensures header { IfOk result (λ header. IsTrue (F.state flash.old).media.tells → IsHeader page (page_at (F.state flash.old) page) header) }
+    ensures fails { IfErr result (λ e. ReadFails (F.state flash.old) e (F.state flash.new)) }
+    ensures power { OnOk result ((F.state flash.new).is_on ≡ true) }
+{
+    flash.read(page, buf)?;
+    buf.forget();
+    let bytes = buf.bytes();
+    let PageState::Committed = state_of(bytes) else {
+        return Ok(None);
+    };
+    Ok(Some(Newest {
+        page,
+        first: first_in(bytes),
+        count: u32::from(count_in(bytes)),
+    }))
+}
+
+/// The first data page that a page with this header lists.
+fn first_of(header: Option<Newest>) -> Option<u32>
+    ensures { result ≡ option_map (λ h. h.first) header }
+{
+    match header {
+        Some(header) => Some(header.first),
+        None => None,
+    }
+}
+
+/// Reads the kept pages of a ring, from the oldest on, and remembers the first data page that each lists.
+fn read_firsts<F: Flash>(
+    ring: &Ring,
+    firsts: &mut [Option<u32>],
+    flash: &mut F,
+    buf: &mut PageBuf,
+) -> Result<Option<Newest>, FlashFault>
+    requires lies { LiesIn ring.now (F.state flash.old) }
+    requires room { length buf.old.bytes ≡ (F.state flash.old).geometry.page }
+    requires none { buf.old.holds ≡ None }
+    requires firsts { length firsts.old ≡ room (shape_of ring.now) }
+    ensures reads { OnlyReads (F.state flash.old) (next_of ring.now - oldest_of ring.now) (F.state flash.new) }
+    ensures room { length buf.new.bytes ≡ length buf.old.bytes }
+    ensures none { buf.new.holds ≡ None }
+    ensures size { length firsts.new ≡ length firsts.old }
+    ensures firsts { OnOk result (next_of ring.now - oldest_of ring.now ≤ length firsts.old → IsTrue (F.state flash.old).media.tells →
+        AreRemembered (kept_page ring.now (F.state flash.old)) (oldest_of ring.now) (next_of ring.now - oldest_of ring.now) firsts.new) }
+    ensures newest { IfOk result (λ newest. IsTrue (F.state flash.old).media.tells →
+        IsNewest (place (shape_of ring.now)) (kept_page ring.now (F.state flash.old)) (newest_of (kept_page ring.now (F.state flash.old)) (oldest_of ring.now) (next_of ring.now - oldest_of ring.now)) newest) }
+    ensures fails { IfErr result (λ e. ReadFails (F.state flash.old) e (F.state flash.new)) }
+    ensures power { OnOk result ((F.state flash.old).is_on ≡ true → (F.state flash.new).is_on ≡ true) }
+{
+    let mut newest = None;
+    for number in ring.oldest()..ring.next_number() {
+        let header = read_header(flash, ring.place_of(number), buf)?;
+        let at = number as usize % firsts.len();
+        firsts[at] = first_of(header);
+        newest = header.or(newest);
+    }
+    Ok(newest)
+}

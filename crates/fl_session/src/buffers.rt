@@ -1,0 +1,35 @@
+// Room for the pages in hand.
+ghost use Rattle.std.specs.Prelude.{◌≡◌, length, IfOk};
+
+use fl_base::NoMemory;
+use fl_flash::PageBuf;
+use std::alloc::Global;
+
+/// Room for a page of rows and for a page of an index.
+#[derive(Drop)]
+pub(crate) struct Buffers {
+    pub(crate) rows: PageBuf,
+    pub(crate) index: PageBuf,
+}
+
+impl Buffers {
+    /// Room for pages of so many bytes.
+    pub(crate) fn new(alloc: Global, size: u32) -> Result<Buffers, NoMemory>
+        ensures rows { IfOk result (λ b. length b.rows.bytes ≡ size) }
+        ensures index { IfOk result (λ b. length b.index.bytes ≡ size) }
+    {
+        Ok(Buffers {
+            rows: PageBuf::new(alloc, size)?,
+            index: PageBuf::new(alloc, size)?,
+        })
+    }
+
+    /// They hold no page from then on.
+    pub(crate) fn forget(&mut self)
+        ensures rows { length self.new.rows.bytes ≡ length self.old.rows.bytes }
+        ensures index { length self.new.index.bytes ≡ length self.old.index.bytes }
+    {
+        self.rows.forget();
+        self.index.forget();
+    }
+}

@@ -1,0 +1,186 @@
+-- What a lookup ends with, in the words of the table.
+use Rattle.std.proofs.Common.{◌≡◌, ℕ, ◌+◌, ◌*◌, ◌<◌, ◌≤◌, Bool, true, false, Option, Some, None, option_map, Ok, Err, List, map, length, drop, refl, sym, ◌∙◌, ap, subst, arith, IsTrue}
+use Rattle.std.specs.Prelude.{IfSome, MatchOption, if◌then◌else◌}
+use Rattle.std.specs.List.{slice_get}
+use Rattle.fl_find.specs.Index.{error_in, most_reads}
+use Rattle.fl_find.specs.Looking.{LookFails}
+use Rattle.fl_find.specs.Looking as find
+use Rattle.fl_find.specs.Pages.{rows_on, rows_where, Holds, IsBadPage, bytes_at}
+use Rattle.fl_find.specs.Rows.{HasKey, LacksKey, LooksUp}
+use Rattle.fl_find.specs.Standing.{HoldsPages, HoldsEntries}
+use Rattle.fl_find.specs.declared.row.PageRow.{PageRow}
+use Rattle.fl_flash.specs.Buffer.{BufferState}
+use Rattle.fl_flash.specs.Flash.{FlashState, page_at}
+use Rattle.fl_flash.specs.declared.flash.FlashFault.TheVariants.{PowerLost, Media}
+use Rattle.fl_flash.specs.Places.{extent}
+use Rattle.fl_mark.specs.Mark.{state_of_page}
+use Rattle.fl_mark.specs.declared.page_state.PageState.{PageState}
+use Rattle.fl_mark.specs.declared.page_state.PageState.TheVariants.{Blank, Torn, Committed, Void}
+use Rattle.fl_model.specs.Image.{rows_at}
+use Rattle.fl_model.specs.Record.{Plan, RowLayout, row_layout}
+use Rattle.fl_model.specs.Ring as rings
+use Rattle.fl_model.specs.Row.{Row, stored_row}
+use Rattle.fl_model.specs.Spline.{bits, is_covered, is_pending_key, lookup_limit, retained, voids_of}
+use Rattle.fl_model.specs.Table as model
+use Rattle.fl_model.specs.Table.{lose, pending_entries}
+use Rattle.fl_model.proofs.Lists.{slice_get-short}
+use Rattle.fl_page.specs.Page.{rows_in}
+use Rattle.fl_page.specs.View.{page_of, layout_of_page, count_of, rows_of}
+use Rattle.fl_page.specs.declared.view.PageView.{PageView}
+use Rattle.fl_page.specs.declared.fault.ReadFault.{ReadFault}
+use Rattle.fl_page.specs.declared.fault.ReadFault.TheVariants as fault
+use Rattle.fl_ring.specs.Place.{shape_of, next_of, oldest_of}
+use Rattle.fl_ring.specs.Ring.{Shape, place}
+use Rattle.fl_ring.specs.declared.ring.Ring.{Ring}
+use Rattle.fl_schema.specs.Schema.{layout_of}
+use Rattle.fl_table.specs.Finding.{Finds, IsRowAt, HoldsIts, HoldsKept, HasBadPage, LookupFails}
+use Rattle.fl_table.specs.Look.{oldest_in}
+use Rattle.fl_table.specs.Memory.{next_in, IsPlanned, LiesOn}
+use Rattle.fl_table.specs.Standing.{Stands}
+use Rattle.fl_table.specs.declared.find.RowAt.TheVariants as at
+use Rattle.fl_table.specs.declared.table.Table.{Table}
+use Rattle.fl_table.proofs.KeptRead.{ring-place, shown}
+use Rattle.fl_table.proofs.KeyRows.{length-rows_from}
+use Rattle.fl_table.proofs.PendingRows.{written-found, written-none, pending-found, pending-none}
+use Rattle.fl_table.proofs.SealAnswers.{planned-ring}
+use Rattle.fl_table.proofs.States.{shape_in}
+
+some-same : (a b : Ring) → Some a ≡ Some b → a ≡ b
+some-same a b h = cc
+
+-- the kept pages hold what is written
+pub holds-pages : (t : Table) (f : FlashState) (first : ℕ) (plan : Plan) (table : model.Table) (ring : Ring) → Stands t f first plan table → LiesOn t f → f.start + extent f.geometry f.blocks ≤ length f.media.content →
+    t.ring ≡ Some ring → IsTrue f.media.tells → HoldsPages (layout_of t.schema) ring f plan table
+holds-pages t f first plan table ring stands lies reaches is tells =
+    let same : stands.memory.ring ≡ ring = some-same stands.memory.ring ring (sym stands.memory.ring_is ∙ is) in
+    let shape : shape_in first plan ≡ shape_of ring = sym (t.lies ring is ∙ planned-ring t first plan stands.planned) in
+    record {
+      tells = tells;
+      facts = stands.facts;
+      next = ap next_of (sym same) ∙ stands.memory.next;
+      oldest = ap oldest_of (sym same) ∙ stands.memory.oldest;
+      pages = λ i count e.
+          let s = shown t f first plan table stands lies reaches i count e in
+          subst (λ (l : RowLayout). HoldsEntries l (rings.oldest table.rows + i) (rows_at (lose table) i count) (bytes_at (shape_of ring) f (rings.oldest table.rows + i))) stands.planned.layout
+          (subst (λ (p : Shape). HoldsEntries (row_layout plan) (rings.oldest table.rows + i) (rows_at (lose table) i count) (page_at f (place p (rings.oldest table.rows + i)))) shape
+          (record { good = s.good; rows = s.rows }));
+    }
+
+-- ---- a key that isn't pending
+
+module _ (t : Table) (f : FlashState) (first : ℕ) (plan : Plan) (table : model.Table) (stands : Stands t f first plan table) (key before now : ℕ) (buf : BufferState) where
+  pub finds-page : (place : Option PageRow) → is_pending_key table key ≡ false → LooksUp 64 plan (layout_of t.schema) table key before now (Ok place) buf →
+      Finds 64 plan table key before now buf (Ok (option_map at.InPage place))
+  finds-page None is h = record { entry = written-none plan table stands.facts key is h.entry; exact = λ p covered. h.exact covered; some = tt }
+  finds-page (Some place) is h = record {
+    entry = record {
+      entry = h.entry.entry;
+      found = written-found plan table stands.facts key h.entry.entry h.entry.found;
+      row = subst (λ (l : RowLayout). slice_get (rows_on l buf.bytes) place.row ≡ Some (stored_row h.entry.entry)) (sym stands.planned.layout) h.entry.row;
+    };
+    exact = λ p covered. h.exact covered;
+    some = h.some;
+  }
+
+  pub finds-fault : (e : ReadFault) → is_pending_key table key ≡ false → LooksUp 64 plan (layout_of t.schema) table key before now (Err e) buf → Finds 64 plan table key before now buf (Err e)
+  finds-fault (fault.Flash e) is h = is
+  finds-fault (fault.BadPage bad) is h = h
+
+  -- ---- a pending key
+
+  pub finds-pending : (place : Option ℕ) → is_pending_key table key ≡ true →
+      MatchOption place (LacksKey (map stored_row (pending_entries table)) key) (λ i. HasKey (map stored_row (pending_entries table)) key i) →
+      Finds 64 plan table key before now buf (Ok (option_map at.Pending place))
+  finds-pending None is h = record { entry = pending-none plan table stands.facts key is h; exact = λ p covered. absurd (no (sym is ∙ p)); some = tt }
+    where
+      no : true ≡ false → ⊥
+      no e = cc
+  finds-pending (Some i) is h =
+      let x = pending-found plan table stands.facts key i h in
+      record { entry = record { entry = x.0; found = x.1; row = x.2 }; exact = λ p covered. absurd (no (sym is ∙ p)); some = tt }
+    where
+      no : true ≡ false → ⊥
+      no e = cc
+
+-- ---- over any bytes
+
+pub oldest-in : (t : Table) (ring : Ring) → t.ring ≡ Some ring → oldest_in t ≡ oldest_of ring
+oldest-in t ring is = rw is refl
+
+pub next-in : (t : Table) (ring : Ring) → t.ring ≡ Some ring → next_in t ≡ next_of ring
+next-in t ring is = rw is refl
+
+-- a page that a buffer holds
+pub holds-kept : (t : Table) (f : FlashState) (ring : Ring) (number : ℕ) (buf : BufferState) → t.ring ≡ Some ring → (oldest_of ring ≤ number) × (number < next_of ring) → Holds (layout_of t.schema) (shape_of ring) f number buf →
+    HoldsKept t f number buf
+holds-kept t f ring number buf is kept h = record {
+  kept = (omega (arith, oldest-in t ring is, kept.0), omega (arith, next-in t ring is, kept.1));
+  holds = h.holds ∙ ap (λ (n : ℕ). Some n) (sym (ring-place t ring number is));
+  committed = h.committed;
+  good = h.good;
+  bytes = λ told. h.bytes told ∙ ap (page_at f) (sym (ring-place t ring number is));
+}
+
+pub here-page : (t : Table) (f : FlashState) (ring : Ring) (key : ℕ) (buf : BufferState) (place : Option PageRow) → length buf.bytes ≤ 4096 →
+    IfSome place (λ p. Holds (layout_of t.schema) (shape_of ring) f p.number buf) → IfSome place (λ p. HasKey (rows_on (layout_of t.schema) buf.bytes) key p.row) →
+    IfSome (option_map at.InPage place) (IsRowAt t buf)
+here-page t f ring key buf None few holds has = tt
+here-page t f ring key buf (Some place) few holds has = (few, holds.good, slice_get-short (rows_on (layout_of t.schema) buf.bytes) place.row has.row has.here)
+
+pub holds-page : (t : Table) (f : FlashState) (ring : Ring) (buf : BufferState) (place : Option PageRow) → t.ring ≡ Some ring →
+    IfSome place (λ p. (oldest_of ring ≤ p.number) × (p.number < next_of ring)) → IfSome place (λ p. Holds (layout_of t.schema) (shape_of ring) f p.number buf) →
+    IfSome (option_map at.InPage place) (HoldsIts t f buf)
+holds-page t f ring buf None is kept holds = tt
+holds-page t f ring buf (Some place) is kept holds = holds-kept t f ring place.number buf is kept holds
+
+pub holds-found : (t : Table) (f : FlashState) (ring : Ring) (buf : BufferState) (page : Option ℕ) → t.ring ≡ Some ring →
+    IfSome page (λ n. (oldest_of ring ≤ n) × (n < next_of ring)) → IfSome page (λ n. Holds (layout_of t.schema) (shape_of ring) f n buf) →
+    IfSome page (λ n. HoldsKept t f n buf)
+holds-found t f ring buf None is kept holds = tt
+holds-found t f ring buf (Some number) is kept holds = holds-kept t f ring number buf is kept holds
+
+pub lookup-fails : (t : Table) (ring : Ring) (old : FlashState) (e : ReadFault) (new : FlashState) → t.ring ≡ Some ring → LookFails (layout_of t.schema) ring old e new → LookupFails t old e new
+lookup-fails t ring old (fault.Flash PowerLost) new is h = (h.0, omega (arith, oldest-in t ring is, next-in t ring is, h.1))
+lookup-fails t ring old (fault.Flash Media) new is h = h
+lookup-fails t ring old (fault.BadPage bad) new is h = (λ told. of (h.0 told), h.1)
+  where
+    of : find.HasBadPage (layout_of t.schema) ring old bad → HasBadPage t old bad
+    of page = record {
+      number = page.number;
+      kept = (omega (arith, oldest-in t ring is, page.kept.from), omega (arith, next-in t ring is, page.kept.before));
+      is_bad = subst (λ p. IsBadPage (layout_of t.schema) page.number (page_at old p) bad) (sym (ring-place t ring page.number is)) page.is_bad;
+    }
+
+-- ---- the row at a place
+
+where-some : (layout : RowLayout) (page : List ℕ) (s : PageState) → 0 < length (rows_where s layout page) → rows_where s layout page ≡ rows_in layout page
+where-some layout page Committed some = refl
+where-some layout page Blank some = absurd (omega (arith, some))
+where-some layout page Torn some = absurd (omega (arith, some))
+where-some layout page Void some = absurd (omega (arith, some))
+
+pub rows-some : (layout : RowLayout) (page : List ℕ) (row : ℕ) → row < length (rows_on layout page) → rows_on layout page ≡ rows_in layout page
+rows-some layout page row less = where-some layout page (state_of_page page) (omega (arith, less))
+
+-- the rows of a view are as many as it counts
+pub row-within : (layout : RowLayout) (page : List ℕ) (view : PageView 8) (row : ℕ) → row < length (rows_on layout page) → rows_of view ≡ rows_in layout page → row < count_of view
+row-within layout page view row less is =
+    let many : length (rows_of view) ≡ count_of view = length-rows_from (count_of view) (layout_of_page view) (drop 16 (page_of view)) in
+    omega (arith, less, ap (λ (rows : List Row). length rows) (rows-some layout page row less), ap (λ (rows : List Row). length rows) is, many)
+
+pub row-shown : (t : Table) (first : ℕ) (plan : Plan) (page : List ℕ) (view : PageView 8) (at : ℕ) (row : Row) → IsPlanned t first plan → at < length (rows_on (layout_of t.schema) page) →
+    rows_of view ≡ rows_in (layout_of t.schema) page → slice_get (rows_of view) at ≡ Some row → slice_get (rows_on (row_layout plan) page) at ≡ Some row
+row-shown t first plan page view at row planned less is e =
+    ap (λ (l : RowLayout). slice_get (rows_on l page) at) planned.layout
+    ∙ (ap (λ (rows : List Row). slice_get rows at) (rows-some (layout_of t.schema) page at less ∙ sym is) ∙ e)
+
+-- ---- the greatest number of reads
+
+pub limit-told : (t : Table) (f : FlashState) (first : ℕ) (plan : Plan) (table : model.Table) (key pages : ℕ) → Stands t f first plan table → is_pending_key table key ≡ false → pages ≡ length table.rows.counts →
+    most_reads t.index pages t.voids key ≡ lookup_limit 64 plan table key
+limit-told t f first plan table key pages stands is many =
+    ap (λ (l : List (ℕ × ℕ)). if is_covered l key then 2 * error_in t.index + 2 + t.voids else bits pages + 1 + t.voids) stands.memory.index.knots
+    ∙ (ap (λ e. if is_covered (retained 64 plan.error table.points) key then 2 * e + 2 + t.voids else bits pages + 1 + t.voids) (sym stands.planned.error)
+    ∙ (ap (λ v. if is_covered (retained 64 plan.error table.points) key then 2 * plan.error + 2 + v else bits pages + 1 + v) stands.memory.voids
+    ∙ (ap (λ n. if is_covered (retained 64 plan.error table.points) key then 2 * plan.error + 2 + voids_of table else bits n + 1 + voids_of table) many
+    ∙ sym (ap (λ (b : Bool). if b then 0 else if is_covered (retained 64 plan.error table.points) key then 2 * plan.error + 2 + voids_of table else bits (length table.rows.counts) + 1 + voids_of table) is))))

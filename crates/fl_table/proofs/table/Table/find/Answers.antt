@@ -1,0 +1,89 @@
+use Rattle.std.proofs.Common.{rules, ◌≡◌, ◌≤◌, true, false, Option, option_map, Ok, length, refl, sym, ◌∙◌, ap, subst, arith}
+use Rattle.std.specs.Prelude.{IfSome}
+use Rattle.fl_model.specs.Spline.{is_pending_key}
+use Rattle.fl_base.specs.declared.types.Geometry.{Geometry}
+use Rattle.fl_table.specs.Finding.{Finds, FindsPending, IsRowAt, HoldsIts}
+use Rattle.fl_table.specs.declared.find.RowAt.{RowAt}
+use Rattle.fl_table.specs.declared.find.RowAt.TheVariants as at
+use Rattle.fl_table.proofs.Finds.{holds-pages, finds-page, finds-fault, finds-pending, here-page, holds-page}
+use Rattle.fl_table.proofs.Slots.{steps-model}
+use Rattle.fl_table.proofs.table.Table.find.Goals as goal
+
+no : false ≡ true → ⊥
+no e = cc
+
+pub returns-then-is_pending_key-clause-finds : goal.returns-then-is_pending_key-clause-finds
+returns-then-is_pending_key-clause-finds g c = λ first plan table tells stands.
+    let f = g.F.Flash.state c.args.flash.now in
+    let e : c.map.result ≡ option_map at.Pending c.pending_place.result = search rules in
+    subst (λ (o : Option RowAt). Finds 64 plan table c.args.key f.work.reads f.work.reads c.args.buf.now (Ok o)) (sym e)
+    (finds-pending c.args.self.now f first plan table stands c.args.key f.work.reads f.work.reads c.args.buf.now c.pending_place.result
+    (sym (c.is_pending_key.ensures.stands f first plan table stands) ∙ c.if-is_pending_key.true) (c.pending_place.ensures.stands f first plan table stands))
+
+pub returns-in-Ok-clause-finds : goal.returns-in-Ok-clause-finds
+returns-in-Ok-clause-finds g c = λ first plan table tells stands.
+    let f = g.F.Flash.state c.args.flash.now in
+    let pending : is_pending_key table c.args.key ≡ false = sym (c.is_pending_key.ensures.stands f first plan table stands) ∙ c.if-is_pending_key.false in
+    let holds = holds-pages c.args.self.now f first plan table c.in-Some.ring stands c.requires.lies (g.met.F.Flash.reaches c.args.flash.now) c.in-Some.is tells in
+    let e : c.map-in-Ok.result ≡ option_map at.InPage c.in-Ok.found = search rules in
+    subst (λ (o : Option RowAt). Finds 64 plan table c.args.key f.work.reads (g.F.Flash.state c.find.new.flash).work.reads c.find.new.buf (Ok o)) (sym e)
+    (finds-page c.args.self.now f first plan table stands c.args.key f.work.reads (g.F.Flash.state c.find.new.flash).work.reads c.find.new.buf c.in-Ok.found pending
+    (c.in-Ok.ensures.entry plan table holds stands.points stands.memory.index))
+
+pub returns-in-Ok-clause-reads : goal.returns-in-Ok-clause-reads
+returns-in-Ok-clause-reads g c = λ first plan table tells stands.
+    let f = g.F.Flash.state c.args.flash.now in
+    let holds = holds-pages c.args.self.now f first plan table c.in-Some.ring stands c.requires.lies (g.met.F.Flash.reaches c.args.flash.now) c.in-Some.is tells in
+    c.find.ensures.reads plan table holds stands.points stands.memory.index (sym (c.is_pending_key.ensures.stands f first plan table stands) ∙ c.if-is_pending_key.false)
+
+pub returns-in-Ok-clause-pending : goal.returns-in-Ok-clause-pending
+returns-in-Ok-clause-pending g c = λ first plan table stands is.
+    absurd (no (sym c.if-is_pending_key.false ∙ (c.is_pending_key.ensures.stands (g.F.Flash.state c.args.flash.now) first plan table stands ∙ is)))
+
+pub returns-in-Ok-clause-here : goal.returns-in-Ok-clause-here
+returns-in-Ok-clause-here g c =
+    let e : c.map-in-Ok.result ≡ option_map at.InPage c.in-Ok.found = search rules in
+    let few : length c.find.new.buf.bytes ≤ 4096 = omega (arith, c.in-Ok.ensures.room, c.requires.room, ap (λ (s : Geometry). s.page) c.requires.lies.geometry, c.args.self.now.served.page_greatest) in
+    subst (λ (o : Option RowAt). IfSome o (IsRowAt c.args.self.now c.find.new.buf)) (sym e)
+    (here-page c.args.self.now (g.F.Flash.state c.find.new.flash) c.in-Some.ring c.args.key c.find.new.buf c.in-Ok.found few c.in-Ok.ensures.holds c.in-Ok.ensures.row)
+
+pub returns-in-Ok-clause-holds : goal.returns-in-Ok-clause-holds
+returns-in-Ok-clause-holds g c =
+    let e : c.map-in-Ok.result ≡ option_map at.InPage c.in-Ok.found = search rules in
+    subst (λ (o : Option RowAt). IfSome o (HoldsIts c.args.self.now (g.F.Flash.state c.find.new.flash) c.find.new.buf)) (sym e)
+    (holds-page c.args.self.now (g.F.Flash.state c.find.new.flash) c.in-Some.ring c.find.new.buf c.in-Ok.found c.in-Some.is c.in-Ok.ensures.within c.in-Ok.ensures.holds)
+
+pub returns-in-Err-clause-finds : goal.returns-in-Err-clause-finds
+returns-in-Err-clause-finds g c = λ first plan table tells stands.
+    let f = g.F.Flash.state c.args.flash.now in
+    let pending : is_pending_key table c.args.key ≡ false = sym (c.is_pending_key.ensures.stands f first plan table stands) ∙ c.if-is_pending_key.false in
+    let holds = holds-pages c.args.self.now f first plan table c.in-Some.ring stands c.requires.lies (g.met.F.Flash.reaches c.args.flash.now) c.in-Some.is tells in
+    finds-fault c.args.self.now f first plan table stands c.args.key f.work.reads (g.F.Flash.state c.find.new.flash).work.reads c.find.new.buf c.in-Err.fault pending (c.in-Err.ensures.entry plan table holds stands.points stands.memory.index)
+
+pub returns-in-Err-clause-reads : goal.returns-in-Err-clause-reads
+returns-in-Err-clause-reads g c = λ first plan table tells stands.
+    let f = g.F.Flash.state c.args.flash.now in
+    let holds = holds-pages c.args.self.now f first plan table c.in-Some.ring stands c.requires.lies (g.met.F.Flash.reaches c.args.flash.now) c.in-Some.is tells in
+    c.find.ensures.reads plan table holds stands.points stands.memory.index (sym (c.is_pending_key.ensures.stands f first plan table stands) ∙ c.if-is_pending_key.false)
+
+pub returns-in-Err-clause-pending : goal.returns-in-Err-clause-pending
+returns-in-Err-clause-pending g c = λ first plan table stands is.
+    absurd (no (sym c.if-is_pending_key.false ∙ (c.is_pending_key.ensures.stands (g.F.Flash.state c.args.flash.now) first plan table stands ∙ is)))
+
+pub returns-in-Ok-clause-slot : goal.returns-in-Ok-clause-slot
+returns-in-Ok-clause-slot g c = λ first plan table count stands is.
+    steps-model c.args.self.now (g.F.Flash.state c.args.flash.now) first plan table c.args.key count _ _ stands is c.find.ensures.comparisons
+
+pub returns-in-Err-clause-slot : goal.returns-in-Err-clause-slot
+returns-in-Err-clause-slot g c = λ first plan table count stands is.
+    steps-model c.args.self.now (g.F.Flash.state c.args.flash.now) first plan table c.args.key count _ _ stands is c.find.ensures.comparisons
+
+pub returns-then-is_pending_key-clause-pending : goal.returns-then-is_pending_key-clause-pending
+returns-then-is_pending_key-clause-pending g c = λ first plan table stands is.
+    let f = g.F.Flash.state c.args.flash.now in
+    let e : c.map.result ≡ option_map at.Pending c.pending_place.result = search rules in (
+      refl,
+      refl,
+      subst (λ (o : Option RowAt). FindsPending plan table c.args.key c.args.buf.now (Ok o)) (sym e)
+          (finds-pending c.args.self.now f first plan table stands c.args.key 0 0 c.args.buf.now c.pending_place.result is (c.pending_place.ensures.stands f first plan table stands)).entry,
+    )

@@ -1,0 +1,109 @@
+-- What a lookup in a table finds, and how many pages it reads.
+use Rattle.std.specs.Prelude.{◌≡◌, ℕ, ◌-◌, ◌<◌, ◌≤◌, true, false, Option, Some, None, IsTrue, length, Result, Ok, Err, slice_get, map}
+use Rattle.fl_find.specs.Index.{knots_in, shift_in}
+use Rattle.fl_find.specs.Pages.{rows_on, IsBadPage}
+use Rattle.fl_flash.specs.Buffer.{BufferState}
+use Rattle.fl_flash.specs.Flash.{FlashState, page_at}
+use Rattle.fl_flash.specs.declared.flash.FlashFault.TheVariants.{PowerLost, Media}
+use Rattle.fl_mark.specs.Mark.{state_of_page}
+use Rattle.fl_mark.specs.declared.page_state.PageState.TheVariants.{Committed}
+use Rattle.fl_model.specs.Record.{Plan, row_layout}
+use Rattle.fl_model.specs.Row.{Row, stored_row}
+use Rattle.fl_model.specs.Table as model
+use Rattle.fl_model.specs.Table.{Entry, pending_entries}
+use Rattle.fl_model.specs.Query.{entry_at}
+use Rattle.fl_model.specs.Spline.{retained, is_covered, is_pending_key, lookup_reads}
+use Rattle.fl_page.specs.Page.{IsGoodPage}
+use Rattle.fl_page.specs.declared.fault.BadPage.{BadPage}
+use Rattle.fl_page.specs.declared.fault.ReadFault.{ReadFault}
+use Rattle.fl_page.specs.declared.fault.ReadFault.TheVariants as fault
+use Rattle.fl_radix.specs.Slots.{first_key, last_key, knots_in_slot, IsLeastShift}
+use Rattle.fl_ring.specs.Looking.{ReadFails}
+use Rattle.fl_search.specs.Search.{RoseBy, RoseSome}
+use Rattle.fl_table.specs.Kept.{place_of}
+use Rattle.fl_table.specs.Look.{layout_in, oldest_in}
+use Rattle.fl_table.specs.Memory.{next_in, pending_in}
+use Rattle.fl_table.specs.declared.find.RowAt.{RowAt}
+use Rattle.fl_table.specs.declared.find.RowAt.TheVariants as at
+use Rattle.fl_table.specs.declared.table.Table.{Table}
+
+-- how many knots stand in the slot of a key
+abbrev pub knots_near : Table → ℕ → ℕ
+knots_near t key = knots_in_slot (knots_in t.index) (shift_in t.index) key
+
+-- how many of a table's knots stand in the slot of a key, where 64 slots are as narrow as they may be
+pub record IsInSlot (plan : Plan) (table : model.Table) (key count : ℕ) : Type 0 where
+  pub shift : ℕ
+  pub narrow : IsLeastShift 64 (last_key (retained 64 plan.error table.points) - first_key (retained 64 plan.error table.points)) shift
+  pub count_is : count ≡ knots_in_slot (retained 64 plan.error table.points) shift key
+
+-- the row at a place: a pending one, or one of the page in the buffer
+abbrev pub row_of_place : Plan → model.Table → BufferState → RowAt → Option Row
+row_of_place plan table buf (at.Pending i) = slice_get (map stored_row (pending_entries table)) i
+row_of_place plan table buf (at.InPage place) = slice_get (rows_on (row_layout plan) buf.bytes) place.row
+
+-- a kept page of a running table stands in the buffer, with its rows; its bytes are those of the flash, where that tells them
+pub record HoldsKept (t : Table) (f : FlashState) (number : ℕ) (buf : BufferState) : Type 0 where
+  pub kept : (oldest_in t ≤ number) × (number < next_in t)
+  pub holds : buf.holds ≡ Some (place_of t number)
+  pub committed : state_of_page buf.bytes ≡ Committed
+  pub good : IsGoodPage (layout_in t) number buf.bytes
+  pub bytes : IsTrue f.media.tells → buf.bytes ≡ page_at f (place_of t number)
+
+-- there is a row at the place: a pending one, or one of the page in the buffer
+abbrev pub IsRowAt : Table → BufferState → RowAt → Type 0
+IsRowAt t buf (at.Pending i) = i < pending_in t
+IsRowAt t buf (at.InPage place) =
+    (length buf.bytes ≤ 4096) × IsGoodPage (layout_in t) place.number buf.bytes × (place.row < length (rows_on (layout_in t) buf.bytes))
+
+-- where a row isn't pending its page stands in the buffer
+abbrev pub HoldsIts : Table → FlashState → BufferState → RowAt → Type 0
+HoldsIts t f buf (at.Pending i) = Unit {0}
+HoldsIts t f buf (at.InPage place) = HoldsKept t f place.number buf
+
+-- it is the row of the entry with the key
+pub record ShowsEntry (plan : Plan) (table : model.Table) (key : ℕ) (buf : BufferState) (place : RowAt) : Type 0 where
+  pub entry : Entry
+  pub found : entry_at key table.entries ≡ Some entry
+  pub row : row_of_place plan table buf place ≡ Some (stored_row entry)
+
+-- the entry with the key, or none where there is none
+abbrev pub FindsEntry : Plan → model.Table → ℕ → BufferState → Option RowAt → Type 0
+FindsEntry plan table key buf None = entry_at key table.entries ≡ None
+FindsEntry plan table key buf (Some place) = ShowsEntry plan table key buf place
+
+-- a row that was found in a page took a read
+abbrev pub TookReads : ℕ → ℕ → Option RowAt → Type 0
+TookReads before now None = Unit {0}
+TookReads before now (Some (at.Pending i)) = Unit {0}
+TookReads before now (Some (at.InPage place)) = RoseSome before now
+
+-- a lookup ended; the count of reads rose from one number to another
+pub record IsFound (knots : ℕ) (plan : Plan) (table : model.Table) (key before now : ℕ) (buf : BufferState) (place : Option RowAt) : Type 0 where
+  pub entry : FindsEntry plan table key buf place
+  pub exact : is_pending_key table key ≡ false → is_covered (retained knots plan.error table.points) key ≡ true → RoseBy (lookup_reads knots plan table key) before now
+  pub some : TookReads before now place
+
+-- it ends so unless a read fails, and a pending key needs none; no page is bad
+abbrev pub Finds : ℕ → Plan → model.Table → ℕ → ℕ → ℕ → BufferState → Result (Option RowAt) ReadFault → Type 0
+Finds knots plan table key before now buf (Ok place) = IsFound knots plan table key before now buf place
+Finds knots plan table key before now buf (Err (fault.Flash e)) = is_pending_key table key ≡ false
+Finds knots plan table key before now buf (Err (fault.BadPage bad)) = ⊥
+
+-- a key that is pending is looked for in memory, which never fails
+abbrev pub FindsPending : Plan → model.Table → ℕ → BufferState → Result (Option RowAt) ReadFault → Type 0
+FindsPending plan table key buf (Ok place) = FindsEntry plan table key buf place
+FindsPending plan table key buf (Err e) = ⊥
+
+-- a kept page is committed, and has another number or no count that a page has
+pub record HasBadPage (t : Table) (f : FlashState) (bad : BadPage) : Type 0 where
+  pub number : ℕ
+  pub kept : (oldest_in t ≤ number) × (number < next_in t)
+  pub is_bad : IsBadPage (layout_in t) number (page_at f (place_of t number)) bad
+
+-- why a lookup fails: the power was off and there are pages; or in a read the medium failed; or a kept page that was
+-- read is bad, which is told where the flash tells its bytes
+abbrev pub LookupFails : Table → FlashState → ReadFault → FlashState → Type 0
+LookupFails t old (fault.Flash PowerLost) new = ReadFails old PowerLost new × (oldest_in t < next_in t)
+LookupFails t old (fault.Flash Media) new = ReadFails old Media new × RoseSome old.work.reads new.work.reads
+LookupFails t old (fault.BadPage bad) new = (IsTrue old.media.tells → HasBadPage t old bad) × RoseSome old.work.reads new.work.reads

@@ -1,0 +1,136 @@
+// A lookup: the row of a key, among the pending rows or in the kept pages.
+ghost use Rattle.std.specs.Prelude.{◌≡◌, ◌+◌, ◌-◌, ◌<◌, ◌≤◌, ◌^◌, min, ℕ, true, length, IsTrue, IfSome, IfOk, IfErr};
+ghost use Rattle.fl_page.specs.Contents as contents;
+
+use crate::table::Table;
+use fl_base::Steps;
+use fl_find::PageRow;
+use fl_flash::{Flash, PageBuf};
+use fl_page::ReadFault;
+use fl_schema::RowRef;
+
+/// The place of a row: among the pending rows, counted from 0, or in a kept page.
+#[derive(Clone, Copy, Debug, PartialEq, Eq)]
+pub enum RowAt {
+    Pending(usize),
+    InPage(PageRow),
+}
+
+impl Table {
+    ghost use Rattle.std.specs.Prelude.{Some, false};
+    ghost use Rattle.fl_find.specs.Finding.{FindsPage};
+    ghost use Rattle.fl_find.specs.Pages.{IsFresh};
+    ghost use Rattle.fl_flash.specs.Flash.{FlashState};
+    ghost use Rattle.fl_model.specs.Record.{Plan};
+    ghost use Rattle.fl_model.specs.Spline.{bits, is_pending_key, lookup_limit};
+    ghost use Rattle.fl_model.specs.Table as model;
+    ghost use Rattle.fl_table.specs.Finding.{Finds, FindsPending, IsRowAt, HoldsIts, HoldsKept, LookupFails, IsInSlot, knots_near, row_of_place};
+    ghost use Rattle.fl_schema.specs.Schema.{layout_of_row, row_of};
+    ghost use Rattle.fl_table.specs.Look.{layout_in, oldest_in};
+    ghost use Rattle.fl_table.specs.Memory.{is_running, next_in, LiesOn};
+    ghost use Rattle.fl_table.specs.Standing.{Stands};
+
+    /// The greatest number of reads of `find`.
+    pub fn lookup_limit(&self, key: u64) -> u64
+        ensures stands { (f : FlashState) → (first : ℕ) → (plan : Plan) → (table : model.Table) → Stands self.now f first plan table → result ≡ lookup_limit 64 plan table key }
+    {
+        if self.is_pending_key(key) {
+            return 0;
+        }
+        let pages = self.next_number() - self.oldest();
+        self.index.lookup_limit(key, pages, self.voids)
+    }
+
+    /// The row with the key, and none where no record has it. Where it isn't pending the buffer holds its page then.
+    ///
+    /// For a key that is at least the first pending one nothing is read. The comparisons with knots are counted.
+    pub fn find<F: Flash>(
+        &self,
+        flash: &mut F,
+        key: u64,
+        buf: &mut PageBuf,
+        steps: &mut Steps,
+    ) -> Result<Option<RowAt>, ReadFault>
+        requires running { is_running self.now ≡ true }
+        requires lies { LiesOn self.now (F.state flash.old) }
+        requires room { length buf.old.bytes ≡ (F.state flash.old).geometry.page }
+        ensures finds { (first : ℕ) → (plan : Plan) → (table : model.Table) → IsTrue (F.state flash.old).media.tells → Stands self.now (F.state flash.old) first plan table →
+            Finds 64 plan table key (F.state flash.old).work.reads (F.state flash.new).work.reads buf.new result }
+        ensures reads { (first : ℕ) → (plan : Plan) → (table : model.Table) → IsTrue (F.state flash.old).media.tells → Stands self.now (F.state flash.old) first plan table →
+            (F.state flash.new).work.reads ≤ (F.state flash.old).work.reads + lookup_limit 64 plan table key }
+        ensures pending { (first : ℕ) → (plan : Plan) → (table : model.Table) → Stands self.now (F.state flash.old) first plan table → is_pending_key table key ≡ true →
+            (F.state flash.new ≡ F.state flash.old) × (buf.new ≡ buf.old) × FindsPending plan table key buf.new result }
+        ensures most { (F.state flash.new).work.reads ≤ (F.state flash.old).work.reads + (next_in self.now - oldest_in self.now) + 1 }
+        ensures counts { contents.OnlyReads (F.state flash.old) (F.state flash.new) }
+        ensures lies { LiesOn self.now (F.state flash.new) }
+        ensures room { length buf.new.bytes ≡ length buf.old.bytes }
+        ensures here { IfOk result (λ found. IfSome found (IsRowAt self.now buf.new)) }
+        ensures holds { IfOk result (λ found. IfSome found (HoldsIts self.now (F.state flash.new) buf.new)) }
+        ensures fresh { IsFresh (F.state flash.old) buf.old → IsFresh (F.state flash.new) buf.new }
+        ensures fails { IfErr result (λ e. LookupFails self.now (F.state flash.old) e (F.state flash.new)) }
+        ensures later { min steps.old (2 ^ 64 - 1) ≤ steps.new }
+        ensures comparisons { steps.new ≤ steps.old + bits (knots_near self.now key) + 2 }
+        ensures slot { (first : ℕ) → (plan : Plan) → (table : model.Table) → (count : ℕ) → Stands self.now (F.state flash.old) first plan table → IsInSlot plan table key count →
+            steps.new ≤ steps.old + bits count + 2 }
+    {
+        if self.is_pending_key(key) {
+            return Ok(self.pending_place(key).map(RowAt::Pending));
+        }
+        let Some(ring) = &self.ring else {
+            unreachable!()
+        };
+        match self.index.find(ring, &self.schema, flash, buf, key, steps) {
+            Ok(found) => Ok(found.map(RowAt::InPage)),
+            Err(fault) => Err(fault),
+        }
+    }
+
+    /// The row at a place that `find` gave, where neither the table nor the buffer changed since.
+    pub fn row_at<'b>(&'b self, buf: &'b PageBuf, place: RowAt) -> RowRef<'b>
+        requires here { IsRowAt self.now buf.now place }
+        ensures layout { layout_of_row result ≡ layout_in self.now }
+        ensures stands { (f : FlashState) → (first : ℕ) → (plan : Plan) → (table : model.Table) → Stands self.now f first plan table → row_of_place plan table buf.now place ≡ Some (row_of result) }
+    {
+        match place {
+            RowAt::Pending(i) => self.pending_row(i),
+            RowAt::InPage(at) => self.view(buf, at.number).row(at.row),
+        }
+    }
+
+    /// The greatest kept page with rows whose first key is at most the key, and none where there is none. The buffer
+    /// holds it then.
+    ///
+    /// Pages are read and comparisons counted as `find` does for a key that isn't pending.
+    pub fn page_of<F: Flash>(
+        &self,
+        flash: &mut F,
+        key: u64,
+        buf: &mut PageBuf,
+        steps: &mut Steps,
+    ) -> Result<Option<u32>, ReadFault>
+        requires running { is_running self.now ≡ true }
+        requires lies { LiesOn self.now (F.state flash.old) }
+        requires room { length buf.old.bytes ≡ (F.state flash.old).geometry.page }
+        ensures finds { (first : ℕ) → (plan : Plan) → (table : model.Table) → IsTrue (F.state flash.old).media.tells → Stands self.now (F.state flash.old) first plan table →
+            FindsPage 64 plan table key (F.state flash.old).work.reads (F.state flash.new).work.reads result }
+        ensures reads { (first : ℕ) → (plan : Plan) → (table : model.Table) → IsTrue (F.state flash.old).media.tells → Stands self.now (F.state flash.old) first plan table →
+            is_pending_key table key ≡ false → (F.state flash.new).work.reads ≤ (F.state flash.old).work.reads + lookup_limit 64 plan table key }
+        ensures most { (F.state flash.new).work.reads ≤ (F.state flash.old).work.reads + (next_in self.now - oldest_in self.now) + 1 }
+        ensures counts { contents.OnlyReads (F.state flash.old) (F.state flash.new) }
+        ensures lies { LiesOn self.now (F.state flash.new) }
+        ensures room { length buf.new.bytes ≡ length buf.old.bytes }
+        ensures holds { IfOk result (λ page. IfSome page (λ number. HoldsKept self.now (F.state flash.new) number buf.new)) }
+        ensures fresh { IsFresh (F.state flash.old) buf.old → IsFresh (F.state flash.new) buf.new }
+        ensures fails { IfErr result (λ e. LookupFails self.now (F.state flash.old) e (F.state flash.new)) }
+        ensures later { min steps.old (2 ^ 64 - 1) ≤ steps.new }
+        ensures comparisons { steps.new ≤ steps.old + bits (knots_near self.now key) + 2 }
+        ensures slot { (first : ℕ) → (plan : Plan) → (table : model.Table) → (count : ℕ) → Stands self.now (F.state flash.old) first plan table → IsInSlot plan table key count →
+            steps.new ≤ steps.old + bits count + 2 }
+    {
+        let Some(ring) = &self.ring else {
+            unreachable!()
+        };
+        self.index
+            .page_of(ring, &self.schema, flash, buf, key, steps)
+    }
+}
