@@ -28,13 +28,13 @@ fn place<F: Flash>(var: &mut VarData, flash: &mut F, bytes: &[u8]) -> Option<Blo
     var.append(flash, bytes).ok()
 }
 
-// Whether the chunks of a blob, joined, are these bytes.
+// Whether the chunks of a blob, joined, are the first of these bytes.
 fn has_bytes<F: Flash>(
     alloc: Global,
     var: &VarData,
     flash: &mut F,
     at: BlobRef,
-    want: &[u8],
+    blob: &[u8],
 ) -> bool
     requires mounted { is_mounted var.now ≡ true }
     requires lies { LiesOn var.now (F.state flash.old) }
@@ -46,7 +46,11 @@ fn has_bytes<F: Flash>(
     let Ok(Some(mut reader)) = var.open_blob(flash, at, &mut buf) else {
         return false;
     };
-    let mut rest = want;
+    let len = at.length as usize;
+    if len > blob.len() {
+        return false;
+    }
+    let mut rest = &blob[..len];
     for _ in 0..100 {
         let Ok(more) = reader.step(flash) else {
             return false;
@@ -105,7 +109,6 @@ fn tells<F: Flash>(alloc: Global, var: &mut VarData, flash: &mut F, blob: &[u8])
     if blob.len() != 100 {
         return false;
     }
-    let front = &blob[..38];
     let cases = [(10, 0, 0), (38, 0, 10), (5, 1, 0), (100, 1, 5), (0, 0, 0)];
     if !are_placed(var, flash, blob, &cases) || flash.work().programs != 6 {
         return false;
@@ -127,7 +130,7 @@ fn tells<F: Flash>(alloc: Global, var: &mut VarData, flash: &mut F, blob: &[u8])
     };
     // One page, and two more before the bytes in the buffer.
     let before = flash.work().reads;
-    if !has_bytes(alloc, var, flash, full, front)
+    if !has_bytes(alloc, var, flash, full, blob)
         || !has_bytes(alloc, var, flash, long, blob)
         || flash.work().reads.saturating_sub(before) != 3
     {
