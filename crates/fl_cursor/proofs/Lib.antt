@@ -12,3 +12,4 @@ pub mod Stepping
 pub mod Beginning
 pub mod Finding
 pub mod Selected
+pub mod Limited

@@ -1,12 +1,15 @@
-use Rattle.std.proofs.Common.{◌≡◌, ℕ, Option, None, List, map, filter, refl, ◌∙◌, ap, subst}
+use Rattle.std.proofs.Common.{◌≡◌, ℕ, Option, None, List, map, filter, refl, sym, ◌∙◌, ap, subst}
 use Rattle.fl_model.specs.Query as query
 use Rattle.fl_model.specs.Row.{Row, stored_row}
 use Rattle.fl_page.specs.Contents.{contents_of}
 use Rattle.fl_page.specs.Steps.{Ascends}
+use Rattle.fl_table.specs.Look.{last_key_in}
 use Rattle.fl_table.specs.declared.table.Table.{Table}
 use Rattle.fl_cursor.specs.Asked.{asked_by, is_left}
 use Rattle.fl_cursor.specs.Cursor.{table_of, asked_of, IsStanding}
 use Rattle.fl_cursor.specs.Listed.{rows_of}
+use Rattle.fl_cursor.specs.Reads.{IsBounded}
+use Rattle.fl_cursor.proofs.Limited.{bounded-min}
 use Rattle.fl_cursor.proofs.Selected.{begins-selected}
 use Rattle.fl_cursor.proofs.Stood.{standing-rows, standing-ascends, left-entries}
 use Rattle.fl_cursor.proofs.cursor.Cursor.begin.Goals as goal
@@ -23,3 +26,8 @@ returns-clause-left c = λ f first plan t tells reaches lies stands.
     ∙ (ap (filter (is_left (query.begin c.args.range c.args.span t))) (standing-rows c.args.table.now (contents_of f) h)
     ∙ (left-entries (query.begin c.args.range c.args.span t) t.entries
     ∙ ap (map stored_row) (begins-selected range span t (subst (Ascends None) (standing-rows c.args.table.now (contents_of f) h) (standing-ascends c.args.table.now (contents_of f) h))))))
+
+pub returns-clause-limit : goal.returns-clause-limit
+returns-clause-limit c = λ f first plan t tells reaches lies stands.
+    c.resume.ensures.limit f first plan t tells reaches lies stands
+    (subst (λ (top : Option ℕ). IsBounded top c.args.range.high) (sym c.last_wanted-top.ensures.exact) (bounded-min c.args.range.high (last_key_in c.args.table.now)))
