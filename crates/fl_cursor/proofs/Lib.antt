@@ -13,3 +13,4 @@ pub mod Beginning
 pub mod Finding
 pub mod Selected
 pub mod Limited
+pub mod Least

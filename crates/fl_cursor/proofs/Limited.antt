@@ -1,20 +1,18 @@
 -- What a cursor that begins reads at most, in the words of the model.
 use Rattle.std.proofs.Common.{◌≡◌, ℕ, zero, suc, ◌+◌, ◌-◌, ◌<◌, ◌≤◌, ◌⊎◌, Bool, true, false, ◌&&◌, ◌||◌, not, cond, min, ◌==◌, nat_le, nat_lt, Option, Some, None, option_map, unwrap_or, List, [], ◌∷◌, length, refl, sym, ◌∙◌, ap, subst, arith, inl, inr, bit_and}
-use Rattle.std.specs.List.{slice_get, list_any, count_by}
+use Rattle.std.specs.List.{count_by}
 use Rattle.std.proofs.lemmas.Bool.{cases_lt, le-leb, eq-eqb}
 use Rattle.std.proofs.lemmas.List.Sums.{sum_by-cons}
 use Rattle.fl_base.specs.declared.types.Span.{Span}
 use Rattle.fl_find.specs.Index.{most_reads}
 use Rattle.fl_find.specs.Pages.{first_key}
 use Rattle.fl_model.specs.Layout.{bitmap_of}
-use Rattle.fl_model.specs.Limits.{mask_of, is_listed, is_indexed, rows_of_page, is_wanted, numbers_from, numbers_of, first_page, last_page, in_pages, is_spanned, scan_limit}
+use Rattle.fl_model.specs.Limits.{mask_of, is_listed, rows_of_page, is_wanted, numbers_from, numbers_of, first_page, last_page, in_pages, is_spanned, scan_limit}
 use Rattle.fl_model.specs.Query.{Cursor}
-use Rattle.fl_model.specs.Record.{Plan, has_index}
-use Rattle.fl_model.specs.Ring as rings
+use Rattle.fl_model.specs.Record.{has_index}
 use Rattle.fl_model.specs.Ring.{Ring}
 use Rattle.fl_model.specs.Row.{Row}
 use Rattle.fl_model.specs.Spline.{page_at, is_pending_key, lookup_limit, voids_of}
-use Rattle.fl_model.specs.Table as model
 use Rattle.fl_model.specs.Table.{full_pages}
 use Rattle.fl_page.specs.Contents.{Contents}
 use Rattle.fl_search.specs.Search.{IsPageOf}
@@ -24,7 +22,7 @@ use Rattle.fl_table.specs.declared.table.Table.{Table}
 use Rattle.fl_table.proofs.Finds.{limit-told}
 use Rattle.fl_table.proofs.Looks.{next-is, oldest-is, pages-is}
 use Rattle.fl_table.proofs.SealAnswers.{planned-plain}
-use Rattle.fl_cursor.specs.Asked.{is_last, lowest_of}
+use Rattle.fl_cursor.specs.Asked.{lowest_of}
 use Rattle.fl_cursor.specs.Cursor.{IsStanding}
 use Rattle.fl_cursor.specs.Listed.{rows_on}
 use Rattle.fl_cursor.specs.Reads.{begins_by, has_last, start_of, most_to_find, pages_to_last, most_from, IsBegun, IsBounded}
