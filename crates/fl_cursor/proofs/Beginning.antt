@@ -1,7 +1,7 @@
 -- The page of the lowest key: where it is, and what is in front of it.
-use Rattle.std.proofs.Common.{◌≡◌, ℕ, zero, suc, ◌+◌, ◌-◌, ◌^◌, ◌<◌, ◌≤◌, ◌⊎◌, Bool, true, false, ◌&&◌, ◌||◌, cond, ◌==◌, nat_le, Option, Some, None, option_map, unwrap_or, List, [], ◌∷◌, ◌++◌, length, map, drop, refl, sym, ◌∙◌, ap, subst, append_assoc, arith, inl, inr}
+use Rattle.std.proofs.Common.{◌≡◌, ℕ, zero, suc, ◌+◌, ◌-◌, ◌<◌, ◌≤◌, Bool, true, false, ◌&&◌, ◌||◌, cond, nat_le, Option, Some, None, option_map, unwrap_or, List, [], ◌∷◌, ◌++◌, map, refl, sym, ◌∙◌, ap, append_assoc, arith}
 use Rattle.std.specs.List.{slice_get, AllByRecursion, list_any}
-use Rattle.std.proofs.lemmas.Bool.{leb-true, le-leb, false_from_ne_true, eqb-true}
+use Rattle.std.proofs.lemmas.Bool.{leb-true, le-leb, false_from_ne_true}
 use Rattle.fl_find.specs.Index.{most_reads}
 use Rattle.fl_find.specs.Pages.{first_key, first_on}
 use Rattle.fl_find.specs.Pages as find
@@ -9,19 +9,14 @@ use Rattle.fl_find.proofs.Modelled.{found}
 use Rattle.fl_flash.specs.Flash.{FlashState, page_at}
 use Rattle.fl_flash.specs.Places.{page_of}
 use Rattle.fl_model.specs.Query.{Cursor, in_range, in_span, is_up_to}
-use Rattle.fl_model.specs.Record.{RowLayout, row_layout}
 use Rattle.fl_model.specs.Ring as rings
 use Rattle.fl_model.specs.Row.{Row, stored_row}
 use Rattle.fl_model.specs.Spline.{page_at as page_with, is_pending_key, lookup_limit}
 use Rattle.fl_model.specs.Table.{Entry, lose, pending_entries}
 use Rattle.fl_page.specs.Contents.{Contents, contents_of}
-use Rattle.fl_page.specs.Page.{rows_in}
-use Rattle.fl_page.specs.Steps.{Ascends}
-use Rattle.fl_ring.specs.Place.{shape_of, next_of, oldest_of}
-use Rattle.fl_ring.specs.Ring.{place}
-use Rattle.fl_search.specs.Search.{IsPageOf, IsGreatest, starts_by}
-use Rattle.fl_table.specs.Kept.{place_of}
-use Rattle.fl_table.specs.Look.{layout_in, oldest_in, rows_noted, buffered_rows}
+use Rattle.fl_ring.specs.Place.{shape_of}
+use Rattle.fl_search.specs.Search.{IsPageOf, starts_by}
+use Rattle.fl_table.specs.Look.{layout_in, oldest_in, buffered_rows}
 use Rattle.fl_table.specs.Memory.{next_in}
 use Rattle.fl_table.specs.Pages.{place_in}
 use Rattle.fl_table.specs.Standing.{Stands}
@@ -33,7 +28,7 @@ use Rattle.fl_table.proofs.Looks.{next-is, oldest-is, pages-is}
 use Rattle.fl_cursor.specs.Ascending.{both}
 use Rattle.fl_cursor.specs.Asked.{is_asked, row_matches, lowest, lowest_of}
 use Rattle.fl_cursor.specs.Cursor.{IsStanding}
-use Rattle.fl_cursor.specs.Listed.{bytes_at, rows_on, rows_over, rows_from, rows_of}
+use Rattle.fl_cursor.specs.Listed.{rows_on, rows_over}
 use Rattle.fl_cursor.specs.Reads.{begins_by, start_among, start_of, most_to_find, pages_asked, raised}
 use Rattle.fl_cursor.proofs.Passing.{each-front, each-back}
 use Rattle.fl_cursor.proofs.Stood.{same-rows, standing-buffered}

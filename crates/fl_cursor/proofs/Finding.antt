@@ -1,8 +1,8 @@
 -- A cursor that finds the page of the lowest key.
-use Rattle.std.proofs.Common.{◌≡◌, ℕ, suc, ◌+◌, ◌-◌, ◌^◌, ◌<◌, ◌≤◌, Bool, true, false, cond, ◌==◌, nat_le, Option, Some, None, option_map, unwrap_or, List, [], ◌∷◌, ◌++◌, length, drop, refl, sym, ◌∙◌, ap, subst, append_assoc, arith}
+use Rattle.std.proofs.Common.{◌≡◌, ℕ, suc, ◌+◌, ◌-◌, ◌^◌, ◌<◌, ◌≤◌, Bool, true, false, cond, ◌==◌, Option, Some, None, List, [], ◌∷◌, ◌++◌, length, drop, refl, sym, ◌∙◌, ap, subst, append_assoc, arith}
 use Rattle.std.specs.Borrow.{MutBor}
 use Rattle.std.specs.List.{slice_get, list_any}
-use Rattle.std.proofs.lemmas.Bool.{leb-true, false_from_ne_true, eqb-true}
+use Rattle.std.proofs.lemmas.Bool.{leb-true, false_from_ne_true}
 use Rattle.fl_find.specs.Pages.{first_key}
 use Rattle.fl_flash.specs.Buffer.{BufferState}
 use Rattle.fl_model.specs.Row.{Row}
@@ -11,8 +11,7 @@ use Rattle.fl_page.specs.Page.{IsGoodPage, rows_in}
 use Rattle.fl_page.specs.Steps.{Ascends}
 use Rattle.fl_search.specs.Search.{IsPageOf}
 use Rattle.fl_table.specs.Look.{layout_in, oldest_in, rows_noted, buffered_rows}
-use Rattle.fl_table.specs.Memory.{is_running, next_in}
-use Rattle.fl_table.specs.declared.table.Table.{Table}
+use Rattle.fl_table.specs.Memory.{next_in}
 use Rattle.fl_table.proofs.KeyRows.{drop-row}
 use Rattle.fl_cursor.specs.Asked.{is_asked, lowest_of}
 use Rattle.fl_cursor.specs.Cursor.{table_of, asked_of, buffer_of, rows_behind, Passes, IsPlaced, IsTold}
@@ -20,7 +19,6 @@ use Rattle.fl_cursor.specs.Going.{Goes, Fails}
 use Rattle.fl_cursor.specs.Listed.{bytes_at, rows_on, rows_over, rows_from, rows_of}
 use Rattle.fl_cursor.specs.Reads.{begins_by, has_last, start_of, most_to_find, pages_to_last, pages_asked, raised, most_from, least_from}
 use Rattle.fl_cursor.specs.declared.cursor.Cursor.{Cursor}
-use Rattle.fl_cursor.specs.declared.place.Place.{Place}
 use Rattle.fl_cursor.specs.declared.place.Place.TheVariants.{Start, Pages, InPage}
 use Rattle.fl_cursor.proofs.Beginning.{start-is, over-split, asked-split, raised-below, raised-fewer, lowest-from}
 use Rattle.fl_cursor.proofs.Passing.{passes-same, each-weaker}
@@ -28,12 +26,12 @@ use Rattle.fl_cursor.proofs.Starting.{starts-behind, ascends-front}
 use Rattle.fl_cursor.proofs.Turning.{turns}
 
 -- the first row of rows that begin by a key
-record Begins (key : ℕ) (rows : List Row) : Type 0 where
-  row : Row
-  first : slice_get rows 0 ≡ Some row
-  up_to : row.key ≤ key
+pub record Begins (key : ℕ) (rows : List Row) : Type 0 where
+  pub row : Row
+  pub first : slice_get rows 0 ≡ Some row
+  pub up_to : row.key ≤ key
 
-begins : (key : ℕ) (rows : List Row) → begins_by key rows ≡ true → Begins key rows
+pub begins : (key : ℕ) (rows : List Row) → begins_by key rows ≡ true → Begins key rows
 begins key [] e = absurd (no e)
   where
     no : false ≡ true → ⊥

@@ -12,3 +12,5 @@ pub mod Stepping
 pub mod Beginning
 pub mod Finding
 pub mod Selected
+pub mod Limited
+pub mod Least

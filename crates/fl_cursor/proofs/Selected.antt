@@ -1,14 +1,16 @@
 -- What a cursor that begins has left: all that matches.
-use Rattle.std.proofs.Common.{◌≡◌, ℕ, ◌≤◌, ◌<◌, min, Bool, true, false, ◌&&◌, cond, nat_le, Option, Some, None, option_map, List, [], ◌∷◌, map, filter, refl, sym, ◌∙◌, ap, subst, arith}
+use Rattle.std.proofs.Common.{◌≡◌, ℕ, ◌≤◌, min, Bool, true, false, ◌&&◌, cond, nat_le, Option, Some, None, option_map, List, [], ◌∷◌, map, filter, refl, sym, ◌∙◌, ap, subst, arith}
 use Rattle.std.specs.List.{slice_get, last_or, AllByRecursion}
 use Rattle.std.proofs.lemmas.Bool.{leb-true, le-leb, ltb-true}
 use Rattle.fl_base.specs.declared.types.KeyRange.{KeyRange}
 use Rattle.fl_base.specs.declared.types.Span.{Span}
-use Rattle.fl_model.specs.Query.{begin, left_of, selected, matches, in_range, in_span, is_up_to, is_above}
+use Rattle.fl_model.specs.Query.{begin, left_of, selected, matches, in_range, in_span, is_up_to}
 use Rattle.fl_model.specs.Row.{stored_row}
 use Rattle.fl_model.specs.Table.{Table, Entry, last_entry}
 use Rattle.fl_page.specs.Steps.{Ascends}
 use Rattle.fl_cursor.specs.Ascending.{both}
+use Rattle.fl_cursor.specs.Asked.{is_asked}
+use Rattle.fl_cursor.proofs.Passing.{each-weaker}
 
 some-same : {a b : Entry} → Some a ≡ Some b → a ≡ b
 some-same e = cc
@@ -44,6 +46,10 @@ same-rows range span last (e ∷ entries) h =
     (filter (λ entry. (matches range span entry.kept && true) && nat_le entry.kept.key (min range.high last)) entries)) (same-test range span last e h.0)
     ∙ ap (λ (xs : List Entry). cond (matches range span e.kept) (e ∷ xs) xs) (same-rows range span last entries h.1)
 
+last-some : (first : Entry) (entries : List Entry) → (last : Entry) × (last_or (Some first) entries ≡ Some last)
+last-some first [] = (first, refl)
+last-some first (e ∷ entries) = last-some e entries
+
 pub begins-selected : (range : KeyRange) (span : Option Span) (table : Table) → Ascends None (map stored_row table.entries) → left_of (begin range span table) table.entries ≡ selected range span table.entries
 begins-selected range span table ascends = by_entries table.entries refl ascends
   where
@@ -55,10 +61,27 @@ begins-selected range span table ascends = by_entries table.entries refl ascends
         ap (λ (o : Option Entry). filter (λ entry. (matches range span entry.kept && true) && is_up_to (option_map (λ (l : Entry). min range.high l.kept.key) o) entry.kept.key) table.entries) top
         ∙ same-rows range span last.kept.key table.entries (subst (AllByRecursion (λ (e : Entry). e.kept.key ≤ last.kept.key)) (sym are) (h.first_too, h.others))
 
-    last-some : (first : Entry) (entries : List Entry) → (last : Entry) × (last_or (Some first) entries ≡ Some last)
-    last-some first [] = (first, refl)
-    last-some first (e ∷ entries) = last-some e entries
-
     by_entries : (entries : List Entry) → table.entries ≡ entries → Ascends None (map stored_row entries) → left_of (begin range span table) table.entries ≡ selected range span table.entries
     by_entries [] are ascends = ap (left_of (begin range span table)) are ∙ sym (ap (selected range span) are)
     by_entries (first ∷ entries) are ascends = let l = last-some first entries in with_last first l.0 entries are l.1 ascends.1
+
+-- it asks for all that matches
+pub all-asked : (range : KeyRange) (span : Option Span) (table : Table) → Ascends None (map stored_row table.entries) →
+    AllByRecursion (λ (e : Entry). matches range span e.kept ≡ true → is_asked (begin range span table) (stored_row e) ≡ true) table.entries
+all-asked range span table ascends = by_entries table.entries refl ascends
+  where
+    asks : (last e : Entry) → last_entry table ≡ Some last → e.kept.key ≤ last.kept.key → matches range span e.kept ≡ true → is_asked (begin range span table) (stored_row e) ≡ true
+    asks last e top le is =
+        let up_to : nat_le e.kept.key (min range.high last.kept.key) ≡ true = sym (ap (λ b. (b && true) && nat_le e.kept.key (min range.high last.kept.key)) is) ∙ (same-test range span last.kept.key e le ∙ is) in
+        ap (λ (o : Option Entry). matches range span e.kept && is_up_to (option_map (λ (l : Entry). min range.high l.kept.key) o) e.kept.key) top
+        ∙ (ap (λ b. b && nat_le e.kept.key (min range.high last.kept.key)) is ∙ up_to)
+
+    by_entries : (entries : List Entry) → table.entries ≡ entries → Ascends None (map stored_row entries) →
+        AllByRecursion (λ (e : Entry). matches range span e.kept ≡ true → is_asked (begin range span table) (stored_row e) ≡ true) entries
+    by_entries [] are ascends = tt
+    by_entries (first ∷ entries) are ascends =
+        let l = last-some first entries in
+        let h = up-to-last l.0 first entries l.1 ascends.1 in
+        let top : last_entry table ≡ Some l.0 = ap (last_or None) are ∙ l.1 in
+        each-weaker (λ (e : Entry). e.kept.key ≤ l.0.kept.key) (λ (e : Entry). matches range span e.kept ≡ true → is_asked (begin range span table) (stored_row e) ≡ true) (first ∷ entries)
+        (λ e le is. asks l.0 e top le is) (h.first_too, h.others)

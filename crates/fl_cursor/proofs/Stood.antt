@@ -92,7 +92,7 @@ module _ (t : Table) (contents : Contents) (h : IsStanding t contents) where
   length-stored i c e = sym (ap (λ (xs : List Row). length xs) (stored i c e)) ∙ (shown t h.flash h.first h.plan h.table h.stands h.lies h.reaches i c e).many
 
   -- a kept page has the rows of its entries
-  kept-rows : (i c : ℕ) → slice_get h.table.rows.counts i ≡ Some c → rows_on t contents (first_number + i) ≡ map stored_row (rows_at h.table i c)
+  pub kept-rows : (i c : ℕ) → slice_get h.table.rows.counts i ≡ Some c → rows_on t contents (first_number + i) ≡ map stored_row (rows_at h.table i c)
   kept-rows i c e = by_count (cases_lt 0 c)
     where
       by_count : (0 < c) ⊎ (c ≤ 0) → rows_on t contents (first_number + i) ≡ map stored_row (rows_at h.table i c)
@@ -149,6 +149,14 @@ module _ (t : Table) (contents : Contents) (h : IsStanding t contents) where
       let good = s.good (ap state_of_page (bytes-there number from) ∙ committed) in
       subst (λ (l : RowLayout). IsGoodPage l number (bytes_at t contents number)) h.stands.planned.layout
       (subst (λ (page : List ℕ). IsGoodPage (row_layout h.plan) number page) (bytes-there number from) (subst (λ k. IsGoodPage (row_layout h.plan) k (there i)) (back number from) good))
+
+  -- it has as many rows as memory notes
+  pub standing-many : (number : ℕ) → oldest_in t ≤ number → number < next_in t → length (rows_on t contents number) ≡ rows_noted t number
+  standing-many number from before =
+      let i = number - first_number in
+      let e = at-number number from before in
+      sym (ap (λ k. length (rows_on t contents k)) (back number from))
+      ∙ (ap (λ (xs : List Row). length xs) (kept-rows i (rows_noted t number) e) ∙ length-stored i (rows_noted t number) e)
 
   -- how many entries are written, and how many stand in the pages before the i-th
   abbrev many : ℕ

@@ -1,10 +1,9 @@
 -- A cursor that takes a row, or goes on to another place.
-use Rattle.std.proofs.Common.{◌≡◌, ℕ, zero, suc, ◌+◌, ◌-◌, ◌^◌, ◌<◌, ◌≤◌, Bool, true, false, cond, Some, ◌∷◌, filter, refl, sym, ◌∙◌, ap, subst, arith}
+use Rattle.std.proofs.Common.{◌≡◌, ℕ, zero, suc, ◌+◌, ◌^◌, ◌<◌, ◌≤◌, Bool, true, false, cond, Some, ◌∷◌, filter, refl, sym, ◌∙◌, ap, subst, arith}
 use Rattle.std.specs.List.{list_any}
 use Rattle.fl_model.specs.Query as model
 use Rattle.fl_model.specs.Row.{Row}
 use Rattle.fl_page.specs.Contents.{Contents}
-use Rattle.fl_table.specs.Memory.{next_in}
 use Rattle.fl_table.specs.declared.table.Table.{Table}
 use Rattle.fl_cursor.specs.Asked.{is_left, is_asked, is_last}
 use Rattle.fl_cursor.specs.Cursor.{table_of, asked_of, buffer_of, is_here_at, row_at, rows_behind, Passes, IsPlaced, IsTold}
@@ -14,7 +13,7 @@ use Rattle.fl_cursor.specs.Reads.{most_from, least_from, pages_asked}
 use Rattle.fl_cursor.specs.declared.cursor.Cursor.{Cursor}
 use Rattle.fl_cursor.specs.declared.place.Here.{Here}
 use Rattle.fl_cursor.specs.declared.place.Place.{Place}
-use Rattle.fl_cursor.specs.declared.place.Place.TheVariants.{Pages, InPage, Pending, Ended}
+use Rattle.fl_cursor.specs.declared.place.Place.TheVariants.{Ended}
 use Rattle.fl_cursor.proofs.Passing.{passes-taken, passes-end, passes-above, gives-taken, none-past, taken}
 
 -- what is asked for doesn't change with the key given last

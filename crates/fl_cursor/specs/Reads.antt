@@ -1,7 +1,8 @@
 -- How many reads the steps to come make.
-use Rattle.std.specs.Prelude.{ℕ, zero, suc, ◌+◌, ◌-◌, ◌==◌, Bool, false, nat_le, Option, option_map, unwrap_or, List, drop, if◌then◌else◌}
+use Rattle.std.specs.Prelude.{◌≡◌, ◌≤◌, ℕ, zero, suc, ◌+◌, ◌-◌, ◌==◌, Bool, true, false, nat_le, Option, Some, None, option_map, unwrap_or, List, drop, if◌then◌else◌}
 use Rattle.std.specs.List.{list_any}
 use Rattle.fl_model.specs.Query as model
+use Rattle.fl_model.specs.Query.{is_up_to}
 use Rattle.fl_model.specs.Row.{Row}
 use Rattle.fl_page.specs.Contents.{Contents}
 use Rattle.fl_page.specs.Page.{rows_in}
@@ -81,3 +82,18 @@ most_of cursor contents = most_from (table_of cursor) contents (asked_of cursor)
 -- at least so many, where none fails
 abbrev pub least_of : Cursor → Contents → ℕ
 least_of cursor contents = least_from (table_of cursor) contents (asked_of cursor) cursor.place
+
+-- ---- the place where it begins
+
+-- At the pages, where the lowest key isn't pending; else the pages are done.
+abbrev pub IsBegun : model.Cursor → Table → Place → Type 0
+IsBegun asked t Start = begins_by (lowest_of asked) (buffered_rows t) ≡ false
+IsBegun asked t (Pending row) = begins_by (lowest_of asked) (buffered_rows t) ≡ true
+IsBegun asked t Ended = is_up_to asked.top (lowest_of asked) ≡ false
+IsBegun asked t (Pages next) = ⊥
+IsBegun asked t (InPage number row) = ⊥
+
+-- no key above this one may be given
+abbrev pub IsBounded : Option ℕ → ℕ → Type 0
+IsBounded None high = Unit {0}
+IsBounded (Some top) high = top ≤ high

@@ -42,7 +42,10 @@ pub struct Cursor<'s, 'r, 'i> {
 }
 
 impl<'s, 'r, 'i> Cursor<'s, 'r, 'i> {
-    ghost use Rattle.fl_cursor.specs.Cursor.{table_of, mark_of, asked_of, left_of, IsStanding, IsTold, IsReady, rows_name, index_name, rows_page, index_page};
+    ghost use Rattle.fl_model.specs.Limits.{scan_limit, least_reads};
+    ghost use Rattle.fl_cursor.specs.Asked.{asked_by, lowest_of};
+    ghost use Rattle.fl_cursor.specs.Reads.{most_of, least_of, IsBegun, IsBounded};
+    ghost use Rattle.fl_cursor.specs.Cursor.{table_of, mark_of, asked_of, place_of, left_of, IsStanding, IsTold, IsReady, rows_name, index_name, rows_page, index_page};
 
     /// A cursor over the rows whose keys are in the range and whose first values are in the span. Rows that are put from
     /// now on never come. Both buffers forget the page that they hold.
@@ -65,6 +68,10 @@ impl<'s, 'r, 'i> Cursor<'s, 'r, 'i> {
         ensures index_forget { index_page result ≡ record index_buf.old { holds = None } }
         ensures ready { (f : FlashState) → LiesOn table.now f → length rows_buf.old.bytes ≡ f.geometry.page → length index_buf.old.bytes ≡ f.geometry.page → IsReady result (contents_of f) }
         ensures told { (contents : Contents) → IsStanding table.now contents → IsTold result contents }
+        ensures limit { (f : FlashState) → (first : ℕ) → (plan : Plan) → (t : model.Table) → IsTrue f.media.tells → f.start + extent f.geometry f.blocks ≤ length f.media.content →
+            LiesOn table.now f → Stands table.now f first plan t → most_of result (contents_of f) ≤ scan_limit 64 plan t range span range.low }
+        ensures least { (f : FlashState) → (first : ℕ) → (plan : Plan) → (t : model.Table) → IsTrue f.media.tells → f.start + extent f.geometry f.blocks ≤ length f.media.content →
+            LiesOn table.now f → Stands table.now f first plan t → least_reads plan t range span ≤ least_of result (contents_of f) }
     {
         rows_buf.forget();
         index_buf.forget();
@@ -94,6 +101,10 @@ impl<'s, 'r, 'i> Cursor<'s, 'r, 'i> {
         ensures index_page { index_page result ≡ index_buf.old }
         ensures ready { (f : FlashState) → LiesOn table.now f → length rows_buf.old.bytes ≡ f.geometry.page → length index_buf.old.bytes ≡ f.geometry.page → IsReady result (contents_of f) }
         ensures told { (contents : Contents) → IsStanding table.now contents → IsTold result contents }
+        ensures limit { (f : FlashState) → (first : ℕ) → (plan : Plan) → (t : model.Table) → IsTrue f.media.tells → f.start + extent f.geometry f.blocks ≤ length f.media.content →
+            LiesOn table.now f → Stands table.now f first plan t → IsBounded mark.top mark.range.high →
+            most_of result (contents_of f) ≤ scan_limit 64 plan t mark.range mark.span (lowest_of (asked_by mark)) }
+        ensures begun { IsBegun (asked_by mark) table.now (place_of result) }
     {
         Cursor {
             table,

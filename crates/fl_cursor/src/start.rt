@@ -12,6 +12,7 @@ impl Bookmark {
     ghost use Rattle.fl_cursor.specs.Asked.{asked_by, lowest_of};
     ghost use Rattle.fl_cursor.specs.Cursor.{rows_behind, IsPlaced, IsStanding, Passes};
     ghost use Rattle.fl_cursor.specs.Going.{is_in_page};
+    ghost use Rattle.fl_cursor.specs.Reads.{IsBegun};
 
     /// The lowest key that may still be given.
     pub(crate) fn lowest(&self) -> u64
@@ -28,6 +29,7 @@ impl Bookmark {
         requires { is_running table.now ≡ true }
         ensures placed { (page : List ℕ) → IsPlaced table.now page result }
         ensures outside { is_in_page result ≡ false }
+        ensures begun { IsBegun (asked_by self.now) table.now result }
         ensures passes { (contents : Contents) (page : List ℕ) → IsStanding table.now contents →
             Passes (asked_by self.now) (rows_of table.now contents) (rows_behind table.now contents page result) }
     {

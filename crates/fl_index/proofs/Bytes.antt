@@ -1,12 +1,11 @@
 -- The bitmaps in the bytes of a page.
-use Rattle.std.proofs.Common.{◌≡◌, ℕ, zero, suc, ◌+◌, ◌-◌, ◌*◌, ◌/◌, ◌%◌, ◌^◌, ◌<◌, ◌≤◌, List, [], ◌∷◌, ◌++◌, length, take, drop, slice_range, refl, sym, ap, ◌∙◌, arith, length-append, length-take, length-drop}
-use Rattle.std.proofs.lemmas.List.{take_at, take_all, drop-drop, length-take-le, take-append-le, append-nil}
+use Rattle.std.proofs.Common.{◌≡◌, ℕ, zero, suc, ◌+◌, ◌-◌, ◌/◌, ◌%◌, ◌^◌, ◌≤◌, List, [], ◌∷◌, length, take, drop, slice_range, refl, sym, ap, ◌∙◌, arith}
+use Rattle.std.proofs.lemmas.List.{take_all, append-nil}
 use Rattle.byteorder.specs.Endian.{little_number}
-use Rattle.byteorder.specs.Numbers.{little_from-bytes, length-bytes_low_first}
+use Rattle.byteorder.specs.Numbers.{little_from-bytes}
 use Rattle.std.specs.Int.{byte_at, bytes_low_first}
 use Rattle.fl_model.specs.Row.{le, number_of}
 use Rattle.fl_schema.proofs.Numbers.{number_read, little_number_is, length-le}
-use Rattle.fl_index.specs.Page.{entry_at}
 
 -- the number in a part of so many bytes
 pub entry-read : (width at : ℕ) (page : List ℕ) → at + width ≤ length page → little_number width (slice_range page at (at + width)) ≡ number_of (take width (drop at page))

@@ -1,5 +1,5 @@
 -- Bitmaps one after another behind the header of a page.
-use Rattle.std.proofs.Common.{◌≡◌, ℕ, zero, suc, ◌+◌, ◌-◌, ◌*◌, ◌/◌, ◌%◌, ◌^◌, ◌<◌, ◌≤◌, ◌⊎◌, inl, inr, Bool, true, false, cond, ◌==◌, ◌||◌, IsTrue, Option, Some, None, ℤ, pos, negsuc, ◌-ℤ◌, List, [], ◌∷◌, ◌++◌, length, take, drop, slice_range, replicate, fold, bit_or, refl, sym, ◌∙◌, ap, subst, arith, length-append, length-take, length-drop, append_assoc}
+use Rattle.std.proofs.Common.{◌≡◌, ℕ, zero, suc, ◌+◌, ◌-◌, ◌*◌, ◌/◌, ◌%◌, ◌^◌, ◌<◌, ◌≤◌, ◌⊎◌, inl, inr, Bool, true, false, cond, ◌==◌, ◌||◌, IsTrue, Some, None, ℤ, pos, negsuc, ◌-ℤ◌, List, [], ◌∷◌, ◌++◌, length, take, drop, replicate, bit_or, refl, sym, ◌∙◌, ap, subst, arith, length-append, length-drop, append_assoc}
 use Rattle.std.specs.Int.{int_div_euclid, w64, to_le_bytes, bytes_low_first}
 use borrow.Rule.Slice.PartMut.{put_mid}
 use Rattle.std.specs.List.{slice_get, flat_map}

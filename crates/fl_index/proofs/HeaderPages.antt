@@ -8,7 +8,7 @@ use Rattle.fl_mark.specs.declared.page_state.PageState.{PageState}
 use Rattle.fl_mark.specs.declared.page_state.PageState.TheVariants.{Blank, Torn, Committed, Void}
 use Rattle.fl_ring.proofs.Modulo.{apart}
 use Rattle.fl_index.specs.declared.mount.Newest.{Newest}
-use Rattle.fl_index.specs.Headers.{IsHeader, IsNewest, AreRemembered, header_of}
+use Rattle.fl_index.specs.Headers.{IsHeader, IsNewest, AreRemembered}
 use Rattle.fl_index.specs.Page.{page_first, first_on, first_where, newest_of, newest_where}
 
 no-first : (state : PageState) (first : ℕ) → (state ≡ Committed → ⊥) → first_where state first ≡ None

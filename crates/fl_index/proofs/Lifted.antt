@@ -1,9 +1,9 @@
 -- The operations on the index ring are those of its table.
-use Rattle.std.proofs.Common.{◌≡◌, ℕ, suc, ◌+◌, ◌-◌, ◌*◌, ◌^◌, ◌<◌, ◌≤◌, ◌⊎◌, inl, inr, Bool, true, false, cond, ◌&&◌, Option, Some, None, IfSome, Result, Ok, Err, List, [], ◌∷◌, ◌++◌, map, length, take, drop, get_or, refl, sym, ◌∙◌, ap, subst, arith, IsOk, IsErrOf, IsTrue}
+use Rattle.std.proofs.Common.{◌≡◌, ℕ, ◌+◌, ◌-◌, ◌^◌, ◌<◌, inl, inr, Bool, true, false, cond, ◌&&◌, Option, Some, None, IfSome, Result, List, [], ◌∷◌, ◌++◌, map, length, take, drop, refl, sym, ◌∙◌, ap, subst, arith, IsOk, IsErrOf, IsTrue}
 use Rattle.std.proofs.lemmas.List.{append-nil}
-use Rattle.std.specs.List.{slice_get, last_or}
+use Rattle.std.specs.List.{slice_get}
 use Rattle.std.specs.Option.{option_map, unwrap_or}
-use Rattle.fl_flash.specs.Flash.{FlashState, page_at}
+use Rattle.fl_flash.specs.Flash.{FlashState}
 use Rattle.fl_flash.specs.declared.flash.FlashFault.{FlashFault}
 use Rattle.fl_flash.specs.declared.flash.FlashFault.TheVariants.{PowerLost, Media}
 use Rattle.fl_model.specs.Record.{Plan, entries_per_page}
@@ -14,16 +14,15 @@ use Rattle.fl_model.specs.Image.{HoldsBitmaps, rows_at}
 use Rattle.fl_model.specs.Work.{Kind, Body, Mark, VoidMark, Erase, effect, Device, PartEnd, Whole, CutIn, FailedIn, PartProgress}
 use Rattle.fl_model.specs.Within.{seal_within, effect_within, TablePerforms}
 use Rattle.fl_model.proofs.Lists.{slice_get-last, last_or-push}
-use Rattle.fl_model.proofs.Performs.{performs-along, performs-map, performs-whole, EndsAlong, Somewhere}
+use Rattle.fl_model.proofs.Performs.{performs-along, performs-map, performs-whole, EndsAlong}
 use Rattle.fl_model.proofs.Among.{seal-all_done}
 use Rattle.fl_ring.specs.Device.{SameDevice}
 use Rattle.fl_ring.specs.Operations.{change, seal_kinds}
-use Rattle.fl_ring.specs.Ring.{RingState, OnRing, sealed, voided, begun, erased}
+use Rattle.fl_ring.specs.Ring.{RingState, sealed, voided, begun, erased}
 use Rattle.fl_ring.specs.Sealing.{Performed, AnswersEnd}
-use Rattle.fl_index.specs.Standing.{HasIndex}
 use Rattle.fl_index.proofs.Firsts.{full-one, full-last}
 use Rattle.fl_index.proofs.Lists.{end_after, ascend-push}
-use Rattle.fl_index.proofs.State.{shape_in, full_count, IsStateOf, holds-moved}
+use Rattle.fl_index.proofs.State.{shape_in, IsStateOf, holds-moved}
 use Rattle.fl_index.proofs.Steps.{with_index, state-kept, last-shifted}
 
 -- an operation of the index ring

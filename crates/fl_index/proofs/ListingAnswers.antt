@@ -1,9 +1,9 @@
 -- What a look for the index page of a data page tells.
-use Rattle.std.proofs.Common.{◌≡◌, ℕ, ◌+◌, ◌-◌, ◌%◌, ◌<◌, ◌≤◌, Bool, true, false, cond, ◌&&◌, nat_le, nat_lt, Option, Some, None, get_or, length, refl, sym, ◌∙◌, ap, arith}
+use Rattle.std.proofs.Common.{◌≡◌, ℕ, ◌+◌, ◌-◌, ◌%◌, ◌<◌, Bool, true, false, cond, ◌&&◌, nat_le, nat_lt, Option, Some, None, get_or, refl, sym, ◌∙◌, ap, arith}
 use Rattle.std.proofs.lemmas.Bool.{ltb-true, leb-true}
 use Rattle.std.specs.Option.{unwrap_or}
 use Rattle.fl_index.specs.declared.index.Index.{Index}
-use Rattle.fl_index.specs.Memory.{per_page, first_in, lists}
+use Rattle.fl_index.specs.Memory.{first_in, lists}
 
 -- the place of an entry is there where the page lists it
 pub entry-some : (most number : ℕ) (first : Option ℕ) (entry : ℕ) → cond (lists most number first) (Some (number - unwrap_or first 0)) None ≡ Some entry →

@@ -1,11 +1,11 @@
 -- Lists of first data pages.
-use Rattle.std.proofs.Common.{◌≡◌, ℕ, zero, suc, ◌+◌, ◌<◌, ◌≤◌, ◌⊎◌, inl, inr, Option, Some, None, List, [], ◌∷◌, ◌++◌, length, take, drop, get_or, refl, sym, ◌∙◌, ap, subst, arith, length-append, length-drop}
+use Rattle.std.proofs.Common.{◌≡◌, ℕ, zero, suc, ◌+◌, ◌<◌, ◌≤◌, ◌⊎◌, inl, inr, Option, Some, None, List, [], ◌∷◌, ◌++◌, length, take, drop, get_or, refl, sym, ◌∙◌, ap, arith, length-drop}
 use Rattle.std.proofs.lemmas.Bool.{cases_lt}
-use Rattle.std.specs.List.{slice_get, last_or, AllByRecursion}
+use Rattle.std.specs.List.{slice_get, last_or}
 use Rattle.std.specs.Option.{option_map, unwrap_or}
 use Rattle.fl_model.specs.Table.{full_pages}
-use Rattle.fl_model.proofs.Lists.{slice_get-drop, slice_get-push, slice_get-short, slice_get-some, slice_get-left, last_or-get, each-push, each-drop}
-use Rattle.fl_index.proofs.Firsts.{full-append, full-split}
+use Rattle.fl_model.proofs.Lists.{slice_get-drop, slice_get-push, slice_get-short, slice_get-some, last_or-get}
+use Rattle.fl_index.proofs.Firsts.{full-split}
 
 pub drop-front : {X : Type 0} (k : ℕ) (xs ys : List X) → k ≤ length xs → drop k (xs ++ ys) ≡ drop k xs ++ ys
 drop-front zero [] ys h = none ys

@@ -1,14 +1,12 @@
 -- The calls of a lookup, and what they leave in the buffer.
-use Rattle.std.proofs.Common.{◌≡◌, ◌⊎◌, inl, inr, ℕ, zero, suc, ◌+◌, ◌-◌, ◌*◌, ◌<◌, ◌≤◌, Bool, true, false, cond, ◌&&◌, ◌==◌, nat_le, nat_lt, IsTrue, Option, Some, None, IfSome, Result, Ok, Err, OnOk, List, [], ◌∷◌, length, take, refl, sym, ◌∙◌, ap, subst, arith}
+use Rattle.std.proofs.Common.{◌≡◌, ◌⊎◌, inl, inr, ℕ, zero, suc, ◌+◌, ◌-◌, ◌<◌, ◌≤◌, Bool, true, false, cond, ◌==◌, nat_lt, Option, Some, None, Result, Ok, Err, OnOk, ◌∷◌, take, refl, sym, ◌∙◌, ap, subst, arith}
 use Rattle.std.proofs.lemmas.Bool.{cases_lt, ltb-true, lt-ltb, eqb-true, false≢true}
 use Rattle.std.proofs.lemmas.List.Sums.{sum_by-cons}
 use Rattle.std.specs.List.{slice_get, range_with_len, count_by}
 use Rattle.std.specs.Option.{option_map, unwrap_or}
 use Rattle.fl_flash.specs.Buffer.{BufferState}
 use Rattle.fl_flash.specs.Flash.{FlashState, page_at}
-use Rattle.fl_flash.specs.declared.flash.FlashFault.{FlashFault}
-use Rattle.fl_model.specs.Record.{Plan, entries_per_page}
-use Rattle.fl_model.specs.Ring as model
+use Rattle.fl_model.specs.Record.{Plan}
 use Rattle.fl_model.specs.Table.{Table, full_pages}
 use Rattle.fl_page.specs.declared.fault.ReadFault.{ReadFault}
 use Rattle.fl_page.specs.declared.fault.ReadFault.TheVariants.{Flash, BadPage}
@@ -16,8 +14,8 @@ use Rattle.fl_ring.specs.Place.{shape_of, oldest_of, next_of}
 use Rattle.fl_ring.specs.Ring.{Shape, place}
 use Rattle.fl_ring.specs.declared.ring.Ring.{Ring}
 use Rattle.fl_index.specs.declared.index.Index.{Index}
-use Rattle.fl_index.specs.Looking.{looked_at, entry_of, IsFound, IsHeld, IsFresh, IfRead, ShowsBitmap, ends_above, unread, HoldsLast, IsScanning, ScansOn}
-use Rattle.fl_index.specs.Memory.{first_in, is_waiting, next_in, oldest_in, per_page, lists, listing_from, listing_in, place_in}
+use Rattle.fl_index.specs.Looking.{looked_at, IsHeld, IsFresh, IfRead, ends_above, unread, HoldsLast, IsScanning, ScansOn}
+use Rattle.fl_index.specs.Memory.{first_in, is_waiting, next_in, oldest_in, per_page, listing_from, listing_in, place_in}
 use Rattle.fl_index.specs.Page.{page_number}
 use Rattle.fl_index.specs.Standing.{Stands}
 use Rattle.fl_index.proofs.Firsts.{full-below}

@@ -1,7 +1,6 @@
 -- How the mount of an index ends, by the mount of its ring and the read of its pages.
-use Rattle.std.proofs.Common.{◌≡◌, ◌⊎◌, inl, inr, ℕ, ◌+◌, ◌-◌, ◌*◌, ◌%◌, ◌^◌, ◌<◌, ◌≤◌, Bool, true, false, cond, ◌==◌, IsTrue, Option, Some, None, IfSome, MatchOption, Result, Ok, Err, List, [], ◌∷◌, ◌++◌, length, take, get_or, refl, sym, ◌∙◌, ap, subst, arith}
+use Rattle.std.proofs.Common.{◌≡◌, inr, ℕ, ◌+◌, ◌-◌, ◌*◌, ◌%◌, ◌^◌, ◌<◌, ◌≤◌, Bool, true, false, IsTrue, Option, Some, None, IfSome, MatchOption, Result, Ok, Err, List, [], length, get_or, refl, sym, ◌∙◌, ap, subst, arith}
 use Rattle.std.proofs.lemmas.List.{append-nil}
-use Rattle.std.specs.List.{slice_get}
 use Rattle.fl_base.specs.Causes.{Rose}
 use Rattle.fl_flash.specs.Flash.{FlashState, page_at}
 use Rattle.fl_flash.specs.Places.{extent}
@@ -10,10 +9,10 @@ use Rattle.fl_flash.specs.declared.flash.FlashFault.{FlashFault}
 use Rattle.fl_flash.specs.declared.flash.FlashFault.TheVariants.{PowerLost, Media}
 use Rattle.fl_model.specs.Record.{Plan, entries_per_page}
 use Rattle.fl_model.specs.Ring as model
-use Rattle.fl_model.specs.Table.{Table, RingName, IndexRing, shape_of, full_pages}
+use Rattle.fl_model.specs.Table.{Table, IndexRing, shape_of}
 use Rattle.fl_model.specs.Mount.{renumber}
-use Rattle.fl_model.specs.Work.{Kind, Device, PartProgress}
-use Rattle.fl_model.specs.Within.{repair_within, TableUnreads}
+use Rattle.fl_model.specs.Work.{Device}
+use Rattle.fl_model.specs.Within.{repair_within}
 use Rattle.fl_model.proofs.Lists.{slice_get-short}
 use Rattle.fl_ring.specs.Device.{ArmsAs, SameDevice}
 use Rattle.fl_ring.specs.Looking.{OnlyReads, ReadFails}
@@ -31,13 +30,13 @@ use Rattle.fl_ring.proofs.Founds.{same_pages}
 use Rattle.fl_index.specs.declared.index.Index.{Index}
 use Rattle.fl_index.specs.declared.mount.Newest.{Newest}
 use Rattle.fl_index.specs.Finding.{HasEnd, IsEnd}
-use Rattle.fl_index.specs.Headers.{IsNewest, AreRemembered, header_of, kept_page}
-use Rattle.fl_index.specs.Memory.{IsPlanned, LiesOn, first_in, per_page, waiting_in}
-use Rattle.fl_index.specs.Outcomes.{MountsWell, MountsBadly, MountEnds}
-use Rattle.fl_index.specs.Page.{page_first, page_entries, first_on, newest_of}
+use Rattle.fl_index.specs.Headers.{IsNewest, AreRemembered, kept_page}
+use Rattle.fl_index.specs.Memory.{IsPlanned, LiesOn, per_page, waiting_in}
+use Rattle.fl_index.specs.Outcomes.{MountsWell, MountEnds}
+use Rattle.fl_index.specs.Page.{page_entries, first_on, newest_of}
 use Rattle.fl_index.specs.Standing.{HoldsIndex, Rests, bytes_in}
 use Rattle.fl_index.proofs.MountPages.{IsNewestEnd, newest-end, first-there}
-use Rattle.fl_index.proofs.Mountings.{state-old, state-len, renumbered-state, good-ring, IndexMount, mount-lifts, mount-fails}
+use Rattle.fl_index.proofs.Mountings.{state-old, renumbered-state, good-ring, IndexMount, mount-lifts, mount-fails}
 use Rattle.fl_index.proofs.Sealings.{planned-shape, planned-large, served-shape, some-entries, planned-page, lies-size, few-kept}
 use Rattle.fl_index.proofs.State.{shape_in, HaveSize, IsStateOf, to-state, to-index}
 

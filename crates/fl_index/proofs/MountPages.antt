@@ -1,29 +1,26 @@
 -- The pages that a mount of an index reads, where the flash stands for the index of a table.
-use Rattle.std.proofs.Common.{◌≡◌, ◌⊎◌, inl, inr, ℕ, zero, suc, ◌+◌, ◌-◌, ◌*◌, ◌/◌, ◌%◌, ◌^◌, ◌<◌, ◌≤◌, Bool, true, false, cond, ◌==◌, IsTrue, Option, Some, None, List, [], ◌∷◌, length, take, refl, sym, ◌∙◌, ap, subst, arith}
+use Rattle.std.proofs.Common.{◌≡◌, ◌⊎◌, inl, inr, ℕ, zero, suc, ◌+◌, ◌-◌, ◌/◌, ◌^◌, ◌<◌, ◌≤◌, Bool, true, false, cond, ◌==◌, Option, Some, None, List, [], ◌∷◌, length, take, refl, sym, ◌∙◌, ap, subst, arith}
 use Rattle.std.proofs.Math.Nat.{div-le_self}
 use Rattle.std.proofs.lemmas.Bool.{cases_lt, eqb-true}
 use Rattle.std.proofs.lemmas.List.{take_all}
 use Rattle.std.specs.List.{slice_get, last_or}
 use Rattle.std.specs.Option.{option_map}
-use Rattle.fl_flash.specs.Flash.{FlashState, page_at}
 use Rattle.fl_mark.specs.Mark.{state_of_page}
 use Rattle.fl_mark.specs.declared.page_state.PageState.{PageState}
-use Rattle.fl_mark.specs.declared.page_state.PageState.TheVariants.{Blank, Torn, Committed, Void}
+use Rattle.fl_mark.specs.declared.page_state.PageState.TheVariants.{Void}
 use Rattle.fl_mark.proofs.InModel.{model_state}
 use Rattle.fl_model.specs.Record.{Plan, entries_per_page}
 use Rattle.fl_model.specs.Ring as model
 use Rattle.fl_model.specs.Table.{Table, full_pages}
-use Rattle.fl_model.specs.Layout.{index_body, committed}
 use Rattle.fl_model.proofs.Lists.{slice_get-some, slice_get-short, last_or-get}
-use Rattle.fl_ring.specs.Ring.{place}
 use Rattle.fl_index.specs.Finding.{HasEnd, IsEnd}
 use Rattle.fl_index.specs.Outcomes.{end_of}
-use Rattle.fl_index.specs.Page.{page_first, page_entries, first_on, first_where, newest_of, newest_where}
+use Rattle.fl_index.specs.Page.{page_first, first_on, first_where, newest_of, newest_where}
 use Rattle.fl_index.specs.Standing.{HasIndex, HoldsIndex, bytes_in}
 use Rattle.fl_index.proofs.Firsts.{full-one, full-cons}
 use Rattle.fl_index.proofs.Lists.{below-end}
 use Rattle.fl_index.proofs.Showing.{IsIndexPage, index-page}
-use Rattle.fl_index.proofs.State.{shape_in, HaveSize}
+use Rattle.fl_index.proofs.State.{HaveSize}
 
 module _ (page : ℕ → List ℕ) (first : ℕ) (plan : Plan) (table : Table) (ring : model.Ring) (facts : HasIndex plan table ring) (image : HoldsIndex page first plan table ring) (sizes : HaveSize first plan page) (large : 64 ≤ plan.geometry.page) (few : plan.geometry.page ≤ 4096) where
   abbrev at : ℕ → List ℕ

@@ -1,38 +1,38 @@
 -- The mount of the index ring, in the words of its table.
-use Rattle.std.proofs.Common.{◌≡◌, ◌⊎◌, inl, inr, ℕ, zero, suc, ◌+◌, ◌-◌, ◌*◌, ◌/◌, ◌%◌, ◌^◌, ◌<◌, ◌≤◌, Bool, true, false, cond, ◌&&◌, ◌||◌, nat_lt, IsTrue, Option, Some, None, IfSome, is_some, Result, Ok, Err, List, [], ◌∷◌, ◌++◌, map, length, take, drop, replicate, get_or, refl, sym, ◌∙◌, ap, subst, arith, length-append, IsOk}
+use Rattle.std.proofs.Common.{◌≡◌, ◌⊎◌, inl, inr, ℕ, suc, ◌+◌, ◌-◌, ◌*◌, ◌/◌, ◌%◌, ◌^◌, ◌<◌, ◌≤◌, Bool, true, false, cond, nat_lt, IsTrue, Option, Some, None, IfSome, is_some, Result, Ok, Err, List, [], ◌∷◌, ◌++◌, map, length, take, replicate, get_or, refl, sym, ◌∙◌, ap, subst, arith, length-append}
 use Rattle.std.proofs.Math.Nat.{mod-add-div', mul-le-mul_right, mul_assoc, add-mul-mod_self_right, dvd-mod_iff, dvd-mul_left}
 use Rattle.std.proofs.lemmas.Nat.Gcd.{mod-eq-zero_of_dvd, dvd-zero}
 use Rattle.std.specs.Int.{◌∣◌}
-use Rattle.std.proofs.lemmas.Bool.{cases_lt, lt-ltb, false≢true}
-use Rattle.std.proofs.lemmas.List.{take_at, append-nil}
+use Rattle.std.proofs.lemmas.Bool.{lt-ltb, false≢true}
+use Rattle.std.proofs.lemmas.List.{append-nil}
 use Rattle.std.proofs.lemmas.Option.{slice_get-map, slice_get-get_or}
 use Rattle.std.specs.List.{slice_get, list_any}
 use Rattle.std.specs.Option.{option_map, unwrap_or}
 use Rattle.fl_flash.specs.Flash.{FlashState, page_at}
 use Rattle.fl_flash.specs.declared.flash.FlashFault.{FlashFault}
-use Rattle.fl_flash.specs.declared.flash.FlashFault.TheVariants.{PowerLost, Media}
+use Rattle.fl_flash.specs.declared.flash.FlashFault.TheVariants.{Media}
 use Rattle.fl_model.specs.Record.{Plan, entries_per_page}
 use Rattle.fl_model.specs.Ring as model
 use Rattle.fl_model.specs.Row.{le}
-use Rattle.fl_model.specs.Table.{Table, RingName, IndexRing, shape_of, with_ring, seal_page, is_dirty, is_torn}
+use Rattle.fl_model.specs.Table.{Table, RingName, IndexRing, shape_of, seal_page, is_dirty, is_torn}
 use Rattle.fl_model.specs.Image.{HoldsBitmaps}
 use Rattle.fl_model.specs.Layout.{committed, index_body}
 use Rattle.fl_model.specs.Mount as numbering
 use Rattle.fl_model.specs.Mount.{renumber}
-use Rattle.fl_model.specs.Work.{Kind, Body, Mark, VoidMark, Erase, effect, Device, PartEnd, Whole, CutIn, FailedIn, PartProgress}
+use Rattle.fl_model.specs.Work.{Kind, Body, Mark, VoidMark, Erase, effect, Device, Whole, PartProgress}
 use Rattle.fl_model.specs.Within.{repair_within, effect_within, TablePerforms, TableUnreads, all_done}
 use Rattle.fl_model.proofs.Performs.{performs-whole}
 use Rattle.fl_model.proofs.Plain.{sealed-torn}
 use Rattle.fl_model.proofs.Renumber.{least-alike}
-use Rattle.fl_ring.specs.Counts.{page_count, ring_counts}
+use Rattle.fl_ring.specs.Counts.{page_count}
 use Rattle.fl_ring.specs.Device.{SameDevice}
 use Rattle.fl_ring.specs.Head.{one}
 use Rattle.fl_ring.specs.Mounting.{IsGood, Mounted, RepairEnds}
 use Rattle.fl_ring.specs.Newest.{number_of}
-use Rattle.fl_ring.specs.Numbers.{renumbered, IsNumbered, least_alike}
+use Rattle.fl_ring.specs.Numbers.{renumbered, least_alike}
 use Rattle.fl_ring.specs.Operations.{change, repair_kinds}
 use Rattle.fl_ring.specs.Place.{StandsFor}
-use Rattle.fl_ring.specs.Ring.{Shape, RingState, OnRing, count, oldest, room, voided, unerased, erased}
+use Rattle.fl_ring.specs.Ring.{Shape, RingState, OnRing, count, oldest, room, voided, unerased}
 use Rattle.fl_ring.specs.Sealing.{Performed}
 use Rattle.fl_ring.specs.declared.ring.Ring.{Ring}
 use Rattle.fl_ring.proofs.Counts.{counts_renumbered}
@@ -40,7 +40,7 @@ use Rattle.fl_schema.proofs.Numbers.{length-le, number_of-le}
 use Rattle.fl_schema.proofs.References.{from_le_bytes_4}
 use Rattle.fl_index.specs.Standing.{HasIndex}
 use Rattle.fl_index.specs.Outcomes.{FaultEnds}
-use Rattle.fl_index.proofs.Lifted.{of_index, AreErases, IndexPerformed, TableAnswers, performed-lifts, voided-state, erased-state}
+use Rattle.fl_index.proofs.Lifted.{of_index, AreErases, IndexPerformed, performed-lifts, voided-state, erased-state}
 use Rattle.fl_index.proofs.Sealings.{fault-ends, all-whole}
 use Rattle.fl_index.proofs.Showing.{any-some}
 use Rattle.fl_index.proofs.State.{shape_in, full_count, IsStateOf, holds-moved}

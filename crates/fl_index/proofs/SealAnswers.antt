@@ -1,20 +1,18 @@
 -- What an index that is sealed tells of its ring and its bitmaps.
-use Rattle.std.proofs.Common.{◌≡◌, ℕ, ◌+◌, ◌-◌, ◌*◌, ◌/◌, ◌%◌, ◌^◌, ◌<◌, ◌≤◌, Option, Some, IfSome, List, length, drop, replicate, sym, ◌∙◌, ap, subst, arith}
+use Rattle.std.proofs.Common.{◌≡◌, ℕ, ◌+◌, ◌-◌, ◌*◌, ◌/◌, ◌^◌, ◌<◌, ◌≤◌, Option, Some, length, drop, replicate, sym, ◌∙◌, ap, subst, arith}
 use Rattle.std.proofs.Math.Nat.{mul-le-mul_right, div-add-mod'}
-use Rattle.std.specs.List.{slice_get}
 use Rattle.std.specs.Option.{option_map, unwrap_or}
 use Rattle.fl_base.specs.Bytes.{splice}
 use Rattle.fl_flash.specs.Flash.{FlashState, page_at}
 use Rattle.fl_model.specs.Record.{Plan, entries_per_page}
 use Rattle.fl_model.specs.Ring as model
 use Rattle.fl_model.specs.Table.{Table}
-use Rattle.fl_model.specs.Layout.{index_body, bitmap_of}
-use Rattle.fl_model.specs.Image.{rows_at}
+use Rattle.fl_model.specs.Layout.{index_body}
 use Rattle.fl_ring.specs.Place as place
 use Rattle.fl_ring.specs.Ring.{RingState}
 use Rattle.fl_ring.specs.declared.ring.Ring.{Ring}
 use Rattle.fl_index.specs.declared.index.Index.{Index}
-use Rattle.fl_index.specs.Memory.{next_in, per_page, waiting_in, width_in}
+use Rattle.fl_index.specs.Memory.{next_in, per_page, waiting_in}
 use Rattle.fl_index.specs.Page.{header_bytes}
 use Rattle.fl_index.specs.Standing.{Stands}
 use Rattle.fl_index.proofs.Gathering.{InFront, body-is}

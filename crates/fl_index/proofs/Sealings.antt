@@ -1,6 +1,6 @@
 -- How the seal of an index page ends, by what it did to the ring.
-use Rattle.std.proofs.Common.{◌≡◌, ◌≢◌, ◌⊎◌, inl, inr, ℕ, zero, suc, ◌+◌, ◌-◌, ◌*◌, ◌/◌, ◌%◌, ◌^◌, ◌<◌, ◌≤◌, Bool, true, false, cond, ◌==◌, ◌||◌, IsTrue, Option, Some, None, IfSome, Result, Ok, Err, List, [], ◌∷◌, ◌++◌, length, take, drop, get_or, set, sum, refl, sym, ◌∙◌, ap, subst, arith, length-append, length-take, length-drop, IsOk, get_or-set_other, get_or-set_same}
-use Rattle.std.proofs.lemmas.Bool.{cases_lt, eqb-true, lt-ltb}
+use Rattle.std.proofs.Common.{◌≡◌, ◌≢◌, ◌⊎◌, inl, inr, ℕ, suc, ◌+◌, ◌-◌, ◌*◌, ◌/◌, ◌%◌, ◌<◌, ◌≤◌, Bool, true, false, cond, ◌==◌, ◌||◌, IsTrue, Option, Some, None, Result, Ok, Err, List, [], ◌∷◌, ◌++◌, length, take, drop, get_or, set, sum, refl, sym, ◌∙◌, ap, subst, arith, length-take, IsOk, get_or-set_other, get_or-set_same}
+use Rattle.std.proofs.lemmas.Bool.{cases_lt, eqb-true}
 use Rattle.std.proofs.lemmas.List.{take-take, drop-take}
 use Rattle.std.proofs.lemmas.List.Sums.{sum_by-take-drop, sum_by-cons}
 use Rattle.std.proofs.Math.Nat.{mod-lt, mul-le-mul_right, add-mul, div-add-mod'}
@@ -13,10 +13,9 @@ use Rattle.fl_flash.specs.declared.flash.FlashFault.{FlashFault}
 use Rattle.fl_flash.specs.declared.flash.FlashFault.TheVariants.{PowerLost, Media}
 use Rattle.fl_model.specs.Record.{Plan, entries_per_page}
 use Rattle.fl_model.specs.Ring as model
-use Rattle.fl_model.specs.Table.{Table, Entry, IndexRing, shape_of, full_pages, after_seal, seal_buffer, lose}
-use Rattle.fl_model.specs.Layout.{committed}
-use Rattle.fl_model.specs.Image.{IsRingImage, HoldsBitmaps, rows_at}
-use Rattle.fl_model.specs.Work.{Device, PartEnd, Whole, CutIn, FailedIn, PartProgress}
+use Rattle.fl_model.specs.Table.{Table, IndexRing, shape_of, full_pages, after_seal, lose}
+use Rattle.fl_model.specs.Image.{rows_at}
+use Rattle.fl_model.specs.Work.{Device, PartEnd, Whole, CutIn, FailedIn}
 use Rattle.fl_model.specs.Within.{seal_within}
 use Rattle.fl_model.proofs.Lists.{slice_get-drop, slice_get-push, slice_get-left, slice_get-short, slice_get-last}
 use Rattle.fl_model.proofs.Plain.{sealed-torn}
@@ -32,13 +31,12 @@ use Rattle.fl_ring.specs.declared.ring.Ring.{Ring}
 use Rattle.fl_ring.proofs.Lengths.{page_length}
 use Rattle.fl_ring.proofs.Modulo.{apart}
 use Rattle.fl_index.specs.declared.index.Index.{Index}
-use Rattle.fl_index.specs.Memory.{IsPlanned, IsSamePlan, first_in, first_waiting, waiting_in, width_in, per_page, Gathers}
-use Rattle.fl_index.specs.Standing.{HasIndex, HoldsIndex, Rests, StandsForRing, Waits, Stands, bytes_in}
+use Rattle.fl_index.specs.Memory.{IsPlanned, IsSamePlan, first_in, first_waiting, waiting_in, width_in, per_page}
+use Rattle.fl_index.specs.Standing.{HasIndex, HoldsIndex, Rests, StandsForRing, Stands, bytes_in}
 use Rattle.fl_index.specs.Outcomes.{FaultEnds, Finishes, Breaks}
-use Rattle.fl_index.proofs.Firsts.{full-pushed, full-last, full-within, full-one}
+use Rattle.fl_index.proofs.Firsts.{full-pushed, full-last, full-within}
 use Rattle.fl_index.proofs.Gathering.{none-in}
-use Rattle.fl_index.proofs.Lists.{end_after, ascend-push}
-use Rattle.fl_index.proofs.State.{shape_in, HaveSize, full_count, IsStateOf, holds-moved, Found, to-state, to-index}
+use Rattle.fl_index.proofs.State.{shape_in, HaveSize, full_count, IsStateOf, holds-moved, to-index}
 use Rattle.fl_index.proofs.Lifted.{TableAnswers, MakesBody, seal-lifts, seal-whole, index-shift}
 use Rattle.fl_index.proofs.Memories.{planned-same}
 

@@ -1,23 +1,21 @@
 -- A lookup in an index that stands for that of a table.
-use Rattle.std.proofs.Common.{◌≡◌, ◌≢◌, ◌⊎◌, inl, inr, ℕ, zero, suc, ◌+◌, ◌-◌, ◌*◌, ◌/◌, ◌%◌, ◌^◌, ◌<◌, ◌≤◌, Bool, true, false, cond, ◌&&◌, ◌||◌, ◌==◌, nat_le, nat_lt, IsTrue, Option, Some, None, IfSome, is_some, Result, Ok, Err, List, [], ◌∷◌, ◌++◌, length, take, drop, replicate, get_or, refl, sym, ◌∙◌, ap, subst, arith, length-append, append_assoc}
-use Rattle.std.proofs.lemmas.Bool.{cases_lt, ltb-true, ltb-false, leb-true, lt-ltb, le-leb, eqb-true, false≢true}
+use Rattle.std.proofs.Common.{◌≡◌, ◌⊎◌, inl, inr, ℕ, zero, suc, ◌+◌, ◌-◌, ◌*◌, ◌/◌, ◌%◌, ◌^◌, ◌<◌, ◌≤◌, Bool, true, false, cond, ◌&&◌, ◌||◌, ◌==◌, nat_le, nat_lt, Option, Some, None, IfSome, Result, Ok, Err, List, [], ◌∷◌, ◌++◌, length, take, drop, replicate, refl, sym, ◌∙◌, ap, subst, arith, length-append, append_assoc}
+use Rattle.std.proofs.lemmas.Bool.{cases_lt, ltb-true, leb-true, lt-ltb, le-leb, eqb-true, false≢true}
 use Rattle.std.proofs.lemmas.List.{take_at}
 use Rattle.std.proofs.Math.Nat.{div-le_self}
 use Rattle.std.specs.List.{slice_get, list_any, flat_map}
 use Rattle.std.specs.Option.{option_map, unwrap_or}
-use Rattle.fl_flash.specs.Buffer.{BufferState}
 use Rattle.fl_flash.specs.Flash.{FlashState, page_at}
-use Rattle.fl_flash.specs.declared.flash.FlashFault.{FlashFault}
 use Rattle.fl_mark.specs.Mark.{state_of_page}
 use Rattle.fl_mark.specs.declared.page_state.PageState.TheVariants.{Committed}
 use Rattle.fl_model.specs.Record.{Plan, entries_per_page}
 use Rattle.fl_model.specs.Ring as model
 use Rattle.fl_model.specs.Row.{le}
-use Rattle.fl_model.specs.Table.{Table, IndexRing, shape_of, full_pages}
+use Rattle.fl_model.specs.Table.{Table, full_pages}
 use Rattle.fl_model.specs.Layout.{index_body, committed, bitmap_of}
 use Rattle.fl_model.specs.Limits.{is_indexed, is_listed}
-use Rattle.fl_model.specs.Image.{HoldsBitmaps, rows_at}
-use Rattle.fl_model.proofs.Lists.{slice_get-some, slice_get-short, each-at}
+use Rattle.fl_model.specs.Image.{rows_at}
+use Rattle.fl_model.proofs.Lists.{slice_get-some, slice_get-short}
 use Rattle.fl_page.specs.declared.fault.ReadFault.{ReadFault}
 use Rattle.fl_page.specs.declared.fault.ReadFault.TheVariants.{Flash, BadPage}
 use Rattle.fl_ring.specs.Place as place
@@ -29,14 +27,14 @@ use Rattle.fl_ring.proofs.Images.{committed_is}
 use Rattle.fl_schema.proofs.Numbers.{length-le, number_of-le}
 use Rattle.fl_index.specs.declared.index.Index.{Index}
 use Rattle.fl_index.specs.Looking.{entry_of, IsFound, ShowsBitmap}
-use Rattle.fl_index.specs.Memory.{first_in, first_waiting, waiting_in, waiting_at, is_waiting, width_in, per_page, next_in, oldest_in, lists, listing_from, listing_in, place_in}
-use Rattle.fl_index.specs.Page.{page_number, page_entries, page_first, entry_at, IsGoodPage}
+use Rattle.fl_index.specs.Memory.{first_in, first_waiting, waiting_in, waiting_at, is_waiting, width_in, per_page, next_in, oldest_in, lists, listing_in, place_in}
+use Rattle.fl_index.specs.Page.{page_first, entry_at, IsGoodPage}
 use Rattle.fl_index.specs.Standing.{StandsForRing, Stands, bytes_in}
-use Rattle.fl_index.proofs.Firsts.{full-page, full-within}
+use Rattle.fl_index.proofs.Firsts.{full-page}
 use Rattle.fl_index.proofs.Gathering.{InFront, read-at, bitmap-small}
 use Rattle.fl_index.proofs.Lists.{below-end}
-use Rattle.fl_index.proofs.Listings.{IsListing, listing-is, listing-no}
-use Rattle.fl_index.proofs.Sealings.{planned-page, planned-width, planned-bits, planned-ring, planned-shape, few-kept}
+use Rattle.fl_index.proofs.Listings.{listing-is, listing-no}
+use Rattle.fl_index.proofs.Sealings.{planned-page, planned-width, planned-bits, planned-ring, planned-shape}
 
 both_true : (a b : Bool) → (a && b) ≡ true → (a ≡ true) × (b ≡ true)
 both_true true b h = (refl, h)

@@ -1,23 +1,22 @@
 -- What the steps of a ring make of the index ring, as a list of bodies and as a table.
-use Rattle.std.proofs.Common.{◌≡◌, ℕ, zero, suc, ◌+◌, ◌-◌, ◌*◌, ◌%◌, ◌^◌, ◌<◌, ◌≤◌, ◌⊎◌, inl, inr, Bool, true, false, cond, ◌&&◌, ◌==◌, Option, Some, None, List, [], ◌∷◌, ◌++◌, length, take, drop, get_or, refl, sym, ◌∙◌, ap, subst, arith, length-append, length-drop}
+use Rattle.std.proofs.Common.{◌≡◌, ℕ, suc, ◌+◌, ◌-◌, ◌*◌, ◌%◌, ◌^◌, ◌<◌, ◌≤◌, ◌⊎◌, inl, inr, Bool, true, false, cond, ◌&&◌, ◌==◌, Option, Some, None, List, [], ◌∷◌, ◌++◌, length, take, drop, get_or, refl, sym, ◌∙◌, ap, subst, arith, length-append, length-drop}
 use Rattle.std.proofs.lemmas.Bool.{ltb-true, cases_lt}
-use Rattle.std.proofs.lemmas.List.{take-append-le, get_or-drop}
+use Rattle.std.proofs.lemmas.List.{get_or-drop}
 use Rattle.std.proofs.Math.Nat.{mul-le-mul_right}
-use Rattle.std.specs.List.{slice_get, AllByRecursion, sum}
-use Rattle.std.specs.Option.{option_map, unwrap_or}
+use Rattle.std.specs.List.{slice_get, AllByRecursion}
 use Rattle.fl_model.specs.Record.{Plan, entries_per_page}
 use Rattle.fl_model.specs.Ring as model
-use Rattle.fl_model.specs.Table.{Table, IndexRing, shape_of, full_pages, with_ring, seal_page, seal_buffer}
+use Rattle.fl_model.specs.Table.{Table, IndexRing, shape_of, full_pages}
 use Rattle.fl_model.specs.Layout.{committed}
 use Rattle.fl_model.specs.Image.{HoldsBitmaps}
-use Rattle.fl_model.proofs.Lists.{each-push, each-drop, slice_get-drop, slice_get-left, slice_get-short, slice_get-last}
+use Rattle.fl_model.proofs.Lists.{each-push, each-drop, slice_get-drop, slice_get-left, slice_get-short}
 use Rattle.fl_model.proofs.Rings.{ring-sealed}
-use Rattle.fl_ring.specs.Counts.{page_count, ring_counts, model_shape}
-use Rattle.fl_ring.specs.Ring.{Shape, RingState, count, is_due, is_due_at, appended, trimmed, sealed, voided, begun, erased}
+use Rattle.fl_ring.specs.Counts.{page_count, ring_counts}
+use Rattle.fl_ring.specs.Ring.{RingState, count, is_due, is_due_at, appended, trimmed}
 use Rattle.fl_ring.proofs.Counts.{counts_sealed, counts_voided}
 use Rattle.fl_index.specs.Standing.{HasIndex}
-use Rattle.fl_index.proofs.Firsts.{full-append, full-pushed, full-dropped, full-split, full-one}
-use Rattle.fl_index.proofs.Lists.{drop-front, drop-zero, end_after, end-drop, Ascend, ascend-drop, ascend-push, get_or-left, get_or-end, as-many-drop}
+use Rattle.fl_index.proofs.Firsts.{full-append, full-pushed, full-dropped, full-split}
+use Rattle.fl_index.proofs.Lists.{drop-front, drop-zero, end_after, end-drop, Ascend, ascend-drop, get_or-left, get_or-end, as-many-drop}
 use Rattle.fl_index.proofs.State.{shape_in, full_count, IsStateOf, holds-moved}
 
 -- each body lists what the table's index does

@@ -1,5 +1,5 @@
 -- A lookup of a data page's bitmap, over any bytes and for a table of the model.
-use Rattle.std.specs.Prelude.{◌≡◌, ◌⊎◌, ℕ, ◌+◌, ◌-◌, ◌*◌, ◌<◌, ◌≤◌, Bool, true, false, nat_lt, Option, Some, None, IfSome, is_some, unwrap_or, Result, Ok, Err, List, count_by, slice_get, if◌then◌else◌}
+use Rattle.std.specs.Prelude.{◌≡◌, ◌⊎◌, ℕ, ◌+◌, ◌-◌, ◌<◌, ◌≤◌, Bool, false, nat_lt, Option, Some, None, IfSome, is_some, unwrap_or, Result, Ok, Err, List, count_by, slice_get, if◌then◌else◌}
 use Rattle.std.specs.List.{range_with_len}
 use Rattle.fl_flash.specs.Buffer.{BufferState}
 use Rattle.fl_flash.specs.Flash.{FlashState, page_at}
@@ -9,7 +9,7 @@ use Rattle.fl_mark.specs.declared.page_state.PageState.TheVariants.{Committed}
 use Rattle.fl_model.specs.Image.{rows_at}
 use Rattle.fl_model.specs.Layout.{bitmap_of}
 use Rattle.fl_model.specs.Limits.{is_indexed}
-use Rattle.fl_model.specs.Record.{Plan, entries_per_page}
+use Rattle.fl_model.specs.Record.{Plan}
 use Rattle.fl_model.specs.Ring as rings
 use Rattle.fl_model.specs.Table.{Table}
 use Rattle.fl_page.specs.declared.fault.BadPage.{BadPage as Refusal}

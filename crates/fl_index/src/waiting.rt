@@ -42,7 +42,7 @@ impl Index {
         ensures others { (j : ℕ) → j < waiting_in self.old → waiting_at self.new j ≡ waiting_at self.old j }
         ensures lies { (f : FlashState) → LiesOn self.old f → LiesOn self.new f }
         ensures ring { (f : FlashState) → (begin : ℕ) → (plan : Plan) → (table : model.Table) → StandsForRing self.old f begin plan table → StandsForRing self.new f begin plan table }
-        ensures waits { (plan : Plan) → (table : model.Table) → (first count : ℕ) → plan.bits ≡ self.old.bits → Waits self.old plan table first count →
+        ensures waits { (plan : Plan) → (table : model.Table) → (first count : ℕ) → Waits self.old plan table first count →
             ((n : ℕ) → first + count ≡ rings.oldest table.rows + n → IfSome (slice_get table.rows.counts n) (λ rows. 0 < rows → bitmap ≡ bitmap_of plan (rows_at table n rows))) →
             Waits self.new plan table first (count + 1) }
     {

@@ -1,5 +1,5 @@
 -- What a session knows of the reads of its flash.
-use Rattle.std.proofs.Common.{◌≡◌, ℕ, zero, suc, ◌+◌, ◌-◌, ◌^◌, ◌<◌, Bool, List, [], ◌∷◌, ◌∙◌, ap, arith}
+use Rattle.std.proofs.Common.{◌≡◌, ℕ, zero, suc, ◌+◌, ◌-◌, ◌^◌, ◌<◌, ◌≤◌, Bool, List, [], ◌∷◌, ◌∙◌, ap, arith}
 use Rattle.fl_flash.specs.Flash.{FlashState}
 use Rattle.fl_flash.specs.declared.flash.Work.{Work}
 use Rattle.fl_model.specs.Record.{Config}
@@ -23,6 +23,11 @@ counted-exact (suc n) before below =
     let less : counted n before < 2 ^ 64 - 1 = omega arith in
     omega (arith, counted-exact n before less)
 
+-- .. and never fell
+counted-least : (n before : ℕ) → before ≤ 2 ^ 64 - 1 → before ≤ counted n before
+counted-least zero before below = omega arith
+counted-least (suc n) before below = omega (arith, counted-least n before below)
+
 -- flash and medium count the same reads
 module _ (f g : FlashState) (only : contents.OnlyReads f g) where
   counts : g.work.reads ≡ counted only.reads f.work.reads
@@ -31,9 +36,9 @@ module _ (f g : FlashState) (only : contents.OnlyReads f g) where
   rises : g.work.reads < 2 ^ 64 - 1 → g.work.reads ≡ f.work.reads + only.reads
   rises below = counts ∙ counted-exact only.reads f.work.reads (omega (arith, counts, below))
 
-  pub has-read : (reads : ℕ) → reads ≡ g.work.reads - f.work.reads → HasRead f reads g
-  has-read reads is = record {
-    flash = λ below. omega (arith, is, rises below);
+  pub has-read : (reads : ℕ) → f.work.reads < 2 ^ 64 → reads ≡ g.work.reads - f.work.reads → HasRead f reads g
+  has-read reads small is = record {
+    flash = omega (arith, is, counts, counted-least only.reads f.work.reads (omega (arith, small)));
     medium = λ below medium_below.
         let same = counted-exact only.reads f.media.reads (omega (arith, only.media, medium_below)) in
         omega (arith, is, rises below, only.media, same);
@@ -41,7 +46,7 @@ module _ (f g : FlashState) (only : contents.OnlyReads f g) where
 
 -- nothing was read
 pub read-none : (f : FlashState) (reads : ℕ) → reads ≡ 0 → HasRead f reads f
-read-none f reads none = record { flash = λ _. omega (arith, none); medium = λ _ _. omega (arith, none) }
+read-none f reads none = record { flash = omega (arith, none); medium = λ _ _. omega (arith, none) }
 
 -- the reply to the question for the cost
 pub cost-answers : (config : Config) (old : Machine) (t : Table) (name : List ℕ) (notes : Notes) (f : FlashState) (mounted : Bool) (faults : ℕ) (said : List ℕ) →

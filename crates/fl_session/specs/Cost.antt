@@ -18,9 +18,9 @@ cost_of NothingYet = machine.NothingYet
 cost_of (OfGet reads limit) = machine.OfGet reads limit
 cost_of (OfScan reads) = machine.OfScan reads
 
--- The flash counts so many more reads, where its count isn't at its end, and the medium as many, where neither count is.
+-- The flash counts so many more reads, and the medium as many, where neither count is at its end.
 pub record HasRead (old : FlashState) (reads : ℕ) (new : FlashState) : Type 0 where
-  pub flash : new.work.reads < 2 ^ 64 - 1 → new.work.reads ≡ old.work.reads + reads
+  pub flash : new.work.reads ≡ old.work.reads + reads
   pub medium : new.work.reads < 2 ^ 64 - 1 → new.media.reads < 2 ^ 64 - 1 → new.media.reads ≡ old.media.reads + reads
 
 -- The machine's reads are those of the flash and its medium in a command that reads rows. Of a mount they aren't told, and

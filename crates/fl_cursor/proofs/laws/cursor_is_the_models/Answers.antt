@@ -1,5 +1,4 @@
-use Rattle.std.proofs.Common.{refl, ◌∙◌, ap, List, filter}
-use Rattle.fl_model.specs.Row.{Row}
+use Rattle.std.proofs.Common.{refl, ◌∙◌, ap, filter}
 use Rattle.fl_page.specs.Contents.{contents_of}
 use Rattle.fl_cursor.specs.Asked.{is_left}
 use Rattle.fl_cursor.specs.Cursor.{table_of, asked_of}

@@ -1,4 +1,3 @@
-use Rattle.std.proofs.Common.{rules}
 use Rattle.fl_ring.proofs.Exists.{lies_exists}
 use Rattle.fl_page.proofs.Reading.{OnlyReads-read}
 use Rattle.fl_index.proofs.lookup.hold.Goals as goal

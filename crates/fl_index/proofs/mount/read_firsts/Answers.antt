@@ -5,7 +5,7 @@ use Rattle.fl_ring.specs.Place.{oldest_of, shape_of}
 use Rattle.fl_ring.specs.Ring.{place}
 use Rattle.fl_ring.proofs.Exists.{page_exists}
 use Rattle.fl_ring.proofs.Readings.{more_reads, told_still, same_page}
-use Rattle.fl_index.specs.Headers.{IsHeader, IsNewest, AreRemembered, kept_page}
+use Rattle.fl_index.specs.Headers.{IsHeader, IsNewest, kept_page}
 use Rattle.fl_index.specs.Page.{newest_of, first_on}
 use Rattle.fl_index.proofs.HeaderPages.{header-first, newest-more, remembered-more}
 use Rattle.fl_index.proofs.mount.read_firsts.Goals as goal

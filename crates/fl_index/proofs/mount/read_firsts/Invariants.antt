@@ -1,6 +1,6 @@
 use Rattle.std.proofs.Common.{◌≡◌, ◌≤◌, ◌-◌, None, length, IsTrue}
 use Rattle.fl_ring.specs.Looking.{OnlyReads}
-use Rattle.fl_ring.specs.Place.{shape_of, oldest_of, next_of}
+use Rattle.fl_ring.specs.Place.{shape_of, oldest_of}
 use Rattle.fl_ring.specs.Ring.{place}
 use Rattle.fl_index.specs.Headers.{IsNewest, AreRemembered, kept_page}
 use Rattle.fl_index.specs.Page.{newest_of}

@@ -1,12 +1,17 @@
-use Rattle.std.proofs.Common.{◌≡◌, ℕ, Option, None, List, map, filter, refl, ◌∙◌, ap, subst}
+use Rattle.std.proofs.Common.{◌≡◌, ◌≤◌, ℕ, Option, None, map, filter, refl, sym, ◌∙◌, ap, subst}
+use Rattle.fl_model.specs.Limits.{least_reads}
 use Rattle.fl_model.specs.Query as query
-use Rattle.fl_model.specs.Row.{Row, stored_row}
+use Rattle.fl_model.specs.Row.{stored_row}
 use Rattle.fl_page.specs.Contents.{contents_of}
 use Rattle.fl_page.specs.Steps.{Ascends}
+use Rattle.fl_table.specs.Look.{last_key_in}
 use Rattle.fl_table.specs.declared.table.Table.{Table}
 use Rattle.fl_cursor.specs.Asked.{asked_by, is_left}
-use Rattle.fl_cursor.specs.Cursor.{table_of, asked_of, IsStanding}
+use Rattle.fl_cursor.specs.Cursor.{table_of, asked_of, place_of, IsStanding}
 use Rattle.fl_cursor.specs.Listed.{rows_of}
+use Rattle.fl_cursor.specs.Reads.{least_from, IsBegun, IsBounded}
+use Rattle.fl_cursor.proofs.Least.{begun-least}
+use Rattle.fl_cursor.proofs.Limited.{bounded-min}
 use Rattle.fl_cursor.proofs.Selected.{begins-selected}
 use Rattle.fl_cursor.proofs.Stood.{standing-rows, standing-ascends, left-entries}
 use Rattle.fl_cursor.proofs.cursor.Cursor.begin.Goals as goal
@@ -23,3 +28,19 @@ returns-clause-left c = λ f first plan t tells reaches lies stands.
     ∙ (ap (filter (is_left (query.begin c.args.range c.args.span t))) (standing-rows c.args.table.now (contents_of f) h)
     ∙ (left-entries (query.begin c.args.range c.args.span t) t.entries
     ∙ ap (map stored_row) (begins-selected range span t (subst (Ascends None) (standing-rows c.args.table.now (contents_of f) h) (standing-ascends c.args.table.now (contents_of f) h))))))
+
+pub returns-clause-limit : goal.returns-clause-limit
+returns-clause-limit c = λ f first plan t tells reaches lies stands.
+    c.resume.ensures.limit f first plan t tells reaches lies stands
+    (subst (λ (top : Option ℕ). IsBounded top c.args.range.high) (sym c.last_wanted-top.ensures.exact) (bounded-min c.args.range.high (last_key_in c.args.table.now)))
+
+pub returns-clause-least : goal.returns-clause-least
+returns-clause-least c = λ f first plan t tells reaches lies stands.
+    let h : IsStanding c.args.table.now (contents_of f) = record { flash = f; same = refl; tells = tells; reaches = reaches; lies = lies; first = first; plan = plan; table = t; stands = stands } in
+    let asked : asked_of c.resume.result ≡ query.begin c.args.range c.args.span t =
+    ap asked_by c.resume.ensures.mark ∙ ap (λ (top : Option ℕ). record { range = c.args.range; span = c.args.span; after = None; top = top }) (c.last_wanted-top.ensures.stands f first plan t stands) in
+    let begun : IsBegun (query.begin c.args.range c.args.span t) c.args.table.now (place_of c.resume.result) =
+    subst (λ (a : query.Cursor). IsBegun a c.args.table.now (place_of c.resume.result)) (sym (ap asked_by c.resume.ensures.mark) ∙ asked) c.resume.ensures.begun in
+    subst (λ (a : query.Cursor). least_reads plan t c.args.range c.args.span ≤ least_from (table_of c.resume.result) (contents_of f) a (place_of c.resume.result)) (sym asked)
+    (subst (λ (tb : Table). least_reads plan t c.args.range c.args.span ≤ least_from tb (contents_of f) (query.begin c.args.range c.args.span t) (place_of c.resume.result)) (sym c.resume.ensures.table)
+    (begun-least c.args.table.now (contents_of f) h c.args.range c.args.span (place_of c.resume.result) begun))

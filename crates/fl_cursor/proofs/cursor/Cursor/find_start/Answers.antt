@@ -1,5 +1,4 @@
-use Rattle.std.proofs.Common.{rules, ◌≡◌, ℕ, ◌+◌, ◌-◌, ◌^◌, ◌<◌, ◌≤◌, true, false, Bool, Option, Some, None, List, length, Ok, OnErr, IfSome, refl, sym, ◌∙◌, ap, subst, arith, IsTrue}
-use Rattle.std.specs.Borrow.{MutBor}
+use Rattle.std.proofs.Common.{ℕ, ◌+◌, ◌≤◌, Option, Some, None, IfSome, refl, sym, ◌∙◌, ap, subst, IsTrue}
 use Rattle.std.proofs.lemmas.Result.{err_from_is_err_and}
 use Rattle.fl_find.specs.Pages.{first_key}
 use Rattle.fl_flash.specs.Places.{page_of}
@@ -10,13 +9,8 @@ use Rattle.fl_table.specs.Finding.{HoldsKept}
 use Rattle.fl_table.specs.Kept.{place_of}
 use Rattle.fl_table.specs.Look.{oldest_in}
 use Rattle.fl_table.specs.Memory.{next_in}
-use Rattle.fl_cursor.specs.Asked.{asked_by, lowest_of}
-use Rattle.fl_cursor.specs.Cursor.{IsTold}
-use Rattle.fl_cursor.specs.Going.{Goes, Fails}
-use Rattle.fl_cursor.specs.Listed.{rows_on, bytes_at}
+use Rattle.fl_cursor.specs.Listed.{rows_on}
 use Rattle.fl_cursor.specs.Reads.{most_to_find}
-use Rattle.fl_cursor.specs.declared.cursor.Cursor.{Cursor}
-use Rattle.fl_cursor.specs.declared.place.Place.TheVariants.{Pages}
 use Rattle.fl_cursor.proofs.Beginning.{stands-moved, standing-start, few-reads}
 use Rattle.fl_cursor.proofs.Finding.{start-fails, start-none, start-some}
 use Rattle.fl_cursor.proofs.Stood.{standing-tells}

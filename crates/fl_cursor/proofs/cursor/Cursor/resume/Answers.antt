@@ -1,4 +1,8 @@
 use Rattle.std.proofs.Common.{refl}
+use Rattle.fl_page.specs.Contents.{contents_of}
+use Rattle.fl_cursor.specs.Asked.{asked_by}
+use Rattle.fl_cursor.specs.Cursor.{IsStanding}
+use Rattle.fl_cursor.proofs.Limited.{begun-limit}
 use Rattle.fl_cursor.proofs.Stood.{standing-ascends}
 use Rattle.fl_cursor.proofs.cursor.Cursor.resume.Goals as goal
 
@@ -18,3 +22,8 @@ returns-clause-told c = λ contents standing. record {
   ascends = standing-ascends c.args.table.now contents standing;
   passes = c.first_place.ensures.passes contents c.args.rows_buf.now.bytes standing;
 }
+
+pub returns-clause-limit : goal.returns-clause-limit
+returns-clause-limit c = λ f first plan t tells reaches lies stands bounded.
+    let h : IsStanding c.args.table.now (contents_of f) = record { flash = f; same = refl; tells = tells; reaches = reaches; lies = lies; first = first; plan = plan; table = t; stands = stands } in
+    begun-limit c.args.table.now (contents_of f) h (asked_by c.args.mark) c.args.rows_buf.now.bytes c.first_place.result bounded c.first_place.ensures.begun

@@ -1,10 +1,9 @@
-use Rattle.std.proofs.Common.{◌≡◌, ℕ, ◌-◌, ◌<◌, List, Option, Some, None, IfSome, Result, Ok, Err, IsTrue, OnOk, refl, sym, ◌∙◌, ap, subst, arith}
+use Rattle.std.proofs.Common.{◌≡◌, ℕ, ◌-◌, Option, Some, IfSome, IsTrue, sym, ◌∙◌, ap, subst}
 use Rattle.fl_flash.specs.Flash.{page_at}
-use Rattle.fl_page.specs.declared.fault.ReadFault.{ReadFault}
-use Rattle.fl_index.specs.Looking.{looked_at, IsFresh, IfRead, IsScanning, ScansOn}
+use Rattle.fl_index.specs.Looking.{IsFresh, IfRead}
 use Rattle.fl_index.specs.Memory.{is_waiting, waiting_at, first_waiting, place_in}
 use Rattle.fl_index.proofs.Showing.{waits-shows, none-shows, page-is, found-shows}
-use Rattle.fl_index.proofs.Lookups.{some-of, none-of, read-any, listing-same, listing-here, looked-here, here-bytes, place-same, held-is, scans-on, ok-any}
+use Rattle.fl_index.proofs.Lookups.{some-of, none-of, read-any, listing-same, listing-here, looked-here, here-bytes, place-same, scans-on, ok-any}
 use Rattle.fl_index.proofs.index.Index.bitmap_of.Goals as goal
 
 pub returns-in-Some-clause-stands : goal.returns-in-Some-clause-stands

@@ -1,4 +1,4 @@
-use Rattle.std.proofs.Common.{◌≡◌, ◌<◌, ◌==◌, Bool, true, false, cond, Ok, Err, Result, arith, refl, sym, ◌∙◌, ap, subst}
+use Rattle.std.proofs.Common.{arith}
 use Rattle.fl_index.proofs.Rooms.{makes-nothing, makes-room}
 use Rattle.fl_index.proofs.index.Index.make_room.Goals as goal
 

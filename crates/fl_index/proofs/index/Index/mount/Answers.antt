@@ -1,17 +1,14 @@
-use Rattle.std.proofs.Common.{◌≡◌, ◌+◌, ◌-◌, ◌*◌, ◌%◌, ◌<◌, ◌≤◌, ℕ, List, ◌++◌, Option, Some, None, Ok, Err, length, take, drop, get_or, arith, refl, sym, ◌∙◌, ap, subst, IsTrue}
+use Rattle.std.proofs.Common.{◌≡◌, ◌-◌, ◌*◌, ◌≤◌, ◌++◌, Ok, Err, length, take, drop, arith, refl, sym, ◌∙◌, ap, subst, IsTrue}
 use Rattle.std.proofs.lemmas.Result.{err_from_is_err_and}
 use Rattle.fl_base.specs.declared.types.Geometry.{Geometry}
-use Rattle.fl_flash.specs.Flash.{page_at}
 use Rattle.fl_ring.specs.Mounting.{shape_at}
 use Rattle.fl_ring.specs.Place.{next_of, oldest_of, shape_of}
 use Rattle.fl_ring.specs.Ring.{place}
 use Rattle.fl_index.specs.Headers.{AreRemembered, kept_page}
 use Rattle.fl_index.specs.Memory.{per_page}
-use Rattle.fl_index.specs.Page.{newest_of, first_on}
-use Rattle.fl_index.specs.Finding.{IsEnd}
 use Rattle.fl_index.proofs.Gathering.{written-back}
 use Rattle.fl_index.proofs.Memories.{planned-same}
-use Rattle.fl_index.proofs.MountCalls.{same-shape, same-entries, watched-front, risen-later, outside-stands, refuses-ring, unread-pages, refuses-end, finds-index, few-all, ring-few}
+use Rattle.fl_index.proofs.MountCalls.{same-shape, watched-front, risen-later, outside-stands, unread-pages, refuses-end, finds-index, few-all, ring-few}
 use Rattle.fl_index.proofs.MountEnded.{mounting-of, ring-fails, ring-ends, ring-mounts, reads-fail, no-bad-end, mounts-well, end-is, bad-end}
 use Rattle.fl_index.proofs.Sealings.{planned-ring, lies-size}
 use Rattle.fl_index.proofs.index.Index.mount.Goals as goal

@@ -1,9 +1,6 @@
-use Rattle.std.proofs.Common.{◌≡◌, ◌⊎◌, inl, inr, ◌+◌, ◌*◌, ◌/◌, ◌<◌, ◌≤◌, ℕ, List, [], ◌∷◌, ◌++◌, Option, Some, None, IfSome, length, take, drop, refl, sym, ◌∙◌, ap, subst, arith, length-append}
-use Rattle.std.proofs.lemmas.Bool.{cases_lt}
-use Rattle.std.specs.List.{slice_get}
+use Rattle.std.proofs.Common.{◌≡◌, ◌+◌, ◌*◌, ℕ, List, [], ◌∷◌, ◌++◌, length, take, drop, refl, sym, ◌∙◌, ap, subst, length-append}
 use Rattle.fl_base.specs.Bytes.{splice}
 use Rattle.fl_model.specs.Row.{le}
-use Rattle.fl_model.proofs.Lists.{slice_get-left, slice_get-last}
 use Rattle.fl_index.specs.Page.{entry_at}
 use Rattle.fl_index.specs.Memory.{width_in}
 use Rattle.fl_index.proofs.Gathering.{InFront, other-kept, push-in, written-back, entry-length}
@@ -23,7 +20,7 @@ returns-clause-ring c = λ f begin plan table stands.
     ring-same c.args.self.now _ f begin plan table (record { geometry = refl; place = refl; bits = refl }) (record { ring = refl; firsts = refl }) stands
 
 pub returns-clause-waits : goal.returns-clause-waits
-returns-clause-waits c = λ plan table first count bits waits right.
+returns-clause-waits c = λ plan table first count waits right.
     let t = c.args.self.now in
     let w = width_in t in
     let written : take t.body.len (c.write_entry.new.body ++ drop (length c.write_entry.new.body) t.body.items) ≡ splice t.body.items (16 + t.waiting * width_in t) (le (width_in t) c.args.bitmap) =

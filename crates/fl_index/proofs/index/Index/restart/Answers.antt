@@ -1,4 +1,4 @@
-use Rattle.std.proofs.Common.{ℕ, ◌<◌, List, [], refl, arith}
+use Rattle.std.proofs.Common.{ℕ, ◌<◌, [], refl, arith}
 use Rattle.fl_index.proofs.Memories.{ring-same}
 use Rattle.fl_index.proofs.Gathering.{none-in}
 use Rattle.fl_index.proofs.index.Index.restart.Goals as goal

@@ -1,10 +1,7 @@
-use Rattle.std.proofs.Common.{◌≡◌, ◌+◌, ◌-◌, ◌*◌, ◌/◌, ◌%◌, ◌<◌, ℕ, List, ◌++◌, Option, Some, Ok, Err, length, take, drop, set, arith, refl, sym, ◌∙◌, ap, subst}
+use Rattle.std.proofs.Common.{◌≡◌, ◌%◌, ℕ, List, ◌++◌, Some, Ok, Err, length, take, drop, set, arith, refl, sym, ◌∙◌, ap, subst}
 use Rattle.std.proofs.lemmas.Result.{err_from_is_err_and}
 use Rattle.fl_base.specs.Bytes.{splice}
 use Rattle.fl_flash.specs.Flash.{page_at}
-use Rattle.fl_model.specs.Layout.{index_body}
-use Rattle.fl_model.specs.Record.{entries_per_page}
-use Rattle.fl_model.specs.Table as model
 use Rattle.fl_ring.specs.Operations.{change, seal_kinds}
 use Rattle.fl_ring.specs.Place.{shape_of, StandsFor}
 use Rattle.fl_ring.specs.Ring.{Shape, OutsideStands}
@@ -12,7 +9,7 @@ use Rattle.fl_ring.specs.Sealing.{Performed, Seals}
 use Rattle.fl_index.specs.Page.{header_bytes}
 use Rattle.fl_index.proofs.Gathering.{written-back, headed-length}
 use Rattle.fl_index.proofs.State.{shape_in, HaveSize}
-use Rattle.fl_index.proofs.Sealings.{planned-ring, lies-size, seal-ready, seal-breaks, seal-finishes, IsSealing}
+use Rattle.fl_index.proofs.Sealings.{planned-ring, lies-size, seal-ready, seal-breaks, seal-finishes}
 use Rattle.fl_index.proofs.SealAnswers.{sealing-of, some-room, number-of}
 use Rattle.fl_index.proofs.index.Index.seal.Goals as goal
 

@@ -1,4 +1,4 @@
-use Rattle.std.proofs.Common.{◌≡◌, ◌-◌, sym, ◌∙◌, ap, arith}
+use Rattle.std.proofs.Common.{◌≡◌, ◌-◌, ◌^◌, ◌<◌, rules, sym, ◌∙◌, ap, arith}
 use Rattle.fl_flash.specs.declared.flash.Work.{Work}
 use Rattle.fl_page.specs.Contents.{Contents}
 use Rattle.fl_session.proofs.Costing.{has-read}
@@ -24,7 +24,9 @@ returns-clause-sound g c = record {
 pub returns-clause-step : goal.returns-clause-step
 returns-clause-step g c = λ config old h.
     let before : c.work-before.result.reads ≡ c.args.self.now.flash.work.reads = ap (λ (w : Work). w.reads) c.work-before.ensures in
+    let fits : c.work-before.result.reads < 2 ^ 64 = search rules in
+    let small : c.args.self.now.flash.work.reads < 2 ^ 64 = omega (arith, fits, before) in
     let after : c.work.result.reads ≡ c.look_up-reply.new.flash.work.reads = ap (λ (w : Work). w.reads) c.work.ensures in
     let reads : c.saturating_sub-reads.result ≡ c.look_up-reply.new.flash.work.reads - c.args.self.now.flash.work.reads = omega (arith, c.saturating_sub-reads.ensures, before, after) in
     get-executes _ config old _ _ c.args.name _ _ _ _ _ c.args.key _ c.look_up-reply.result _ _ _ h c.in_default.ensures c.look_up-reply.ensures.counts
-    (has-read _ _ c.look_up-reply.ensures.counts _ reads) reads c.lookup_limit-limit.ensures.stands c.look_up-reply.ensures.looks c.write_reply-2.ensures.text
+    (has-read _ _ c.look_up-reply.ensures.counts _ small reads) reads c.lookup_limit-limit.ensures.stands c.look_up-reply.ensures.looks c.write_reply-2.ensures.text

@@ -1,4 +1,4 @@
-use Rattle.std.proofs.Common.{◌≡◌, ◌-◌, sym, ◌∙◌, ap, arith}
+use Rattle.std.proofs.Common.{◌≡◌, ◌-◌, ◌^◌, ◌<◌, rules, sym, ◌∙◌, ap, arith}
 use Rattle.fl_base.specs.declared.types.Geometry.{Geometry}
 use Rattle.fl_flash.specs.declared.flash.Work.{Work}
 use Rattle.fl_table.proofs.StillStands.{lies-still}
@@ -22,7 +22,9 @@ returns-clause-sound g c = record {
 pub returns-clause-step : goal.returns-clause-step
 returns-clause-step g c = λ config old h.
     let before : c.work-before.result.reads ≡ c.args.self.now.flash.work.reads = ap (λ (w : Work). w.reads) c.work-before.ensures in
+    let fits : c.work-before.result.reads < 2 ^ 64 = search rules in
+    let small : c.args.self.now.flash.work.reads < 2 ^ 64 = omega (arith, fits, before) in
     let after : c.work.result.reads ≡ c.scan-written.new.flash.work.reads = ap (λ (w : Work). w.reads) c.work.ensures in
     let reads : c.saturating_sub-reads.result ≡ c.scan-written.new.flash.work.reads - c.args.self.now.flash.work.reads = omega (arith, c.saturating_sub-reads.ensures, before, after) in
     scan-executes _ config old _ _ c.args.name _ _ _ _ _ _ c.args.wanted.range c.args.wanted.span _ _ _ h c.in_default.ensures c.scan-written.ensures.reads
-    (has-read _ _ c.scan-written.ensures.counts _ reads) c.scan-written.ensures.scans
+    (has-read _ _ c.scan-written.ensures.counts _ small reads) c.scan-written.ensures.scans

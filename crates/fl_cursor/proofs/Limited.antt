@@ -1,0 +1,168 @@
+-- What a cursor that begins reads at most, in the words of the model.
+use Rattle.std.proofs.Common.{◌≡◌, ℕ, zero, suc, ◌+◌, ◌-◌, ◌<◌, ◌≤◌, ◌⊎◌, Bool, true, false, ◌&&◌, ◌||◌, not, cond, min, ◌==◌, nat_le, nat_lt, Option, Some, None, option_map, unwrap_or, List, [], ◌∷◌, length, refl, sym, ◌∙◌, ap, subst, arith, inl, inr, bit_and}
+use Rattle.std.specs.List.{count_by}
+use Rattle.std.proofs.lemmas.Bool.{cases_lt, le-leb, eq-eqb}
+use Rattle.std.proofs.lemmas.List.Sums.{sum_by-cons}
+use Rattle.fl_base.specs.declared.types.Span.{Span}
+use Rattle.fl_find.specs.Index.{most_reads}
+use Rattle.fl_find.specs.Pages.{first_key}
+use Rattle.fl_model.specs.Layout.{bitmap_of}
+use Rattle.fl_model.specs.Limits.{mask_of, is_listed, rows_of_page, is_wanted, numbers_from, numbers_of, first_page, last_page, in_pages, is_spanned, scan_limit}
+use Rattle.fl_model.specs.Query.{Cursor}
+use Rattle.fl_model.specs.Record.{has_index}
+use Rattle.fl_model.specs.Ring.{Ring}
+use Rattle.fl_model.specs.Row.{Row}
+use Rattle.fl_model.specs.Spline.{page_at, is_pending_key, lookup_limit, voids_of}
+use Rattle.fl_model.specs.Table.{full_pages}
+use Rattle.fl_page.specs.Contents.{Contents}
+use Rattle.fl_search.specs.Search.{IsPageOf}
+use Rattle.fl_table.specs.Look.{oldest_in, rows_noted, buffered_rows}
+use Rattle.fl_table.specs.Memory.{next_in}
+use Rattle.fl_table.specs.declared.table.Table.{Table}
+use Rattle.fl_table.proofs.Finds.{limit-told}
+use Rattle.fl_table.proofs.Looks.{next-is, oldest-is, pages-is}
+use Rattle.fl_table.proofs.SealAnswers.{planned-plain}
+use Rattle.fl_cursor.specs.Asked.{lowest_of}
+use Rattle.fl_cursor.specs.Cursor.{IsStanding}
+use Rattle.fl_cursor.specs.Listed.{rows_on}
+use Rattle.fl_cursor.specs.Reads.{begins_by, has_last, start_of, most_to_find, pages_to_last, most_from, IsBegun, IsBounded}
+use Rattle.fl_cursor.specs.declared.place.Place.{Place}
+use Rattle.fl_cursor.specs.declared.place.Place.TheVariants.{Start, Pages, InPage, Pending, Ended}
+use Rattle.fl_cursor.proofs.Beginning.{standing-start, start-is, pending-same}
+use Rattle.fl_cursor.proofs.Stood.{standing-many}
+
+no : true ≡ false → ⊥
+no e = cc
+
+-- a page with rows, none of which is the last that may be given, begins by the high key
+not-last : (top : Option ℕ) (high : ℕ) (rows : List Row) → IsBounded top high → 0 < length rows → has_last top rows ≡ false → begins_by high rows ≡ true
+not-last top high [] bounded some none = absurd (omega (arith, some))
+not-last None high (row ∷ rows) bounded some none = absurd (no none)
+not-last (Some top) high (row ∷ rows) bounded some none = by_key (cases_lt row.key top)
+  where
+    by_key : (row.key < top) ⊎ (top ≤ row.key) → nat_le row.key high ≡ true
+    by_key (inl lt) = le-leb row.key high (omega (arith, lt, bounded))
+    by_key (inr le) = absurd (no (sym (ap (λ b. b || has_last (Some top) rows) (le-leb top row.key le)) ∙ none))
+
+later-counts : (p : ℕ → Bool) (k m from : ℕ) → count_by p (numbers_from (from + k) m) ≤ count_by p (numbers_from from (k + m))
+later-counts p zero m from =
+    let same : count_by p (numbers_from (from + 0) m) ≡ count_by p (numbers_from from (0 + m)) =
+    ap (λ a. count_by p (numbers_from a m)) (let e : from + 0 ≡ from = omega arith in e) ∙ ap (λ n. count_by p (numbers_from from n)) (let e : m ≡ 0 + m = omega arith in e) in
+    omega (arith, same)
+later-counts p (suc k) m from =
+    let others = later-counts p k m (from + 1) in
+    let same : count_by p (numbers_from (from + suc k) m) ≡ count_by p (numbers_from (from + 1 + k) m) = ap (λ a. count_by p (numbers_from a m)) (let e : from + suc k ≡ from + 1 + k = omega arith in e) in
+    let more : count_by p (numbers_from from (suc k + m)) ≡ count_by p (from ∷ numbers_from (from + 1) (k + m)) = ap (λ n. count_by p (numbers_from from n)) (let e : suc k + m ≡ suc (k + m) = omega arith in e) in
+    let one = sum_by-cons (λ x. cond (p x) 1 0) from (numbers_from (from + 1) (k + m)) in
+    omega (arith, others, same, more, one)
+
+pub bounded-min : (high : ℕ) (last : Option ℕ) → IsBounded (option_map (λ key. min high key) last) high
+bounded-min high None = tt
+bounded-min high (Some key) = omega arith
+
+module _ (t : Table) (contents : Contents) (h : IsStanding t contents) where
+  -- without an index no page is skipped
+  wanted : (span : Option Span) (number : ℕ) → is_wanted h.plan h.table span number ≡ true
+  wanted None number = refl
+  wanted (Some span) number =
+      ap (λ b. not (b && (nat_le (h.table.rows.next - h.table.waiting) number || is_listed h.plan h.table number)) || nat_lt 0 (bit_and (bitmap_of h.plan (rows_of_page h.table number)) (mask_of h.plan span)))
+      (planned-plain t h.first h.plan h.stands.planned).no_index
+
+  within : (high first number : ℕ) (page : Option ℕ) → IsPageOf (λ n. first_key (rows_on t contents n)) (oldest_in t) (next_in t) high page → oldest_in t ≤ number → number < next_in t →
+      begins_by high (rows_on t contents number) ≡ true → first ≤ number → in_pages first page number ≡ true
+  within high first number None is from before begins le = absurd (no (sym begins ∙ is number from before))
+  within high first number (Some page) is from before begins le =
+      ap (λ b. b && nat_le number page) (le-leb first number le) ∙ le-leb number page (by_order (cases_lt page number))
+    where
+      by_order : (page < number) ⊎ (number ≤ page) → number ≤ page
+      by_order (inl lt) = absurd (no (sym begins ∙ is.later number lt before))
+      by_order (inr le) = le
+
+  abbrev counted : Option Span → ℕ → ℕ → ℕ → Bool
+  counted span high first number = in_pages first (last_page h.table high) number && is_wanted h.plan h.table span number
+
+  to-last : (span : Option Span) (top : Option ℕ) (high first n number : ℕ) → IsBounded top high → oldest_in t ≤ number → number + n ≡ next_in t → first ≤ number →
+      pages_to_last t contents top number n ≤ 1 + count_by (counted span high first) (numbers_from number n)
+  to-last span top high first zero number bounded from is le = omega arith
+  to-last span top high first (suc n) number bounded from is le =
+      subst (λ c. pages_to_last t contents top number (suc n) ≤ 1 + c) (sym (sum_by-cons (λ x. cond (counted span high first x) 1 0) number (numbers_from (number + 1) n)))
+      (by_count (rows_noted t number == 0) refl (to-last span top high first n (number + 1) bounded (omega (arith, from)) (omega (arith, is)) (omega (arith, le))))
+    where
+      by_last : (b : Bool) → has_last top (rows_on t contents number) ≡ b → (rows_noted t number == 0) ≡ false →
+          pages_to_last t contents top (number + 1) n ≤ 1 + count_by (counted span high first) (numbers_from (number + 1) n) →
+          1 + cond b 0 (pages_to_last t contents top (number + 1) n) ≤ 1 + (cond (counted span high first number) 1 0 + count_by (counted span high first) (numbers_from (number + 1) n))
+      by_last true last some others = omega arith
+      by_last false last some others =
+          let many = standing-many t contents h number from (omega (arith, is)) in
+          let not_zero : rows_noted t number ≡ 0 → ⊥ = λ e. no (sym (eq-eqb (rows_noted t number) 0 e) ∙ some) in
+          let has : 0 < length (rows_on t contents number) = by_none (cases_lt 0 (length (rows_on t contents number))) many not_zero in
+          let begins = not-last top high (rows_on t contents number) bounded has last in
+          let inside = within high first number (page_at h.table high) (standing-start t contents h high) from (omega (arith, is)) begins le in
+          let one : cond (counted span high first number) 1 0 ≡ 1 = ap (λ b. cond {A = ℕ} (b && is_wanted h.plan h.table span number) 1 0) inside ∙ ap (λ b. cond {A = ℕ} b 1 0) (wanted span number) in
+          omega (arith, others, one)
+        where
+          by_none : (0 < length (rows_on t contents number)) ⊎ (length (rows_on t contents number) ≤ 0) → length (rows_on t contents number) ≡ rows_noted t number → (rows_noted t number ≡ 0 → ⊥) → 0 < length (rows_on t contents number)
+          by_none (inl lt) many not_zero = lt
+          by_none (inr le) many not_zero = absurd (not_zero (omega (arith, le, many)))
+
+      by_count : (b : Bool) → (rows_noted t number == 0) ≡ b → pages_to_last t contents top (number + 1) n ≤ 1 + count_by (counted span high first) (numbers_from (number + 1) n) →
+          cond b (pages_to_last t contents top (number + 1) n) (1 + cond (has_last top (rows_on t contents number)) 0 (pages_to_last t contents top (number + 1) n))
+          ≤ 1 + (cond (counted span high first number) 1 0 + count_by (counted span high first) (numbers_from (number + 1) n))
+      by_count true e others = omega (arith, others)
+      by_count false e others = by_last (has_last top (rows_on t contents number)) refl e others
+
+  -- where the page of a key may be
+  record Between (page : ℕ) : Type 0 where
+    from : oldest_in t ≤ page
+    up_to : page ≤ next_in t
+
+  between : (key : ℕ) (page : Option ℕ) → IsPageOf (λ n. first_key (rows_on t contents n)) (oldest_in t) (next_in t) key page → Between (unwrap_or page (oldest_in t))
+  between key None is =
+      let oldest = oldest-is t h.flash h.first h.plan h.table h.stands in
+      let next = next-is t h.flash h.first h.plan h.table h.stands in
+      record { from = omega arith; up_to = omega (arith, oldest, next) }
+  between key (Some page) is = record { from = is.from; up_to = omega (arith, is.before) }
+
+  -- the limit of a key that isn't pending
+  abbrev beyond : Cursor → ℕ
+  beyond asked =
+      lookup_limit 64 h.plan h.table (lowest_of asked) + 2 + voids_of h.table
+      + (cond (has_index h.plan && is_spanned asked.span) (unwrap_or (option_map (λ (ring : Ring). full_pages ring.counts) h.table.index) 0) 0)
+      + count_by (counted asked.span asked.range.high (first_page h.table (lowest_of asked))) (numbers_of h.table)
+
+  start-limit : (asked : Cursor) (page : List ℕ) → IsBounded asked.top asked.range.high → begins_by (lowest_of asked) (buffered_rows t) ≡ false →
+      most_from t contents asked page Start ≤ scan_limit 64 h.plan h.table asked.range asked.span (lowest_of asked)
+  start-limit asked page bounded none =
+      let low = lowest_of asked in
+      let pending : is_pending_key h.table (lowest_of asked) ≡ false = pending-same t contents h (lowest_of asked) ∙ none in
+      let finds : most_to_find t (lowest_of asked) ≡ lookup_limit 64 h.plan h.table (lowest_of asked) =
+      ap (λ b. cond b (next_in t - oldest_in t + 1) (most_reads t.index (next_in t - oldest_in t) t.voids (lowest_of asked))) none
+      ∙ limit-told t h.flash h.first h.plan h.table low (next_in t - oldest_in t) h.stands pending (pages-is t h.flash h.first h.plan h.table h.stands) in
+      let oldest = oldest-is t h.flash h.first h.plan h.table h.stands in
+      let next = next-is t h.flash h.first h.plan h.table h.stands in
+      let is = standing-start t contents h low in
+      let b = between low (page_at h.table low) is in
+      let start_told : start_of t contents (lowest_of asked) ≡ unwrap_or (page_at h.table (lowest_of asked)) (oldest_in t) = start-is t contents low (page_at h.table low) is in
+      let first_told : unwrap_or (page_at h.table (lowest_of asked)) (oldest_in t) ≡ first_page h.table (lowest_of asked) = ap (λ n. unwrap_or (page_at h.table (lowest_of asked)) n) oldest in
+      let start = start_of t contents (lowest_of asked) in
+      let k = start - oldest_in t in
+      let m = next_in t - start in
+      let from : oldest_in t ≤ start_of t contents (lowest_of asked) = omega (arith, start_told, b.from) in
+      let up_to : start_of t contents (lowest_of asked) ≤ next_in t = omega (arith, start_told, b.up_to) in
+      let few = to-last asked.span asked.top asked.range.high (first_page h.table low) m start bounded from (omega (arith, up_to)) (omega (arith, start_told, first_told)) in
+      let p = counted asked.span asked.range.high (first_page h.table low) in
+      let part = later-counts p k m (oldest_in t) in
+      let at : oldest_in t + k ≡ start = omega (arith, from) in
+      let all : k + m ≡ length h.table.rows.counts = omega (arith, from, up_to, oldest, next, h.stands.facts.rows.not_negative) in
+      let at_start : count_by p (numbers_from (oldest_in t + k) m) ≡ count_by p (numbers_from start m) = ap (λ a. count_by p (numbers_from a m)) at in
+      let whole : count_by p (numbers_from (oldest_in t) (k + m)) ≡ count_by p (numbers_of h.table) = ap (λ n. count_by p (numbers_from (oldest_in t) n)) all ∙ ap (λ a. count_by p (numbers_from a (length h.table.rows.counts))) oldest in
+      let most : most_from t contents asked page Start ≤ beyond asked = omega (arith, finds, few, part, at_start, whole) in
+      subst (λ (b : Bool). most_from t contents asked page Start ≤ cond b 0 (beyond asked)) (sym pending) most
+
+  pub begun-limit : (asked : Cursor) (page : List ℕ) (place : Place) → IsBounded asked.top asked.range.high → IsBegun asked t place →
+      most_from t contents asked page place ≤ scan_limit 64 h.plan h.table asked.range asked.span (lowest_of asked)
+  begun-limit asked page Start bounded begun = start-limit asked page bounded begun
+  begun-limit asked page (Pending row) bounded begun = omega arith
+  begun-limit asked page Ended bounded begun = omega arith
+  begun-limit asked page (Pages next) bounded begun = absurd begun
+  begun-limit asked page (InPage number row) bounded begun = absurd begun

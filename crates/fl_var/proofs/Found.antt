@@ -1,0 +1,345 @@
+-- A blob of an entry, where its bytes stand and where it is gone.
+use Rattle.std.proofs.Common.{◌≡◌, ℕ, zero, suc, ◌+◌, ◌-◌, ◌*◌, ◌/◌, ◌%◌, ◌^◌, ◌<◌, ◌≤◌, Bool, true, false, cond, ◌==◌, ◌&&◌, Option, Some, None, unwrap_or, Result, Ok, Err, List, [], ◌∷◌, ◌++◌, length, take, drop, refl, sym, ◌∙◌, ap, subst, arith, inl, inr, ◌⊎◌, length-append, IsTrue}
+use Rattle.std.specs.Prelude.{option_map, nat_le}
+use Rattle.std.specs.List.{slice_get, AllByRecursion}
+use Rattle.std.proofs.lemmas.Bool.{cases_lt, cases_Bool, le-leb, lt-leb, eq-eqb, eqb-true, ne_eqb}
+use Rattle.std.proofs.lemmas.List.{take-take, drop-take, length-take-le, length-drop}
+use Rattle.std.proofs.lemmas.Nat.{div-add-mod'}
+use Rattle.fl_base.specs.declared.types.BlobRef.{BlobRef}
+use Rattle.fl_flash.specs.Flash.{FlashState, page_at}
+use Rattle.fl_mark.specs.Mark.{state_of_page}
+use Rattle.fl_mark.specs.InModel.{IsModelState}
+use Rattle.fl_mark.specs.declared.page_state.PageState.{PageState}
+use Rattle.fl_mark.specs.declared.page_state.PageState.TheVariants.{Committed, Void}
+use Rattle.fl_mark.proofs.InModel.{model_state}
+use Rattle.fl_model.specs.Image.{HoldsContent, HoldsBlob}
+use Rattle.fl_model.specs.Layout.{le, committed}
+use Rattle.fl_model.specs.Query.{BlobState, Lost, Stands as StandsWith, page_stands, blob_in, blob_of}
+use Rattle.fl_model.specs.Record.{Plan, content_per_page}
+use Rattle.fl_model.specs.Ring.{Ring, oldest, extended}
+use Rattle.fl_model.specs.Row.{number_of}
+use Rattle.fl_model.specs.Table as model
+use Rattle.fl_model.specs.Table.{Entry}
+use Rattle.fl_model.proofs.Lists.{slice_get-left, slice_get-short, slice_get-some, slice_get-drop, slice_get-take, each-at}
+use Rattle.fl_page.specs.Header.{page_number, page_count}
+use Rattle.fl_page.specs.declared.fault.BadPage.{BadPage}
+use Rattle.fl_page.specs.declared.fault.ReadFault.{ReadFault}
+use Rattle.fl_page.specs.declared.fault.ReadFault.TheVariants as fault
+use Rattle.fl_ring.specs.Ring.{place}
+use Rattle.fl_ring.proofs.Found.{committed_state}
+use Rattle.fl_ring.proofs.Images.{committed_is}
+use Rattle.fl_schema.proofs.Numbers.{number_of-le}
+use Rattle.fl_var.specs.Blobs.{IsGone, contents_from, contents_in, bytes_of, IsWhole, IsBadFirst}
+use Rattle.fl_var.specs.Content.{content_of, HasContent}
+use Rattle.fl_var.specs.Memory.{next_in, oldest_in, waiting_in, room_in, page_in, image_in, var_shape}
+use Rattle.fl_var.specs.Placing.{HoldsBytes}
+use Rattle.fl_var.specs.Reading.{IfBad, NoneBad, Finds}
+use Rattle.fl_var.specs.Standing.{Stands}
+use Rattle.fl_var.specs.declared.reader.BlobReader.{BlobReader}
+use Rattle.fl_var.specs.declared.var_data.VarData.{VarData}
+use Rattle.fl_var.proofs.PageImages.{image-other, next-has, next-count}
+use Rattle.fl_var.proofs.States.{page-committed}
+use Rattle.fl_var.proofs.Stored.{contents-at, same-front, content-at, content-size, place-within, place-last, place-lt}
+
+-- what is told of an entry's blob
+module _ (table : model.Table) (ring : Ring) (entry : Entry) (bytes : List ℕ) (ring_is : table.var ≡ Some ring) (blob_is : entry.kept.blob ≡ Some bytes) where
+  told : Bool → Bool → BlobState
+  told none stands = cond none (StandsWith []) (cond stands (StandsWith bytes) Lost)
+
+  blob-told : (none stands : Bool) → (length bytes == 0) ≡ none → page_stands ring entry.page ≡ stands → blob_of table entry ≡ cond none (StandsWith []) (cond stands (StandsWith bytes) Lost)
+  blob-told none stands e k =
+      ap (blob_in table entry) blob_is
+      ∙ (ap (λ (b : Bool). cond b (StandsWith []) (cond (unwrap_or (option_map (λ (x : Ring). page_stands x entry.page) table.var) false) (StandsWith bytes) Lost)) e
+      ∙ (ap (λ (o : Option Ring). cond none (StandsWith []) (cond (unwrap_or (option_map (λ (x : Ring). page_stands x entry.page) o) false) (StandsWith bytes) Lost)) ring_is
+      ∙ ap (λ (b : Bool). cond none (StandsWith []) (cond b (StandsWith bytes) Lost)) k))
+
+  pub blob-lost : 0 < length bytes → page_stands ring entry.page ≡ false → blob_of table entry ≡ Lost
+  blob-lost some k = blob-told false false (ne_eqb (length bytes) 0 (λ e. omega (arith, e, some))) k
+
+  pub blob-stands : 0 < length bytes → page_stands ring entry.page ≡ true → blob_of table entry ≡ StandsWith bytes
+  blob-stands some k = blob-told false true (ne_eqb (length bytes) 0 (λ e. omega (arith, e, some))) k
+
+  pub blob-empty : length bytes ≡ 0 → blob_of table entry ≡ StandsWith bytes
+  blob-empty none = blob-told true (page_stands ring entry.page) (eq-eqb (length bytes) 0 none) refl ∙ ap StandsWith (sym (nothing bytes none))
+    where
+      nothing : (xs : List ℕ) → length xs ≡ 0 → xs ≡ []
+      nothing [] e = refl
+      nothing (x ∷ xs) e = absurd (omega (arith, e))
+
+module _ (v : VarData) (f : FlashState) (plan : Plan) (table : model.Table) (stands : Stands v f plan table) (sizes : (n : ℕ) → length (page_at f (place (var_shape v) n)) ≡ v.geometry.page) where
+  abbrev ring : Ring
+  ring = stands.ring.ring
+
+  known : length stands.ring.ring.counts ≤ stands.ring.ring.next
+  known = stands.ring.pages.facts.not_negative
+
+  room-is : room_in v ≡ content_per_page plan
+  room-is = ap (λ g. g.page - 16) (sym stands.ring.planned.geometry)
+
+  -- a page by its count
+  page-commits : (i : ℕ) → slice_get stands.ring.ring.counts i ≡ Some 1 → state_of_page (page_in v f (oldest stands.ring.ring + i)) ≡ Committed
+  page-commits i e =
+      let h = stands.ring.pages.image.kept i 1 e (omega arith) in
+      let n = oldest ring + i in
+      ap state_of_page (page-committed (page_in v f n) v.geometry.page (sizes n) h.marks ∙ committed_is (take (v.geometry.page - 8) (page_in v f n)))
+      ∙ committed_state (take (v.geometry.page - 8) (page_in v f n))
+
+  page-voids : (i : ℕ) → slice_get stands.ring.ring.counts i ≡ Some 0 → state_of_page (page_in v f (oldest stands.ring.ring + i)) ≡ Committed → ⊥
+  page-voids i e k =
+      let n = oldest ring + i in
+      let void = (model_state (page_in v f n) (omega (arith, sizes n, v.served.page_least))).void.1 (stands.ring.pages.image.void i e) in
+      differ (sym k ∙ void)
+    where
+      differ : Committed ≡ Void → ⊥
+      differ x = cc
+
+  count-at : (i : ℕ) → i < length stands.ring.ring.counts → (slice_get stands.ring.ring.counts i ≡ Some 0) ⊎ (slice_get stands.ring.ring.counts i ≡ Some 1)
+  count-at i lt =
+      let c = slice_get-some ring.counts i lt in
+      elim (each-at (λ count. (count ≡ 0) ⊎ (count ≡ 1)) ring.counts i c.0 stands.ring.pages.counts c.1) [
+        | inl e ↦ inl (c.1 ∙ ap (λ n. Some n) e)
+        | inr e ↦ inr (c.1 ∙ ap (λ n. Some n) e)
+      ]
+
+  -- whether a page stands, by its place
+  stands-ahead : (page : ℕ) → stands.ring.ring.next ≤ page → page_stands stands.ring.ring page ≡ true
+  stands-ahead page le = ap (λ (b : Bool). cond b true (nat_le (oldest ring) page && unwrap_or (option_map (λ count. count == 1) (slice_get ring.counts (page - oldest ring))) false)) (le-leb ring.next page le)
+
+  stands-behind : (page : ℕ) → page < oldest stands.ring.ring → page_stands stands.ring.ring page ≡ false
+  stands-behind page lt =
+      ap (λ (b : Bool). cond b true (nat_le (oldest ring) page && unwrap_or (option_map (λ count. count == 1) (slice_get ring.counts (page - oldest ring))) false)) (lt-leb ring.next page (omega (arith, lt)))
+      ∙ ap (λ (b : Bool). b && unwrap_or (option_map (λ count. count == 1) (slice_get ring.counts (page - oldest ring))) false) (lt-leb (oldest ring) page lt)
+
+  stands-kept : (page c : ℕ) → page < stands.ring.ring.next → oldest stands.ring.ring ≤ page → slice_get stands.ring.ring.counts (page - oldest stands.ring.ring) ≡ Some c → page_stands stands.ring.ring page ≡ (c == 1)
+  stands-kept page c lt le e =
+      ap (λ (b : Bool). cond b true (nat_le (oldest ring) page && unwrap_or (option_map (λ count. count == 1) (slice_get ring.counts (page - oldest ring))) false)) (lt-leb ring.next page lt)
+      ∙ (ap (λ (b : Bool). b && unwrap_or (option_map (λ count. count == 1) (slice_get ring.counts (page - oldest ring))) false) (le-leb (oldest ring) page le)
+      ∙ ap (λ (o : Option ℕ). unwrap_or (option_map (λ count. count == 1) o) false) e)
+
+  pub gone-lost : (at : BlobRef) → IsGone v f at → page_stands stands.ring.ring at.page ≡ false
+  gone-lost at gone = elim (cases_lt at.page (oldest ring)) [
+    | inl lt ↦ stands-behind at.page lt
+    | inr ge ↦
+        let i = at.page - oldest ring in
+        let here : oldest stands.ring.ring + (at.page - oldest stands.ring.ring) ≡ at.page = omega (arith, ge) in
+        elim (count-at (at.page - oldest ring) (omega (arith, ge, gone.sealed, stands.ring.next, known))) [
+          | inl none ↦ stands-kept at.page 0 (omega (arith, gone.sealed, stands.ring.next)) ge none
+          | inr one ↦ absurd (elim gone.lost [
+            | inl lt ↦ omega (arith, lt, ge, stands.ring.oldest_is)
+            | inr not ↦ not (ap (λ n. state_of_page (page_in v f n)) (sym here) ∙ page-commits (at.page - oldest ring) one)
+          ])
+        ]
+  ]
+
+  pub kept-stands : (at : BlobRef) → 0 < at.length → (IsGone v f at → ⊥) → page_stands stands.ring.ring at.page ≡ true
+  kept-stands at some not_gone = elim (cases_lt at.page ring.next) [
+    | inr ge ↦ stands-ahead at.page ge
+    | inl lt ↦ elim (cases_lt at.page (oldest ring)) [
+      | inl before ↦ absurd (not_gone (record { some = some; sealed = omega (arith, lt, stands.ring.next); lost = inl (omega (arith, before, stands.ring.oldest_is)) }))
+      | inr ge ↦
+          let here : oldest stands.ring.ring + (at.page - oldest stands.ring.ring) ≡ at.page = omega (arith, ge) in
+          elim (count-at (at.page - oldest ring) (omega (arith, ge, lt, known))) [
+            | inl none ↦ absurd (not_gone (record {
+              some = some;
+              sealed = omega (arith, lt, stands.ring.next);
+              lost = inr (λ k. page-voids (at.page - oldest ring) none (ap (λ n. state_of_page (page_in v f n)) here ∙ k));
+            }))
+            | inr one ↦ stands-kept at.page 1 lt ge one
+          ]
+    ]
+  ]
+
+  -- a kept page with a count has content
+  kept-has : (i : ℕ) → slice_get stands.ring.ring.counts i ≡ Some 1 → HasContent (oldest stands.ring.ring + i) (page_in v f (oldest stands.ring.ring + i))
+  kept-has i e =
+      let n = oldest ring + i in
+      let page = page_in v f n in
+      let h = stands.ring.pages.image.kept i 1 e (omega arith) in
+      let lt = slice_get-short ring.counts i 1 e in
+      let small : oldest stands.ring.ring + i < 2 ^ 32 = omega (arith, lt, known, stands.ring.pages.number) in
+      let few : h.used < 65536 = omega (arith, h.most, ap (λ g. g.page) stands.ring.planned.geometry, v.served.page_greatest) in
+      let number : take 4 (page_in v f (oldest stands.ring.ring + i)) ≡ le 4 (oldest stands.ring.ring + i) = sym (take-take 4 8 (page_in v f n) (omega arith)) ∙ ap (take 4) h.head in
+      let count : take 2 (drop 4 (page_in v f (oldest stands.ring.ring + i))) ≡ le 2 h.used =
+      sym (take-take 2 4 (drop 4 (page_in v f n)) (omega arith)) ∙ (ap (take 2) (sym (drop-take 4 4 (page_in v f n))) ∙ ap (λ (l : List ℕ). take 2 (drop 4 l)) h.head) in
+      let used : page_count (page_in v f (oldest stands.ring.ring + i)) ≡ h.used = ap number_of count ∙ number_of-le 2 h.used few in
+      record {
+        committed = page-commits i e;
+        number_is = ap number_of number ∙ number_of-le 4 (oldest ring + i) small;
+        some = omega (arith, used, h.some);
+        room = omega (arith, used, h.most, sizes n, ap (λ g. g.page) stands.ring.planned.geometry);
+      }
+
+  -- a blob whose bytes stand in the pages and in the buffer
+  module _ (at : BlobRef) (bytes : List ℕ) (some : 0 < length bytes) (len_is : at.length ≡ length bytes) (here : page_stands stands.ring.ring at.page ≡ true) (entry : Entry) (page_is : entry.page ≡ at.page) (offset_is : entry.offset ≡ at.offset)
+      (holds : HoldsBlob plan (extended 1 stands.ring.ring) (image_in v f) entry bytes) where
+    abbrev room : ℕ
+    room = content_per_page plan
+
+    abbrev last : ℕ
+    last = (entry.offset + length bytes - 1) / content_per_page plan
+
+    wide : 0 < content_per_page plan
+    wide = omega (arith, ap (λ g. g.page) stands.ring.planned.geometry, v.served.page_least)
+
+    old_is : oldest (extended 1 stands.ring.ring) ≡ oldest stands.ring.ring
+    old_is = omega (arith, length-append ring.counts (1 ∷ []), known)
+
+    short : (n : ℕ) → n ≤ content_per_page plan → n < 65536
+    short n most = omega (arith, most, ap (λ g. g.page) stands.ring.planned.geometry, v.served.page_greatest)
+
+    counted : (page : List ℕ) (used : ℕ) → used ≤ content_per_page plan → take 2 (drop 4 page) ≡ le 2 used → page_count page ≡ used
+    counted page used most head = ap number_of head ∙ number_of-le 2 used (short used most)
+
+    full : (j : ℕ) → j < last → page_count (image_in v f (entry.page + j)) ≡ content_per_page plan
+    full j lt = counted (image_in v f (entry.page + j)) (content_per_page plan) (omega arith) (holds.full j lt)
+
+    ends : page_count (image_in v f (entry.page + last)) ≡ holds.last
+    ends = counted (image_in v f (entry.page + last)) holds.last holds.last_most holds.last_head
+
+    some-count : (j : ℕ) → j ≤ last → 1 ≤ page_count (image_in v f (entry.page + j))
+    some-count j le = elim (cases_lt j last) [
+      | inl lt ↦ omega (arith, full j lt, wide)
+      | inr ge ↦
+          let same : j ≡ (entry.offset + length bytes - 1) / content_per_page plan = omega (arith, ge, le) in
+          let count = ap (λ n. page_count (image_in v f (entry.page + n))) same in
+          omega (arith, count, ends, holds.ends)
+    ]
+
+    within : (j : ℕ) → j ≤ last → entry.page + j ≤ stands.ring.ring.next
+    within j le =
+        let lt = slice_get-short (ring.counts ++ 1 ∷ []) (entry.page + j - oldest (extended 1 ring)) 1 (holds.all_kept j le) in
+        omega (arith, lt, length-append ring.counts (1 ∷ []), old_is, known)
+
+    after-oldest : entry.page < stands.ring.ring.next → oldest stands.ring.ring ≤ entry.page
+    after-oldest lt = elim (cases_lt entry.page (oldest ring)) [
+      | inl before ↦ absurd (no (sym (stands-behind entry.page before) ∙ (ap (page_stands ring) page_is ∙ here)))
+      | inr ge ↦ ge
+    ]
+      where
+        no : false ≡ true → ⊥
+        no k = cc
+
+    has : (j : ℕ) → j ≤ last → HasContent (entry.page + j) (image_in v f (entry.page + j))
+    has j le = elim (cases_lt (entry.page + j) ring.next) [
+      | inl lt ↦
+          let low = after-oldest (omega (arith, lt)) in
+          let i = entry.page + j - oldest ring in
+          let at_i : oldest stands.ring.ring + (entry.page + j - oldest stands.ring.ring) ≡ entry.page + j = omega (arith, low) in
+          let one : slice_get stands.ring.ring.counts (entry.page + j - oldest stands.ring.ring) ≡ Some 1 =
+          sym (slice_get-left ring.counts (1 ∷ []) (entry.page + j - oldest ring) (omega (arith, lt, low, known))) ∙ (ap (λ n. slice_get (ring.counts ++ 1 ∷ []) (entry.page + j - n)) (sym old_is) ∙ holds.all_kept j le) in
+          subst (HasContent (entry.page + j)) (sym (image-other v f (entry.page + j) (λ e. omega (arith, e, lt, stands.ring.next))))
+          (subst (λ n. HasContent n (page_in v f n)) at_i (kept-has (entry.page + j - oldest ring) one))
+      | inr ge ↦
+          let next : entry.page + j ≡ next_in v = omega (arith, ge, within j le, stands.ring.next) in
+          let small : entry.page + j < 2 ^ 32 = omega (arith, next, stands.ring.next, stands.ring.pages.number) in
+          next-has v f (entry.page + j) small next (omega (arith, some-count j le, next-count v f (entry.page + j) small next))
+    ]
+
+    whole-here : IsWhole (image_in v f) (next_in v) (content_per_page plan) entry.page entry.offset (length bytes)
+    whole-here = record {
+      good = λ j le. (omega (arith, within j le, stands.ring.next), has j le);
+      full = λ j lt. full j lt;
+      ends = omega (arith, ends, holds.ends, div-add-mod' (entry.offset + length bytes - 1) (content_per_page plan), some);
+    }
+
+    pub blob-whole : IsWhole (image_in v f) (next_in v) (room_in v) at.page at.offset at.length
+    blob-whole =
+        subst (λ n. IsWhole (image_in v f) (next_in v) n at.page at.offset at.length) (sym room-is)
+        (subst (λ n. IsWhole (image_in v f) (next_in v) (content_per_page plan) n at.offset at.length) page_is
+        (subst (λ n. IsWhole (image_in v f) (next_in v) (content_per_page plan) entry.page n at.length) offset_is
+        (subst (λ n. IsWhole (image_in v f) (next_in v) (content_per_page plan) entry.page entry.offset n) (sym len_is) whole-here)))
+
+    pub first-within : at.offset < page_count (image_in v f at.page)
+    first-within =
+        let used = counted (image_in v f entry.page) holds.used holds.most holds.head in
+        let page = ap (λ n. page_count (image_in v f n)) page_is in
+        omega (arith, used, page, holds.within, offset_is)
+
+    abbrev C : List ℕ
+    C = contents_from (image_in v f) entry.page (next_in v + 1 - entry.page)
+
+    bytes-here : take (length bytes) (drop entry.offset (contents_from (image_in v f) entry.page (next_in v + 1 - entry.page))) ≡ bytes
+    bytes-here = same-front (take (length bytes) (drop entry.offset C)) bytes (short_take (length bytes) (drop entry.offset C)) each
+      where
+        short_take : (n : ℕ) (xs : List ℕ) → length (take n xs) ≤ n
+        short_take zero [] = omega arith
+        short_take zero (x ∷ xs) = omega arith
+        short_take (suc n) [] = omega arith
+        short_take (suc n) (x ∷ xs) = let k = short_take n xs in omega (arith, k)
+
+        each : (j b : ℕ) → slice_get bytes j ≡ Some b → slice_get (take (length bytes) (drop entry.offset (contents_from (image_in v f) entry.page (next_in v + 1 - entry.page)))) j ≡ Some b
+        each j b e =
+            let lt = slice_get-short bytes j b e in
+            let q = (entry.offset + j) / content_per_page plan in
+            let m = (entry.offset + j) % content_per_page plan in
+            let le = place-within entry.offset (length bytes) j (content_per_page plan) wide lt in
+            let inside : (entry.offset + j) % content_per_page plan < page_count (image_in v f (entry.page + (entry.offset + j) / content_per_page plan)) = by_page (cases_lt q last) le lt in
+            let byte = content-at (image_in v f (entry.page + q)) m b inside (holds.stored j b e) in
+            let pages : (entry.offset + j) / content_per_page plan < next_in v + 1 - entry.page = omega (arith, within last (omega arith), stands.ring.next, le) in
+            let found = contents-at (image_in v f) (content_per_page plan) q entry.page (next_in v + 1 - entry.page) m b
+            (λ i less. content-size (image_in v f (entry.page + i)) (has i (omega (arith, less, le))).room ∙ full i (omega (arith, less, le))) pages byte in
+            slice_get-take (length bytes) (drop entry.offset C) j lt ∙ (slice_get-drop entry.offset C j ∙ (ap (slice_get C) (sym (div-add-mod' (entry.offset + j) (content_per_page plan))) ∙ found))
+          where
+            by_page : ((entry.offset + j) / content_per_page plan < last) ⊎ (last ≤ (entry.offset + j) / content_per_page plan) → (entry.offset + j) / content_per_page plan ≤ last → j < length bytes →
+                (entry.offset + j) % content_per_page plan < page_count (image_in v f (entry.page + (entry.offset + j) / content_per_page plan))
+            by_page (inl less) le lt = omega (arith, full ((entry.offset + j) / content_per_page plan) less, place-lt (entry.offset + j) (content_per_page plan) wide)
+            by_page (inr ge) le lt =
+                let same : (entry.offset + j) / content_per_page plan ≡ (entry.offset + length bytes - 1) / content_per_page plan = omega (arith, ge, le) in
+                let count = ap (λ n. page_count (image_in v f (entry.page + n))) same in
+                omega (arith, count, ends, holds.ends, place-last entry.offset (length bytes) j (content_per_page plan) wide lt same)
+
+    pub blob-bytes : bytes_of v f at ≡ bytes
+    blob-bytes =
+        ap (λ n. take n (drop at.offset (contents_in v f at.page))) len_is
+        ∙ (ap (λ n. take (length bytes) (drop n (contents_in v f at.page))) (sym offset_is)
+        ∙ (ap (λ n. take (length bytes) (drop entry.offset (contents_from (image_in v f) n (next_in v + 1 - n)))) (sym page_is) ∙ bytes-here))
+
+    pub first-good : (e : ReadFault) → IfBad (λ (bad : BadPage). (IsGone v f at → ⊥) × IsBadFirst v f at bad) e → NoneBad {T = Unit {0}} (Err e)
+    first-good (fault.Flash e) h = tt
+    first-good (fault.BadPage b) h =
+        let bad = h.1 in
+        let good = blob-whole.good 0 (omega arith) in
+        let zero_is : at.page + 0 ≡ at.page = omega arith in
+        let le : at.page ≤ next_in v = omega (arith, good.0) in
+        let content : HasContent at.page (image_in v f at.page) = subst (λ n. HasContent n (image_in v f n)) zero_is good.1 in
+        let behind = (bad.here le).2 content in
+        omega (arith, behind, first-within)
+
+-- an entry's blob that is opened
+module _ (v : VarData) (f : FlashState) (plan : Plan) (table : model.Table) (stands : Stands v f plan table) (sizes : (n : ℕ) → length (page_at f (place (var_shape v) n)) ≡ v.geometry.page)
+    (at : BlobRef) (entry : Entry) (bytes : List ℕ) (blob_is : entry.kept.blob ≡ Some bytes) (at_is : at ≡ record { page = entry.page; offset = entry.offset; length = length bytes }) (some : 1 ≤ at.length)
+    (holds : (ring : Ring) → table.var ≡ Some ring → page_stands ring entry.page ≡ true → 0 < length bytes → HoldsBytes plan v f ring at bytes) where
+  page_is : entry.page ≡ at.page
+  page_is = ap (λ (a : BlobRef). a.page) (sym at_is)
+
+  offset_is : entry.offset ≡ at.offset
+  offset_is = ap (λ (a : BlobRef). a.offset) (sym at_is)
+
+  len_is : at.length ≡ length bytes
+  len_is = ap (λ (a : BlobRef). a.length) at_is
+
+  some_bytes : 0 < length bytes
+  some_bytes = omega (arith, len_is, some)
+
+  held : page_stands stands.ring.ring at.page ≡ true → HoldsBlob plan (extended 1 stands.ring.ring) (image_in v f) entry bytes
+  held k = holds stands.ring.ring stands.ring.ring_is (ap (page_stands stands.ring.ring) page_is ∙ k) some_bytes entry page_is offset_is
+
+  pub found-none : IsGone v f at → blob_of table entry ≡ Lost
+  found-none gone = blob-lost table stands.ring.ring entry bytes stands.ring.ring_is blob_is some_bytes (ap (page_stands stands.ring.ring) page_is ∙ gone-lost v f plan table stands sizes at gone)
+
+  pub found-some : (IsGone v f at → ⊥) → (blob_of table entry ≡ StandsWith bytes) × (bytes_of v f at ≡ bytes) × IsWhole (image_in v f) (next_in v) (room_in v) at.page at.offset at.length
+  found-some not_gone =
+      let k = kept-stands v f plan table stands sizes at some not_gone in (
+        blob-stands table stands.ring.ring entry bytes stands.ring.ring_is blob_is some_bytes (ap (page_stands stands.ring.ring) page_is ∙ k),
+        blob-bytes v f plan table stands sizes at bytes some_bytes len_is k entry page_is offset_is (held k),
+        blob-whole v f plan table stands sizes at bytes some_bytes len_is k entry page_is offset_is (held k),
+      )
+
+  pub found-err : (result : Result (Option BlobReader) ReadFault) (e : ReadFault) → result ≡ Err e → IfBad (λ (bad : BadPage). (IsGone v f at → ⊥) × IsBadFirst v f at bad) e → Finds table entry bytes f result
+  found-err result e is h = subst (Finds table entry bytes f) (sym is) (by_fault e h)
+    where
+      by_fault : (e : ReadFault) → IfBad (λ (bad : BadPage). (IsGone v f at → ⊥) × IsBadFirst v f at bad) e → Finds table entry bytes f (Err e)
+      by_fault (fault.Flash x) h = tt
+      by_fault (fault.BadPage b) h =
+          let k = kept-stands v f plan table stands sizes at some h.0 in
+          first-good v f plan table stands sizes at bytes some_bytes len_is k entry page_is offset_is (held k) (fault.BadPage b) h

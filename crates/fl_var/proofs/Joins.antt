@@ -1,0 +1,185 @@
+-- Seals of the buffer, one after another.
+use Rattle.std.proofs.Common.{◌≡◌, ℕ, zero, suc, ◌+◌, ◌-◌, ◌*◌, ◌/◌, ◌^◌, ◌<◌, ◌≤◌, Bool, true, false, Option, Some, None, unwrap_or, Result, Ok, Err, List, [], ◌∷◌, ◌++◌, length, replicate, refl, sym, ◌∙◌, ap, subst, arith, append_assoc, IsTrue}
+use Rattle.std.specs.Prelude.{option_map, is_some}
+use Rattle.fl_flash.specs.Flash.{FlashState, Goes, page_at}
+use Rattle.fl_flash.specs.declared.flash.FlashFault.{FlashFault}
+use Rattle.fl_model.specs.Record.{Plan}
+use Rattle.fl_model.specs.Ring.{Ring, oldest}
+use Rattle.fl_model.specs.Table.{Table, RingName, VarRing, after_seal, after_seals}
+use Rattle.fl_model.specs.Work.{Kind, Device, PartEnd, Whole, CutIn, FailedIn, PartProgress}
+use Rattle.fl_model.specs.Within.{seal_within, seals_within, effect_within, TablePerforms}
+use Rattle.fl_model.proofs.Among.{seals-all_done, after_seals-append}
+use Rattle.fl_model.proofs.Performs.{performs-whole, performs-more, performs-front}
+use Rattle.fl_ring.specs.Device.{SameDevice}
+use Rattle.fl_ring.specs.Place as place_words
+use Rattle.fl_ring.specs.Ring as rings
+use Rattle.fl_ring.specs.Ring.{Shape}
+use Rattle.fl_ring.specs.Step.{IsWatched}
+use Rattle.fl_ring.specs.declared.ring.Ring as memory
+use Rattle.fl_var.specs.Memory.{is_mounted, next_in, oldest_in, page_in, var_shape, IsSamePlan}
+use Rattle.fl_ring.specs.Mounting.{shape_at}
+use Rattle.fl_base.specs.declared.types.Geometry.{Geometry}
+use Rattle.fl_base.specs.declared.types.RingPlace.{RingPlace}
+use Rattle.fl_var.specs.Placing.{Seals, SealsPage, Breaks, FaultEnds}
+use Rattle.fl_var.specs.Standing.{IsVarRing, HasRing, KeepsPages}
+use Rattle.fl_var.specs.declared.var_data.VarData.{VarData}
+
+-- the operations of joined seals
+pub seals-append : (plan : Plan) (xs ys : List RingName) (table : Table) → seals_within plan (xs ++ ys) table ≡ seals_within plan xs table ++ seals_within plan ys (after_seals plan xs table)
+seals-append plan [] ys table = refl
+seals-append plan (x ∷ xs) ys table =
+    ap (λ l. seal_within plan x table ++ l) (seals-append plan xs ys (after_seal plan x table))
+    ∙ sym (append_assoc (seal_within plan x table) (seals_within plan xs (after_seal plan x table)) (seals_within plan ys (after_seals plan xs (after_seal plan x table))))
+
+pub keeps-pages_same : (ring : Ring) (at : ℕ → List ℕ) → KeepsPages ring at ring at
+keeps-pages_same ring at = record { later = omega arith; further = omega arith; counts = λ n low high. refl; bytes = λ n low high one. refl }
+
+pub keeps-pages_then : (a b c : Ring) (x y z : ℕ → List ℕ) → KeepsPages a x b y → KeepsPages b y c z → KeepsPages a x c z
+keeps-pages_then a b c x y z first second = record {
+  later = omega (arith, first.later, second.later);
+  further = omega (arith, first.further, second.further);
+  counts = λ n low high. second.counts n low (omega (arith, high, first.further)) ∙ first.counts n (omega (arith, low, second.later)) high;
+  bytes = λ n low high one.
+      second.bytes n low (omega (arith, high, first.further)) (first.counts n (omega (arith, low, second.later)) high ∙ one) ∙ first.bytes n (omega (arith, low, second.later)) high one;
+}
+
+-- where the ring lies doesn't change
+pub same-shape : (a b : VarData) → IsSamePlan a b → var_shape b ≡ var_shape a
+same-shape a b same = ap (λ (p : RingPlace). shape_at p b.geometry) same.place ∙ ap (λ (g : Geometry). shape_at a.place g) same.geometry
+
+pub same-pages_in : (a b : VarData) (f : FlashState) → IsSamePlan a b → page_in b f ≡ page_in a f
+same-pages_in a b f same = ap {B = ℕ → List ℕ} (λ (r : Shape). λ (n : ℕ). page_at f (rings.place r n)) (same-shape a b same)
+
+-- another buffer
+abbrev pub has-refilled : (v w : VarData) (f : FlashState) (plan : Plan) (table : Table) → w.ring ≡ v.ring → IsSamePlan v w → HasRing v f plan table → HasRing w f plan table
+has-refilled v w f plan table ring same has = record {
+  planned = record { geometry = has.planned.geometry ∙ sym same.geometry; blocks = has.planned.blocks ∙ ap (λ (p : RingPlace). p.blocks) (sym same.place) };
+  mounted = ap is_some ring ∙ has.mounted;
+  ring = has.ring;
+  ring_is = has.ring_is;
+  pages = subst (λ (at : ℕ → List ℕ). IsVarRing plan has.ring at) (sym (same-pages_in v w f same)) has.pages;
+  whole = has.whole;
+  clean = has.clean;
+  next = ap (λ (o : Option memory.Ring). unwrap_or (option_map (λ r. place_words.next_of r) o) 0) ring ∙ has.next;
+  oldest_is = ap (λ (o : Option memory.Ring). unwrap_or (option_map (λ r. place_words.oldest_of r) o) 0) ring ∙ has.oldest_is;
+}
+
+pub seals-refilled : (plan : Plan) (xs : List RingName) (table : Table) (rose : Bool) (device : Device) (old v w : VarData) (old_f f : FlashState) → w.ring ≡ v.ring → IsSamePlan v w → Seals plan xs table rose device old old_f v f → Seals plan xs table rose device old old_f w f
+seals-refilled plan xs table rose device old v w old_f f ring same s = record {
+  now = s.now;
+  did = s.did;
+  whole = s.whole;
+  counts = s.counts;
+  power = s.power;
+  has = has-refilled v w f plan (after_seals plan xs table) ring same s.has;
+  keeps = λ before e. subst (λ (at : ℕ → List ℕ). KeepsPages before (page_in old old_f) s.has.ring at) (sym (same-pages_in v w f same)) (s.keeps before e);
+}
+
+-- nothing was sealed
+pub seals-none : (plan : Plan) (table : Table) (rose : Bool) (device : Device) (v w : VarData) (f : FlashState) → w.ring ≡ v.ring → IsSamePlan v w → HasRing v f plan table → IsWatched f f rose device → Seals plan [] table rose device v f w f
+seals-none plan table rose device v w f ring same has watched = record {
+  now = record { end = Whole; device = device; state = table };
+  did = (refl, refl, refl);
+  whole = refl;
+  counts = watched.counts;
+  power = watched.on;
+  has = has-refilled v w f plan table ring same has;
+  keeps = λ before e.
+      let is : before ≡ has.ring = some_is before has.ring (sym e ∙ has.ring_is) in
+      subst (λ (x : Ring). KeepsPages x (page_in v f) has.ring (page_in w f)) (sym is)
+      (subst (λ (at : ℕ → List ℕ). KeepsPages has.ring (page_in v f) has.ring at) (sym (same-pages_in v w f same)) (keeps-pages_same has.ring (page_in v f)));
+}
+  where
+    some_is : (a b : Ring) → Some a ≡ Some b → a ≡ b
+    some_is a b e = cc
+
+module _ (plan : Plan) (xs ys : List RingName) (table : Table) (rose : Bool) (device : Device) (old v : VarData) (old_f f : FlashState) (a : Seals plan xs table rose device old old_f v f) where
+  state-is : a.now.state ≡ after_seals plan xs table
+  state-is = (performs-whole (λ operation. operation.1) (effect_within plan) rose (seals_within plan xs table) device table a.now a.did a.whole).0 ∙ seals-all_done plan xs table
+
+  more : (now : PartProgress Table) → TablePerforms plan rose (seals_within plan ys (after_seals plan xs table)) a.now.device (after_seals plan xs table) now → TablePerforms plan rose (seals_within plan (xs ++ ys) table) device table now
+  more now did =
+      subst (λ (ops : List (RingName × Kind)). TablePerforms plan rose ops device table now) (sym (seals-append plan xs ys table))
+      (performs-more (λ operation. operation.1) (effect_within plan) rose (seals_within plan xs table) (seals_within plan ys (after_seals plan xs table)) device table a.now now a.did a.whole
+      (subst (λ (t : Table). TablePerforms plan rose (seals_within plan ys (after_seals plan xs table)) a.now.device t now) (sym state-is) did))
+
+  pub seals-join : (w : VarData) (g : FlashState) → Seals plan ys (after_seals plan xs table) rose a.now.device v f w g → Seals plan (xs ++ ys) table rose device old old_f w g
+  seals-join w g b = record {
+    now = b.now;
+    did = more b.now b.did;
+    whole = b.whole;
+    counts = b.counts;
+    power = b.power;
+    has = record {
+      planned = b.has.planned;
+      mounted = b.has.mounted;
+      ring = b.has.ring;
+      ring_is = ap (λ (t : Table). t.var) (after_seals-append plan xs ys table) ∙ b.has.ring_is;
+      pages = b.has.pages;
+      whole = b.has.whole;
+      clean = b.has.clean;
+      next = b.has.next;
+      oldest_is = b.has.oldest_is;
+    };
+    keeps = λ before e. keeps-pages_then before a.has.ring b.has.ring (page_in old old_f) (page_in v f) (page_in w g) (a.keeps before e) (b.keeps a.has.ring a.has.ring_is);
+  }
+
+  pub breaks-join : (fault : FlashFault) (g : FlashState) → IsSamePlan old v → Breaks plan ys (after_seals plan xs table) rose a.now.device fault v f g → Breaks plan (xs ++ ys) table rose device fault old old_f g
+  breaks-join fault g same b =
+      let at = same-pages_in old v g same in
+      record {
+        now = b.now;
+        did = more b.now b.did;
+        answer = b.answer;
+        counts = b.counts;
+        ring = b.ring;
+        ring_is = b.ring_is;
+        pages = subst (λ (pg : ℕ → List ℕ). IsVarRing plan b.ring pg) at b.pages;
+        keeps = λ before e. subst (λ (pg : ℕ → List ℕ). KeepsPages before (page_in old old_f) b.ring pg) at
+            (keeps-pages_then before a.has.ring b.ring (page_in old old_f) (page_in v f) (page_in v g) (a.keeps before e) (b.keeps a.has.ring a.has.ring_is));
+      }
+
+-- seals after one that failed don't come to their turn
+pub breaks-front : (plan : Plan) (xs zs : List RingName) (table : Table) (rose : Bool) (device : Device) (fault : FlashFault) (old : VarData) (old_f g : FlashState) → Breaks plan xs table rose device fault old old_f g → Breaks plan (xs ++ zs) table rose device fault old old_f g
+breaks-front plan xs zs table rose device fault old old_f g b = record {
+  now = b.now;
+  did = subst (λ (ops : List (RingName × Kind)). TablePerforms plan rose ops device table b.now) (sym (seals-append plan xs zs table))
+      (performs-front (λ operation. operation.1) (effect_within plan) rose (seals_within plan xs table) (seals_within plan zs (after_seals plan xs table)) device table b.now b.did (broken b.now.end b.answer));
+  answer = b.answer;
+  counts = b.counts;
+  ring = b.ring;
+  ring_is = b.ring_is;
+  pages = b.pages;
+  keeps = b.keeps;
+}
+  where
+    broken : (e : PartEnd Table) → FaultEnds e fault g → e ≡ Whole → ⊥
+    broken Whole answer is = answer
+    broken (CutIn before) answer is = cc
+    broken (FailedIn before) answer is = cc
+
+-- the watch of a whole is that of its parts
+pub watched-first : (old mid new : FlashState) (rose : Bool) (device : Device) → IsWatched old new rose device → Goes mid new → IsWatched old mid rose device
+watched-first old mid new rose device watched goes = record {
+  told = watched.told;
+  on = watched.on;
+  risen = λ up. watched.risen (omega (arith, up, goes.faults));
+  counts = watched.counts;
+}
+
+pub watched-then : (old mid new : FlashState) (rose : Bool) (device mid_device : Device) → IsWatched old new rose device → Goes old mid → mid.is_on ≡ true → SameDevice mid mid_device → IsWatched mid new rose mid_device
+watched-then old mid new rose device mid_device watched goes on counts = record {
+  told = subst IsTrue (sym goes.tells) watched.told;
+  on = on;
+  risen = λ up. watched.risen (omega (arith, up, goes.faults));
+  counts = counts;
+}
+
+-- pages sealed one after another
+pub replicate-push : (n : ℕ) → replicate n VarRing ++ VarRing ∷ [] ≡ replicate (n + 1) VarRing
+replicate-push zero = refl
+replicate-push (suc n) = ap (λ (l : List RingName). VarRing ∷ l) (replicate-push n) ∙ ap (λ k. replicate k VarRing) (let e : suc (n + 1) ≡ suc n + 1 = omega arith in e)
+
+pub replicate-split : (n m : ℕ) → replicate n VarRing ++ replicate m VarRing ≡ replicate (n + m) VarRing
+replicate-split zero m = ap (λ k. replicate k VarRing) (omega arith)
+replicate-split (suc n) m = ap (λ (l : List RingName). VarRing ∷ l) (replicate-split n m) ∙ ap (λ k. replicate k VarRing) (let e : suc (n + m) ≡ suc n + m = omega arith in e)

@@ -1,0 +1,14 @@
+pub mod Waitings
+pub mod PageImages
+pub mod Wholes
+pub mod Chunks
+pub mod Bodies
+pub mod States
+pub mod Lifted
+pub mod Sealings
+pub mod Joins
+pub mod Writing
+pub mod Placed
+pub mod Mountings
+pub mod Stored
+pub mod Found

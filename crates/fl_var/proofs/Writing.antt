@@ -1,0 +1,224 @@
+-- Bytes that are written into the buffer, page by page.
+use Rattle.std.proofs.Common.{◌≡◌, ℕ, zero, suc, ◌+◌, ◌-◌, ◌*◌, ◌/◌, ◌^◌, ◌<◌, ◌≤◌, min, Bool, true, Option, unwrap_or, ◌⊎◌, inl, inr, false, Result, Ok, Err, List, [], ◌∷◌, ◌++◌, length, replicate, refl, sym, ◌∙◌, ap, subst, arith, IsTrue, IsErr}
+use Rattle.std.proofs.Math.Nat.{mul-le-mul_left, mul-add-div_right, div-eq_of_lt}
+use Rattle.std.proofs.lemmas.Nat.{le-div}
+use Rattle.std.specs.Prelude.{option_map, is_some, IfErr}
+use Rattle.std.specs.Option.{ForSome}
+use Rattle.fl_base.specs.declared.types.Geometry.{Geometry}
+use Rattle.fl_base.specs.declared.types.RingPlace.{RingPlace}
+use Rattle.fl_flash.specs.Flash.{FlashState, Goes, page_at}
+use Rattle.fl_flash.specs.declared.flash.FlashFault.{FlashFault}
+use Rattle.fl_flash.specs.declared.flash.FlashFault.TheVariants.{PowerLost, Media}
+use Rattle.fl_model.specs.Record.{Plan}
+use Rattle.fl_model.specs.Table.{Table, RingName, VarRing, after_seals}
+use Rattle.fl_model.specs.Work.{Device}
+use Rattle.fl_ring.specs.Place as place_words
+use Rattle.fl_ring.specs.Ring as rings
+use Rattle.fl_ring.specs.Ring.{Shape, OutsideStands}
+use Rattle.fl_ring.specs.declared.ring.Ring.{Ring}
+use Rattle.fl_ring.specs.Causes.{CausedBy}
+use Rattle.fl_ring.specs.Sealing.{SealCalls}
+use Rattle.fl_ring.specs.Step.{IsWatched}
+use Rattle.fl_ring.proofs.Readings.{goes_more, goes_same}
+use Rattle.fl_var.specs.Memory.{is_mounted, next_in, waiting_in, room_in, var_shape, IsSamePlan, LiesOn}
+use Rattle.fl_var.specs.Placing.{Seals, SealsPage, SealEnds, Breaks, EndsWith, pages_filled}
+use Rattle.fl_var.specs.Standing.{HasRing}
+use Rattle.fl_var.specs.declared.var_data.VarData.{VarData}
+use Rattle.fl_var.proofs.PageImages.{waiting-length}
+use Rattle.fl_var.proofs.Joins.{seals-none, seals-refilled, seals-join, breaks-join, breaks-front, watched-first, watched-then, replicate-push, replicate-split, same-shape}
+
+-- so many bytes were written since `first`, and as many pages sealed as they filled
+pub record Writes (first : VarData) (first_f : FlashState) (len done : ℕ) (v : VarData) (f : FlashState) : Type 0 where
+  pub goes : Goes first_f f
+  pub same : IsSamePlan first v
+  pub lies : LiesOn v f
+  pub mounted : is_mounted v ≡ true
+  pub later : next_in first ≤ next_in v
+  pub sum : length (waiting_in first) + done ≡ (next_in v - next_in first) * room_in first + length (waiting_in v)
+  pub some : 1 ≤ length (waiting_in v)
+  pub most : length (waiting_in v) ≤ room_in first
+  pub within : done ≤ len
+  pub full : done < len → length (waiting_in v) ≡ room_in first
+  pub outside : IsTrue first_f.media.tells → OutsideStands (var_shape first) (page_at first_f) (page_at f)
+  pub reads : f.work.reads ≡ first_f.work.reads
+  pub media_reads : f.media.reads ≤ first_f.media.reads + (next_in v - next_in first)
+  pub quiet : next_in v ≡ next_in first → f ≡ first_f
+  pub power : (f ≡ first_f) ⊎ (f.is_on ≡ true)
+  pub seals : (plan : Plan) (table : Table) (rose : Bool) (device : Device) → IsWatched first_f f rose device → HasRing first first_f plan table → Seals plan (replicate (next_in v - next_in first) VarRing) table rose device first first_f v f
+
+-- a ring with another buffer lies where it lay
+pub lies-refilled : (v w : VarData) (f : FlashState) → w.ring ≡ v.ring → IsSamePlan v w → LiesOn v f → LiesOn w f
+lies-refilled v w f ring same lies = record {
+  geometry = lies.geometry ∙ sym same.geometry;
+  within = subst (λ (p : RingPlace). p.first_block + p.blocks ≤ f.blocks) (sym same.place) lies.within;
+  few = lies.few;
+  ring = subst (λ (o : Option Ring). ForSome o (λ r. place_words.LiesOn r f)) (sym ring) lies.ring;
+}
+
+same-then : (a b c : VarData) → IsSamePlan a b → IsSamePlan b c → IsSamePlan a c
+same-then a b c first second = record { geometry = second.geometry ∙ first.geometry; place = second.place ∙ first.place }
+
+room-same : (a b : VarData) → IsSamePlan a b → room_in b ≡ room_in a
+room-same a b same = ap (λ (g : Geometry). g.page - 16) same.geometry
+
+next-same : (a b : VarData) → b.ring ≡ a.ring → next_in b ≡ next_in a
+next-same a b e = ap (λ (o : Option Ring). unwrap_or (option_map (λ r. place_words.next_of r) o) 0) e
+
+-- the pages that bytes fill
+pub pages-of : (fill len n left room : ℕ) → fill + len ≡ n * room + left → 1 ≤ left → left ≤ room → (fill + len - 1) / room ≡ n
+pages-of fill len n left room sum some most =
+    let split : fill + len - 1 ≡ n * room + (left - 1) = omega (arith, sum, some) in
+    let wide : 0 < room = omega (arith, some, most) in
+    let none : (left - 1) / room ≡ 0 = div-eq_of_lt (omega (arith, some, most)) in
+    ap (λ k. k / room) split ∙ (mul-add-div_right wide n (left - 1) ∙ omega (arith, none))
+
+pub pages-more : (fill done len n room : ℕ) → 0 < room → fill + done ≡ n * room + room → done < len → n + 1 ≤ (fill + len - 1) / room
+pages-more fill done len n room wide sum less =
+    let all : (n + 1) * room ≡ n * room + room = omega arith in
+    le-div (n + 1) (fill + len - 1) room wide (omega (arith, all, sum, less))
+
+-- at first as many bytes are put as have room
+module _ (v w : VarData) (f : FlashState) (len n : ℕ) (ring : w.ring ≡ v.ring) (same : IsSamePlan v w) (lies : LiesOn v f) (mounted : is_mounted v ≡ true)
+    (room : length (waiting_in v) < room_in v) (some : 1 ≤ len) (counted : n ≡ min len (length v.waiting.body - (8 + v.waiting.fill))) (filled : w.waiting.fill ≡ v.waiting.fill + n) where
+  count : n ≡ min len (room_in v - length (waiting_in v))
+  count = counted ∙ ap (min len) (omega (arith, v.page, waiting-length v))
+
+  fill : length (waiting_in w) ≡ length (waiting_in v) + n
+  fill = waiting-length w ∙ (filled ∙ ap (λ k. k + n) (sym (waiting-length v)))
+
+  pub writes-first : Writes v f len n w f
+  writes-first =
+      let next = next-same v w ring in
+      record {
+        goes = goes_same f;
+        same = same;
+        lies = lies-refilled v w f ring same lies;
+        mounted = ap is_some ring ∙ mounted;
+        later = omega (arith, next);
+        sum = let none : next_in w - next_in v ≡ 0 = omega (arith, next) in subst (λ k. length (waiting_in v) + n ≡ k * room_in v + length (waiting_in w)) (sym none) (omega (arith, fill));
+        some = omega (arith, fill, count, some, room);
+        most = omega (arith, fill, count, room);
+        within = omega (arith, count);
+        full = λ less. omega (arith, fill, count, less, room);
+        outside = λ told q far. refl;
+        reads = refl;
+        media_reads = omega arith;
+        quiet = λ e. refl;
+        power = inl refl;
+        seals = λ plan table rose device watched has.
+            let none : next_in w - next_in v ≡ 0 = omega (arith, next) in
+            subst (λ k. Seals plan (replicate k VarRing) table rose device v f w f) (sym none) (seals-none plan table rose device v w f ring same has watched);
+      }
+
+-- the full buffer was sealed, and then bytes put
+module _ (first v mid w : VarData) (first_f f g : FlashState) (len done n : ℕ) (is : Writes first first_f len done v f) (less : done < len)
+    (goes : Goes f g) (same : IsSamePlan v mid) (lies : LiesOn mid g) (mounted : is_mounted mid ≡ true) (next : next_in mid ≡ next_in v + 1) (empty : waiting_in mid ≡ [])
+    (ends : (plan : Plan) (table : Table) (rose : Bool) (device : Device) → IsWatched f g rose device → HasRing v f plan table → SealsPage plan table rose device v f mid g)
+    (outside : IsTrue f.media.tells → OutsideStands (var_shape v) (page_at f) (page_at g)) (reads : g.work.reads ≡ f.work.reads) (media_reads : g.media.reads ≤ f.media.reads + 1)
+    (ring : w.ring ≡ mid.ring) (refilled : IsSamePlan mid w) (power : g.is_on ≡ true) (some_len : ℕ) (len_is : some_len ≡ len - done) (counted : n ≡ min some_len (length mid.waiting.body - (8 + mid.waiting.fill))) (filled : w.waiting.fill ≡ mid.waiting.fill + n) where
+  count_there : n ≡ min (len - done) (room_in mid - length (waiting_in mid))
+  count_there = counted ∙ (ap (λ k. min k (length mid.waiting.body - (8 + mid.waiting.fill))) len_is ∙ ap (min (len - done)) (omega (arith, mid.page, waiting-length mid)))
+
+  fill_there : length (waiting_in w) ≡ length (waiting_in mid) + n
+  fill_there = waiting-length w ∙ (filled ∙ ap (λ k. k + n) (sym (waiting-length mid)))
+
+  pub writes-next : Writes first first_f len (done + n) w g
+  writes-next =
+      let at : next_in w ≡ next_in v + 1 = next-same mid w ring ∙ next in
+      let none : length (waiting_in mid) ≡ 0 = ap length empty in
+      let wide : room_in mid ≡ room_in first = room-same v mid same ∙ room-same first v is.same in
+      let pages : next_in w - next_in first ≡ next_in v - next_in first + 1 = omega (arith, at, is.later) in
+      let before = is.full less in
+      record {
+        goes = goes_more first_f f g is.goes goes;
+        same = same-then first v w is.same (same-then v mid w same refilled);
+        lies = lies-refilled mid w g ring refilled lies;
+        mounted = ap is_some ring ∙ mounted;
+        later = omega (arith, at, is.later);
+        sum =
+            let more : (next_in v - next_in first + 1) * room_in first ≡ (next_in v - next_in first) * room_in first + room_in first = omega arith in
+            subst (λ k. length (waiting_in first) + (done + n) ≡ k * room_in first + length (waiting_in w)) (sym pages) (omega (arith, more, is.sum, before, fill_there, none));
+        some = omega (arith, fill_there, none, count_there, less, wide, is.some, before);
+        most = omega (arith, fill_there, none, count_there, wide);
+        within = omega (arith, count_there, is.within, less);
+        full = λ fewer. omega (arith, fill_there, none, count_there, fewer, wide, less);
+        outside = λ told q far.
+            outside (subst IsTrue (sym is.goes.tells) told) q (subst (λ (r : Shape). (q < r.first) ⊎ (r.first + rings.room r ≤ q)) (sym (same-shape first v is.same)) far) ∙ is.outside told q far;
+        reads = reads ∙ is.reads;
+        media_reads = omega (arith, media_reads, is.media_reads, pages);
+        quiet = λ e. absurd (omega (arith, e, at, is.later));
+        power = inr power;
+        seals = λ plan table rose device watched has.
+            let a = is.seals plan table rose device (watched-first first_f f g rose device watched goes) has in
+            let b = ends plan (after_seals plan (replicate (next_in v - next_in first) VarRing) table) rose a.now.device (watched-then first_f f g rose device a.now.device watched is.goes a.power a.counts) a.has in
+            let joined = seals-join plan (replicate (next_in v - next_in first) VarRing) (VarRing ∷ []) table rose device first v first_f f a mid g b.seals in
+            seals-refilled plan (replicate (next_in w - next_in first) VarRing) table rose device first mid w first_f g ring refilled
+            (subst (λ (xs : List RingName). Seals plan xs table rose device first first_f mid g) (replicate-push (next_in v - next_in first) ∙ ap (λ k. replicate k VarRing) (sym pages)) joined);
+      }
+
+-- a seal failed
+module _ (first v w : VarData) (first_f f g : FlashState) (len done : ℕ) (fault : FlashFault) (is : Writes first first_f len done v f) (less : done < len) (wide : 0 < room_in first)
+    (goes : Goes f g) (ends : (plan : Plan) (table : Table) (rose : Bool) (device : Device) → IsWatched f g rose device → HasRing v f plan table → Breaks plan (VarRing ∷ []) table rose device fault v f g)
+    (result : Result (Unit {0}) FlashFault) (result_is : result ≡ Err fault) where
+  pub writes-fail : (plan : Plan) (table : Table) (rose : Bool) (device : Device) → IsWatched first_f g rose device → HasRing first first_f plan table →
+      EndsWith plan (replicate (pages_filled first len) VarRing) table rose device first first_f result w g
+  writes-fail plan table rose device watched has =
+      let n = next_in v - next_in first in
+      let a = is.seals plan table rose device (watched-first first_f f g rose device watched goes) has in
+      let b = ends plan (after_seals plan (replicate (next_in v - next_in first) VarRing) table) rose a.now.device (watched-then first_f f g rose device a.now.device watched is.goes a.power a.counts) a.has in
+      let joined = breaks-join plan (replicate (next_in v - next_in first) VarRing) (VarRing ∷ []) table rose device first v first_f f a fault g is.same b in
+      let fewer : next_in v - next_in first + 1 ≤ pages_filled first len =
+      pages-more (length (waiting_in first)) done len (next_in v - next_in first) (room_in first) wide (is.sum ∙ ap (λ k. (next_in v - next_in first) * room_in first + k) (is.full less)) less in
+      let rest = pages_filled first len - (n + 1) in
+      let whole = breaks-front plan (replicate (next_in v - next_in first + 1) VarRing) (replicate (pages_filled first len - (next_in v - next_in first + 1)) VarRing) table rose device fault first first_f g
+      (subst (λ (xs : List RingName). Breaks plan xs table rose device fault first first_f g) (replicate-push (next_in v - next_in first)) joined) in
+      let all : replicate (next_in v - next_in first + 1) VarRing ++ replicate (pages_filled first len - (next_in v - next_in first + 1)) VarRing ≡ replicate (pages_filled first len) VarRing =
+      replicate-split (next_in v - next_in first + 1) (pages_filled first len - (next_in v - next_in first + 1)) ∙ ap (λ k. replicate k VarRing) (omega (arith, fewer)) in
+      subst (λ (x : Result (Unit {0}) FlashFault). EndsWith plan (replicate (pages_filled first len) VarRing) table rose device first first_f x w g) (sym result_is)
+      (subst (λ (xs : List RingName). Breaks plan xs table rose device fault first first_f g) all whole)
+
+-- all bytes were written
+module _ (first v : VarData) (first_f f : FlashState) (len done : ℕ) (is : Writes first first_f len done v f) (all : len ≤ done) where
+  pub writes-pages : pages_filled first len ≡ next_in v - next_in first
+  writes-pages = pages-of (length (waiting_in first)) len (next_in v - next_in first) (length (waiting_in v)) (room_in first) (ap (λ k. length (waiting_in first) + k) (omega (arith, all, is.within)) ∙ is.sum) is.some is.most
+
+  pub writes-fill : length (waiting_in first) + len ≡ pages_filled first len * room_in first + length (waiting_in v)
+  writes-fill = ap (λ k. length (waiting_in first) + k) (omega (arith, all, is.within)) ∙ (is.sum ∙ ap (λ k. k * room_in first + length (waiting_in v)) (sym writes-pages))
+
+  pub writes-quiet : pages_filled first len ≡ 0 → f ≡ first_f
+  writes-quiet none = is.quiet (omega (arith, none, writes-pages, is.later))
+
+  pub writes-end : (plan : Plan) (table : Table) (rose : Bool) (device : Device) → IsWatched first_f f rose device → HasRing first first_f plan table → Seals plan (replicate (pages_filled first len) VarRing) table rose device first first_f v f
+  writes-end plan table rose device watched has =
+      subst (λ k. Seals plan (replicate k VarRing) table rose device first first_f v f) (sym writes-pages) (is.seals plan table rose device watched has)
+
+  -- how it ended
+  pub writes-ok : (result : Result (Unit {0}) FlashFault) (u : Unit {0}) → result ≡ Ok u → (plan : Plan) (table : Table) (rose : Bool) (device : Device) → IsWatched first_f f rose device → HasRing first first_f plan table →
+      EndsWith plan (replicate (pages_filled first len) VarRing) table rose device first first_f result v f
+  writes-ok result u e plan table rose device watched has = subst (λ (x : Result (Unit {0}) FlashFault). EndsWith plan (replicate (pages_filled first len) VarRing) table rose device first first_f x v f) (sym e) (writes-end plan table rose device watched has)
+
+-- a cause of a later failure is one in all of them
+pub cause-later : (old mid new : FlashState) (e : FlashFault) → Goes old mid → (mid ≡ old) ⊎ (mid.is_on ≡ true) → CausedBy mid e new → CausedBy old e new
+cause-later old mid new PowerLost goes (inl e) (inl off) = inl (ap (λ (f : FlashState). f.is_on) (sym e) ∙ off)
+cause-later old mid new PowerLost goes (inr on) (inl off) = absurd (no (sym on ∙ off))
+  where
+    no : true ≡ false → ⊥
+    no k = cc
+cause-later old mid new PowerLost goes power (inr rose) = inr (omega (arith, goes.cuts, rose))
+cause-later old mid new Media goes power rose = omega (arith, goes.faults, rose)
+
+pub cause-err : {T : Type 0} (old mid new : FlashState) (result : Result T FlashFault) (e : FlashFault) → result ≡ Err e → Goes old mid → (mid ≡ old) ⊎ (mid.is_on ≡ true) → CausedBy mid e new → IfErr result (λ fault. CausedBy old fault new)
+cause-err {T} old mid new result e is goes power cause = subst (λ (x : Result T FlashFault). IfErr x (λ fault. CausedBy old fault new)) (sym is) (cause-later old mid new e goes power cause)
+
+-- the power after a seal that was done
+pub seal-power : (r : Shape) (next : ℕ) (due : Bool) (body : List ℕ) (old new : FlashState) (u : Unit {0}) → SealCalls r next due body old (Ok u) new → new.is_on ≡ true
+seal-power r next true body old new u (inl s) = s.erase_last.erases.cause.on
+seal-power r next false body old new u (inl s) = ap (λ (f : FlashState). f.is_on) s.erase_last.1 ∙ s.mark_then.cause.on
+seal-power r next due body old new u (inr (inl m)) = absurd (not_err m.fails)
+  where
+    not_err : IsErr {T = Unit {0}} {E = FlashFault} (Ok u) → ⊥
+    not_err e = cc
+seal-power r next due body old new u (inr (inr b)) = absurd (not_err b.fails)
+  where
+    not_err : IsErr {T = Unit {0}} {E = FlashFault} (Ok u) → ⊥
+    not_err e = cc

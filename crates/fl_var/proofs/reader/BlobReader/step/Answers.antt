@@ -1,0 +1,33 @@
+use Rattle.std.proofs.Common.{rules, ◌≡◌, ◌+◌, ◌-◌, ◌^◌, ◌<◌, ◌≤◌, ℕ, List, Err, length, refl, sym, ◌∙◌, ap, subst, arith}
+use Rattle.std.proofs.lemmas.Result.{err_from_is_err_and}
+use Rattle.fl_page.specs.declared.fault.ReadFault.{ReadFault}
+use Rattle.fl_var.proofs.Wholes.{none-bad-any, steps-err}
+use Rattle.fl_var.proofs.reader.BlobReader.step.Goals as goal
+
+pub returns-in_err-turn-clause-steps : goal.returns-in_err-turn-clause-steps
+returns-in_err-turn-clause-steps g c = λ reads.
+    let p = err_from_is_err_and c.from_residual.result c.from_residual.ensures.1 in
+    steps-err c.from_residual.result c.in_err-turn.field-0.0 _ _ _ (p.1 ∙ ap (λ (e : ReadFault). Err e) p.2) (c.in_err-turn.ensures.bytes (record { told = reads.told; within = reads.within; used = reads.used; size = reads.size; bytes = reads.bytes }))
+
+pub returns-in_err-turn-clause-whole : goal.returns-in_err-turn-clause-whole
+returns-in_err-turn-clause-whole g c = λ reads whole.
+    let p = err_from_is_err_and c.from_residual.result c.from_residual.ensures.1 in
+    let h = c.in_err-turn.ensures.whole (record { told = reads.told; within = reads.within; used = reads.used; size = reads.size; bytes = reads.bytes }) whole in
+    (rw (p.1, p.2) (none-bad-any c.in_err-turn.field-0.0 h.0), h.1)
+
+pub returns-clause-ready : goal.returns-clause-ready
+returns-clause-ready g c = λ reads.
+    c.take.ensures.ready (g.F.Flash.state c.turn.new.flash) (c.in_ok-turn.ensures.ready (record { told = reads.told; within = reads.within; used = reads.used; size = reads.size; bytes = reads.bytes }))
+
+pub returns-clause-steps : goal.returns-clause-steps
+returns-clause-steps g c = λ reads.
+    let h = g.F.Flash.state c.turn.new.flash in
+    let ready = c.in_ok-turn.ensures.ready (record { told = reads.told; within = reads.within; used = reads.used; size = reads.size; bytes = reads.bytes }) in
+    let same = c.in_ok-turn.ensures.bytes (record { told = reads.told; within = reads.within; used = reads.used; size = reads.size; bytes = reads.bytes }) in
+    (sym same ∙ c.take.ensures.bytes h ready, c.take.ensures.some)
+
+pub returns-clause-whole : goal.returns-clause-whole
+returns-clause-whole g c = λ reads whole.
+    let h = g.F.Flash.state c.turn.new.flash in
+    let later = c.in_ok-turn.ensures.whole (record { told = reads.told; within = reads.within; used = reads.used; size = reads.size; bytes = reads.bytes }) whole in
+    (tt, c.take.ensures.whole h later.1)

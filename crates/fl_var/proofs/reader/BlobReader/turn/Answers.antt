@@ -1,0 +1,77 @@
+use Rattle.std.proofs.Common.{rules, ◌≡◌, ◌+◌, ◌-◌, ◌*◌, ◌/◌, ◌^◌, ◌<◌, ◌≤◌, ℕ, List, None, length, take, drop, refl, sym, ◌∙◌, ap, subst, arith, cond, ◌==◌}
+use Rattle.std.proofs.lemmas.Result.{err_from_is_err_and}
+use Rattle.fl_page.specs.Header.{page_count}
+use Rattle.fl_var.specs.Blobs.{IsWhole, contents_from}
+use Rattle.fl_var.specs.Content.{HasContent, content_of}
+use Rattle.fl_var.specs.Memory.{next_in, room_in, image_in, page_in}
+use Rattle.fl_mark.specs.Mark.{state_of_page}
+use Rattle.fl_var.proofs.PageImages.{image-other}
+use Rattle.fl_var.proofs.Chunks.{contents-turned, present-size}
+use Rattle.fl_var.proofs.Wholes.{images-same, whole-good, whole-pages, whole-next, none-bad, pages-turned}
+use Rattle.fl_var.proofs.reader.BlobReader.turn.Goals as goal
+
+pub returns-in_err-used-clause-whole : goal.returns-in_err-used-clause-whole
+returns-in_err-used-clause-whole g c = λ reads whole.
+    let r = c.args.self.now in
+    let v = r.var.now in
+    let f = g.F.Flash.state c.args.flash.now in
+    let h = g.F.Flash.state c.find_content.new.flash in
+    let done : page_count (image_in c.args.self.now.var.now (g.F.Flash.state c.args.flash.now) c.args.self.now.page) ≡ c.args.self.now.end =
+    sym (reads.used (omega (arith, c.requires.left))) ∙ search rules in
+    let is = whole (omega (arith, c.requires.left)) in
+    let good = whole-good (image_in v f) (next_in v) (room_in v) r.page r.end r.left is done c.requires.left in
+    let p = err_from_is_err_and c.from_residual.result c.from_residual.ensures.1 in (
+      rw (p.1, p.2) (none-bad v f (r.page + 1) c.in_err-used.field-0.0 good.1 (c.in_err-used.ensures.bad reads.told)),
+      λ some. subst (λ (image : ℕ → List ℕ). IsWhole image (next_in v) (room_in v) r.page r.end r.left) (sym (images-same v f h 1 c.find_content.ensures.reads)) is,
+    )
+
+pub returns-in_default-clause-whole : goal.returns-in_default-clause-whole
+returns-in_default-clause-whole g c = λ reads whole.
+    let r = c.args.self.now in
+    let v = r.var.now in
+    let f = g.F.Flash.state c.args.flash.now in
+    let done : page_count (image_in c.args.self.now.var.now (g.F.Flash.state c.args.flash.now) c.args.self.now.page) ≡ c.args.self.now.end =
+    sym (reads.used (omega (arith, c.requires.left))) ∙ search rules in
+    let is = whole (omega (arith, c.requires.left)) in
+    let good = whole-good (image_in v f) (next_in v) (room_in v) r.page r.end r.left is done c.requires.left in
+    let none : c.in_ok-used.field-0 ≡ None = search rules in
+    let other = c.in_ok-used.ensures.none reads.told none in
+    absurd (other.1 (ap state_of_page (sym (image-other v f (r.page + 1) (λ e. omega (arith, e, other.0)))) ∙ good.1.committed))
+
+pub returns-clause-bytes : goal.returns-clause-bytes
+returns-clause-bytes g c = λ reads.
+    let r = c.args.self.now in
+    let v = r.var.now in
+    let f = g.F.Flash.state c.args.flash.now in
+    let h = g.F.Flash.state c.find_content.new.flash in
+    let done : length (content_of (image_in c.args.self.now.var.now (g.F.Flash.state c.args.flash.now) c.args.self.now.page)) ≡ c.args.self.now.end =
+    reads.size (omega (arith, c.requires.left)) ∙ search rules in
+    ap (λ (image : ℕ → List ℕ). take r.left (drop 0 (contents_from image (r.page + 1) (next_in v + 1 - (r.page + 1))))) (images-same v f h 1 c.find_content.ensures.reads)
+    ∙ contents-turned (image_in v f) (next_in v) r.page r.end r.left reads.within done
+
+pub returns-clause-whole : goal.returns-clause-whole
+returns-clause-whole g c = λ reads whole.
+    let r = c.args.self.now in
+    let v = r.var.now in
+    let f = g.F.Flash.state c.args.flash.now in
+    let h = g.F.Flash.state c.find_content.new.flash in
+    let done : page_count (image_in c.args.self.now.var.now (g.F.Flash.state c.args.flash.now) c.args.self.now.page) ≡ c.args.self.now.end =
+    sym (reads.used (omega (arith, c.requires.left))) ∙ search rules in
+    let is = whole (omega (arith, c.requires.left)) in
+    let wide : 0 < room_in c.args.self.now.var.now = omega (arith, v.served.page_least) in (
+      tt,
+      λ some. subst (λ (image : ℕ → List ℕ). IsWhole image (next_in v) (room_in v) (r.page + 1) 0 r.left) (sym (images-same v f h 1 c.find_content.ensures.reads))
+          (whole-next (image_in v f) (next_in v) (room_in v) r.page r.end r.left is done c.requires.left wide),
+    )
+
+pub returns-clause-few : goal.returns-clause-few
+returns-clause-few g c = λ reads whole.
+    let r = c.args.self.now in
+    let v = r.var.now in
+    let f = g.F.Flash.state c.args.flash.now in
+    let done : page_count (image_in c.args.self.now.var.now (g.F.Flash.state c.args.flash.now) c.args.self.now.page) ≡ c.args.self.now.end =
+    sym (reads.used (omega (arith, c.requires.left))) ∙ search rules in
+    let is = whole (omega (arith, c.requires.left)) in
+    let wide : 0 < room_in c.args.self.now.var.now = omega (arith, v.served.page_least) in
+    let pages = whole-pages (image_in v f) (next_in v) (room_in v) r.page r.end r.left is done c.requires.left wide in
+    pages-turned r.left r.end (room_in v) _ _ c.requires.left pages c.find_content.ensures.reads.reads

@@ -1,0 +1,77 @@
+use Rattle.std.proofs.Common.{rules, ◌≡◌, ◌+◌, ◌-◌, ◌<◌, ◌≤◌, ◌==◌, ◌/◌, ℕ, Bool, true, false, cond, List, Ok, Err, Result, length, refl, sym, ◌∙◌, ap, subst, arith}
+use Rattle.std.proofs.lemmas.Result.{err_from_is_err_and}
+use Rattle.fl_flash.specs.declared.flash.FlashFault.{FlashFault}
+use Rattle.fl_var.specs.Memory.{next_in, waiting_in, room_in}
+use Rattle.fl_var.specs.Placing.{is_full_in, pages_filled}
+use Rattle.fl_var.specs.declared.var_data.VarData.{VarData}
+use Rattle.fl_var.proofs.Joins.{watched-first}
+use Rattle.fl_var.proofs.Placed.{place-none, place-err, place-breaks_room, place-breaks, place-ends, watched-second, room-for}
+use Rattle.fl_var.proofs.Writing.{cause-err}
+use Rattle.fl_var.proofs.var_data.VarData.append.Goals as goal
+
+pub returns-then-is_empty-clause-ends : goal.returns-then-is_empty-clause-ends
+returns-then-is_empty-clause-ends g c = λ plan table rose device watched stands.
+    let none : length c.args.bytes.now ≡ 0 = search rules in
+    place-none plan table rose device c.args.self.now (g.F.Flash.state c.args.flash.now) (length c.args.bytes.now) none watched stands
+
+pub returns-in_err-make_room-clause-ends : goal.returns-in_err-make_room-clause-ends
+returns-in_err-make_room-clause-ends g c = λ plan table rose device watched stands.
+    let v = c.args.self.now in
+    let f = g.F.Flash.state c.args.flash.now in
+    let h = g.F.Flash.state c.make_room.new.flash in
+    let len = length c.args.bytes.now in
+    let some : 1 ≤ length c.args.bytes.now = search rules in
+    let p = err_from_is_err_and c.from_residual.result c.from_residual.ensures.1 in
+    place-err plan table rose device v f len c.from_residual.result _ h c.in_err-make_room.field-0.0 (p.1 ∙ ap (λ (x : FlashFault). Err x) p.2)
+    (place-breaks_room v f h plan table len rose device c.in_err-make_room.field-0.0 stands some (c.in_err-make_room.ensures.ends plan table rose device watched stands.ring))
+
+pub returns-in_err-write-clause-ends : goal.returns-in_err-write-clause-ends
+returns-in_err-write-clause-ends g c = λ plan table rose device watched stands.
+    let v = c.args.self.now in
+    let mid = c.make_room.new.self in
+    let f = g.F.Flash.state c.args.flash.now in
+    let mid_f = g.F.Flash.state c.make_room.new.flash in
+    let h = g.F.Flash.state c.write.new.flash in
+    let len = length c.args.bytes.now in
+    let e = c.in_ok-make_room.ensures in
+    let some : 1 ≤ length c.args.bytes.now = search rules in
+    let second = c.in_err-write.ensures.goes in
+    let a = e.ends plan table rose device (watched-first f mid_f h rose device watched second) stands.ring in
+    let p = err_from_is_err_and c.from_residual-in_err-write.result c.from_residual-in_err-write.ensures.1 in
+    let b = c.in_err-write.ensures.ends plan _ rose a.now.device (watched-second v mid f plan table len stands some e.same e.next e.fill mid_f h rose device watched e.goes second a) a.has in
+    place-err plan table rose device v f len c.from_residual-in_err-write.result _ h c.in_err-write.field-0.0 (p.1 ∙ ap (λ (x : FlashFault). Err x) p.2)
+    (place-breaks v mid f plan table len stands some e.same e.next e.fill mid_f h rose device watched e.goes second a c.in_err-write.field-0.0 b)
+
+pub returns-in_err-write-clause-cause : goal.returns-in_err-write-clause-cause
+returns-in_err-write-clause-cause g c =
+    let p = err_from_is_err_and c.from_residual-in_err-write.result c.from_residual-in_err-write.ensures.1 in
+    let e = c.in_ok-make_room.ensures in
+    cause-err (g.F.Flash.state c.args.flash.now) (g.F.Flash.state c.make_room.new.flash) (g.F.Flash.state c.write.new.flash) c.from_residual-in_err-write.result c.in_err-write.field-0.0 (p.1 ∙ ap (λ (x : FlashFault). Err x) p.2)
+    e.goes e.power c.in_err-write.ensures.cause
+
+pub returns-clause-ends : goal.returns-clause-ends
+returns-clause-ends g c = λ plan table rose device watched stands.
+    let v = c.args.self.now in
+    let mid = c.make_room.new.self in
+    let f = g.F.Flash.state c.args.flash.now in
+    let mid_f = g.F.Flash.state c.make_room.new.flash in
+    let h = g.F.Flash.state c.write.new.flash in
+    let len = length c.args.bytes.now in
+    let e = c.in_ok-make_room.ensures in
+    let w = c.in_ok-write.ensures in
+    let some : 1 ≤ length c.args.bytes.now = search rules in
+    let a = e.ends plan table rose device (watched-first f mid_f h rose device watched w.goes) stands.ring in
+    let b = w.ends plan _ rose a.now.device (watched-second v mid f plan table len stands some e.same e.next e.fill mid_f h rose device watched e.goes w.goes a) a.has in
+    let page : c.next_number.result ≡ next_in c.make_room.new.self = c.next_number.ensures in
+    let offset : length c.content.result.now ≡ length (waiting_in c.make_room.new.self) = ap length c.content.ensures.content in
+    let at = ap (λ n. record { page = n; offset = length c.content.result.now; length = length c.args.bytes.now }) page ∙ ap (λ n. record { page = next_in c.make_room.new.self; offset = n; length = length c.args.bytes.now }) offset in
+    place-ends v mid f plan table len stands some e.same e.next e.fill mid_f h rose device watched e.goes w.goes a c.write.new.self _ at w.fill b
+
+pub returns-clause-quiet : goal.returns-clause-quiet
+returns-clause-quiet g c = λ room.
+    let v = c.args.self.now in
+    let some : 1 ≤ length c.args.bytes.now = search rules in
+    let left = room-for v (length c.args.bytes.now) some room in
+    let still = c.in_ok-make_room.ensures.quiet left.0 in
+    let none : pages_filled c.make_room.new.self (length c.args.bytes.now) ≡ 0 = ap (λ (x : VarData). pages_filled x (length c.args.bytes.now)) still.1 ∙ left.1 in
+    (c.in_ok-write.ensures.quiet none).1 ∙ still.2

@@ -1,0 +1,24 @@
+use Rattle.std.proofs.Common.{rules, ◌≡◌, ◌+◌, ◌-◌, ◌^◌, ◌<◌, ◌≤◌, ℕ, List, length, sym, ◌∙◌, ap, subst, arith}
+use Rattle.fl_var.specs.Memory.{next_in, waiting_in}
+use Rattle.fl_var.proofs.PageImages.{next-state, next-count, next-has, next-bad, waiting-length}
+use Rattle.fl_var.proofs.var_data.VarData.find_content.Goals as goal
+
+pub returns-then-len-eq0-clause-bad : goal.returns-then-len-eq0-clause-bad
+returns-then-len-eq0-clause-bad g c = λ told.
+    let v = c.args.self.now in
+    let f = g.F.Flash.state c.args.flash.now in
+    let is : c.args.number ≡ next_in c.args.self.now = search rules in
+    let none : length (waiting_in c.args.self.now) ≡ 0 = search rules in
+    let small : c.args.number < 2 ^ 32 = search rules in
+    let bad = next-bad v f c.args.number small is none in
+    (next-state v f c.args.number small is, bad.0, c.end_fault.ensures ∙ bad.1)
+
+pub returns-then-number-next_number-clause-good : goal.returns-then-number-next_number-clause-good
+returns-then-number-next_number-clause-good g c = λ told.
+    let v = c.args.self.now in
+    let f = g.F.Flash.state c.args.flash.now in
+    let is : c.args.number ≡ next_in c.args.self.now = search rules in
+    let small : c.args.number < 2 ^ 32 = search rules in
+    let same : length c.content-len.result.now ≡ length (waiting_in c.args.self.now) = search rules in
+    let some : 1 ≤ length (waiting_in c.args.self.now) = search rules in
+    (next-has v f c.args.number small is some, same ∙ sym (next-count v f c.args.number small is))

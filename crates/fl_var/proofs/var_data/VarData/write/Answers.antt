@@ -1,0 +1,60 @@
+use Rattle.std.proofs.Common.{rules, ◌≡◌, ◌+◌, ◌-◌, ◌^◌, ◌<◌, ◌≤◌, ℕ, Bool, List, Option, Some, Ok, Err, Result, length, take, drop, min, refl, sym, ◌∙◌, ap, subst, arith}
+use Rattle.std.proofs.lemmas.List.{places}
+use Rattle.std.proofs.lemmas.Result.{err_from_is_err_and}
+use Rattle.fl_flash.specs.declared.flash.FlashFault.{FlashFault}
+use Rattle.fl_var.specs.Memory.{next_in, waiting_in, room_in}
+use Rattle.fl_var.proofs.Writing.{writes-first, writes-next, writes-fail, writes-fill, writes-quiet, writes-end, cause-err}
+use Rattle.fl_var.proofs.var_data.VarData.write.Goals as goal
+
+pub loop-done-init : goal.loop-done-init
+loop-done-init g c = (
+  writes-first c.args.self.now _ (g.F.Flash.state c.args.flash.now) (length c.args.bytes.now) c.put-done.result refl (record { geometry = refl; place = refl }) c.requires.lies c.requires.mounted c.requires.room c.requires.some
+      c.put-done.ensures.count c.put-done.ensures.fill,
+  refl,
+  c.requires.few,
+  c.requires.left,
+)
+
+pub returns-in_err-seal-clause-ends : goal.returns-in_err-seal-clause-ends
+returns-in_err-seal-clause-ends g c = λ plan table rose device watched has.
+    let v = c.args.self.now in
+    let p = err_from_is_err_and c.from_residual.result c.from_residual.ensures.1 in
+    let less : c.loop-done.done < length c.args.bytes.now = search rules in
+    let wide : 0 < room_in c.args.self.now = omega (arith, v.served.page_least) in
+    writes-fail v c.loop-done.self _ (g.F.Flash.state c.args.flash.now) (g.F.Flash.state c.loop-done.flash) (g.F.Flash.state c.seal.new.flash) (length c.args.bytes.now) c.loop-done.done c.in_err-seal.field-0.0
+    c.loop-done.invariant.0 less wide c.in_err-seal.ensures.goes c.in_err-seal.ensures.ends c.from_residual.result (p.1 ∙ ap (λ (e : FlashFault). Err e) p.2) plan table rose device watched has
+
+pub returns-in_err-seal-clause-cause : goal.returns-in_err-seal-clause-cause
+returns-in_err-seal-clause-cause g c =
+    let p = err_from_is_err_and c.from_residual.result c.from_residual.ensures.1 in
+    let is = c.loop-done.invariant.0 in
+    cause-err (g.F.Flash.state c.args.flash.now) (g.F.Flash.state c.loop-done.flash) (g.F.Flash.state c.seal.new.flash) c.from_residual.result c.in_err-seal.field-0.0 (p.1 ∙ ap (λ (e : FlashFault). Err e) p.2)
+    is.goes is.power c.in_err-seal.ensures.cause
+
+pub loop-done-preserved : goal.loop-done-preserved
+loop-done-preserved g c =
+    let less : c.loop-done.done < length c.args.bytes.now = search rules in
+    let rest : length (take (length c.args.bytes.now - c.loop-done.done) (drop c.loop-done.done c.args.bytes.now)) ≡ length c.args.bytes.now - c.loop-done.done = search (rules, places) in
+    let e = c.in_ok-seal.ensures in (
+      writes-next c.args.self.now c.loop-done.self c.seal.new.self _ (g.F.Flash.state c.args.flash.now) (g.F.Flash.state c.loop-done.flash) (g.F.Flash.state c.seal.new.flash) (length c.args.bytes.now) c.loop-done.done
+          c.put-done-in-loop-done.result c.loop-done.invariant.0 less e.goes e.same e.lies e.mounted e.next e.empty e.ends e.outside e.reads e.media_reads refl (record { geometry = refl; place = refl }) e.power
+          (length (take (length c.args.bytes.now - c.loop-done.done) (drop c.loop-done.done c.args.bytes.now))) rest c.put-done-in-loop-done.ensures.count c.put-done-in-loop-done.ensures.fill,
+      refl,
+      c.requires.few,
+      c.requires.left,
+    )
+
+pub returns-clause-fill : goal.returns-clause-fill
+returns-clause-fill g c =
+    let all : length c.args.bytes.now ≤ c.loop-done.done = search rules in
+    writes-fill c.args.self.now c.loop-done.self (g.F.Flash.state c.args.flash.now) (g.F.Flash.state c.loop-done.flash) (length c.args.bytes.now) c.loop-done.done c.loop-done.invariant.0 all
+
+pub returns-clause-ends : goal.returns-clause-ends
+returns-clause-ends g c =
+    let all : length c.args.bytes.now ≤ c.loop-done.done = search rules in
+    writes-end c.args.self.now c.loop-done.self (g.F.Flash.state c.args.flash.now) (g.F.Flash.state c.loop-done.flash) (length c.args.bytes.now) c.loop-done.done c.loop-done.invariant.0 all
+
+pub returns-clause-quiet : goal.returns-clause-quiet
+returns-clause-quiet g c = λ none.
+    let all : length c.args.bytes.now ≤ c.loop-done.done = search rules in
+    (refl, writes-quiet c.args.self.now c.loop-done.self (g.F.Flash.state c.args.flash.now) (g.F.Flash.state c.loop-done.flash) (length c.args.bytes.now) c.loop-done.done c.loop-done.invariant.0 all none)

@@ -1,0 +1,112 @@
+// A blob is opened for reading.
+ghost use Rattle.std.specs.Prelude.{◌≡◌, ◌+◌, ◌≤◌, ◌<◌, true, Some, length, IsTrue, IfOk, IfErr, IfSome};
+ghost use Rattle.fl_ring.specs.Looking.{OnlyReads};
+
+use crate::reader::BlobReader;
+use crate::var_data::VarData;
+use fl_base::BlobRef;
+use fl_flash::{Flash, PageBuf};
+use fl_page::{BadPage, ReadFault};
+
+impl VarData {
+    ghost use Rattle.std.specs.Prelude.{ℕ, List, None};
+    ghost use Rattle.fl_model.specs.Table as model;
+    ghost use Rattle.fl_model.specs.Table.{Entry};
+    ghost use Rattle.fl_model.specs.Record.{Plan};
+    ghost use Rattle.fl_model.specs.Ring.{Ring};
+    ghost use Rattle.fl_model.specs.Query.{page_stands};
+    ghost use Rattle.fl_var.specs.Blobs.{IsGone, IsBadFirst};
+    ghost use Rattle.fl_var.specs.Memory.{is_mounted, LiesOn, next_in, room_in, present, image_in, page_in};
+    ghost use Rattle.fl_var.specs.Placing.{HoldsBytes};
+    ghost use Rattle.fl_var.specs.Reading.{data_of, buffer_of, count_left, Opens, Finds, IfUnread, IfBad};
+    ghost use Rattle.fl_var.specs.Standing.{Stands};
+    ghost use Rattle.fl_page.specs.Header.{page_count};
+
+    /// How many bytes of content the first page of a blob has, or none where the blob is gone.
+    fn find_first<F: Flash>(
+        &self,
+        flash: &mut F,
+        at: BlobRef,
+        buf: &mut PageBuf,
+    ) -> Result<Option<usize>, ReadFault>
+        requires mounted { is_mounted self.now ≡ true }
+        requires lies { LiesOn self.now (F.state flash.old) }
+        requires room { length buf.old.bytes ≡ self.now.geometry.page }
+        requires some { 1 ≤ at.length }
+        ensures reads { OnlyReads (F.state flash.old) 1 (F.state flash.new) }
+        ensures lies { LiesOn self.now (F.state flash.new) }
+        ensures room { length buf.new.bytes ≡ length buf.old.bytes }
+        ensures gone { IsTrue (F.state flash.old).media.tells → IfOk result (λ used. used ≡ None → IsGone self.now (F.state flash.old) at) }
+        ensures stands { IsTrue (F.state flash.old).media.tells → IfOk result (λ used. IfSome used (λ n. (IsGone self.now (F.state flash.old) at → ⊥) × (n ≡ page_count (image_in self.now (F.state flash.old) at.page)))) }
+        ensures holds { IsTrue (F.state flash.old).media.tells → at.page < next_in self.now → IfOk result (λ used. IfSome used (λ n. buf.new.bytes ≡ page_in self.now (F.state flash.old) at.page)) }
+        ensures within { IfOk result (λ used. IfSome used (λ n. (at.page ≤ next_in self.now) × (at.offset < n) × (n ≤ length (present self.now at.page buf.new.bytes)) × (n ≤ room_in self.now))) }
+        ensures fails { IfErr result (λ e. IfUnread (F.state flash.old) e (F.state flash.new)) }
+        ensures bad { IsTrue (F.state flash.old).media.tells → IfErr result (IfBad (λ bad. (IsGone self.now (F.state flash.old) at → ⊥) × IsBadFirst self.now (F.state flash.old) at bad)) }
+    {
+        if at.page < self.oldest() {
+            return Ok(None);
+        }
+        if self.next_number() < at.page {
+            return Err(ReadFault::BadPage(self.end_fault()));
+        }
+        let Some(used) = self.find_content(flash, at.page, buf)? else {
+            return Ok(None);
+        };
+        if used <= at.offset as usize {
+            return Err(ReadFault::BadPage(BadPage {
+                wanted: at.page,
+                found: at.page,
+                count: used as u32,
+            }));
+        }
+        Ok(Some(used))
+    }
+
+    /// Opens a blob: none exactly where it is gone. Its bytes are in the buffer or on pages that are kept, the first of
+    /// which is committed. One page is read at most.
+    pub fn open_blob<'s, 'b, F: Flash>(
+        &'s self,
+        flash: &mut F,
+        at: BlobRef,
+        buf: &'b mut PageBuf,
+    ) -> Result<Option<BlobReader<'s, 'b>>, ReadFault>
+        requires mounted { is_mounted self.now ≡ true }
+        requires lies { LiesOn self.now (F.state flash.old) }
+        requires room { length buf.now.bytes ≡ self.now.geometry.page }
+        ensures reads { OnlyReads (F.state flash.old) 1 (F.state flash.new) }
+        ensures lies { LiesOn self.now (F.state flash.new) }
+        ensures data { IfOk result (λ reader. IfSome reader (λ r. (data_of r ≡ self.now) × (count_left r ≡ at.length))) }
+        ensures buffer { IfOk result (λ reader. IfSome reader (λ r. buffer_of r ≡ buf.entry.ghost_name)) }
+        ensures opens { IsTrue (F.state flash.old).media.tells → Opens self.now (F.state flash.old) at result }
+        ensures finds { (plan : Plan) (table : model.Table) (entry : Entry) (bytes : List ℕ) → IsTrue (F.state flash.old).media.tells → Stands self.now (F.state flash.old) plan table
+            → entry.kept.blob ≡ Some bytes → at ≡ record { page = entry.page; offset = entry.offset; length = length bytes }
+            → ((ring : Ring) → table.var ≡ Some ring → page_stands ring entry.page ≡ true → 0 < length bytes → HoldsBytes plan self.now (F.state flash.old) ring at bytes)
+            → Finds table entry bytes (F.state flash.old) result }
+        ensures fails { IfErr result (λ e. IfUnread (F.state flash.old) e (F.state flash.new)) }
+    {
+        if at.length == 0 {
+            return Ok(Some(BlobReader {
+                var: self,
+                buf,
+                page: self.next_number(),
+                used: 0,
+                begin: 0,
+                end: 0,
+                left: 0,
+            }));
+        }
+        let Some(used) = self.find_first(flash, at, buf)? else {
+            return Ok(None);
+        };
+        let from = at.offset as usize;
+        Ok(Some(BlobReader {
+            var: self,
+            buf,
+            page: at.page,
+            used,
+            begin: from,
+            end: from,
+            left: at.length,
+        }))
+    }
+}
