@@ -56,7 +56,7 @@ module _ (f g : FlashState) (only : OnlyReads f g) where
     faults = only.faults;
   }
 
-  stands-looked : (t : Table) (first : ℕ) (plan : Plan) (table : model.Table) → Stands t f first plan table → Stands t g first plan table
+  pub stands-looked : (t : Table) (first : ℕ) (plan : Plan) (table : model.Table) → Stands t f first plan table → Stands t g first plan table
   stands-looked t first plan table h =
       let looks : OnlyLooks f g = record { reads = only; power = only.power; cuts = only.cuts } in
       record {

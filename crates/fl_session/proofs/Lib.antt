@@ -40,3 +40,4 @@ pub mod RangeEnds
 pub mod CursorsOf
 pub mod Giving
 pub mod Following
+pub mod CursorMoves

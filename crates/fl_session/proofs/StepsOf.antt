@@ -114,30 +114,31 @@ answers-cut config old n kind stands faults faults_now s =
 -- a command that is run and isn't one of the others is nothing
 pub default-view : (c : code.Command) (room : List ℕ) → IsRunnable (command_view c room) → (c ≡ code.TheVariants.Mount → ⊥) → (c ≡ code.TheVariants.Off → ⊥) → ((n : ℕ) (kind : CutKind) → c ≡ code.TheVariants.Cut n kind → ⊥) →
     ((name : _) (key : ℕ) (values : _) (blob : Bool) → c ≡ code.TheVariants.Put name key values blob → ⊥) → ((name : _) → c ≡ code.TheVariants.Flush name → ⊥) → ((name : _) → c ≡ code.TheVariants.Stat name → ⊥) → ((name : _) (key : ℕ) → c ≡ code.TheVariants.Get name key → ⊥) → ((name : _) (range : _) (span : _) → c ≡ code.TheVariants.Scan name range span → ⊥) →
-    ((name : _) (count step seed : ℕ) → c ≡ code.TheVariants.Load name count step seed → ⊥) → ((cursor : ℕ) (name : _) (range : _) (span : _) → c ≡ code.TheVariants.Open cursor name range span → ⊥) → ((cursor : ℕ) → c ≡ code.TheVariants.Close cursor → ⊥) →
+    ((name : _) (count step seed : ℕ) → c ≡ code.TheVariants.Load name count step seed → ⊥) → ((cursor : ℕ) (name : _) (range : _) (span : _) → c ≡ code.TheVariants.Open cursor name range span → ⊥) → ((cursor : ℕ) → c ≡ code.TheVariants.Close cursor → ⊥) → ((cursor count : ℕ) → c ≡ code.TheVariants.Next cursor count → ⊥) →
     (c ≡ code.TheVariants.Cost → ⊥) → command_view c room ≡ command.Nothing
-default-view code.TheVariants.Nothing room r m n k p f s t l o u v q = refl
-default-view code.TheVariants.Mount room r m n k p f s t l o u v q = absurd (m refl)
-default-view code.TheVariants.Off room r m n k p f s t l o u v q = absurd (n refl)
-default-view (code.TheVariants.Cut i kind) room r m n k p f s t l o u v q = absurd (k i kind refl)
-default-view (code.TheVariants.Put name key values blob) room r m n k p f s t l o u v q = absurd (p name key values blob refl)
-default-view (code.TheVariants.Flush name) room r m n k p f s t l o u v q = absurd (f name refl)
-default-view (code.TheVariants.Stat name) room r m n k p f s t l o u v q = absurd (s name refl)
-default-view (code.TheVariants.Get name key) room r m n k p f s t l o u v q = absurd (t name key refl)
-default-view (code.TheVariants.Scan name range span) room r m n k p f s t l o u v q = absurd (l name range span refl)
-default-view code.TheVariants.Cost room r m n k p f s t l o u v q = absurd (q refl)
-default-view (code.TheVariants.Load name count step seed) room r m n k p f s t l o u v q = absurd (o name count step seed refl)
-default-view (code.TheVariants.Open cursor name range span) room r m n k p f s t l o u v q = absurd (u cursor name range span refl)
-default-view (code.TheVariants.Close cursor) room r m n k p f s t l o u v q = absurd (v cursor refl)
-default-view (code.TheVariants.Device page block) room r m n k p f s t l o u v q = absurd (none r.runs)
+default-view code.TheVariants.Nothing room r m n k p f s t l o u v w q = refl
+default-view code.TheVariants.Mount room r m n k p f s t l o u v w q = absurd (m refl)
+default-view code.TheVariants.Off room r m n k p f s t l o u v w q = absurd (n refl)
+default-view (code.TheVariants.Cut i kind) room r m n k p f s t l o u v w q = absurd (k i kind refl)
+default-view (code.TheVariants.Put name key values blob) room r m n k p f s t l o u v w q = absurd (p name key values blob refl)
+default-view (code.TheVariants.Flush name) room r m n k p f s t l o u v w q = absurd (f name refl)
+default-view (code.TheVariants.Stat name) room r m n k p f s t l o u v w q = absurd (s name refl)
+default-view (code.TheVariants.Get name key) room r m n k p f s t l o u v w q = absurd (t name key refl)
+default-view (code.TheVariants.Scan name range span) room r m n k p f s t l o u v w q = absurd (l name range span refl)
+default-view code.TheVariants.Cost room r m n k p f s t l o u v w q = absurd (q refl)
+default-view (code.TheVariants.Load name count step seed) room r m n k p f s t l o u v w q = absurd (o name count step seed refl)
+default-view (code.TheVariants.Open cursor name range span) room r m n k p f s t l o u v w q = absurd (u cursor name range span refl)
+default-view (code.TheVariants.Close cursor) room r m n k p f s t l o u v w q = absurd (v cursor refl)
+default-view (code.TheVariants.Next cursor count) room r m n k p f s t l o u v w q = absurd (w cursor count refl)
+default-view (code.TheVariants.Device page block) room r m n k p f s t l o u v w q = absurd (none r.runs)
   where
     none : None ≡ Some (command.Device page block) → ⊥
     none e = cc
-default-view (code.TheVariants.Table name key rows index var bits base width error blob) room r m n k p f s t l o u v q = absurd (none r.runs)
+default-view (code.TheVariants.Table name key rows index var bits base width error blob) room r m n k p f s t l o u v w q = absurd (none r.runs)
   where
     none : None ≡ Some (command_view (code.TheVariants.Table name key rows index var bits base width error blob) room) → ⊥
     none e = cc
-default-view c room r m n k p f s t l o u v q = absurd (unbuilt r.built)
+default-view c room r m n k p f s t l o u v w q = absurd (unbuilt r.built)
   where
     unbuilt : false ≡ true → ⊥
     unbuilt e = cc

@@ -22,6 +22,7 @@ is_built (command.Scan name range span) = true
 is_built (command.Stat name) = true
 -- there are four cursors
 is_built (command.Open cursor name range span) = nat_lt cursor 4
+is_built (command.Next cursor count) = nat_lt cursor 4
 is_built (command.Close cursor) = nat_lt cursor 4
 is_built command.Cost = true
 -- the keys of a load grow

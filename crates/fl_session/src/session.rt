@@ -17,7 +17,7 @@ ghost use Rattle.fl_session.specs.Standing.{SessionStands, IsSound};
 
 use crate::buffers::Buffers;
 use crate::cost::Cost;
-use crate::cursors::open_cursor;
+use crate::cursors::{next_rows, open_cursor};
 use crate::executor::Executor;
 use crate::load::load;
 use crate::lookup::look_up;
@@ -279,6 +279,35 @@ impl<'m, M: Media> Session<'m, M> {
         written
     }
 
+    /// Tells the next rows of a cursor, up to so many, and moves it behind those that it told.
+    fn next<K: Sink>(&mut self, cursor: u64, count: u64, out: &mut K) -> Result<(), SinkFailed>
+        requires sound { IsSound self.old.table (⟦<SimFlash<'m, M> as Flash>⟧.state self.old.flash) self.old.buf self.old.mounted }
+        requires cursor { cursor < 4 }
+        ensures sound { IsSound self.new.table (⟦<SimFlash<'m, M> as Flash>⟧.state self.new.flash) self.new.buf self.new.mounted }
+        ensures goes { Goes (⟦<SimFlash<'m, M> as Flash>⟧.state self.old.flash) (⟦<SimFlash<'m, M> as Flash>⟧.state self.new.flash) }
+        ensures sink { HasCause (K.faults out.old) (K.faults out.new) result }
+        ensures step { (config : Config) (old : Machine) → SessionStands config self.old.table self.old.name (⟦<SimFlash<'m, M> as Flash>⟧.state self.old.flash) self.old.mounted self.old.notes old →
+            Executes config old (words.Next cursor count) (SessionStands config self.new.table self.new.name (⟦<SimFlash<'m, M> as Flash>⟧.state self.new.flash) self.new.mounted self.new.notes)
+            (⟦<SimFlash<'m, M> as Flash>⟧.state self.old.flash) (⟦<SimFlash<'m, M> as Flash>⟧.state self.new.flash) (K.written out.old) (K.written out.new) result }
+    {
+        if !self.mounted {
+            return write_reply(&Reply::NotMounted, out);
+        }
+        let Some(mut mark) = self.notes.cursor(cursor) else {
+            return write_reply(&Reply::NoCursor, out);
+        };
+        let written = next_rows(
+            &self.table,
+            &mut mark,
+            count,
+            &mut self.flash,
+            &mut self.buf,
+            out,
+        );
+        self.notes.set_cursor(cursor, Some(mark));
+        written
+    }
+
     /// Puts generated records, up to the first one that is refused, and tells how many.
     fn load<K: Sink>(
         &mut self,
@@ -356,6 +385,7 @@ impl<'m, M: Media> Executor for Session<'m, M> {
                 };
                 return self.scan(*name, wanted, out);
             }
+            Command::Next { cursor, count } => return self.next(*cursor, *count, out),
             Command::Load {
                 name,
                 count,
