@@ -11,7 +11,7 @@ use Rattle.fl_cursor.specs.Cursor.{mark_of, left_of}
 use Rattle.fl_cursor.specs.declared.bookmark.Bookmark.{Bookmark}
 use Rattle.fl_cursor.specs.declared.cursor.Cursor.{Cursor}
 use Rattle.fl_flash.specs.declared.flash.FlashFault.{FlashFault}
-use Rattle.fl_machine.specs.Step.{rows_of}
+use Rattle.fl_machine.specs.Step.{rows_of, row_of}
 use Rattle.fl_model.specs.Query as query
 use Rattle.fl_model.specs.Query.{moved}
 use Rattle.fl_model.specs.Record.{Plan, has_var}
@@ -29,7 +29,7 @@ use Rattle.fl_session.proofs.Scanned.{row-line, written-last, front-last}
 
 lines-stored : (plan : Plan) (es : List Entry) → has_var plan ≡ false → map row_reply (map stored_row es) ≡ rows_of plan es
 lines-stored plan [] none = refl
-lines-stored plan (e ∷ es) none = ap (λ (r : Reply). r ∷ map row_reply (map stored_row es)) (row-line plan e none) ∙ ap (λ (l : List Reply). _ ∷ l) (lines-stored plan es none)
+lines-stored plan (e ∷ es) none = ap (λ (r : Reply). r ∷ map row_reply (map stored_row es)) (row-line plan e none) ∙ ap (λ (l : List Reply). row_of plan e ∷ l) (lines-stored plan es none)
 
 keys-stored : (es : List Entry) → map (λ (r : Row). r.key) (map stored_row es) ≡ map (λ (e : Entry). e.kept.key) es
 keys-stored [] = refl

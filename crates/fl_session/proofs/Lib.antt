@@ -40,4 +40,5 @@ pub mod RangeEnds
 pub mod CursorsOf
 pub mod Giving
 pub mod Following
+pub mod Resumed
 pub mod CursorMoves
