@@ -23,7 +23,7 @@ use Rattle.fl_table.specs.declared.table.Table.{Table}
 use Rattle.fl_session.specs.Nexts.{Nexts}
 
 module _ (t : Table) (f : FlashState) (first : ℕ) (plan : Plan) (table : model.Table) (tells : IsTrue f.media.tells) (reaches : f.start + extent f.geometry f.blocks ≤ length f.media.content) (lies : LiesOn t f) (stands : Stands t f first plan table) where
-  pub is-standing : IsStanding t (contents_of f)
+  abbrev pub is-standing : IsStanding t (contents_of f)
   is-standing = record { flash = f; same = refl; tells = tells; reaches = reaches; lies = lies; first = first; plan = plan; table = table; stands = stands }
 
   -- it has left what the model's cursor has left

@@ -296,6 +296,8 @@ impl<'m, M: Media> Session<'m, M> {
         let Some(mut mark) = self.notes.cursor(cursor) else {
             return write_reply(&Reply::NoCursor, out);
         };
+        // The reads of this command are a difference of two counts, of which this is the first.
+        let _before = self.flash.work();
         let written = next_rows(
             &self.table,
             &mut mark,
