@@ -120,12 +120,12 @@ pub wrote-first : (v w : VarData) (f : FlashState) (bytes : List ℕ) → w.ring
 wrote-first v w f bytes ring same put = record {
   still = λ e. put;
   goes_on = λ plan table rose device watched has before page var_is committed le low. (
-      contents-put v w f bytes page ring same put (next-small v f plan table has) le,
-      λ after k.
-          let none : next_in w - next_in v ≡ 0 = omega (arith, next-same v w ring) in
-          let var_still : table.var ≡ Some after = subst (λ n. (after_seals plan (replicate n VarRing) table).var ≡ Some after) none k in
-          subst (λ (x : Ring). CommittedFrom x page) (some-is before after (sym var_is ∙ var_still)) committed,
-    );
+    contents-put v w f bytes page ring same put (next-small v f plan table has) le,
+    λ after k.
+        let none : next_in w - next_in v ≡ 0 = omega (arith, next-same v w ring) in
+        let var_still : table.var ≡ Some after = subst (λ n. (after_seals plan (replicate n VarRing) table).var ≡ Some after) none k in
+        subst (λ (x : Ring). CommittedFrom x page) (some-is before after (sym var_is ∙ var_still)) committed,
+  );
 }
 
 module _ (first v mid w : VarData) (first_f f g : FlashState) (len done : ℕ) (bytes more : List ℕ) (is : Writes first first_f len done v f) (wrote : Wrote first first_f bytes v f)
@@ -197,20 +197,20 @@ module _ (first v : VarData) (first_f f : FlashState) (bytes : List ℕ) (done :
 pub room-same : (v : VarData) (f : FlashState) (full : Bool) → full ≡ false → GoesOn [] (room_seals full) (next_in v) v f v f
 room-same v f full e = subst (λ (b : Bool). GoesOn [] (room_seals b) (next_in v) v f v f) (sym e)
     (λ plan table rose device watched has before page var_is committed le low. (
-        sym (append-nil (contents_in v f page)),
-        λ after k. subst (λ (x : Ring). CommittedFrom x page) (some-is before after (sym var_is ∙ k)) committed,
-      ))
+      sym (append-nil (contents_in v f page)),
+      λ after k. subst (λ (x : Ring). CommittedFrom x page) (some-is before after (sym var_is ∙ k)) committed,
+    ))
 
 pub room-goes : (v : VarData) (f : FlashState) (full : Bool) (result : Result (Unit {0}) FlashFault) (mid : VarData) (g : FlashState) → full ≡ true → OnOk result (next_in mid ≡ next_in v + 1) → OnOk result (waiting_in mid ≡ []) →
     ((plan : Plan) (table : Table) (rose : Bool) (device : Device) → IsWatched f g rose device → HasRing v f plan table → SealEnds plan table rose device v f result mid g) → OnOk result (GoesOn [] (room_seals full) (next_in mid) v f mid g)
 room-goes v f full (Err fault) mid g e next empty ends = tt
 room-goes v f full (Ok u) mid g e next empty ends = subst (λ (b : Bool). GoesOn [] (room_seals b) (next_in mid) v f mid g) (sym e)
     (λ plan table rose device watched has before page var_is committed le low.
-        let h = ends plan table rose device watched has in
-        let here = subst (λ (x : Ring). CommittedFrom x page) (some-is before has.ring (sym var_is ∙ has.ring_is)) committed in (
-          contents-sealed v mid f g plan table rose device h has next empty page here low (omega (arith, next, le)) ∙ sym (append-nil (contents_in v f page)),
-          λ after k. subst (λ (x : Ring). CommittedFrom x page) (some-is h.seals.has.ring after (sym h.seals.has.ring_is ∙ k)) (committed-sealed v mid f g plan table rose device h has next empty page here low),
-        ))
+    let h = ends plan table rose device watched has in
+    let here = subst (λ (x : Ring). CommittedFrom x page) (some-is before has.ring (sym var_is ∙ has.ring_is)) committed in (
+      contents-sealed v mid f g plan table rose device h has next empty page here low (omega (arith, next, le)) ∙ sym (append-nil (contents_in v f page)),
+      λ after k. subst (λ (x : Ring). CommittedFrom x page) (some-is h.seals.has.ring after (sym h.seals.has.ring_is ∙ k)) (committed-sealed v mid f g plan table rose device h has next empty page here low),
+    ))
 
 -- a blob was placed
 module _ (v mid w : VarData) (f mid_f g : FlashState) (bytes : List ℕ) (at : BlobRef) (at_is : at ≡ record { page = next_in mid; offset = length (waiting_in mid); length = length bytes })
