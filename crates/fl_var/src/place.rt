@@ -8,7 +8,7 @@ use fl_base::BlobRef;
 use fl_flash::{Flash, FlashFault};
 
 impl VarData {
-    ghost use Rattle.std.specs.Prelude.{ℕ, Bool, Ok, ◌⊎◌, [], ◌*◌, ◌^◌, if◌then◌else◌, replicate, ◌++◌};
+    ghost use Rattle.std.specs.Prelude.{ℕ, Bool, Ok, ◌⊎◌, [], ◌*◌, ◌^◌, if◌then◌else◌, ◌==◌, replicate, ◌++◌};
     ghost use Rattle.fl_model.specs.Record.{Plan};
     ghost use Rattle.fl_model.specs.Table as model;
     ghost use Rattle.fl_model.specs.Table.{VarRing};
@@ -17,7 +17,7 @@ impl VarData {
     ghost use Rattle.fl_ring.specs.Step.{IsWatched};
     ghost use Rattle.fl_var.specs.Growing.{GoesOn, Holds};
     ghost use Rattle.fl_var.specs.Memory.{is_mounted, next_in, waiting_in, room_in, var_shape, IsSamePlan, LiesOn};
-    ghost use Rattle.fl_var.specs.Placing.{is_full_in, room_seals, pages_filled, reference_in, EndsWith, SealEnds, PlaceEnds, RestEnds};
+    ghost use Rattle.fl_var.specs.Placing.{is_full_in, room_seals, pages_filled, pages_placed, reference_in, EndsWith, SealEnds, PlaceEnds, RestEnds};
     ghost use Rattle.fl_var.specs.Standing.{Stands, HasRing};
 
     /// Seals the bytes in the buffer as the next page.
@@ -126,6 +126,8 @@ impl VarData {
             → Stands self.old (F.state flash.old) plan table → PlaceEnds plan (length bytes.now) table rose device self.old (F.state flash.old) result self.new (F.state flash.new) }
         ensures quiet { length (waiting_in self.old) + length bytes.now ≤ room_in self.old → IfOk result (λ at. F.state flash.new ≡ F.state flash.old) }
         ensures waits { IfOk result (λ at. length (waiting_in self.old) + length bytes.now ≤ room_in self.old → waiting_in self.new ≡ waiting_in self.old ++ bytes.now) }
+        ensures next { OnOk result (next_in self.new ≡ next_in self.old + pages_placed self.old (length bytes.now)) }
+        ensures media_reads { (F.state flash.new).media.reads ≤ (F.state flash.old).media.reads + pages_placed self.old (length bytes.now) }
         ensures holds { IfOk result (λ at. Holds bytes.now self.old (F.state flash.old) at self.new (F.state flash.new)) }
         ensures outside { IsTrue (F.state flash.old).media.tells → OutsideStands (var_shape self.old) (page_at (F.state flash.old)) (page_at (F.state flash.new)) }
         ensures reads { (F.state flash.new).work.reads ≡ (F.state flash.old).work.reads }
@@ -157,6 +159,7 @@ impl VarData {
         ensures same { IsSamePlan self.old self.new }
         ensures lies { LiesOn self.new (F.state flash.new) }
         ensures mounted { is_mounted self.new ≡ is_ok result }
+        ensures next { OnOk result (next_in self.new ≡ (if length (waiting_in self.old) == 0 then next_in self.old else next_in self.old + 1)) }
         ensures empty { OnOk result (waiting_in self.new ≡ []) }
         ensures ends { (plan : Plan) → (table : model.Table) → (rose : Bool) → (device : Device) → IsWatched (F.state flash.old) (F.state flash.new) rose device
             → Stands self.old (F.state flash.old) plan table → RestEnds plan table rose device self.old (F.state flash.old) result self.new (F.state flash.new) }
