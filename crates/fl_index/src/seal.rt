@@ -1,5 +1,5 @@
 // The seal of the waiting bitmaps.
-ghost use Rattle.std.specs.Prelude.{◌≡◌, ◌+◌, ◌-◌, ◌<◌, ◌≤◌, ◌^◌, ◌==◌, true, false, if◌then◌else◌, length, slice_index, IsTrue, OnOk, OnErr, IfErr, Some};
+ghost use Rattle.std.specs.Prelude.{Ok, ◌≡◌, ◌+◌, ◌-◌, ◌<◌, ◌≤◌, ◌^◌, ◌==◌, true, false, if◌then◌else◌, length, slice_index, IsTrue, OnOk, OnErr, IfErr, Some};
 ghost use Rattle.fl_flash.specs.Flash.{Goes, page_at};
 ghost use Rattle.fl_ring.specs.Causes.{CausedBy};
 
@@ -31,7 +31,8 @@ impl Index {
             → Stands self.old (F.state flash.old) first plan table → MakesRoom first plan table rose device result self.new (F.state flash.new) }
         ensures room { OnOk result (waiting_in self.new < per_page self.new) }
         ensures next { OnOk result (first_waiting self.new + waiting_in self.new ≡ first_waiting self.old + waiting_in self.old) }
-        ensures nothing { waiting_in self.old < per_page self.old → OnOk result ((self.new ≡ self.old) × (F.state flash.new ≡ F.state flash.old)) }
+        ensures number { OnOk result (next_in self.new ≡ (if waiting_in self.old == per_page self.old then next_in self.old + 1 else next_in self.old)) }
+        ensures nothing { waiting_in self.old < per_page self.old → (result ≡ Ok tt) × (self.new ≡ self.old) × (F.state flash.new ≡ F.state flash.old) }
         ensures running { OnOk result (is_running self.new ≡ true) }
         ensures broken { OnErr result (is_running self.new ≡ false) }
         ensures outside { IsTrue (F.state flash.old).media.tells → OutsideStands (ring_shape self.old) (page_at (F.state flash.old)) (page_at (F.state flash.new)) }
@@ -56,6 +57,7 @@ impl Index {
         ensures lies { LiesOn self.new (F.state flash.new) }
         ensures ends { (first : ℕ) → (plan : Plan) → (table : model.Table) → (rose : Bool) → (device : Device) → IsWatched (F.state flash.old) (F.state flash.new) rose device
             → Stands self.old (F.state flash.old) first plan table → SealEnds first plan table rose device result self.new (F.state flash.new) }
+        ensures number { OnOk result (next_in self.new ≡ next_in self.old + 1) }
         ensures empty { OnOk result (waiting_in self.new ≡ 0) }
         ensures next { OnOk result (first_waiting self.new ≡ first_waiting self.old + waiting_in self.old) }
         ensures running { OnOk result (is_running self.new ≡ true) }

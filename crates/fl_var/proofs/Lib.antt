@@ -8,6 +8,7 @@ pub mod Lifted
 pub mod Sealings
 pub mod Joins
 pub mod Writing
+pub mod Growing
 pub mod Placed
 pub mod Mountings
 pub mod Stored

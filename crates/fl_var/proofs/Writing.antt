@@ -61,7 +61,7 @@ same-then a b c first second = record { geometry = second.geometry ∙ first.geo
 room-same : (a b : VarData) → IsSamePlan a b → room_in b ≡ room_in a
 room-same a b same = ap (λ (g : Geometry). g.page - 16) same.geometry
 
-next-same : (a b : VarData) → b.ring ≡ a.ring → next_in b ≡ next_in a
+pub next-same : (a b : VarData) → b.ring ≡ a.ring → next_in b ≡ next_in a
 next-same a b e = ap (λ (o : Option Ring). unwrap_or (option_map (λ r. place_words.next_of r) o) 0) e
 
 -- the pages that bytes fill

@@ -5,4 +5,5 @@ pub mod Standing
 pub mod Placing
 pub mod Mounting
 pub mod Blobs
+pub mod Growing
 pub mod Reading

@@ -28,6 +28,10 @@ is_full_in v = length (waiting_in v) == room_in v
 abbrev pub pages_filled : VarData → ℕ → ℕ
 pages_filled v len = (length (waiting_in v) + len - 1) / room_in v
 
+-- the pages that are sealed for a blob of this length
+abbrev pub pages_placed : VarData → ℕ → ℕ
+pages_placed v len = if len == 0 then 0 else if is_full_in v then 1 + (len - 1) / room_in v else pages_filled v len
+
 -- the place from memory alone: the empty blob has no page, and a full buffer is sealed first
 abbrev pub reference_in : VarData → ℕ → BlobRef
 reference_in v len =

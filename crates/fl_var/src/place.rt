@@ -8,15 +8,16 @@ use fl_base::BlobRef;
 use fl_flash::{Flash, FlashFault};
 
 impl VarData {
-    ghost use Rattle.std.specs.Prelude.{ℕ, Bool, Ok, ◌⊎◌, [], ◌*◌, ◌^◌, if◌then◌else◌, replicate};
+    ghost use Rattle.std.specs.Prelude.{ℕ, Bool, Ok, ◌⊎◌, [], ◌*◌, ◌^◌, if◌then◌else◌, ◌==◌, replicate, ◌++◌};
     ghost use Rattle.fl_model.specs.Record.{Plan};
     ghost use Rattle.fl_model.specs.Table as model;
     ghost use Rattle.fl_model.specs.Table.{VarRing};
     ghost use Rattle.fl_model.specs.Work.{Device};
     ghost use Rattle.fl_ring.specs.Ring.{OutsideStands};
     ghost use Rattle.fl_ring.specs.Step.{IsWatched};
+    ghost use Rattle.fl_var.specs.Growing.{GoesOn, Holds};
     ghost use Rattle.fl_var.specs.Memory.{is_mounted, next_in, waiting_in, room_in, var_shape, IsSamePlan, LiesOn};
-    ghost use Rattle.fl_var.specs.Placing.{is_full_in, room_seals, pages_filled, reference_in, EndsWith, SealEnds, PlaceEnds, RestEnds};
+    ghost use Rattle.fl_var.specs.Placing.{is_full_in, room_seals, pages_filled, pages_placed, reference_in, EndsWith, SealEnds, PlaceEnds, RestEnds};
     ghost use Rattle.fl_var.specs.Standing.{Stands, HasRing};
 
     /// Seals the bytes in the buffer as the next page.
@@ -65,6 +66,7 @@ impl VarData {
         ensures quiet { is_full_in self.old ≡ false → (result ≡ Ok tt) × (self.new ≡ self.old) × (F.state flash.new ≡ F.state flash.old) }
         ensures ends { (plan : Plan) → (table : model.Table) → (rose : Bool) → (device : Device) → IsWatched (F.state flash.old) (F.state flash.new) rose device
             → HasRing self.old (F.state flash.old) plan table → EndsWith plan (room_seals (is_full_in self.old)) table rose device self.old (F.state flash.old) result self.new (F.state flash.new) }
+        ensures stays { OnOk result (GoesOn [] (room_seals (is_full_in self.old)) (next_in self.new) self.old (F.state flash.old) self.new (F.state flash.new)) }
         ensures outside { IsTrue (F.state flash.old).media.tells → OutsideStands (var_shape self.old) (page_at (F.state flash.old)) (page_at (F.state flash.new)) }
         ensures reads { (F.state flash.new).work.reads ≡ (F.state flash.old).work.reads }
         ensures media_reads { (F.state flash.new).media.reads ≤ (F.state flash.old).media.reads + 1 }
@@ -93,6 +95,8 @@ impl VarData {
         ensures ends { (plan : Plan) → (table : model.Table) → (rose : Bool) → (device : Device) → IsWatched (F.state flash.old) (F.state flash.new) rose device
             → HasRing self.old (F.state flash.old) plan table → EndsWith plan (replicate (pages_filled self.old (length bytes.now)) VarRing) table rose device self.old (F.state flash.old) result self.new (F.state flash.new) }
         ensures quiet { pages_filled self.old (length bytes.now) ≡ 0 → (result ≡ Ok tt) × (F.state flash.new ≡ F.state flash.old) }
+        ensures waits { OnOk result (pages_filled self.old (length bytes.now) ≡ 0 → waiting_in self.new ≡ waiting_in self.old ++ bytes.now) }
+        ensures goes_on { OnOk result (GoesOn bytes.now (replicate (pages_filled self.old (length bytes.now)) VarRing) (next_in self.old) self.old (F.state flash.old) self.new (F.state flash.new)) }
         ensures outside { IsTrue (F.state flash.old).media.tells → OutsideStands (var_shape self.old) (page_at (F.state flash.old)) (page_at (F.state flash.new)) }
         ensures reads { (F.state flash.new).work.reads ≡ (F.state flash.old).work.reads }
         ensures media_reads { (F.state flash.new).media.reads ≤ (F.state flash.old).media.reads + pages_filled self.old (length bytes.now) }
@@ -121,6 +125,10 @@ impl VarData {
         ensures ends { (plan : Plan) → (table : model.Table) → (rose : Bool) → (device : Device) → IsWatched (F.state flash.old) (F.state flash.new) rose device
             → Stands self.old (F.state flash.old) plan table → PlaceEnds plan (length bytes.now) table rose device self.old (F.state flash.old) result self.new (F.state flash.new) }
         ensures quiet { length (waiting_in self.old) + length bytes.now ≤ room_in self.old → IfOk result (λ at. F.state flash.new ≡ F.state flash.old) }
+        ensures waits { IfOk result (λ at. length (waiting_in self.old) + length bytes.now ≤ room_in self.old → waiting_in self.new ≡ waiting_in self.old ++ bytes.now) }
+        ensures next { OnOk result (next_in self.new ≡ next_in self.old + pages_placed self.old (length bytes.now)) }
+        ensures media_reads { (F.state flash.new).media.reads ≤ (F.state flash.old).media.reads + pages_placed self.old (length bytes.now) }
+        ensures holds { IfOk result (λ at. Holds bytes.now self.old (F.state flash.old) at self.new (F.state flash.new)) }
         ensures outside { IsTrue (F.state flash.old).media.tells → OutsideStands (var_shape self.old) (page_at (F.state flash.old)) (page_at (F.state flash.new)) }
         ensures reads { (F.state flash.new).work.reads ≡ (F.state flash.old).work.reads }
         ensures cause { IfErr result (λ e. CausedBy (F.state flash.old) e (F.state flash.new)) }
@@ -151,6 +159,7 @@ impl VarData {
         ensures same { IsSamePlan self.old self.new }
         ensures lies { LiesOn self.new (F.state flash.new) }
         ensures mounted { is_mounted self.new ≡ is_ok result }
+        ensures next { OnOk result (next_in self.new ≡ (if length (waiting_in self.old) == 0 then next_in self.old else next_in self.old + 1)) }
         ensures empty { OnOk result (waiting_in self.new ≡ []) }
         ensures ends { (plan : Plan) → (table : model.Table) → (rose : Bool) → (device : Device) → IsWatched (F.state flash.old) (F.state flash.new) rose device
             → Stands self.old (F.state flash.old) plan table → RestEnds plan table rose device self.old (F.state flash.old) result self.new (F.state flash.new) }

@@ -33,7 +33,7 @@ impl VarData {
     ghost use Rattle.std.specs.Prelude.{◌^◌, ◌<◌, false, IfOk};
     ghost use Rattle.fl_flash.specs.Flash.{FlashState, pages};
     ghost use Rattle.fl_model.specs.Record.{Plan};
-    ghost use Rattle.fl_var.specs.Memory.{is_mounted, next_in, oldest_in, IsPlanned, LiesOn};
+    ghost use Rattle.fl_var.specs.Memory.{is_mounted, next_in, oldest_in, var_shape, IsPlanned, LiesOn};
 
     /// Variable data in a ring at this place of a flash of this shape. It isn't mounted.
     pub fn plan(alloc: Global, geometry: Geometry, place: RingPlace) -> Result<VarData, NoMemory>
@@ -41,6 +41,7 @@ impl VarData {
         requires blocks { 3 ≤ place.blocks }
         ensures planned { IfOk result (λ v. (plan : Plan) → plan.geometry ≡ geometry → plan.var_blocks ≡ place.blocks → IsPlanned v plan) }
         ensures lies { IfOk result (λ v. (f : FlashState) → f.geometry ≡ geometry → place.first_block + place.blocks ≤ f.blocks → pages f < 2 ^ 32 → LiesOn v f) }
+        ensures shape { IfOk result (λ v. var_shape v ≡ shape_at place geometry) }
         ensures fresh { IfOk result (λ v. is_mounted v ≡ false) }
     {
         Ok(VarData {

@@ -1,9 +1,10 @@
-use Rattle.std.proofs.Common.{rules, ◌≡◌, ◌+◌, ◌-◌, ◌<◌, ◌≤◌, ◌==◌, ◌/◌, ℕ, Bool, true, false, cond, List, Ok, Err, Result, length, refl, sym, ◌∙◌, ap, subst, arith}
+use Rattle.std.proofs.Common.{rules, ◌≡◌, ◌+◌, ◌-◌, ◌<◌, ◌≤◌, ◌==◌, ◌/◌, ℕ, Bool, true, false, cond, List, Ok, Err, Result, ◌++◌, length, refl, sym, ◌∙◌, ap, subst, arith}
 use Rattle.std.proofs.lemmas.Result.{err_from_is_err_and}
 use Rattle.fl_flash.specs.declared.flash.FlashFault.{FlashFault}
 use Rattle.fl_var.specs.Memory.{next_in, waiting_in, room_in}
 use Rattle.fl_var.specs.Placing.{is_full_in, pages_filled}
 use Rattle.fl_var.specs.declared.var_data.VarData.{VarData}
+use Rattle.fl_var.proofs.Growing.{holds, holds-none, waits-none}
 use Rattle.fl_var.proofs.Joins.{watched-first}
 use Rattle.fl_var.proofs.Placed.{place-none, place-err, place-breaks_room, place-breaks, place-ends, watched-second, room-for}
 use Rattle.fl_var.proofs.Writing.{cause-err}
@@ -75,3 +76,32 @@ returns-clause-quiet g c = λ room.
     let still = c.in_ok-make_room.ensures.quiet left.0 in
     let none : pages_filled c.make_room.new.self (length c.args.bytes.now) ≡ 0 = ap (λ (x : VarData). pages_filled x (length c.args.bytes.now)) still.1 ∙ left.1 in
     (c.in_ok-write.ensures.quiet none).1 ∙ still.2
+
+pub returns-then-is_empty-clause-waits : goal.returns-then-is_empty-clause-waits
+returns-then-is_empty-clause-waits g c = λ room.
+    let none : length c.args.bytes.now ≡ 0 = search rules in
+    waits-none c.args.self.now c.args.bytes.now none
+
+pub returns-then-is_empty-clause-holds : goal.returns-then-is_empty-clause-holds
+returns-then-is_empty-clause-holds g c =
+    let none : length c.args.bytes.now ≡ 0 = search rules in
+    holds-none c.args.self.now (g.F.Flash.state c.args.flash.now) c.args.bytes.now none
+
+pub returns-clause-waits : goal.returns-clause-waits
+returns-clause-waits g c = λ room.
+    let v = c.args.self.now in
+    let some : 1 ≤ length c.args.bytes.now = search rules in
+    let left = room-for v (length c.args.bytes.now) some room in
+    let still = c.in_ok-make_room.ensures.quiet left.0 in
+    let none : pages_filled c.make_room.new.self (length c.args.bytes.now) ≡ 0 = ap (λ (x : VarData). pages_filled x (length c.args.bytes.now)) still.1 ∙ left.1 in
+    c.in_ok-write.ensures.waits none ∙ ap (λ (x : VarData). waiting_in x ++ c.args.bytes.now) still.1
+
+pub returns-clause-holds : goal.returns-clause-holds
+returns-clause-holds g c =
+    let e = c.in_ok-make_room.ensures in
+    let w = c.in_ok-write.ensures in
+    let page : c.next_number.result ≡ next_in c.make_room.new.self = c.next_number.ensures in
+    let offset : length c.content.result.now ≡ length (waiting_in c.make_room.new.self) = ap length c.content.ensures.content in
+    let at = ap (λ n. record { page = n; offset = length c.content.result.now; length = length c.args.bytes.now }) page ∙ ap (λ n. record { page = next_in c.make_room.new.self; offset = n; length = length c.args.bytes.now }) offset in
+    holds c.args.self.now c.make_room.new.self c.write.new.self (g.F.Flash.state c.args.flash.now) (g.F.Flash.state c.make_room.new.flash) (g.F.Flash.state c.write.new.flash) c.args.bytes.now _ at
+    e.goes w.goes e.ends w.ends e.stays w.goes_on

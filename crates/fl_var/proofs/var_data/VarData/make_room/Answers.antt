@@ -1,5 +1,6 @@
 use Rattle.std.proofs.Common.{rules, ◌≡◌, ◌+◌, ◌==◌, ℕ, Bool, true, false, List, length, refl, sym, ◌∙◌, ap, subst, arith}
 use Rattle.fl_var.specs.Placing.{is_full_in}
+use Rattle.fl_var.proofs.Growing.{room-same, room-goes}
 use Rattle.fl_var.proofs.Placed.{full-same, room-sealed, room-left}
 use Rattle.fl_var.proofs.var_data.VarData.make_room.Goals as goal
 
@@ -24,3 +25,16 @@ returns-clause-ends g c = λ plan table rose device watched has.
     let v = c.args.self.now in
     let e : is_full_in c.args.self.now ≡ true = sym (full-same v) ∙ search rules in
     room-sealed plan table rose device v (g.F.Flash.state c.args.flash.now) (is_full_in v) c.seal.result c.seal.new.self (g.F.Flash.state c.seal.new.flash) e (c.seal.ensures.ends plan table rose device watched has)
+
+pub returns-then-not-is_full-clause-stays : goal.returns-then-not-is_full-clause-stays
+returns-then-not-is_full-clause-stays g c =
+    let v = c.args.self.now in
+    let e : is_full_in c.args.self.now ≡ false = sym (full-same v) ∙ search rules in
+    room-same v (g.F.Flash.state c.args.flash.now) (is_full_in v) e
+
+pub returns-clause-stays : goal.returns-clause-stays
+returns-clause-stays g c =
+    let v = c.args.self.now in
+    let e : is_full_in c.args.self.now ≡ true = sym (full-same v) ∙ search rules in
+    let s = c.seal.ensures in
+    room-goes v (g.F.Flash.state c.args.flash.now) (is_full_in v) c.seal.result c.seal.new.self (g.F.Flash.state c.seal.new.flash) e s.next s.empty s.ends

@@ -3,6 +3,7 @@ use Rattle.std.proofs.lemmas.List.{places}
 use Rattle.std.proofs.lemmas.Result.{err_from_is_err_and}
 use Rattle.fl_flash.specs.declared.flash.FlashFault.{FlashFault}
 use Rattle.fl_var.specs.Memory.{next_in, waiting_in, room_in}
+use Rattle.fl_var.proofs.Growing.{wrote-first, wrote-more, wrote-still, wrote-all}
 use Rattle.fl_var.proofs.Writing.{writes-first, writes-next, writes-fail, writes-fill, writes-quiet, writes-end, cause-err}
 use Rattle.fl_var.proofs.var_data.VarData.write.Goals as goal
 
@@ -13,6 +14,7 @@ loop-done-init g c = (
   refl,
   c.requires.few,
   c.requires.left,
+  wrote-first c.args.self.now _ (g.F.Flash.state c.args.flash.now) (take c.put-done.result c.args.bytes.now) refl (record { geometry = refl; place = refl }) c.put-done.ensures.content,
 )
 
 pub returns-in_err-seal-clause-ends : goal.returns-in_err-seal-clause-ends
@@ -42,6 +44,8 @@ loop-done-preserved g c =
       refl,
       c.requires.few,
       c.requires.left,
+      wrote-more c.args.self.now c.loop-done.self c.seal.new.self _ (g.F.Flash.state c.args.flash.now) (g.F.Flash.state c.loop-done.flash) (g.F.Flash.state c.seal.new.flash) c.args.bytes.now c.loop-done.done c.put-done-in-loop-done.result
+          (length c.args.bytes.now - c.loop-done.done) refl c.loop-done.invariant.0 c.loop-done.invariant.4 e.goes e.next e.empty e.ends refl (record { geometry = refl; place = refl }) c.put-done-in-loop-done.ensures.content,
     )
 
 pub returns-clause-fill : goal.returns-clause-fill
@@ -58,3 +62,13 @@ pub returns-clause-quiet : goal.returns-clause-quiet
 returns-clause-quiet g c = λ none.
     let all : length c.args.bytes.now ≤ c.loop-done.done = search rules in
     (refl, writes-quiet c.args.self.now c.loop-done.self (g.F.Flash.state c.args.flash.now) (g.F.Flash.state c.loop-done.flash) (length c.args.bytes.now) c.loop-done.done c.loop-done.invariant.0 all none)
+
+pub returns-clause-waits : goal.returns-clause-waits
+returns-clause-waits g c =
+    let all : length c.args.bytes.now ≤ c.loop-done.done = search rules in
+    wrote-still c.args.self.now c.loop-done.self (g.F.Flash.state c.args.flash.now) (g.F.Flash.state c.loop-done.flash) c.args.bytes.now c.loop-done.done c.loop-done.invariant.0 c.loop-done.invariant.4 all
+
+pub returns-clause-goes_on : goal.returns-clause-goes_on
+returns-clause-goes_on g c =
+    let all : length c.args.bytes.now ≤ c.loop-done.done = search rules in
+    wrote-all c.args.self.now c.loop-done.self (g.F.Flash.state c.args.flash.now) (g.F.Flash.state c.loop-done.flash) c.args.bytes.now c.loop-done.done c.loop-done.invariant.0 c.loop-done.invariant.4 all
