@@ -26,9 +26,8 @@ fn is_built(command: &Command) -> bool
         | Command::Cost => true,
         Command::Cut { n, .. } => 1 <= *n,
         Command::Load { step, .. } => 1 <= *step,
-        Command::Open { cursor, .. }
-        | Command::Next { cursor, .. }
-        | Command::Close { cursor } => *cursor < 4,
+        Command::Open { cursor, .. } | Command::Next { cursor, .. } | Command::Close { cursor } =>
+            *cursor < 4,
         _ => false,
     }
 }

@@ -106,9 +106,10 @@ loop-given-preserved g c =
       gave = λ told.
           let so_far = inv.gave told in
           let wrote : Appends (g.K.Sink.written c.loop-given.out) (g.K.Sink.written c.show_row.new.out) (text (row_reply (present_of c.advance.new.self))) =
-          subst (λ (r : Row). Appends (g.K.Sink.written c.loop-given.out) (g.K.Sink.written c.show_row.new.out) (text (row_reply r))) c.row.ensures.row c.in_ok-show_row.ensures.text in
-          (so_far.0 ++ present_of c.advance.new.self ∷ [],
-          length-append so_far.0 (present_of c.advance.new.self ∷ []) ∙ ap (λ n. n + 1) so_far.1,
-          gave-next c.args.cursor.now mid new held (g.K.Sink.written c.args.out.now) (g.K.Sink.written c.loop-given.out) so_far.0 so_far.2 (present_of c.advance.new.self) (g.K.Sink.written c.show_row.new.out)
-              (goes.gives (inv.told told)) goes.notes.0 wrote);
+          subst (λ (r : Row). Appends (g.K.Sink.written c.loop-given.out) (g.K.Sink.written c.show_row.new.out) (text (row_reply r))) c.row.ensures.row c.in_ok-show_row.ensures.text in (
+            so_far.0 ++ present_of c.advance.new.self ∷ [],
+            length-append so_far.0 (present_of c.advance.new.self ∷ []) ∙ ap (λ n. n + 1) so_far.1,
+            gave-next c.args.cursor.now mid new held (g.K.Sink.written c.args.out.now) (g.K.Sink.written c.loop-given.out) so_far.0 so_far.2 (present_of c.advance.new.self) (g.K.Sink.written c.show_row.new.out)
+                (goes.gives (inv.told told)) goes.notes.0 wrote,
+          );
     }
