@@ -1,6 +1,7 @@
 -- The page of the lowest key: where it is, and what is in front of it.
-use Rattle.std.proofs.Common.{◌≡◌, ℕ, zero, suc, ◌+◌, ◌-◌, ◌<◌, ◌≤◌, Bool, true, false, ◌&&◌, ◌||◌, cond, nat_le, Option, Some, None, option_map, unwrap_or, List, [], ◌∷◌, ◌++◌, map, refl, sym, ◌∙◌, ap, append_assoc, arith}
+use Rattle.std.proofs.Common.{◌≡◌, ℕ, zero, suc, ◌+◌, ◌-◌, ◌<◌, ◌≤◌, Bool, true, false, ◌&&◌, ◌||◌, cond, nat_le, Option, Some, None, option_map, unwrap_or, List, [], ◌∷◌, ◌++◌, map, refl, sym, ◌∙◌, ap, subst, append_assoc, arith}
 use Rattle.std.specs.List.{slice_get, AllByRecursion, list_any}
+use Rattle.std.proofs.Math.Path.{fun_ext}
 use Rattle.std.proofs.lemmas.Bool.{leb-true, le-leb, false_from_ne_true}
 use Rattle.fl_find.specs.Index.{most_reads}
 use Rattle.fl_find.specs.Pages.{first_key, first_on}
@@ -8,14 +9,19 @@ use Rattle.fl_find.specs.Pages as find
 use Rattle.fl_find.proofs.Modelled.{found}
 use Rattle.fl_flash.specs.Flash.{FlashState, page_at}
 use Rattle.fl_flash.specs.Places.{page_of}
+use Rattle.fl_index.specs.Standing.{HoldsIndex}
+use Rattle.fl_index.specs.declared.index.Index.{Index}
 use Rattle.fl_model.specs.Query.{Cursor, in_range, in_span, is_up_to}
+use Rattle.fl_model.specs.Record.{Plan}
 use Rattle.fl_model.specs.Ring as rings
 use Rattle.fl_model.specs.Row.{Row, stored_row}
 use Rattle.fl_model.specs.Spline.{page_at as page_with, is_pending_key, lookup_limit}
+use Rattle.fl_model.specs.Table as tables
 use Rattle.fl_model.specs.Table.{Entry, lose, pending_entries}
 use Rattle.fl_page.specs.Contents.{Contents, contents_of}
 use Rattle.fl_ring.specs.Place.{shape_of}
 use Rattle.fl_search.specs.Search.{IsPageOf, starts_by}
+use Rattle.fl_table.specs.Bitmaps.{Stand}
 use Rattle.fl_table.specs.Look.{layout_in, oldest_in, buffered_rows}
 use Rattle.fl_table.specs.Memory.{next_in}
 use Rattle.fl_table.specs.Pages.{place_in}
@@ -33,6 +39,26 @@ use Rattle.fl_cursor.specs.Reads.{begins_by, start_among, start_of, most_to_find
 use Rattle.fl_cursor.proofs.Passing.{each-front, each-back}
 use Rattle.fl_cursor.proofs.Stood.{same-rows, standing-buffered}
 
+-- an index that stands on a flash stands on each with the same pages
+stand-moved : (bitmaps : Option Index) (old new : FlashState) (first : ℕ) (plan : Plan) (table : tables.Table) → page_at old ≡ page_at new → Stand bitmaps old first plan table → Stand bitmaps new first plan table
+stand-moved None old new first plan table same h = h
+stand-moved (Some index) old new first plan table same h = record {
+  in_ring = record {
+    planned = h.in_ring.planned;
+    ring = h.in_ring.ring;
+    facts = h.in_ring.facts;
+    whole = h.in_ring.whole;
+    clean = h.in_ring.clean;
+    pages = subst (λ (page : ℕ → List ℕ). HoldsIndex page first plan table h.in_ring.ring) same h.in_ring.pages;
+    in_memory = h.in_ring.in_memory;
+    memory_is = h.in_ring.memory_is;
+    next = h.in_ring.next;
+    oldest_is = h.in_ring.oldest_is;
+    first_of = h.in_ring.first_of;
+  };
+  waits = h.waits;
+}
+
 -- what stands on a flash stands on each that holds the same
 pub stands-moved : (t : Table) (f : FlashState) (h : IsStanding t (contents_of f)) → Stands t f h.first h.plan h.table
 stands-moved t f h = record {
@@ -43,6 +69,8 @@ stands-moved t f h = record {
   pages = holds-same (page_at h.flash) (page_at f) h.first h.plan (lose h.table)
       (λ ring number. ap (λ (c : Contents). page_of c.bytes c.start c.geometry.page (place_in h.first h.plan ring number)) (sym h.same)) h.stands.pages;
   memory = h.stands.memory;
+  bitmaps = stand-moved t.bitmaps h.flash f (h.first + h.plan.data_blocks) h.plan h.table
+      (fun_ext (λ n. ap (λ (c : Contents). page_of c.bytes c.start c.geometry.page n) h.same)) h.stands.bitmaps;
   points = h.stands.points;
 }
 

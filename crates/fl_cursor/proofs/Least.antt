@@ -9,7 +9,7 @@ use Rattle.fl_base.specs.declared.types.Span.{Span}
 use Rattle.fl_model.specs.Facts.{is_some_ring, counts_in}
 use Rattle.fl_model.specs.Limits.{first_page, last_page, in_pages, asks_values, least_reads}
 use Rattle.fl_model.specs.Query.{Cursor, begin, matches, in_range, in_span, is_up_to}
-use Rattle.fl_model.specs.Record.{entries_per_page}
+use Rattle.fl_model.specs.Record.{has_index, entries_per_page}
 use Rattle.fl_model.specs.Ring as rings
 use Rattle.fl_model.specs.Ring.{Ring}
 use Rattle.fl_model.specs.Row.{Row, stored_row}
@@ -24,16 +24,16 @@ use Rattle.fl_table.specs.declared.table.Table.{Table}
 use Rattle.fl_table.proofs.KeptPages.{sum-next}
 use Rattle.fl_table.proofs.KeyRows.{drop-row}
 use Rattle.fl_table.proofs.Looks.{next-is, oldest-is}
-use Rattle.fl_table.proofs.SealAnswers.{planned-plain}
 use Rattle.fl_cursor.specs.Ascending.{both}
 use Rattle.fl_cursor.specs.Asked.{is_asked, row_matches, lowest_of}
 use Rattle.fl_cursor.specs.Cursor.{IsStanding}
 use Rattle.fl_cursor.specs.Listed.{rows_on, rows_over}
-use Rattle.fl_cursor.specs.Reads.{pages_asked, raised, least_from, IsBegun}
+use Rattle.fl_cursor.specs.Reads.{pages_asked, raised, least_from, has_bitmaps, IsBegun}
 use Rattle.fl_cursor.specs.declared.place.Place.{Place}
 use Rattle.fl_cursor.specs.declared.place.Place.TheVariants.{Start, Pages, InPage, Pending, Ended}
 use Rattle.fl_cursor.proofs.Beginning.{raised-below}
 use Rattle.fl_cursor.proofs.Finding.{begins}
+use Rattle.fl_cursor.proofs.Limited.{and-true}
 use Rattle.fl_cursor.proofs.Passing.{each-weaker}
 use Rattle.fl_cursor.proofs.Selected.{all-asked}
 use Rattle.fl_cursor.proofs.Starting.{ascends-front}
@@ -199,9 +199,9 @@ module _ (t : Table) (contents : Contents) (h : IsStanding t contents) where
         ap (λ a. pages_asked t contents asked a (length h.table.rows.counts)) at ∙ ap (λ n. pages_asked t contents asked (oldest_in t) n) many in
         omega (arith, le, left, right)
 
-  -- no index page is listed
-  no-firsts : h.table.firsts ≡ []
-  no-firsts = length-none h.table.firsts (h.stands.facts.first_each ∙ by_index h.table.index (h.stands.facts.has_rings.0 ∙ (planned-plain t h.first h.plan h.stands.planned).no_index))
+  -- without an index no index page is listed
+  no-firsts : has_index h.plan ≡ false → h.table.firsts ≡ []
+  no-firsts none = length-none h.table.firsts (h.stands.facts.first_each ∙ by_index h.table.index (h.stands.facts.has_rings.0 ∙ none))
     where
       by_index : (index : Option Ring) → is_some_ring index ≡ false → full_pages (counts_in index) ≡ 0
       by_index None e = refl
@@ -212,20 +212,22 @@ module _ (t : Table) (contents : Contents) (h : IsStanding t contents) where
       nat_le first page.0 && nat_lt page.0 (first + entries_per_page h.plan)
       && nat_lt (first_page h.table range.low) page.0 && in_pages (first_page h.table range.low) (last_page h.table range.high) page.0) (pages_of h.table)
 
-  least-told : (range : KeyRange) (span : Option Span) → least_reads h.plan h.table range span ≡ count_by (has_match range span) (pages_of h.table)
-  least-told range span =
-      let none : cond (asks_values span) (count_by (lists_later range) h.table.firsts) 0 ≡ 0 =
-      ap (λ (xs : List ℕ). cond (asks_values span) (count_by (lists_later range) xs) 0) no-firsts ∙ by_span (asks_values span) in
-      let whole : least_reads h.plan h.table range span ≡ count_by (has_match range span) (pages_of h.table) + cond (asks_values span) (count_by (lists_later range) h.table.firsts) 0 = refl in
-      omega (arith, none, whole)
+  least-told : (range : KeyRange) (span : Option Span) → has_bitmaps h.plan span ≡ false → least_reads h.plan h.table range span ≡ count_by (has_match range span) (pages_of h.table)
+  least-told range None plain = omega arith
+  least-told range (Some span) plain =
+      let none : h.table.firsts ≡ [] = no-firsts (and-true (has_index h.plan) plain) in
+      let listed : cond (asks_values (Some span)) (count_by (lists_later range) h.table.firsts) 0 ≡ 0 =
+      ap (λ (xs : List ℕ). cond (asks_values (Some span)) (count_by (lists_later range) xs) 0) none ∙ by_span (asks_values (Some span)) in
+      let whole : least_reads h.plan h.table range (Some span) ≡ count_by (has_match range (Some span)) (pages_of h.table) + cond (asks_values (Some span)) (count_by (lists_later range) h.table.firsts) 0 = refl in
+      omega (arith, listed, whole)
     where
       by_span : (b : Bool) → cond {A = ℕ} b 0 0 ≡ 0
       by_span true = refl
       by_span false = refl
 
-  pub begun-least : (range : KeyRange) (span : Option Span) (place : Place) → IsBegun (begin range span h.table) t place →
+  pub begun-least : (range : KeyRange) (span : Option Span) (place : Place) → has_bitmaps h.plan span ≡ false → IsBegun (begin range span h.table) t place →
       least_reads h.plan h.table range span ≤ least_from t contents (begin range span h.table) place
-  begun-least range span place begun = by_place place begun (least-told range span)
+  begun-least range span place plain begun = by_place place begun (least-told range span plain)
       (least-all (begin range span h.table) (all-asked range span h.table (subst (Ascends None) (standing-rows t contents h) (standing-ascends t contents h))))
     where
       by_place : (place : Place) → IsBegun (begin range span h.table) t place → least_reads h.plan h.table range span ≡ count_by (has_match range span) (pages_of h.table) →

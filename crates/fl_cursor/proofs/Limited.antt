@@ -21,11 +21,10 @@ use Rattle.fl_table.specs.Memory.{next_in}
 use Rattle.fl_table.specs.declared.table.Table.{Table}
 use Rattle.fl_table.proofs.Finds.{limit-told}
 use Rattle.fl_table.proofs.Looks.{next-is, oldest-is, pages-is}
-use Rattle.fl_table.proofs.SealAnswers.{planned-plain}
 use Rattle.fl_cursor.specs.Asked.{lowest_of}
 use Rattle.fl_cursor.specs.Cursor.{IsStanding}
 use Rattle.fl_cursor.specs.Listed.{rows_on}
-use Rattle.fl_cursor.specs.Reads.{begins_by, has_last, start_of, most_to_find, pages_to_last, most_from, IsBegun, IsBounded}
+use Rattle.fl_cursor.specs.Reads.{begins_by, has_last, start_of, most_to_find, pages_to_last, most_from, has_bitmaps, IsBegun, IsBounded}
 use Rattle.fl_cursor.specs.declared.place.Place.{Place}
 use Rattle.fl_cursor.specs.declared.place.Place.TheVariants.{Start, Pages, InPage, Pending, Ended}
 use Rattle.fl_cursor.proofs.Beginning.{standing-start, start-is, pending-same}
@@ -60,13 +59,17 @@ pub bounded-min : (high : ℕ) (last : Option ℕ) → IsBounded (option_map (λ
 bounded-min high None = tt
 bounded-min high (Some key) = omega arith
 
+pub and-true : (b : Bool) → (b && true) ≡ false → b ≡ false
+and-true true h = h
+and-true false h = refl
+
 module _ (t : Table) (contents : Contents) (h : IsStanding t contents) where
-  -- without an index no page is skipped
-  wanted : (span : Option Span) (number : ℕ) → is_wanted h.plan h.table span number ≡ true
-  wanted None number = refl
-  wanted (Some span) number =
+  -- without bitmaps no page is skipped
+  wanted : (span : Option Span) (number : ℕ) → has_bitmaps h.plan span ≡ false → is_wanted h.plan h.table span number ≡ true
+  wanted None number plain = refl
+  wanted (Some span) number plain =
       ap (λ b. not (b && (nat_le (h.table.rows.next - h.table.waiting) number || is_listed h.plan h.table number)) || nat_lt 0 (bit_and (bitmap_of h.plan (rows_of_page h.table number)) (mask_of h.plan span)))
-      (planned-plain t h.first h.plan h.stands.planned).no_index
+      (and-true (has_index h.plan) plain)
 
   within : (high first number : ℕ) (page : Option ℕ) → IsPageOf (λ n. first_key (rows_on t contents n)) (oldest_in t) (next_in t) high page → oldest_in t ≤ number → number < next_in t →
       begins_by high (rows_on t contents number) ≡ true → first ≤ number → in_pages first page number ≡ true
@@ -81,12 +84,12 @@ module _ (t : Table) (contents : Contents) (h : IsStanding t contents) where
   abbrev counted : Option Span → ℕ → ℕ → ℕ → Bool
   counted span high first number = in_pages first (last_page h.table high) number && is_wanted h.plan h.table span number
 
-  to-last : (span : Option Span) (top : Option ℕ) (high first n number : ℕ) → IsBounded top high → oldest_in t ≤ number → number + n ≡ next_in t → first ≤ number →
+  to-last : (span : Option Span) (top : Option ℕ) (high first n number : ℕ) → has_bitmaps h.plan span ≡ false → IsBounded top high → oldest_in t ≤ number → number + n ≡ next_in t → first ≤ number →
       pages_to_last t contents top number n ≤ 1 + count_by (counted span high first) (numbers_from number n)
-  to-last span top high first zero number bounded from is le = omega arith
-  to-last span top high first (suc n) number bounded from is le =
+  to-last span top high first zero number plain bounded from is le = omega arith
+  to-last span top high first (suc n) number plain bounded from is le =
       subst (λ c. pages_to_last t contents top number (suc n) ≤ 1 + c) (sym (sum_by-cons (λ x. cond (counted span high first x) 1 0) number (numbers_from (number + 1) n)))
-      (by_count (rows_noted t number == 0) refl (to-last span top high first n (number + 1) bounded (omega (arith, from)) (omega (arith, is)) (omega (arith, le))))
+      (by_count (rows_noted t number == 0) refl (to-last span top high first n (number + 1) plain bounded (omega (arith, from)) (omega (arith, is)) (omega (arith, le))))
     where
       by_last : (b : Bool) → has_last top (rows_on t contents number) ≡ b → (rows_noted t number == 0) ≡ false →
           pages_to_last t contents top (number + 1) n ≤ 1 + count_by (counted span high first) (numbers_from (number + 1) n) →
@@ -98,7 +101,7 @@ module _ (t : Table) (contents : Contents) (h : IsStanding t contents) where
           let has : 0 < length (rows_on t contents number) = by_none (cases_lt 0 (length (rows_on t contents number))) many not_zero in
           let begins = not-last top high (rows_on t contents number) bounded has last in
           let inside = within high first number (page_at h.table high) (standing-start t contents h high) from (omega (arith, is)) begins le in
-          let one : cond (counted span high first number) 1 0 ≡ 1 = ap (λ b. cond {A = ℕ} (b && is_wanted h.plan h.table span number) 1 0) inside ∙ ap (λ b. cond {A = ℕ} b 1 0) (wanted span number) in
+          let one : cond (counted span high first number) 1 0 ≡ 1 = ap (λ b. cond {A = ℕ} (b && is_wanted h.plan h.table span number) 1 0) inside ∙ ap (λ b. cond {A = ℕ} b 1 0) (wanted span number plain) in
           omega (arith, others, one)
         where
           by_none : (0 < length (rows_on t contents number)) ⊎ (length (rows_on t contents number) ≤ 0) → length (rows_on t contents number) ≡ rows_noted t number → (rows_noted t number ≡ 0 → ⊥) → 0 < length (rows_on t contents number)
@@ -130,9 +133,9 @@ module _ (t : Table) (contents : Contents) (h : IsStanding t contents) where
       + (cond (has_index h.plan && is_spanned asked.span) (unwrap_or (option_map (λ (ring : Ring). full_pages ring.counts) h.table.index) 0) 0)
       + count_by (counted asked.span asked.range.high (first_page h.table (lowest_of asked))) (numbers_of h.table)
 
-  start-limit : (asked : Cursor) (page : List ℕ) → IsBounded asked.top asked.range.high → begins_by (lowest_of asked) (buffered_rows t) ≡ false →
+  start-limit : (asked : Cursor) (page : List ℕ) → has_bitmaps h.plan asked.span ≡ false → IsBounded asked.top asked.range.high → begins_by (lowest_of asked) (buffered_rows t) ≡ false →
       most_from t contents asked page Start ≤ scan_limit 64 h.plan h.table asked.range asked.span (lowest_of asked)
-  start-limit asked page bounded none =
+  start-limit asked page plain bounded none =
       let low = lowest_of asked in
       let pending : is_pending_key h.table (lowest_of asked) ≡ false = pending-same t contents h (lowest_of asked) ∙ none in
       let finds : most_to_find t (lowest_of asked) ≡ lookup_limit 64 h.plan h.table (lowest_of asked) =
@@ -149,7 +152,7 @@ module _ (t : Table) (contents : Contents) (h : IsStanding t contents) where
       let m = next_in t - start in
       let from : oldest_in t ≤ start_of t contents (lowest_of asked) = omega (arith, start_told, b.from) in
       let up_to : start_of t contents (lowest_of asked) ≤ next_in t = omega (arith, start_told, b.up_to) in
-      let few = to-last asked.span asked.top asked.range.high (first_page h.table low) m start bounded from (omega (arith, up_to)) (omega (arith, start_told, first_told)) in
+      let few = to-last asked.span asked.top asked.range.high (first_page h.table low) m start plain bounded from (omega (arith, up_to)) (omega (arith, start_told, first_told)) in
       let p = counted asked.span asked.range.high (first_page h.table low) in
       let part = later-counts p k m (oldest_in t) in
       let at : oldest_in t + k ≡ start = omega (arith, from) in
@@ -159,10 +162,10 @@ module _ (t : Table) (contents : Contents) (h : IsStanding t contents) where
       let most : most_from t contents asked page Start ≤ beyond asked = omega (arith, finds, few, part, at_start, whole) in
       subst (λ (b : Bool). most_from t contents asked page Start ≤ cond b 0 (beyond asked)) (sym pending) most
 
-  pub begun-limit : (asked : Cursor) (page : List ℕ) (place : Place) → IsBounded asked.top asked.range.high → IsBegun asked t place →
+  pub begun-limit : (asked : Cursor) (page : List ℕ) (place : Place) → has_bitmaps h.plan asked.span ≡ false → IsBounded asked.top asked.range.high → IsBegun asked t place →
       most_from t contents asked page place ≤ scan_limit 64 h.plan h.table asked.range asked.span (lowest_of asked)
-  begun-limit asked page Start bounded begun = start-limit asked page bounded begun
-  begun-limit asked page (Pending row) bounded begun = omega arith
-  begun-limit asked page Ended bounded begun = omega arith
-  begun-limit asked page (Pages next) bounded begun = absurd begun
-  begun-limit asked page (InPage number row) bounded begun = absurd begun
+  begun-limit asked page Start plain bounded begun = start-limit asked page plain bounded begun
+  begun-limit asked page (Pending row) plain bounded begun = omega arith
+  begun-limit asked page Ended plain bounded begun = omega arith
+  begun-limit asked page (Pages next) plain bounded begun = absurd begun
+  begun-limit asked page (InPage number row) plain bounded begun = absurd begun

@@ -11,6 +11,7 @@ use Rattle.fl_cursor.specs.Asked.{asked_by, is_left}
 use Rattle.fl_cursor.specs.Cursor.{table_of, asked_of, buffer_of, present_of, left_of, is_end, has_ended, rows_behind, IsTold, IfBad, MayBeBad}
 use Rattle.fl_cursor.specs.Going.{Goes, Fails}
 use Rattle.fl_cursor.specs.Listed.{rows_of}
+use Rattle.fl_cursor.specs.Reads.{least_of, least_from}
 use Rattle.fl_cursor.specs.declared.bookmark.Bookmark.{Bookmark}
 use Rattle.fl_cursor.specs.declared.cursor.Cursor.{Cursor}
 use Rattle.fl_cursor.specs.declared.place.Place.{Place}
@@ -53,3 +54,8 @@ module _ (old new : Cursor) (contents : Contents) (reads reads_now : ℕ) where
   steps-after (Err (BadPage page)) goes fails bad end told =
       let is = bad (standing-tells (table_of old) contents told.standing) in
       is.not_good (standing-good (table_of old) contents told.standing page.wanted is.from is.before is.committed)
+
+  pub none-left : (result : Result Bool ReadFault) → IfOk result (λ more. OnFalse more (has_ended new ≡ true)) → IfOk result (λ more. OnFalse more (least_of new contents ≡ 0))
+  none-left (Ok true) end = tt
+  none-left (Ok false) end = ap (λ (p : Place). least_from (table_of new) contents (asked_of new) p) (end-is new.place end)
+  none-left (Err fault) end = tt

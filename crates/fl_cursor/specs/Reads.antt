@@ -1,8 +1,11 @@
 -- How many reads the steps to come make.
-use Rattle.std.specs.Prelude.{◌≡◌, ◌≤◌, ℕ, zero, suc, ◌+◌, ◌-◌, ◌==◌, Bool, true, false, nat_le, Option, Some, None, option_map, unwrap_or, List, drop, if◌then◌else◌}
+use Rattle.std.specs.Prelude.{◌≡◌, ◌≤◌, ℕ, zero, suc, ◌+◌, ◌-◌, ◌==◌, Bool, true, false, ◌&&◌, nat_le, Option, Some, None, option_map, unwrap_or, List, drop, if◌then◌else◌}
 use Rattle.std.specs.List.{list_any}
 use Rattle.fl_model.specs.Query as model
 use Rattle.fl_model.specs.Query.{is_up_to}
+use Rattle.fl_model.specs.Record.{Plan, has_index}
+use Rattle.fl_model.specs.Limits.{is_spanned}
+use Rattle.fl_base.specs.declared.types.Span.{Span}
 use Rattle.fl_model.specs.Row.{Row}
 use Rattle.fl_page.specs.Contents.{Contents}
 use Rattle.fl_page.specs.Page.{rows_in}
@@ -82,6 +85,10 @@ most_of cursor contents = most_from (table_of cursor) contents (asked_of cursor)
 -- at least so many, where none fails
 abbrev pub least_of : Cursor → Contents → ℕ
 least_of cursor contents = least_from (table_of cursor) contents (asked_of cursor) cursor.place
+
+-- bitmaps could tell that a page has no row in the span
+abbrev pub has_bitmaps : Plan → Option Span → Bool
+has_bitmaps plan span = has_index plan && is_spanned span
 
 -- ---- the place where it begins
 

@@ -1,11 +1,15 @@
-//! The ends that reach the system: a file, standard input and standard output. None of them tells what it holds, so
-//! what is promised of them is little: they fail only where their counts of faults rise.
+//! The ends that reach the system: a file, standard input and standard output, and the replies that are held back
+//! between the two. File and sink don't tell what they hold, so what is promised of them is little: they fail only
+//! where their counts of faults rise.
 #![tactic(auto)]
 
 mod file_media;
+mod reply_buffer;
+mod retried;
 mod standard;
 #[cfg(test)]
 mod tests;
 
 pub use file_media::FileMedia;
+pub use reply_buffer::ReplyBuffer;
 pub use standard::{StandardInput, StandardOutput};

@@ -1,41 +1,45 @@
-// Standard input as a source and standard output as a sink.
+// Standard input as a source and standard output as a sink, over one buffer of replies.
 ghost use Rattle.std.specs.Prelude.{◌≡◌};
+ghost use Rattle.fl_base.specs.Causes.{HasCause};
 
+use crate::reply_buffer::ReplyBuffer;
 use fl_base::{Sink, SinkFailed, Source, SourceFailed};
-use std::io::{ErrorKind, Read, Write};
+use std::cell::RefCell;
+use std::io::{Read, Write};
 
-/// A reader as a source. A call reads once, and again where it was interrupted.
+/// A reader as a source. Before each read the replies are handed out, so that whoever waits for one of them before the
+/// next line is given sees it; where they can't be handed out, the read fails, and takes nothing. A call reads once, and
+/// again where it was interrupted.
 #[derive(Drop)]
-pub struct StandardInput<R> {
+pub struct StandardInput<'b, R, W: Write + Drop> {
     reader: R,
+    replies: &'b RefCell<ReplyBuffer<W>>,
     faults: u64,
 }
 
-impl<R: Read> StandardInput<R> {
-    /// A source over this reader, as `rt.reader()`.
-    pub fn new(reader: R) -> Self
-        ensures { ⟦<StandardInput<R> as Source>⟧.faults result ≡ 0 }
+impl<'b, R: Read, W: Write + Drop> StandardInput<'b, R, W> {
+    /// A source over this reader, as `rt.reader()`, that hands out these replies.
+    pub fn new(reader: R, replies: &'b RefCell<ReplyBuffer<W>>) -> Self
+        ensures left { ⟦<StandardInput<'b, R, W> as Source>⟧.left result ≡ R.remaining reader }
+        ensures no_fault { ⟦<StandardInput<'b, R, W> as Source>⟧.faults result ≡ 0 }
     {
-        StandardInput { reader, faults: 0 }
+        StandardInput {
+            reader,
+            replies,
+            faults: 0,
+        }
     }
 }
 
-impl<R: Read> Source for StandardInput<R> {
-    ghost use Rattle.std.specs.Prelude.{None};
-
-    ghost left = { λ s. None };
+impl<'b, R: Read, W: Write + Drop> Source for StandardInput<'b, R, W> {
+    ghost left = { λ s. R.remaining s.reader };
 
     ghost faults = { λ s. s.faults };
 
     fn read(&mut self, into: &mut [u8]) -> Result<usize, SourceFailed> {
-        for _ in 0..u64::MAX {
-            match self.reader.read(into) {
-                Ok(count) => return Ok(count),
-                Err(e) => {
-                    if e.kind() != ErrorKind::Interrupted {
-                        break;
-                    }
-                }
+        if let Ok(mut replies) = self.replies.try_borrow_mut() {
+            if let Ok(count) = replies.read(&mut self.reader, into) {
+                return Ok(count);
             }
         }
         self.faults = self.faults.saturating_add(1);
@@ -43,23 +47,38 @@ impl<R: Read> Source for StandardInput<R> {
     }
 }
 
-/// A writer as a sink. A call writes once, and again where it was interrupted. Nothing is held back.
+/// A buffer of replies as a sink. What is written is held back in the buffer until it is full, the source is read, or
+/// `hand_out` is called.
 #[derive(Drop)]
-pub struct StandardOutput<W> {
-    writer: W,
+pub struct StandardOutput<'b, W: Write + Drop> {
+    replies: &'b RefCell<ReplyBuffer<W>>,
     faults: u64,
 }
 
-impl<W: Write> StandardOutput<W> {
-    /// A sink over this writer, as `io::writer(&rt)`.
-    pub fn new(writer: W) -> Self
-        ensures { ⟦<StandardOutput<W> as Sink>⟧.faults result ≡ 0 }
+impl<'b, W: Write + Drop> StandardOutput<'b, W> {
+    /// A sink over this buffer.
+    pub fn new(replies: &'b RefCell<ReplyBuffer<W>>) -> Self
+        ensures { ⟦<StandardOutput<'b, W> as Sink>⟧.faults result ≡ 0 }
     {
-        StandardOutput { writer, faults: 0 }
+        StandardOutput { replies, faults: 0 }
+    }
+
+    /// Hands out what is held back, as at the end of a run. It fails where that can't be handed out now, or couldn't
+    /// before a read.
+    pub fn hand_out(&mut self) -> Result<(), SinkFailed>
+        ensures { HasCause (⟦<StandardOutput<'b, W> as Sink>⟧.faults self.old) (⟦<StandardOutput<'b, W> as Sink>⟧.faults self.new) result }
+    {
+        if let Ok(mut replies) = self.replies.try_borrow_mut() {
+            if replies.hand_out().is_ok() {
+                return Ok(());
+            }
+        }
+        self.faults = self.faults.saturating_add(1);
+        Err(SinkFailed)
     }
 }
 
-impl<W: Write> Sink for StandardOutput<W> {
+impl<'b, W: Write + Drop> Sink for StandardOutput<'b, W> {
     ghost use Rattle.std.specs.Prelude.{None};
 
     ghost written = { λ s. None };
@@ -67,20 +86,9 @@ impl<W: Write> Sink for StandardOutput<W> {
     ghost faults = { λ s. s.faults };
 
     fn write(&mut self, from: &[u8]) -> Result<usize, SinkFailed> {
-        for _ in 0..u64::MAX {
-            match self.writer.write(from) {
-                Ok(count) => {
-                    // A writer that takes nothing will never take the rest.
-                    if count > 0 || from.is_empty() {
-                        return Ok(count);
-                    }
-                    break;
-                }
-                Err(e) => {
-                    if e.kind() != ErrorKind::Interrupted {
-                        break;
-                    }
-                }
+        if let Ok(mut replies) = self.replies.try_borrow_mut() {
+            if let Ok(count) = replies.write(from) {
+                return Ok(count);
             }
         }
         self.faults = self.faults.saturating_add(1);

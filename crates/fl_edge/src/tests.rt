@@ -1,62 +1,11 @@
-// The three ends against a file of the system, and a reader and a writer that are interrupted and fail.
-ghost use Rattle.std.specs.Prelude.{◌≤◌, IfOk};
+// A file as a medium, against a file of the system.
 
-use crate::{FileMedia, StandardInput, StandardOutput};
-use fl_base::{Sink, SinkFailed, Source, SourceFailed};
+use crate::FileMedia;
 use fl_flash::{Media, MediaFailed};
 use std::fs;
-use std::io::{self, ErrorKind, Read, Write};
 use std::test::Fail;
 
-// Every call but the second one, which takes one byte, is answered by an error: the first by an interruption.
-#[derive(Drop)]
-struct Faulty {
-    calls: u64,
-}
-
-impl Faulty {
-    fn answer(&mut self, len: usize) -> io::Result<usize>
-        ensures { IfOk result (λ n. n ≤ len) }
-    {
-        self.calls = self.calls.saturating_add(1);
-        match self.calls {
-            1 => Err(ErrorKind::Interrupted.into()),
-            2 => Ok(len.min(1)),
-            _ => Err(ErrorKind::Other.into()),
-        }
-    }
-}
-
-impl Read for Faulty {
-    fn read(&mut self, buf: &mut [u8]) -> io::Result<usize> {
-        self.answer(buf.len())
-    }
-}
-
-impl Write for Faulty {
-    fn write(&mut self, buf: &[u8]) -> io::Result<usize> {
-        self.answer(buf.len())
-    }
-
-    fn flush(&mut self) -> io::Result<()> {
-        Ok(())
-    }
-}
-
-#[test]
-fn a_source_goes_on_after_an_interruption(rt: HostRuntime) {
-    let mut source = StandardInput::new(Faulty { calls: 0 });
-    let mut into = [0; 4];
-    assert_eq!(rt; source.read(&mut into), Ok(1));
-    assert_eq!(rt; source.read(&mut into), Err(SourceFailed));
-}
-
-#[test]
-fn a_sink_goes_on_after_an_interruption(rt: HostRuntime) {
-    let mut sink = StandardOutput::new(Faulty { calls: 0 });
-    assert_eq!(rt; sink.write(&[1, 2]), Ok(1));
-    assert_eq!(rt; sink.write(&[2]), Err(SinkFailed));
-}
+mod order;
 
 #[test]
 fn a_file_keeps_what_was_written(rt: HostRuntime) -> Result<(), Fail> {

@@ -1,5 +1,6 @@
 pub mod Looks
 pub mod Moves
+pub mod Sound
 pub mod Firsts
 pub mod Windows
 pub mod Modelled

@@ -1,5 +1,5 @@
 -- Calls that look at pages of a ring, and why they fail.
-use Rattle.std.specs.Prelude.{◌≡◌, ℕ, ◌≤◌, ◌<◌, Option, IsTrue}
+use Rattle.std.specs.Prelude.{◌≡◌, ℕ, ◌≤◌, ◌<◌, Option, List, IsTrue}
 use Rattle.fl_flash.specs.Buffer.{BufferState}
 use Rattle.fl_flash.specs.Flash.{FlashState}
 use Rattle.fl_flash.specs.declared.flash.FlashFault.TheVariants.{PowerLost, Media}
@@ -38,10 +38,18 @@ LookFails layout ring old (fault.Flash PowerLost) new = ReadFails old PowerLost 
 LookFails layout ring old (fault.Flash Media) new = ReadFails old Media new × RoseSome old.work.reads new.work.reads
 LookFails layout ring old (fault.BadPage bad) new = (IsTrue old.media.tells → HasBadPage layout ring old bad) × RoseSome old.work.reads new.work.reads
 
--- a function that tells the first keys of the kept pages
+-- a page that isn't bad
+abbrev pub IsSound : RowLayout → ℕ → List ℕ → Type 0
+IsSound layout number page = (bad : BadPage) → IsBadPage layout number page bad → ⊥
+
+-- no page of a ring from one number to before another is bad
+abbrev pub NoneIsBad : RowLayout → Ring → FlashState → ℕ → ℕ → Type 0
+NoneIsBad layout ring f from end = (n : ℕ) → from ≤ n → n < end → IsSound layout n (bytes_at (shape_of ring) f n)
+
+-- a function that tells the first keys of the kept pages, and anything of a bad one
 pub record Tells (layout : RowLayout) (ring : Ring) (f : FlashState) (first : ℕ → Option ℕ) : Type 0 where
   pub told : IsTrue f.media.tells
-  pub each : (n : ℕ) → IsKept ring n → first n ≡ first_on layout (shape_of ring) f n
+  pub each : (n : ℕ) → IsKept ring n → IsSound layout n (bytes_at (shape_of ring) f n) → first n ≡ first_on layout (shape_of ring) f n
 
 -- the same pages were looked at since
 pub record Since (ring : Ring) (layout : RowLayout) (f : FlashState) (buf : BufferState) (ring_now : Ring) (layout_now : RowLayout) (now : FlashState) (buf_now : BufferState) : Type 0 where

@@ -1,15 +1,16 @@
 // A lookup: the row of a key among the rows of the kept pages.
-ghost use Rattle.std.specs.Prelude.{◌≡◌, ◌≤◌, ◌<◌, ◌+◌, ◌-◌, ◌^◌, min, ℕ, true, false, length, Option, Some, IfSome, IfOk, IfErr};
+ghost use Rattle.std.specs.Prelude.{◌≡◌, ◌≤◌, ◌<◌, ◌+◌, ◌-◌, ◌^◌, min, ℕ, true, false, length, IsTrue, Option, Some, IfSome, IfOk, IfErr, OnOk, unwrap_or};
 ghost use Rattle.fl_model.specs.Record.{Plan};
 ghost use Rattle.fl_model.specs.Table as model;
-ghost use Rattle.fl_model.specs.Spline.{bits, is_pending_key, lookup_limit};
+ghost use Rattle.fl_model.specs.Spline.{bits, is_covered, is_pending_key, lookup_limit};
 ghost use Rattle.fl_radix.specs.Slots.{knots_in_slot};
 ghost use Rattle.fl_ring.specs.Place.{shape_of, oldest_of, next_of, LiesOn};
 ghost use Rattle.fl_schema.specs.Schema.{layout_of};
-ghost use Rattle.fl_find.specs.Pages.{rows_on, Holds, IsFresh};
-ghost use Rattle.fl_find.specs.Looking.{OnlyLooks, LookFails};
+ghost use Rattle.fl_search.specs.Search.{IsPageOf};
+ghost use Rattle.fl_find.specs.Pages.{rows_on, first_on, Holds, IsFresh};
+ghost use Rattle.fl_find.specs.Looking.{OnlyLooks, LookFails, NoneIsBad};
 ghost use Rattle.fl_find.specs.Standing.{HoldsPages, HasPoints};
-ghost use Rattle.fl_find.specs.Index.{knots_in, shift_in, IndexOf};
+ghost use Rattle.fl_find.specs.Index.{knots_in, shift_in, IndexOf, window_end};
 ghost use Rattle.fl_find.specs.Rows.{HasKey, LooksUp};
 
 use crate::index::LearnedIndex;
@@ -42,6 +43,9 @@ impl<const KNOTS: usize, const SLOTS: usize> LearnedIndex<KNOTS, SLOTS> {
             LooksUp KNOTS plan (layout_of schema.now) table key (F.state flash.old).work.reads (F.state flash.new).work.reads result buf.new }
         ensures reads { (plan : Plan) (table : model.Table) → HoldsPages (layout_of schema.now) ring.now (F.state flash.old) plan table → HasPoints table → IndexOf plan.error table.points self.now →
             is_pending_key table key ≡ false → (F.state flash.new).work.reads ≤ (F.state flash.old).work.reads + lookup_limit KNOTS plan table key }
+        ensures sound { (page : Option ℕ) → is_covered (knots_in self.now) key ≡ true → IsTrue (F.state flash.old).media.tells →
+            IsPageOf (first_on (layout_of schema.now) (shape_of ring.now) (F.state flash.old)) (oldest_of ring.now) (window_end self.now (next_of ring.now) key) key page →
+            OnOk result (NoneIsBad (layout_of schema.now) ring.now (F.state flash.old) (unwrap_or page (oldest_of ring.now)) (window_end self.now (next_of ring.now) key)) }
         ensures most { (F.state flash.new).work.reads ≤ (F.state flash.old).work.reads + (next_of ring.now - oldest_of ring.now) + 1 }
         ensures holds { IfOk result (λ row. IfSome row (λ at. Holds (layout_of schema.now) (shape_of ring.now) (F.state flash.new) at.number buf.new)) }
         ensures within { IfOk result (λ row. IfSome row (λ at. (oldest_of ring.now ≤ at.number) × (at.number < next_of ring.now))) }

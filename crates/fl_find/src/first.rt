@@ -8,8 +8,8 @@ ghost use Rattle.fl_page.specs.Page.{IsGoodPage};
 ghost use Rattle.fl_ring.specs.Place.{shape_of, LiesOn};
 ghost use Rattle.fl_schema.specs.Schema.{layout_of};
 ghost use Rattle.fl_search.specs.Search.{RoseBy};
-ghost use Rattle.fl_find.specs.Pages.{rows_on, first_key, first_on, Holds, IsBadPage, IsFresh};
-ghost use Rattle.fl_find.specs.Looking.{OnlyLooks, LookFails, IsKept};
+ghost use Rattle.fl_find.specs.Pages.{rows_on, first_key, first_on, bytes_at, Holds, IsBadPage, IsFresh};
+ghost use Rattle.fl_find.specs.Looking.{OnlyLooks, LookFails, IsKept, IsSound};
 
 use fl_flash::{Flash, PageBuf};
 use fl_mark::{PageState, state_of};
@@ -24,6 +24,7 @@ fn first_in(schema: &Schema<8>, bytes: &[u8], number: u32) -> Result<Option<u64>
     ensures committed { IfOk result (λ key. IfSome key (λ first. state_of_page bytes.now ≡ Committed)) }
     ensures good { IfOk result (λ key. IfSome key (λ first. IsGoodPage (layout_of schema.now) number bytes.now)) }
     ensures bad { IfErr result (λ bad. IsBadPage (layout_of schema.now) number bytes.now bad) }
+    ensures sound { OnOk result (IsSound (layout_of schema.now) number bytes.now) }
 {
     let PageState::Committed = state_of(bytes) else {
         return Ok(None);
@@ -48,6 +49,7 @@ pub(crate) fn read_first<F: Flash>(
     ensures lies { LiesOn ring.now (F.state flash.new) }
     ensures room { length buf.new.bytes ≡ length buf.old.bytes }
     ensures key { IsTrue (F.state flash.old).media.tells → IfOk result (λ key. key ≡ first_on (layout_of schema.now) (shape_of ring.now) (F.state flash.old) number) }
+    ensures sound { IsTrue (F.state flash.old).media.tells → OnOk result (IsSound (layout_of schema.now) number (bytes_at (shape_of ring.now) (F.state flash.old) number)) }
     ensures holds { IfOk result (λ key. IfSome key (λ first. Holds (layout_of schema.now) (shape_of ring.now) (F.state flash.new) number buf.new)) }
     ensures fresh { IsFresh (F.state flash.new) buf.new }
     ensures fails { IsKept ring.now number → IfErr result (λ e. LookFails (layout_of schema.now) ring.now (F.state flash.old) e (F.state flash.new)) }

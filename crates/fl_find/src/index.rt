@@ -24,7 +24,7 @@ pub struct LearnedIndex<const KNOTS: usize, const SLOTS: usize> {
 }
 
 impl<const KNOTS: usize, const SLOTS: usize> LearnedIndex<KNOTS, SLOTS> {
-    ghost use Rattle.std.specs.Prelude.{◌≤◌, ◌<◌, ◌+◌, ◌-◌, ◌^◌, min, ℕ, true, false, IsTrue, List, [], ◌∷◌, ◌++◌, length, Option, Some, IfSome, IfOk, IfErr};
+    ghost use Rattle.std.specs.Prelude.{◌≤◌, ◌<◌, ◌+◌, ◌-◌, ◌^◌, min, ℕ, true, false, IsTrue, List, [], ◌∷◌, ◌++◌, length, Option, Some, IfSome, IfOk, IfErr, OnOk, unwrap_or};
     ghost use Rattle.fl_model.specs.Record.{Plan};
     ghost use Rattle.fl_model.specs.Table as model;
     ghost use Rattle.fl_model.specs.Spline.{bits, is_covered, is_pending_key, lookup_limit};
@@ -35,7 +35,7 @@ impl<const KNOTS: usize, const SLOTS: usize> LearnedIndex<KNOTS, SLOTS> {
     ghost use Rattle.fl_spline.specs.Points.{IsFurther, last_of};
     ghost use Rattle.fl_spline.specs.Segment.{IsSegment};
     ghost use Rattle.fl_find.specs.Pages.{first_on, Holds, IsFresh};
-    ghost use Rattle.fl_find.specs.Looking.{OnlyLooks, LookFails};
+    ghost use Rattle.fl_find.specs.Looking.{OnlyLooks, LookFails, NoneIsBad};
     ghost use Rattle.fl_find.specs.Standing.{HoldsPages, HasPoints};
     ghost use Rattle.fl_find.specs.Finding.{FindsPage};
     ghost use Rattle.fl_find.specs.Index.{error_in, knots_in, shift_in, is_further, IndexOf, window_end, most_reads};
@@ -90,6 +90,7 @@ impl<const KNOTS: usize, const SLOTS: usize> LearnedIndex<KNOTS, SLOTS> {
     pub fn add_further(&mut self, first_key: u64, number: u32)
         ensures error { error_in self.new ≡ error_in self.old }
         ensures points { (error : ℕ) (points : List (ℕ × ℕ)) → IndexOf error points self.old → IsFurther points (first_key, number) → IndexOf error (points ++ (first_key, number) ∷ []) self.new }
+        ensures left_out { is_further (knots_in self.old) (first_key, number) ≡ false → self.new ≡ self.old }
     {
         if !self.is_further(first_key, number) {
             return;
@@ -159,6 +160,9 @@ impl<const KNOTS: usize, const SLOTS: usize> LearnedIndex<KNOTS, SLOTS> {
         ensures limit { (page : Option ℕ) → is_covered (knots_in self.now) key ≡ true → IsTrue (F.state flash.old).media.tells →
             IsPageOf (first_on (layout_of schema.now) (shape_of ring.now) (F.state flash.old)) (oldest_of ring.now) (window_end self.now (next_of ring.now) key) key page →
             (F.state flash.new).work.reads ≤ (F.state flash.old).work.reads + looked_at (oldest_of ring.now) (window_end self.now (next_of ring.now) key) page }
+        ensures sound { (page : Option ℕ) → is_covered (knots_in self.now) key ≡ true → IsTrue (F.state flash.old).media.tells →
+            IsPageOf (first_on (layout_of schema.now) (shape_of ring.now) (F.state flash.old)) (oldest_of ring.now) (window_end self.now (next_of ring.now) key) key page →
+            OnOk result (NoneIsBad (layout_of schema.now) ring.now (F.state flash.old) (unwrap_or page (oldest_of ring.now)) (window_end self.now (next_of ring.now) key)) }
         ensures far { is_covered (knots_in self.now) key ≡ false → IsTrue (F.state flash.old).media.tells →
             Ascends (first_on (layout_of schema.now) (shape_of ring.now) (F.state flash.old)) (oldest_of ring.now) (next_of ring.now) →
             IfOk result (λ page. IsPageOf (first_on (layout_of schema.now) (shape_of ring.now) (F.state flash.old)) (oldest_of ring.now) (next_of ring.now) key page) }

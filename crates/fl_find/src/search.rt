@@ -1,11 +1,11 @@
 // The page of a key, searched for in the pages themselves.
-ghost use Rattle.std.specs.Prelude.{◌≡◌, ◌+◌, ◌-◌, ◌<◌, ◌≤◌, ℕ, true, Option, length, IsTrue, IfSome, IfOk, IfErr};
+ghost use Rattle.std.specs.Prelude.{◌≡◌, ◌+◌, ◌-◌, ◌<◌, ◌≤◌, ℕ, true, Option, length, IsTrue, IfSome, IfOk, IfErr, OnOk, unwrap_or};
 ghost use Rattle.fl_model.specs.Spline.{bits};
 ghost use Rattle.fl_ring.specs.Place.{shape_of, oldest_of, next_of, LiesOn};
 ghost use Rattle.fl_schema.specs.Schema.{layout_of};
 ghost use Rattle.fl_search.specs.Search.{IsPageOf, Ascends, RoseBy, RoseSome, looked_at, starts_by, voids_in};
 ghost use Rattle.fl_find.specs.Pages.{first_on, Holds, IsFresh};
-ghost use Rattle.fl_find.specs.Looking.{OnlyLooks, LookFails};
+ghost use Rattle.fl_find.specs.Looking.{OnlyLooks, LookFails, NoneIsBad};
 
 use crate::first::read_first;
 use crate::keys::PageKeys;
@@ -39,6 +39,9 @@ pub(crate) fn page_downwards<F: Flash>(
     ensures limit { (page : Option ℕ) → IsTrue (F.state flash.old).media.tells →
         IsPageOf (first_on (layout_of schema.now) (shape_of ring.now) (F.state flash.old)) (oldest_of ring.now) end key page →
         (F.state flash.new).work.reads ≤ (F.state flash.old).work.reads + looked_at (oldest_of ring.now) end page }
+    ensures sound { (page : Option ℕ) → IsTrue (F.state flash.old).media.tells →
+        IsPageOf (first_on (layout_of schema.now) (shape_of ring.now) (F.state flash.old)) (oldest_of ring.now) end key page →
+        OnOk result (NoneIsBad (layout_of schema.now) ring.now (F.state flash.old) (unwrap_or page (oldest_of ring.now)) end) }
     ensures most { (F.state flash.new).work.reads ≤ (F.state flash.old).work.reads + (end - oldest_of ring.now) }
     ensures holds { IfOk result (λ page. IfSome page (λ number. Holds (layout_of schema.now) (shape_of ring.now) (F.state flash.new) number buf.new)) }
     ensures within { IfOk result (λ page. IfSome page (λ number. (oldest_of ring.now ≤ number) × (number < end))) }

@@ -1,5 +1,5 @@
 -- What an index that is sealed tells of its ring and its bitmaps.
-use Rattle.std.proofs.Common.{◌≡◌, ℕ, ◌+◌, ◌-◌, ◌*◌, ◌/◌, ◌^◌, ◌<◌, ◌≤◌, Option, Some, length, drop, replicate, sym, ◌∙◌, ap, subst, arith}
+use Rattle.std.proofs.Common.{◌≡◌, ◌⊎◌, inl, inr, Bool, true, false, Result, Ok, Err, IsErr, List, ℕ, ◌+◌, ◌-◌, ◌*◌, ◌/◌, ◌^◌, ◌<◌, ◌≤◌, Option, Some, length, drop, replicate, sym, ◌∙◌, ap, subst, arith}
 use Rattle.std.proofs.Math.Nat.{mul-le-mul_right, div-add-mod'}
 use Rattle.std.specs.Option.{option_map, unwrap_or}
 use Rattle.fl_base.specs.Bytes.{splice}
@@ -9,7 +9,9 @@ use Rattle.fl_model.specs.Ring as model
 use Rattle.fl_model.specs.Table.{Table}
 use Rattle.fl_model.specs.Layout.{index_body}
 use Rattle.fl_ring.specs.Place as place
-use Rattle.fl_ring.specs.Ring.{RingState}
+use Rattle.fl_flash.specs.declared.flash.FlashFault.{FlashFault}
+use Rattle.fl_ring.specs.Ring.{RingState, Shape}
+use Rattle.fl_ring.specs.Sealing.{SealCalls, ErasesWhere}
 use Rattle.fl_ring.specs.declared.ring.Ring.{Ring}
 use Rattle.fl_index.specs.declared.index.Index.{Index}
 use Rattle.fl_index.specs.Memory.{next_in, per_page, waiting_in}
@@ -91,3 +93,19 @@ number-of index f first plan table ring number stands has at s is =
   where
     one : {a b : model.Ring} → ◌≡◌ {A = Option model.Ring} (Some a) (Some b) → a ≡ b
     one e = cc
+
+-- the power is on after a seal that went well
+pub seal-on : (r : Shape) (next : ℕ) (due : Bool) (body : List ℕ) (u : Unit {0}) (old new : FlashState) → SealCalls r next due body old (Ok u) new → new.is_on ≡ true
+seal-on r next due body u old new (inl h) = by_due due h.erase_last
+  where
+    by_due : (due : Bool) → ErasesWhere r next due h.marked (Ok u) new → new.is_on ≡ true
+    by_due true e = e.erases.cause.on
+    by_due false e = ap (λ (f : FlashState). f.is_on) e.1 ∙ h.mark_then.cause.on
+seal-on r next due body u old new (inr (inl h)) = absurd (not_err h.fails)
+  where
+    not_err : IsErr {T = Unit {0}} {E = FlashFault} (Ok u) → ⊥
+    not_err e = cc
+seal-on r next due body u old new (inr (inr h)) = absurd (not_err h.fails)
+  where
+    not_err : IsErr {T = Unit {0}} {E = FlashFault} (Ok u) → ⊥
+    not_err e = cc

@@ -43,9 +43,9 @@ pub struct Index {
 impl Index {
     ghost use Rattle.std.specs.Prelude.{ℕ};
     ghost use Rattle.fl_flash.specs.Flash.{FlashState, pages};
-    ghost use Rattle.fl_model.specs.Record.{Plan};
+    ghost use Rattle.fl_model.specs.Record.{Plan, entries_per_page};
     ghost use Rattle.fl_model.specs.Table as model;
-    ghost use Rattle.fl_index.specs.Memory.{is_running, waiting_in, next_in, oldest_in, per_page, width_in, IsPlanned, LiesOn};
+    ghost use Rattle.fl_index.specs.Memory.{is_running, first_waiting, waiting_in, next_in, oldest_in, per_page, width_in, IsPlanned, LiesOn};
     ghost use Rattle.fl_index.specs.Standing.{StandsForRing, Stands};
 
     /// The index of these blocks, with bitmaps of so many bits. It isn't mounted.
@@ -107,6 +107,14 @@ impl Index {
         }
     }
 
+    /// The data page whose bitmap waits next.
+    pub fn next_page(&self) -> u32
+        ensures exact { result ≡ first_waiting self.now + waiting_in self.now }
+        ensures stands { (f : FlashState) → (first : ℕ) → (plan : Plan) → (table : model.Table) → Stands self.now f first plan table → result ≡ table.rows.next }
+    {
+        self.first + self.waiting
+    }
+
     /// The bytes of a bitmap.
     pub(crate) fn width(&self) -> usize
         ensures exact { result ≡ width_in self.now }
@@ -117,8 +125,9 @@ impl Index {
     }
 
     /// How many bitmaps an index page holds.
-    pub(crate) fn capacity(&self) -> u32
-        ensures { result ≡ per_page self.now }
+    pub fn capacity(&self) -> u32
+        ensures exact { result ≡ per_page self.now }
+        ensures planned { (first : ℕ) → (plan : Plan) → IsPlanned self.now first plan → result ≡ entries_per_page plan }
     {
         (self.geometry.page - 24) / (self.bits / 8)
     }

@@ -1,6 +1,7 @@
 // A lookup of a data page's bitmap.
 ghost use Rattle.std.specs.Prelude.{◌≡◌, ◌⊎◌, ◌+◌, ◌-◌, ◌*◌, ◌<◌, ◌≤◌, None, Some, Err, true, false, length, IsTrue, IfSome, IfErr, OnOk, OnErr, if◌then◌else◌, unwrap_or};
 ghost use Rattle.fl_flash.specs.Flash.{page_at};
+ghost use Rattle.fl_flash.specs.Media.{next_count};
 ghost use Rattle.fl_page.specs.Contents as contents;
 ghost use Rattle.fl_ring.specs.Looking.{OnlyReads, ReadFails};
 ghost use Rattle.fl_ring.specs.Place.{shape_of, oldest_of, next_of, LiesOn as LiesIn};
@@ -52,6 +53,8 @@ impl Index {
             IfRead result (buf.new.bytes ≡ page_at (F.state flash.old) (place_in self.now listing))) }
         ensures holds { IfSome (looked_at self.now number) (λ listing. IfRead result (buf.new.holds ≡ Some (place_in self.now listing))) }
         ensures held { IfSome (looked_at self.now number) (λ listing. IsHeld self.now listing buf.old → ((F.state flash.new) ≡ F.state flash.old) × (buf.new ≡ buf.old)) }
+        ensures read { IfSome (looked_at self.now number) (λ listing. (buf.old.holds ≡ Some (place_in self.now listing) → page_number buf.old.bytes ≡ listing → ⊥) →
+            IfRead result ((F.state flash.new).work.reads ≡ next_count (F.state flash.old).work.reads)) }
         ensures fresh { IsTrue (F.state flash.old).media.tells → IsFresh self.now (F.state flash.old) buf.old → IsFresh self.now (F.state flash.new) buf.new }
 
         ensures stands { (first : ℕ) → (plan : Plan) → (table : model.Table) → IsTrue (F.state flash.old).media.tells → Stands self.now (F.state flash.old) first plan table →
@@ -142,6 +145,7 @@ fn hold<F: Flash>(
     ensures holds { OnOk result (buf.new.holds ≡ Some (place (shape_of ring.now) number)) }
     ensures page { OnOk result (IsTrue (F.state flash.old).media.tells →
         (buf.new.bytes ≡ page_at (F.state flash.old) (place (shape_of ring.now) number)) ⊎ ((buf.old.holds ≡ Some (place (shape_of ring.now) number)) × (page_number buf.old.bytes ≡ number) × (buf.new ≡ buf.old))) }
+    ensures read { OnOk result ((buf.old.holds ≡ Some (place (shape_of ring.now) number) → page_number buf.old.bytes ≡ number → ⊥) → (F.state flash.new).work.reads ≡ next_count (F.state flash.old).work.reads) }
     ensures none { OnErr result (buf.new.holds ≡ None) }
     ensures fails { IfErr result (λ e. ReadFails (F.state flash.old) e (F.state flash.new)) }
 {

@@ -1,6 +1,6 @@
 // The seal of the waiting bitmaps.
 ghost use Rattle.std.specs.Prelude.{Ok, ◌≡◌, ◌+◌, ◌-◌, ◌<◌, ◌≤◌, ◌^◌, ◌==◌, true, false, if◌then◌else◌, length, slice_index, IsTrue, OnOk, OnErr, IfErr, Some};
-ghost use Rattle.fl_flash.specs.Flash.{Goes, page_at};
+ghost use Rattle.fl_flash.specs.Flash.{Goes, OffChangesNothing, page_at};
 ghost use Rattle.fl_ring.specs.Causes.{CausedBy};
 
 use crate::index::Index;
@@ -39,6 +39,8 @@ impl Index {
         ensures reads { (F.state flash.new).work.reads ≡ (F.state flash.old).work.reads }
         ensures media_reads { (F.state flash.new).media.reads ≤ (F.state flash.old).media.reads + 1 }
         ensures cause { IfErr result (λ e. CausedBy (F.state flash.old) e (F.state flash.new)) }
+        ensures power { OnOk result ((F.state flash.old).is_on ≡ true → (F.state flash.new).is_on ≡ true) }
+        ensures off { per_page self.old ≤ waiting_in self.old → OffChangesNothing (F.state flash.old) result (F.state flash.new) }
     {
         if self.waiting < self.capacity() {
             return Ok(());
@@ -66,6 +68,8 @@ impl Index {
         ensures reads { (F.state flash.new).work.reads ≡ (F.state flash.old).work.reads }
         ensures media_reads { (F.state flash.new).media.reads ≤ (F.state flash.old).media.reads + 1 }
         ensures cause { IfErr result (λ e. CausedBy (F.state flash.old) e (F.state flash.new)) }
+        ensures power { OnOk result ((F.state flash.old).is_on ≡ true → (F.state flash.new).is_on ≡ true) }
+        ensures off { OffChangesNothing (F.state flash.old) result (F.state flash.new) }
     {
         let Some(mut ring) = self.ring.take() else {
             unreachable!()

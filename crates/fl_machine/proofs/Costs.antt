@@ -1,5 +1,5 @@
 -- What `cost` replies: the cost of the last get or scan, which no other command changes.
-use Rattle.std.proofs.Common.{◌≡◌, ℕ, zero, suc, ◌+◌, ◌<◌, ◌≤◌, Bool, true, false, cond, Option, Some, None, IfSome, List, [], ◌∷◌, ◌++◌, length, take, refl, ap, subst, ◌∙◌, ◌⊎◌, MatchOption, MatchBool, slice_set, nat_eq, IsTrue}
+use Rattle.std.proofs.Common.{◌≡◌, ℕ, zero, suc, ◌+◌, ◌-◌, ◌^◌, ◌<◌, ◌≤◌, Bool, true, false, cond, Option, Some, None, IfSome, List, [], ◌∷◌, ◌++◌, length, take, refl, ap, subst, ◌∙◌, ◌⊎◌, MatchOption, MatchBool, slice_set, nat_eq, IsTrue, arith}
 use Rattle.std.specs.List.{slice_get}
 use Rattle.std.specs.Option.{is_some}
 use Rattle.fl_model.specs.Record.{Plan, Record, Config}
@@ -15,7 +15,7 @@ use Rattle.fl_words.specs.Reply.{Reply}
 use Rattle.fl_machine.specs.Machine.{Machine, OpenCursor, Cost, OfGet}
 use Rattle.fl_machine.specs.Step.{Moment, Step, StepOf, Says, EndsAs, EndsMount, WithTable, Located, located, LoadsFrom, LoadsOn, GetStep, NextStep, cursor_at, no_column, load_record, next_random, rows_of, cost_reply, refused}
 use Rattle.fl_machine.specs.Run.{Run}
-use Rattle.fl_machine.specs.Reads.{has_reads, is_unread, none_read, OnTable, GetReads, ReadsOf, RunReads}
+use Rattle.fl_machine.specs.Reads.{has_reads, is_unread, none_read, ExactOf, RunExact, reads_in}
 use Rattle.fl_machine.specs.Costs.{executed_on, cost_of_get, cost_after, TellsCosts, CostsAreTold}
 
 cost_in : Machine → Cost
@@ -132,19 +132,20 @@ known-keeps None old m k h = tt
 known-keeps (Some c) old m k h = h ∙ k
 
 get-known : (config : Config) (old : Machine) (m : Moment) (name : List ℕ) (key : ℕ) (known : Option Cost) → IsKnown known old.cost →
-    WithTable config old m name (GetStep config old m key) → OnTable config old m name (GetReads config m key) →
+    WithTable config old m name (GetStep config old m key) → ExactOf config old m (command.Get name key) →
     IsKnown (cost_of_get config m key known (executed_on config old name)) m.after.cost
 get-known config old m name key known k step reads = by_cases old.mounted (located config old name) step reads
   where
-    by_reads : (at : Located) (u c : Bool) → is_unread m ≡ u → has_reads config.knots at.plan at.table key ≡ c → GetStep config old m key at → GetReads config m key at →
+    by_reads : (at : Located) (u c : Bool) → is_unread m ≡ u → has_reads config.knots at.plan at.table key ≡ c → GetStep config old m key at →
+        (is_unread m ≡ false → IsTrue (has_reads config.knots at.plan at.table key) → m.reads ≡ lookup_reads config.knots at.plan at.table key) →
         IsKnown (cond u None (cond c (Some (OfGet (lookup_reads config.knots at.plan at.table key) (lookup_limit config.knots at.plan at.table key))) None)) m.after.cost
     by_reads at true c e f step reads = tt
     by_reads at false false e f step reads = tt
     by_reads at false true e f step reads =
-        ap (λ (x : Machine). x.cost) step.0 ∙ ap (λ (n : ℕ). OfGet n (lookup_limit config.knots at.plan at.table key)) (reads.1 e f)
+        ap (λ (x : Machine). x.cost) step.0 ∙ ap (λ (n : ℕ). OfGet n (lookup_limit config.knots at.plan at.table key)) (reads e f)
 
     by_cases : (b : Bool) (o : Option Located) → MatchBool b (MatchOption o (Says m (reply.NoTable ∷ []) old) (GetStep config old m key)) (Says m (reply.NotMounted ∷ []) old) →
-        MatchBool b (MatchOption o (none_read m) (GetReads config m key)) (none_read m) → IsKnown (cost_of_get config m key known (cond b o None)) m.after.cost
+        MatchBool b (MatchOption o (none_read m) (λ (at : Located). is_unread m ≡ false → IsTrue (has_reads config.knots at.plan at.table key) → m.reads ≡ lookup_reads config.knots at.plan at.table key)) (none_read m) → IsKnown (cost_of_get config m key known (cond b o None)) m.after.cost
     by_cases true None step reads = known-keeps known old m k (says-keeps old old m (reply.NoTable ∷ []) refl step)
     by_cases true (Some at) step reads = by_reads at (is_unread m) (has_reads config.knots at.plan at.table key) refl refl step reads
     by_cases false o step reads = known-keeps known old m k (says-keeps old old m (reply.NotMounted ∷ []) refl step)
@@ -159,7 +160,7 @@ scan-known config old m name known P k step = by_cases old.mounted (located conf
     by_cases true (Some at) step = tt
     by_cases false o step = known-keeps known old m k (says-keeps old old m (reply.NotMounted ∷ []) refl step)
 
-step-known : (config : Config) (old : Machine) (m : Moment) (known : Option Cost) (c : Command) → IsKnown known old.cost → StepOf config old m c → ReadsOf config old m c →
+step-known : (config : Config) (old : Machine) (m : Moment) (known : Option Cost) (c : Command) → IsKnown known old.cost → StepOf config old m c → ExactOf config old m c →
     IsKnown (cost_after config old m known c) m.after.cost
 step-known config old m known command.Nothing k h r = known-keeps known old m k (says-keeps old old m [] refl h)
 step-known config old m known command.Mount k h r = known-keeps known old m k (mount-keeps config old m old.mounted h)
@@ -201,12 +202,12 @@ cost-known config old m (Some c) k step e =
     let h : StepOf config old m command.Cost = subst (λ (x : Command). StepOf config old m x) e step in
     h.replies_are ∙ ap (λ (cost : Cost). cost_reply cost ∷ []) k
 
-run-known : (config : Config) (old : Machine) (moments : List Moment) (known : Option Cost) → IsKnown known old.cost → Run config old moments → RunReads config old moments → TellsCosts config known old moments
-run-known config old [] known k run reads = tt
-run-known config old (m ∷ ms) known k (step, run) (read, reads) = (
+run-known : (config : Config) (before : ℕ) (old : Machine) (moments : List Moment) (known : Option Cost) → IsKnown known old.cost → Run config old moments → RunExact config before old moments → before + reads_in moments < 2 ^ 64 - 1 → TellsCosts config known old moments
+run-known config before old [] known k run reads below = tt
+run-known config before old (m ∷ ms) known k (step, run) (read, reads) below = (
   cost-known config old m known k step,
-  run-known config m.after ms (cost_after config old m known m.command) (step-known config old m known m.command k step read) run reads,
+  run-known config (before + m.reads) m.after ms (cost_after config old m known m.command) (step-known config old m known m.command k step (read (omega (arith, below)))) run reads (omega (arith, below)),
 )
 
 pub costs-told : CostsAreTold
-costs-told config old moments run reads = run-known config old moments (Some old.cost) refl run reads
+costs-told config old moments run reads below = run-known config 0 old moments (Some old.cost) refl run reads (omega (arith, below))

@@ -7,7 +7,7 @@ use Rattle.fl_machine.specs.Machine.{Machine, begins, fresh_tables}
 use Rattle.fl_machine.specs.Step.{Moment}
 use Rattle.fl_machine.specs.Run.{Run, end_of, commands_of, written_by, risen_in}
 use Rattle.fl_machine.specs.Found.{Finds, stop_at}
-use Rattle.fl_machine.specs.Reads.{RunReads, RunPromised}
+use Rattle.fl_machine.specs.Reads.{RunLimits, RunExact}
 use Rattle.fl_words.specs.Grammar.{LineFault, command_of}
 use Rattle.fl_words.specs.Config.{Lines, no_lines, configured, whole, ConfigFault}
 use Rattle.fl_base.specs.Causes.{Appends, IsFront}
@@ -99,14 +99,19 @@ StandsAfter config content machine = IfSome content (λ bytes. IsImage config by
 abbrev pub RoseBy : ℕ → ℕ → ℕ → Type 0
 RoseBy n before now = (before + n ≤ now) ⊎ (2 ^ 64 - 1 ≤ now)
 
+-- The moments of a run, each of which reads as many pages as it may: no command reads more than its limit, and a get and a
+-- scan as many as are promised.
+pub record KeepsReads (config : Config) (old : Machine) (moments : List Moment) : Type 0 where
+  pub limits : RunLimits config old moments
+  pub exact : RunExact config 0 old moments
+
 -- A run of these commands, each of them done whole. `stands` says for which states the session stands then.
 pub record Ran (config : Config) (old : Machine) (commands : List Command) (stands : Machine → Type 0) (faults faults_now : ℕ) (told told_now : Option (List ℕ)) : Type 0 where
   pub moments : List Moment
   pub commands_are : commands_of moments ≡ commands
   pub run : Run config old moments
   pub stands_after : stands (end_of old moments)
-  -- no get reads more than its limit
-  pub reads : RunPromised config old moments
+  pub reads : KeepsReads config old moments
   -- the medium's faults rose in no more of them than it failed
   pub rose : RoseBy (risen_in moments) faults faults_now
   -- each mount that succeeds finds the records of each table
@@ -119,17 +124,15 @@ pub record RanInto (config : Config) (old : Machine) (commands : List Command) (
   pub commands_are : commands_of moments ≡ commands
   pub run : Run config old moments
   pub stands_after : stands (end_of old moments)
-  pub reads : RunPromised config old moments
+  -- the last one may have stopped before its reads were done
+  pub limits : RunLimits config old moments
   pub rose : RoseBy (risen_in moments) faults faults_now
   pub found : (place : ℕ) → Finds place (stop_at place old.tables) old moments
   -- the replies before those of the last are written whole
   pub before : List Moment
   pub last : Moment
   pub split : moments ≡ before ++ last ∷ []
+  pub exact : RunExact config 0 old before
   pub front : List ℕ
   pub is_front : IsFront front (texts last.replies)
   pub told_front : Appends told told_now (written_by before ++ front)
-
--- the moments of a run, each of which reads as many pages as it may
-pub record KeepsReads (config : Config) (old : Machine) (moments : List Moment) : Type 0 where
-  pub within : RunReads config old moments

@@ -91,7 +91,8 @@ impl<R: RowHere> Aggregate<R> {
         self.rows.step(flash)
     }
 
-    /// The next group, or none where no row is left. Groups come in ascending order, and each has a row.
+    /// The next group, or none where no row is left. Groups come in ascending order, and each has a row. An error loses the
+    /// rows of the group that was begun, so no step follows it.
     pub fn step<F: Flash>(&mut self, flash: &mut F) -> Result<Option<Group>, ReadFault>
     where
         R: Rows<F>,

@@ -119,7 +119,7 @@ impl<A: RowHere, B: RowHere> KeyJoin<A, B> {
         self.right.step(flash)
     }
 
-    /// Goes to the next pair, and says whether there is one.
+    /// Goes to the next pair, and says whether there is one. An error loses the row in hand, so no step follows it.
     pub fn step<F: Flash>(&mut self, flash: &mut F) -> Result<bool, ReadFault>
     where
         A: Rows<F>,

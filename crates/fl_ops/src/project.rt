@@ -43,7 +43,8 @@ impl<'c, R: RowHere> Project<'c, R> {
         column(&self.rows.row(), self.columns[i])
     }
 
-    /// Goes to the next row, and says whether there is one.
+    /// Goes to the next row, and says whether there is one. After an error the rows left may be told no more, and the
+    /// projection isn't used again.
     pub fn step<F: Flash>(&mut self, flash: &mut F) -> Result<bool, ReadFault>
     where
         R: Rows<F>,

@@ -1,8 +1,7 @@
 -- A command that was executed up to its reply, and the reply that was written.
-use Rattle.std.proofs.Common.{◌≡◌, ℕ, Bool, true, false, if◌then◌else◌, Option, Some, None, Result, List, [], ◌∷◌, refl, sym, ◌∙◌, ap, subst}
+use Rattle.std.proofs.Common.{◌≡◌, ℕ, true, false, Option, Some, None, Result, List, [], ◌∷◌, refl, sym, subst}
 use Rattle.fl_flash.specs.Flash.{FlashState}
-use Rattle.fl_model.specs.Record.{Config, Plan, bytes_equal}
-use Rattle.fl_model.specs.Table as model
+use Rattle.fl_model.specs.Record.{Config}
 use Rattle.fl_words.specs.Command.{Command}
 use Rattle.fl_words.specs.Reply as reply
 use Rattle.fl_words.specs.Reply.{Reply, text, texts}
@@ -11,8 +10,6 @@ use Rattle.fl_machine.specs.Reads.{none_read}
 use Rattle.fl_machine.specs.Step.{Moment, Step, StepOf, Says, Located, located, WhenMounted, WithTable}
 use Rattle.std.specs.Prelude.{MatchBool, MatchOption}
 use Rattle.fl_script.specs.Written.{Written}
-use Rattle.fl_config.proofs.Names.{bytes_equal-other}
-use Rattle.std.proofs.lemmas.Bool.{eq-eqb}
 use Rattle.fl_session.specs.Answer.{Answers}
 use Rattle.fl_session.specs.Cost.{CountsReads, ReadsAsStated}
 use Rattle.fl_session.specs.Execute.{Executes}
@@ -20,7 +17,7 @@ use Rattle.fl_session.proofs.Executing.{executes-by, one-text}
 
 -- the replies were written
 pub executes-answered : (E : Type 0) (config : Config) (old : Machine) (command : Command) (stands : Machine → Type 0) (f g : FlashState) (said : List ℕ) (told told_now : Option (List ℕ)) (result : Result (Unit {0}) E) →
-    Answers config old command stands f.media.faults g.media.faults said → ((moment : Moment) → none_read moment → CountsReads f moment g command) → ((moment : Moment) → none_read moment → ReadsAsStated config old moment g command) → Written {E = E} told told_now result said →
+    Answers config old command stands f.media.faults g.media.faults said → ((moment : Moment) → none_read moment → CountsReads f moment g command) → ((moment : Moment) → none_read moment → ReadsAsStated config old moment g result command) → Written {E = E} told told_now result said →
     Executes config old command stands f g told told_now result
 executes-answered E config old command stands f g said told told_now result a reads stated w =
     executes-by E config old command stands f g told told_now result a.moment a.command_is a.step a.stands_after (reads a.moment a.none) (stated a.moment a.none) a.rose (subst (λ t. Written {E = E} told told_now result t) (sym a.said_is) w)
@@ -60,19 +57,3 @@ pub table-step : (config : Config) (old : Machine) (moment : Moment) (name : Lis
 table-step config old moment name P at e k p =
     when-mounted old moment (MatchOption (located config old name) (Says moment (reply.NoTable ∷ []) old) P) e
     (subst (λ (x : Option Located). MatchOption x (Says moment (reply.NoTable ∷ []) old) P) (sym k) p)
-
--- the one table, by its name
-bytes_equal-own : (a : List ℕ) → bytes_equal a a ≡ true
-bytes_equal-own [] = refl
-bytes_equal-own (a ∷ as') = ap (λ (t : Bool). if t then bytes_equal as' as' else false) (eq-eqb a a refl) ∙ bytes_equal-own as'
-
-pub located-own : (config : Config) (old : Machine) (plan : Plan) (table : model.Table) (name : List ℕ) → config.plans ≡ plan ∷ [] → old.tables ≡ table ∷ [] → plan.name ≡ name →
-    located config old name ≡ Some (record { place = 0; plan = plan; table = table })
-located-own config old plan table name e k n =
-    let same : bytes_equal plan.name name ≡ true = ap (bytes_equal plan.name) (sym n) ∙ bytes_equal-own plan.name in
-    rw (e, k, same) refl
-
-pub located-other : (config : Config) (old : Machine) (plan : Plan) (table : model.Table) (name : List ℕ) → config.plans ≡ plan ∷ [] → old.tables ≡ table ∷ [] → (name ≡ plan.name → ⊥) → located config old name ≡ None
-located-other config old plan table name e k n =
-    let other : bytes_equal plan.name name ≡ false = bytes_equal-other plan.name name n in
-    rw (e, k, other) refl

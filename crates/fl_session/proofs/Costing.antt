@@ -9,7 +9,7 @@ use Rattle.fl_words.specs.Command as command
 use Rattle.fl_words.specs.Reply.{text}
 use Rattle.fl_machine.specs.Machine.{Machine}
 use Rattle.fl_machine.specs.Step.{cost_reply}
-use Rattle.fl_table.specs.declared.table.Table.{Table}
+use Rattle.fl_session.specs.declared.tables.Entry.{Entry}
 use Rattle.fl_session.specs.Answer.{Answers}
 use Rattle.fl_session.specs.Cost.{cost_of, HasRead}
 use Rattle.fl_session.specs.declared.notes.Notes.{Notes}
@@ -49,8 +49,8 @@ pub read-none : (f : FlashState) (reads : ℕ) → reads ≡ 0 → HasRead f rea
 read-none f reads none = record { flash = omega (arith, none); medium = λ _ _. omega (arith, none) }
 
 -- the reply to the question for the cost
-pub cost-answers : (config : Config) (old : Machine) (t : Table) (name : List ℕ) (notes : Notes) (f : FlashState) (mounted : Bool) (faults : ℕ) (said : List ℕ) →
-    SessionStands config t name f mounted notes old → said ≡ text (cost_reply (cost_of notes.cost)) → Answers config old command.Cost (SessionStands config t name f mounted notes) faults faults said
-cost-answers config old t name notes f mounted faults said h is =
+pub cost-answers : (config : Config) (old : Machine) (entries : List Entry) (notes : Notes) (f : FlashState) (mounted : Bool) (faults : ℕ) (said : List ℕ) →
+    SessionStands config entries f mounted notes old → said ≡ text (cost_reply (cost_of notes.cost)) → Answers config old command.Cost (SessionStands config entries f mounted notes) faults faults said
+cost-answers config old entries notes f mounted faults said h is =
     rw (is, ← h.cost_is)
-    (answers-saying config old command.Cost (cost_reply old.cost) old (SessionStands config t name f mounted notes) faults faults (says command.Cost (cost_reply old.cost ∷ []) old) h)
+    (answers-saying config old command.Cost (cost_reply old.cost) old (SessionStands config entries f mounted notes) faults faults (says command.Cost (cost_reply old.cost ∷ []) old) h)

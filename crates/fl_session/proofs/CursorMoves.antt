@@ -1,10 +1,11 @@
 -- The next rows of a session's cursors.
-use Rattle.std.proofs.Common.{◌≡◌, ℕ, ◌+◌, ◌*◌, ◌^◌, ◌<◌, ◌≤◌, Bool, true, false, IsTrue, Option, Some, None, option_map, Result, Ok, Err, OnOk, OnErr, List, [], ◌∷◌, take, set, refl, sym, ◌∙◌, ap, subst}
-use Rattle.std.specs.Prelude.{unwrap_or, MatchBool, MatchOption}
+use Rattle.std.proofs.Common.{◌≡◌, ℕ, ◌+◌, ◌-◌, ◌^◌, ◌<◌, ◌≤◌, Bool, true, false, IsTrue, Option, Some, None, option_map, Result, Ok, Err, OnOk, OnErr, List, [], ◌∷◌, take, set, refl, sym, ◌∙◌, ap, subst, arith}
+use Rattle.std.specs.Prelude.{unwrap_or, min, IfSome, MatchBool, MatchOption}
 use Rattle.std.specs.List.{slice_get}
 use Rattle.std.proofs.lemmas.List.{map-set}
 use Rattle.fl_base.specs.Causes.{Appends, AppendsFront}
-use Rattle.fl_cursor.specs.Asked.{asked_by}
+use Rattle.fl_cursor.specs.Asked.{asked_by, lowest}
+use Rattle.fl_cursor.specs.Reads.{IsBounded, has_bitmaps}
 use Rattle.fl_cursor.specs.declared.bookmark.Bookmark.{Bookmark}
 use Rattle.fl_flash.specs.Flash.{FlashState}
 use Rattle.fl_flash.specs.declared.armed.Armed.{Armed}
@@ -13,61 +14,59 @@ use Rattle.fl_model.specs.Query as query
 use Rattle.fl_model.specs.Query.{moved}
 use Rattle.fl_model.specs.Record.{Config, Plan}
 use Rattle.fl_model.specs.Table as model
-use Rattle.fl_page.specs.Contents.{Contents, OnlyReads}
+use Rattle.fl_page.specs.Contents.{OnlyReads}
 use Rattle.fl_words.specs.Command as command
 use Rattle.fl_words.specs.Reply as reply
 use Rattle.fl_words.specs.Reply.{text, texts}
 use Rattle.fl_machine.specs.Machine.{Machine, OpenCursor}
+use Rattle.fl_machine.specs.OpenCursors.{IsWithin, IsOpenWithin, AreWithin}
+use Rattle.fl_machine.specs.Reads.{none_read, lowest_of, LimitOf}
+use Rattle.fl_machine.proofs.OpenCursors.{within-at}
+use Rattle.fl_model.specs.Limits.{scan_limit}
 use Rattle.fl_machine.specs.Step.{Moment, StepOf, Says, NextStep, cursor_at}
 use Rattle.fl_ring.specs.Device.{ArmsAs}
-use Rattle.fl_ring.proofs.Exists.{lies_still}
 use Rattle.fl_script.specs.Written.{Written}
 use Rattle.fl_table.specs.Memory.{LiesOn}
 use Rattle.fl_table.specs.Standing.{Stands}
 use Rattle.fl_table.specs.declared.table.Table.{Table}
-use Rattle.fl_session.specs.Answer.{Answers}
 use Rattle.fl_session.specs.Cost.{HasRead}
 use Rattle.fl_session.specs.Execute.{Executes}
 use Rattle.fl_session.specs.Nexts.{Nexts, given_of}
-use Rattle.fl_session.specs.Notes.{cursor_of, cursors_of}
+use Rattle.fl_session.specs.Notes.{cursor_of}
 use Rattle.fl_session.specs.declared.notes.Notes.{Notes}
+use Rattle.fl_session.specs.declared.notes.TableCursor.{TableCursor}
+use Rattle.fl_session.specs.declared.tables.Entry.{Entry}
 use Rattle.fl_session.specs.Standing.{SessionStands}
+use Rattle.fl_session.specs.Tables.{first_of}
 use Rattle.fl_session.proofs.Answering.{answers-saying, executes-answered, saying, says}
 use Rattle.fl_session.proofs.Costing.{read-none}
+use Rattle.fl_session.proofs.BuiltAll.{no-bitmaps}
 use Rattle.fl_session.proofs.CursorsOf.{cursor-told}
-use Rattle.fl_session.proofs.Getting.{goes-reads, stands-looked}
+use Rattle.fl_session.proofs.Getting.{goes-reads, tables-looked}
+use Rattle.fl_session.proofs.Sound.{lies-on}
+use Rattle.fl_session.proofs.TablesChanged.{at-place}
 use Rattle.fl_session.proofs.Working.{medium-goes}
 
 -- reads leave a table where it lies
 pub lies-read : (t : Table) (f g : FlashState) → OnlyReads f g → LiesOn t f → LiesOn t g
-lies-read t f g only lies = record {
-  geometry = ap (λ (c : Contents). c.geometry) only.contents ∙ lies.geometry;
-  within = subst (λ n. t.place.first_block + t.place.blocks ≤ n) (sym (ap (λ (c : Contents). c.blocks) only.contents)) lies.within;
-  few = subst (λ (c : Contents). c.blocks * c.geometry.block < 2 ^ 32) (sym only.contents) lies.few;
-  ring = λ ring is. lies_still ring f g (lies.ring ring is) (goes-reads f g only);
-}
+lies-read t f g only lies = lies-on t f g (goes-reads f g only) lies
 
 -- the session after reads, with a cursor that was moved
-stands-moved : (config : Config) (t : Table) (name : List ℕ) (notes : Notes) (f g : FlashState) (n : ℕ) (mark : Bookmark) (m : Machine) → OnlyReads f g → SessionStands config t name f true notes m →
-    SessionStands config t name g true (record notes { cursors = set notes.cursors n (Some mark) }) (record m { cursors = set m.cursors n (Some (cursor_of mark)) })
-stands-moved config t name notes f g n mark m only h = record {
+stands-moved : (config : Config) (entries : List Entry) (notes : Notes) (f g : FlashState) (n : ℕ) (cursor : TableCursor) (m : Machine) → OnlyReads f g → SessionStands config entries f true notes m →
+    SessionStands config entries g true (record notes { cursors = set notes.cursors n (Some cursor) }) (record m { cursors = set m.cursors n (Some (cursor_of cursor)) })
+stands-moved config entries notes f g n cursor m only h = record {
   knots = h.knots;
+  built = h.built;
   medium = medium-goes config f g (goes-reads f g only) h.medium;
-  plan = h.plan;
-  plans = h.plans;
-  named = h.named;
-  planned = h.planned;
-  table = h.table;
-  tables = h.tables;
+  tables = tables-looked f g only config.plans entries m.tables h.tables;
   is_mounted = h.is_mounted;
-  cursors = ap (λ (cs : List (Option OpenCursor)). set cs n (Some (cursor_of mark))) h.cursors ∙ sym (map-set (option_map cursor_of) notes.cursors n (Some mark));
+  cursors = ap (λ (cs : List (Option OpenCursor)). set cs n (Some (cursor_of cursor))) h.cursors ∙ sym (map-set (option_map cursor_of) notes.cursors n (Some cursor));
   device = record {
     armed = subst (λ (a : Option Armed). ArmsAs m.device.armed a) (sym only.armed) h.device.armed;
     programs = h.device.programs ∙ sym (ap (λ (w : Work). w.programs) only.work);
     erases = h.device.erases ∙ sym (ap (λ (w : Work). w.erases) only.work);
   };
   cost_is = h.cost_is;
-  on_flash = stands-looked f g only t 0 h.plan h.table h.on_flash;
   power = λ mounted. only.power ∙ h.power mounted;
 }
 
@@ -78,41 +77,72 @@ next-of config old n count moment mounted at m o h =
     subst (λ b. MatchBool b (MatchOption (cursor_at old n) (Says moment (reply.NoCursor ∷ []) old) (NextStep config old moment n count)) (Says moment (reply.NotMounted ∷ []) old)) (sym m)
     (subst (λ (x : Option OpenCursor). MatchBool mounted (MatchOption x (Says moment (reply.NoCursor ∷ []) old) (NextStep config old moment n count)) (Says moment (reply.NotMounted ∷ []) old)) (sym o) h)
 
--- the machine with a cursor at this place
-abbrev with_cursor : Machine → ℕ → query.Cursor → Machine
-with_cursor m n cursor = record m { cursors = set m.cursors n (Some (record { table = 0; cursor = cursor })) }
+bounded : (top : Option ℕ) (high : ℕ) → IfSome top (λ t. t ≤ high) → IsBounded top high
+bounded None high h = h
+bounded (Some top) high h = h
+
+-- the lowest key that may still be given
+lowest-same : (low : ℕ) (after : Option ℕ) → IfSome after (λ a. a < 2 ^ 64) → IfSome after (λ a. low ≤ a) → lowest low after ≡ unwrap_or (option_map (λ a. min (a + 1) (2 ^ 64 - 1)) after) low
+lowest-same low None fits from = refl
+lowest-same low (Some after) fits from = omega (arith, fits, from)
+
+-- the machine with a cursor over this table at this place
+abbrev with_cursor : Machine → ℕ → ℕ → query.Cursor → Machine
+with_cursor m n table cursor = record m { cursors = set m.cursors n (Some (record { table = table; cursor = cursor })) }
+
+at-some : {X : Type 0} (o : Option X) (x : X) (N : Type 0) (P : X → Type 0) → o ≡ Some x → P x → MatchOption o N P
+at-some o x N P e p = subst (λ y. MatchOption y N P) (sym e) p
+
+-- .. and its limit
+next-limit : (config : Config) (old : Machine) (moment : Moment) (n count : ℕ) (cursor : TableCursor) (plan : Plan) (table : model.Table) → old.mounted ≡ true → cursor_at old n ≡ Some (cursor_of cursor) →
+    slice_get config.plans cursor.table ≡ Some plan → slice_get old.tables cursor.table ≡ Some table → moment.reads ≤ scan_limit config.knots plan table cursor.mark.range cursor.mark.span (lowest_of (asked_by cursor.mark)) → LimitOf config old moment (command.Next n count)
+next-limit config old moment n count cursor plan table on at p t most =
+    subst (λ b. MatchBool b (MatchOption (cursor_at old n) (none_read moment) (λ c. MatchOption (slice_get config.plans c.table) (none_read moment) (λ plan. MatchOption (slice_get old.tables c.table) (none_read moment) (λ table.
+    moment.reads ≤ scan_limit config.knots plan table c.cursor.range c.cursor.span (lowest_of c.cursor))))) (none_read moment)) (sym on)
+    (at-some (cursor_at old n) (cursor_of cursor) _ _ at (at-some (slice_get config.plans cursor.table) plan _ _ p (at-some (slice_get old.tables cursor.table) table _ _ t most)))
 
 -- the rows were given and the cursor was moved, or a page wasn't read; where the sink failed the cursor may be anywhere
-pub next-executes : (E : Type 0) (config : Config) (old : Machine) (t : Table) (name : List ℕ) (notes : Notes) (f g : FlashState) (reads n count : ℕ) (mounted : Bool) (mark new : Bookmark) (told told_now : Option (List ℕ)) (result : Result (Unit {0}) E) →
-    SessionStands config t name f mounted notes old → mounted ≡ true → slice_get notes.cursors n ≡ Some (Some mark) → OnlyReads f g → HasRead f reads g →
-    ((first : ℕ) (plan : Plan) (table : model.Table) → IsTrue f.media.tells → f.is_on ≡ true → Stands t f first plan table → Nexts plan table count mark new told told_now f.media.faults g.media.faults result) →
-    Executes config old (command.Next n count) (SessionStands config t name g mounted (record notes { cursors = set notes.cursors n (Some new) })) f g told told_now result
-next-executes E config old t name notes f g reads n count mounted mark new told told_now result h on e only counted nexts =
-    let h' = subst (λ m. SessionStands config t name f m notes old) on h in
-    let s = nexts 0 h'.plan h'.table h'.medium.told (h'.power refl) h'.on_flash in
-    let end : query.Cursor = moved (asked_by mark) (take s.given (given_of count mark h'.table)) in
-    let moment : Moment = record { command = command.Next n count; rose = s.rose; reads = reads; last = None; replies = s.replies; after = with_cursor old n end } in
-    let at : cursor_at old n ≡ Some (cursor_of mark) = ap (λ (cs : List (Option OpenCursor)). unwrap_or (slice_get cs n) None) h'.cursors ∙ cursor-told notes.cursors n (Some mark) e in
-    let plan_at : slice_get config.plans 0 ≡ Some h'.plan = ap (λ (ps : List Plan). slice_get ps 0) h'.plans in
-    let table_at : slice_get old.tables 0 ≡ Some h'.table = ap (λ (ts : List model.Table). slice_get ts 0) h'.tables in
-    let moves : NextStep config old moment n count (cursor_of mark) = rw (plan_at, table_at) (refl, (s.given, s.some, refl, s.replied)) in
+pub next-executes : (E : Type 0) (config : Config) (old : Machine) (entries : List Entry) (entry : Entry) (notes : Notes) (f g : FlashState) (reads n count : ℕ) (mounted : Bool) (cursor : TableCursor) (new : Bookmark) (told told_now : Option (List ℕ)) (result : Result (Unit {0}) E) →
+    SessionStands config entries f mounted notes old → mounted ≡ true → slice_get notes.cursors n ≡ Some (Some cursor) → slice_get entries cursor.table ≡ Some entry → IfSome cursor.mark.after (λ after. after < 2 ^ 64) → OnlyReads f g → HasRead f reads g → reads ≡ g.work.reads - f.work.reads →
+    ((first : ℕ) (plan : Plan) (table : model.Table) → IsTrue f.media.tells → f.is_on ≡ true → Stands entry.table f first plan table → has_bitmaps plan cursor.mark.span ≡ false → Nexts plan table count cursor.mark new told told_now f.media.faults g.media.faults f.work.reads g.work.reads result) →
+    Executes config old (command.Next n count) (SessionStands config entries g mounted (record notes { cursors = set notes.cursors n (Some (record cursor { mark = new })) })) f g told told_now result
+next-executes E config old entries entry notes f g reads n count mounted cursor new told told_now result h on e here fits only counted reads_are nexts =
+    let h' = subst (λ m. SessionStands config entries f m notes old) on h in
+    let own = at-place f (λ i. true) config.plans entries old.tables cursor.table entry h'.tables here in
+    let s = nexts (first_of config.plans cursor.table) own.plan own.table h'.medium.told (h'.power refl) own.stands.on_flash (no-bitmaps config.plans h'.built cursor.table own.plan own.plan_is cursor.mark.span) in
+    let end : query.Cursor = moved (asked_by cursor.mark) (take s.given (given_of count cursor.mark own.table)) in
+    let moment : Moment = record { command = command.Next n count; rose = s.rose; reads = reads; last = None; replies = s.replies; after = with_cursor old n cursor.table end } in
+    let at : cursor_at old n ≡ Some (cursor_of cursor) = ap (λ (cs : List (Option OpenCursor)). unwrap_or (slice_get cs n) None) h'.cursors ∙ cursor-told notes.cursors n (Some cursor) e in
+    let moves : NextStep config old moment n count (cursor_of cursor) = at-some (slice_get config.plans cursor.table) own.plan _ _ own.plan_is (at-some (slice_get old.tables cursor.table) own.table _ _ own.table_is (refl, (s.given, s.some, refl, s.replied))) in
+    let limited : AreWithin old.cursors → LimitOf config old moment (command.Next n count) = λ within.
+    let is : IsWithin (asked_by cursor.mark) = subst IsOpenWithin at (within-at old.cursors n within) in
+    let most = s.within (bounded cursor.mark.top cursor.mark.range.high is.top) in
+    next-limit config old moment n count cursor own.plan own.table h'.is_mounted at own.plan_is own.table_is
+    (omega (
+      arith,
+      most,
+      reads_are,
+      ap (λ k. scan_limit k own.plan own.table cursor.mark.range cursor.mark.span (lowest_of (asked_by cursor.mark))) h'.knots,
+      ap (λ low. scan_limit 64 own.plan own.table cursor.mark.range cursor.mark.span low) (lowest-same cursor.mark.range.low cursor.mark.after fits is.after),
+    )) in
+    let notes' : Notes = record notes { cursors = set notes.cursors n (Some (record cursor { mark = new })) } in
     record {
       moment = moment;
       command_is = refl;
-      step = next-of config old n count moment true (Some (cursor_of mark)) h'.is_mounted at moves;
-      after = with_cursor old n (asked_by new);
-      stands_after = subst (λ m. SessionStands config t name g m (record notes { cursors = set notes.cursors n (Some new) }) (with_cursor old n (asked_by new))) (sym on) (stands-moved config t name notes f g n new old only h');
+      step = next-of config old n count moment true (Some (cursor_of cursor)) h'.is_mounted at moves;
+      after = with_cursor old n cursor.table (asked_by new);
+      stands_after = subst (λ m. SessionStands config entries g m notes' (with_cursor old n cursor.table (asked_by new))) (sym on) (stands-moved config entries notes f g n (record cursor { mark = new }) old only h');
       alike = record { cost = refl; tables = refl; mounted = refl; device = refl };
       same = same-after result end s.moved_to;
       reads = counted;
-      stated = tt;
+      stated = limited;
       rose = s.risen;
       told_all = all-told result (texts s.replies) s.wrote;
       told_front = front-told result (texts s.replies) s.wrote;
     }
   where
-    same-after : (r : Result (Unit {0}) E) (end : query.Cursor) → OnOk r (asked_by new ≡ end) → OnOk r (with_cursor old n (asked_by new) ≡ with_cursor old n end)
-    same-after (Ok done) end is = ap (with_cursor old n) is
+    same-after : (r : Result (Unit {0}) E) (end : query.Cursor) → OnOk r (asked_by new ≡ end) → OnOk r (with_cursor old n cursor.table (asked_by new) ≡ with_cursor old n cursor.table end)
+    same-after (Ok done) end is = ap (with_cursor old n cursor.table) is
     same-after (Err failed) end is = tt
 
     all-told : (r : Result (Unit {0}) E) (said : List ℕ) → Written told told_now r said → OnOk r (Appends told told_now said)
@@ -124,23 +154,23 @@ next-executes E config old t name notes f g reads n count mounted mark new told 
     front-told (Err failed) said wrote = wrote
 
 -- .. or there is no session or no such cursor
-module _ (E : Type 0) (config : Config) (old : Machine) (t : Table) (name : List ℕ) (notes : Notes) (f : FlashState) (n count : ℕ) (told told_now : Option (List ℕ)) (result : Result (Unit {0}) E) where
-  next-answered : (mounted : Bool) (said : reply.Reply) → SessionStands config t name f mounted notes old → StepOf config old (saying (command.Next n count) (said ∷ []) old) (command.Next n count) → Written told told_now result (text said) →
-      Executes config old (command.Next n count) (SessionStands config t name f mounted notes) f f told told_now result
-  next-answered mounted said h step wrote =
-      executes-answered E config old (command.Next n count) (SessionStands config t name f mounted notes) f f (text said) told told_now result
-      (answers-saying config old (command.Next n count) said old (SessionStands config t name f mounted notes) f.media.faults f.media.faults step h) (λ moment none. read-none f moment.reads none) (λ moment none. tt) wrote
+module _ (E : Type 0) (config : Config) (old : Machine) (entries : List Entry) (notes : Notes) (f : FlashState) (n count : ℕ) (told told_now : Option (List ℕ)) (result : Result (Unit {0}) E) where
+  next-answered : (mounted : Bool) (said : reply.Reply) → SessionStands config entries f mounted notes old → ((moment : Moment) → none_read moment → AreWithin old.cursors → LimitOf config old moment (command.Next n count)) → StepOf config old (saying (command.Next n count) (said ∷ []) old) (command.Next n count) → Written told told_now result (text said) →
+      Executes config old (command.Next n count) (SessionStands config entries f mounted notes) f f told told_now result
+  next-answered mounted said h limit step wrote =
+      executes-answered E config old (command.Next n count) (SessionStands config entries f mounted notes) f f (text said) told told_now result
+      (answers-saying config old (command.Next n count) said old (SessionStands config entries f mounted notes) f.media.faults f.media.faults step h) (λ moment none. read-none f moment.reads none) limit wrote
 
-  pub next-off : (mounted : Bool) → mounted ≡ false → SessionStands config t name f mounted notes old → Written told told_now result (text reply.NotMounted) →
-      Executes config old (command.Next n count) (SessionStands config t name f mounted notes) f f told told_now result
+  pub next-off : (mounted : Bool) → mounted ≡ false → SessionStands config entries f mounted notes old → Written told told_now result (text reply.NotMounted) →
+      Executes config old (command.Next n count) (SessionStands config entries f mounted notes) f f told told_now result
   next-off mounted off h wrote =
       let c = command.Next n count in
-      next-answered mounted reply.NotMounted h (next-of config old n count (saying c (reply.NotMounted ∷ []) old) false (cursor_at old n) (h.is_mounted ∙ off) refl (says c (reply.NotMounted ∷ []) old)) wrote
+      next-answered mounted reply.NotMounted h (λ moment none. λ within. rw (h.is_mounted ∙ off) none) (next-of config old n count (saying c (reply.NotMounted ∷ []) old) false (cursor_at old n) (h.is_mounted ∙ off) refl (says c (reply.NotMounted ∷ []) old)) wrote
 
-  pub next-none : (mounted : Bool) → mounted ≡ true → slice_get notes.cursors n ≡ Some None → SessionStands config t name f mounted notes old → Written told told_now result (text reply.NoCursor) →
-      Executes config old (command.Next n count) (SessionStands config t name f mounted notes) f f told told_now result
+  pub next-none : (mounted : Bool) → mounted ≡ true → slice_get notes.cursors n ≡ Some None → SessionStands config entries f mounted notes old → Written told told_now result (text reply.NoCursor) →
+      Executes config old (command.Next n count) (SessionStands config entries f mounted notes) f f told told_now result
   next-none mounted on e h wrote =
       let c = command.Next n count in
-      let h' = subst (λ m. SessionStands config t name f m notes old) on h in
+      let h' = subst (λ m. SessionStands config entries f m notes old) on h in
       let at : cursor_at old n ≡ None = ap (λ (cs : List (Option OpenCursor)). unwrap_or (slice_get cs n) None) h'.cursors ∙ cursor-told notes.cursors n None e in
-      next-answered mounted reply.NoCursor h (next-of config old n count (saying c (reply.NoCursor ∷ []) old) true None h'.is_mounted at (says c (reply.NoCursor ∷ []) old)) wrote
+      next-answered mounted reply.NoCursor h (λ moment none. λ within. rw (h'.is_mounted, at) none) (next-of config old n count (saying c (reply.NoCursor ∷ []) old) true None h'.is_mounted at (says c (reply.NoCursor ∷ []) old)) wrote

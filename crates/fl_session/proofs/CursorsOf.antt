@@ -20,65 +20,64 @@ use Rattle.fl_machine.specs.Step.{Moment, Says, Located, OpenStep, cursor_at}
 use Rattle.fl_script.specs.ReplyView.{reply_text}
 use Rattle.fl_script.specs.declared.reply.Reply as code
 use Rattle.fl_table.specs.Standing.{Stands}
-use Rattle.fl_table.specs.declared.table.Table.{Table}
-use Rattle.fl_session.specs.Answer.{Answers, Refusal}
+use Rattle.fl_session.specs.Answer.{Answers, Refusal, IsReached}
 use Rattle.fl_session.specs.Notes.{cursor_of, cursors_of}
 use Rattle.fl_session.specs.declared.notes.Notes.{Notes}
+use Rattle.fl_session.specs.declared.notes.TableCursor.{TableCursor}
+use Rattle.fl_session.specs.declared.tables.Entry.{Entry}
 use Rattle.fl_session.specs.Standing.{SessionStands}
-use Rattle.fl_session.proofs.Answering.{answers-saying, saying, says, step-is, table-step, located-own}
+use Rattle.fl_session.specs.Tables.{first_of}
+use Rattle.fl_session.proofs.Answering.{answers-saying, saying, says, step-is, table-step}
+use Rattle.fl_session.proofs.Owning.{own-of}
 use Rattle.fl_session.proofs.Refusing.{answers-refused}
 
 -- the cursor with a number
-pub cursor-told : (marks : List (Option Bookmark)) (n : ℕ) (mark : Option Bookmark) → slice_get marks n ≡ Some mark → unwrap_or (slice_get (cursors_of marks) n) None ≡ option_map cursor_of mark
+pub cursor-told : (marks : List (Option TableCursor)) (n : ℕ) (mark : Option TableCursor) → slice_get marks n ≡ Some mark → unwrap_or (slice_get (cursors_of marks) n) None ≡ option_map cursor_of mark
 cursor-told [] n mark e = absurd (none e)
   where
-    none : ◌≡◌ {A = Option (Option Bookmark)} None (Some mark) → ⊥
+    none : ◌≡◌ {A = Option (Option TableCursor)} None (Some mark) → ⊥
     none e = cc
 cursor-told (x ∷ marks) zero mark e = let same : x ≡ mark = cc in ap (option_map cursor_of) same
 cursor-told (x ∷ marks) (suc n) mark e = cursor-told marks n mark e
 
 -- the session after a cursor was set
-pub stands-set : (config : Config) (t : Table) (name : List ℕ) (notes : Notes) (f : FlashState) (n : ℕ) (mark : Option Bookmark) (m : Machine) → SessionStands config t name f true notes m →
-    SessionStands config t name f true (record notes { cursors = set notes.cursors n mark }) (record m { cursors = set m.cursors n (option_map cursor_of mark) })
-stands-set config t name notes f n mark m h = record {
+pub stands-set : (config : Config) (entries : List Entry) (notes : Notes) (f : FlashState) (n : ℕ) (mark : Option TableCursor) (m : Machine) → SessionStands config entries f true notes m →
+    SessionStands config entries f true (record notes { cursors = set notes.cursors n mark }) (record m { cursors = set m.cursors n (option_map cursor_of mark) })
+stands-set config entries notes f n mark m h = record {
   knots = h.knots;
+  built = h.built;
   medium = h.medium;
-  plan = h.plan;
-  plans = h.plans;
-  named = h.named;
-  planned = h.planned;
-  table = h.table;
   tables = h.tables;
   is_mounted = h.is_mounted;
   cursors = ap (λ (cs : List (Option OpenCursor)). set cs n (option_map cursor_of mark)) h.cursors ∙ sym (map-set (option_map cursor_of) notes.cursors n mark);
   device = h.device;
   cost_is = h.cost_is;
-  on_flash = h.on_flash;
   power = h.power;
 }
 
-pub open-call : (config : Config) (old : Machine) (t : Table) (name asked : List ℕ) (notes : Notes) (f : FlashState) (mounted : Bool) (faults n : ℕ) (range : KeyRange) (span : Option Span) (mark : Bookmark) →
-    SessionStands config t name f mounted notes old → Refusal name mounted asked None → ((f : FlashState) (first : ℕ) (plan : Plan) (table : model.Table) → Stands t f first plan table → asked_by mark ≡ begin range span table) →
-    Answers config old (command.Open n asked range span) (SessionStands config t name f mounted (record notes { cursors = set notes.cursors n (Some mark) })) faults faults (text reply.Done)
-open-call config old t name asked notes f mounted faults n range span mark h r begins =
-    let h' = subst (λ m. SessionStands config t name f m notes old) r.0 h in
-    let notes' : Notes = record notes { cursors = set notes.cursors n (Some mark) } in
-    let c = command.Open n name range span in
-    let is = begins f 0 h'.plan h'.table h'.on_flash in
-    let after : Machine = record old { cursors = set old.cursors n (Some (record { table = 0; cursor = asked_by mark })) } in
-    let at : Located = record { place = 0; plan = h'.plan; table = h'.table } in
-    let own = located-own config old h'.plan h'.table name h'.plans h'.tables h'.named in
-    let opened : OpenStep old (saying c (reply.Done ∷ []) after) n range span at =
-    subst (λ q. Says (saying c (reply.Done ∷ []) after) (reply.Done ∷ []) (record old { cursors = set old.cursors n (Some (record { table = 0; cursor = q })) })) is (says c (reply.Done ∷ []) after) in
-    let step = table-step config old (saying c (reply.Done ∷ []) after) name (OpenStep old (saying c (reply.Done ∷ []) after) n range span) at h'.is_mounted own opened in
-    subst (λ asked. Answers config old (command.Open n asked range span) (SessionStands config t name f mounted (record notes { cursors = set notes.cursors n (Some mark) })) faults faults (text reply.Done)) (sym r.1)
-    (subst (λ m. Answers config old (command.Open n name range span) (SessionStands config t name f m (record notes { cursors = set notes.cursors n (Some mark) })) faults faults (text reply.Done)) (sym r.0)
-    (answers-saying config old c reply.Done after (SessionStands config t name f true (record notes { cursors = set notes.cursors n (Some mark) })) faults faults step (stands-set config t name notes f n (Some mark) old h')))
+pub open-call : (config : Config) (old : Machine) (entries : List Entry) (at : ℕ) (entry : Entry) (asked : List ℕ) (notes : Notes) (f : FlashState) (mounted : Bool) (faults n : ℕ) (range : KeyRange) (span : Option Span) (mark : Bookmark) →
+    SessionStands config entries f mounted notes old → IsReached entries mounted asked at → slice_get entries at ≡ Some entry →
+    ((f : FlashState) (first : ℕ) (plan : Plan) (table : model.Table) → Stands entry.table f first plan table → asked_by mark ≡ begin range span table) →
+    Answers config old (command.Open n asked range span) (SessionStands config entries f mounted (record notes { cursors = set notes.cursors n (Some (record { table = at; mark = mark })) })) faults faults (text reply.Done)
+open-call config old entries at entry asked notes f mounted faults n range span mark h r here begins =
+    let h' = subst (λ m. SessionStands config entries f m notes old) r.mounted_is h in
+    let own = own-of config old entries f notes asked at entry h' here r.named in
+    let cursor : TableCursor = record { table = at; mark = mark } in
+    let notes' : Notes = record notes { cursors = set notes.cursors n (Some cursor) } in
+    let c = command.Open n asked range span in
+    let is = begins f (first_of config.plans at) own.plan own.table own.stands.on_flash in
+    let after : Machine = record old { cursors = set old.cursors n (Some (cursor_of cursor)) } in
+    let place : Located = record { place = at; plan = own.plan; table = own.table } in
+    let opened : OpenStep old (saying c (reply.Done ∷ []) after) n range span place =
+    subst (λ q. Says (saying c (reply.Done ∷ []) after) (reply.Done ∷ []) (record old { cursors = set old.cursors n (Some (record { table = at; cursor = q })) })) is (says c (reply.Done ∷ []) after) in
+    let step = table-step config old (saying c (reply.Done ∷ []) after) asked (OpenStep old (saying c (reply.Done ∷ []) after) n range span) place h'.is_mounted own.found opened in
+    subst (λ m. Answers config old c (SessionStands config entries f m notes') faults faults (text reply.Done)) (sym r.mounted_is)
+    (answers-saying config old c reply.Done after (SessionStands config entries f true notes') faults faults step (stands-set config entries notes f n (Some cursor) old h'))
 
-pub open-refused : (config : Config) (old : Machine) (t : Table) (name : List ℕ) (notes : Notes) (f : FlashState) (mounted : Bool) (asked : List ℕ) (n : ℕ) (range : KeyRange) (span : Option Span) (said : code.Reply) (faults : ℕ) →
-    SessionStands config t name f mounted notes old → Refusal name mounted asked (Some said) → Answers config old (command.Open n asked range span) (SessionStands config t name f mounted notes) faults faults (reply_text said)
-open-refused config old t name notes f mounted asked n range span said faults h r =
-    answers-refused config old t name notes f mounted (command.Open n asked range span) asked (λ moment. OpenStep old moment n range span) said faults h r (λ moment is w. step-is config old moment (command.Open n asked range span) is w)
+pub open-refused : (config : Config) (old : Machine) (entries : List Entry) (notes : Notes) (f : FlashState) (mounted : Bool) (asked : List ℕ) (n : ℕ) (range : KeyRange) (span : Option Span) (said : code.Reply) (faults : ℕ) →
+    SessionStands config entries f mounted notes old → Refusal entries mounted asked said → Answers config old (command.Open n asked range span) (SessionStands config entries f mounted notes) faults faults (reply_text said)
+open-refused config old entries notes f mounted asked n range span said faults h r =
+    answers-refused config old entries notes f mounted (command.Open n asked range span) asked (λ moment. OpenStep old moment n range span) said faults h r (λ moment is w. step-is config old moment (command.Open n asked range span) is w)
 
 -- ---- closed
 
@@ -89,37 +88,37 @@ close-of config old n moment mounted at m o h =
     subst (λ b. MatchBool b (MatchOption (cursor_at old n) (Says moment (reply.NoCursor ∷ []) old) (λ _. Says moment (reply.Done ∷ []) (record old { cursors = set old.cursors n None }))) (Says moment (reply.NotMounted ∷ []) old)) (sym m)
     (subst (λ (x : Option OpenCursor). MatchBool mounted (MatchOption x (Says moment (reply.NoCursor ∷ []) old) (λ _. Says moment (reply.Done ∷ []) (record old { cursors = set old.cursors n None }))) (Says moment (reply.NotMounted ∷ []) old)) (sym o) h)
 
-module _ (config : Config) (old : Machine) (t : Table) (name : List ℕ) (notes : Notes) (f : FlashState) (faults n : ℕ) where
-  pub close-off : (mounted : Bool) → mounted ≡ false → SessionStands config t name f mounted notes old → Answers config old (command.Close n) (SessionStands config t name f mounted notes) faults faults (text reply.NotMounted)
+module _ (config : Config) (old : Machine) (entries : List Entry) (notes : Notes) (f : FlashState) (faults n : ℕ) where
+  pub close-off : (mounted : Bool) → mounted ≡ false → SessionStands config entries f mounted notes old → Answers config old (command.Close n) (SessionStands config entries f mounted notes) faults faults (text reply.NotMounted)
   close-off mounted off h =
       let c = command.Close n in
-      answers-saying config old c reply.NotMounted old (SessionStands config t name f mounted notes) faults faults
+      answers-saying config old c reply.NotMounted old (SessionStands config entries f mounted notes) faults faults
       (close-of config old n (saying c (reply.NotMounted ∷ []) old) false (cursor_at old n) (h.is_mounted ∙ off) refl (says c (reply.NotMounted ∷ []) old)) h
 
-  pub close-none : (mounted : Bool) (mark : Option Bookmark) → mounted ≡ true → slice_get notes.cursors n ≡ Some mark → is_none mark ≡ true → SessionStands config t name f mounted notes old →
-      Answers config old (command.Close n) (SessionStands config t name f mounted notes) faults faults (text reply.NoCursor)
+  pub close-none : (mounted : Bool) (mark : Option TableCursor) → mounted ≡ true → slice_get notes.cursors n ≡ Some mark → is_none mark ≡ true → SessionStands config entries f mounted notes old →
+      Answers config old (command.Close n) (SessionStands config entries f mounted notes) faults faults (text reply.NoCursor)
   close-none mounted None on e none h =
       let c = command.Close n in
-      let h' = subst (λ m. SessionStands config t name f m notes old) on h in
+      let h' = subst (λ m. SessionStands config entries f m notes old) on h in
       let at : cursor_at old n ≡ None = ap (λ (cs : List (Option OpenCursor)). unwrap_or (slice_get cs n) None) h'.cursors ∙ cursor-told notes.cursors n None e in
-      answers-saying config old c reply.NoCursor old (SessionStands config t name f mounted notes) faults faults
+      answers-saying config old c reply.NoCursor old (SessionStands config entries f mounted notes) faults faults
       (close-of config old n (saying c (reply.NoCursor ∷ []) old) true None h'.is_mounted at (says c (reply.NoCursor ∷ []) old)) h
   close-none mounted (Some mark) on e none h = absurd (no none)
     where
       no : false ≡ true → ⊥
       no k = cc
 
-  pub close-open : (mounted : Bool) (mark : Option Bookmark) → mounted ≡ true → slice_get notes.cursors n ≡ Some mark → is_none mark ≡ false → SessionStands config t name f mounted notes old →
-      Answers config old (command.Close n) (SessionStands config t name f mounted (record notes { cursors = set notes.cursors n None })) faults faults (text reply.Done)
+  pub close-open : (mounted : Bool) (mark : Option TableCursor) → mounted ≡ true → slice_get notes.cursors n ≡ Some mark → is_none mark ≡ false → SessionStands config entries f mounted notes old →
+      Answers config old (command.Close n) (SessionStands config entries f mounted (record notes { cursors = set notes.cursors n None })) faults faults (text reply.Done)
   close-open mounted None on e some h = absurd (no some)
     where
       no : true ≡ false → ⊥
       no k = cc
   close-open mounted (Some mark) on e some h =
       let c = command.Close n in
-      let h' = subst (λ m. SessionStands config t name f m notes old) on h in
+      let h' = subst (λ m. SessionStands config entries f m notes old) on h in
       let after : Machine = record old { cursors = set old.cursors n None } in
       let at : cursor_at old n ≡ Some (cursor_of mark) = ap (λ (cs : List (Option OpenCursor)). unwrap_or (slice_get cs n) None) h'.cursors ∙ cursor-told notes.cursors n (Some mark) e in
-      answers-saying config old c reply.Done after (SessionStands config t name f mounted (record notes { cursors = set notes.cursors n None })) faults faults
+      answers-saying config old c reply.Done after (SessionStands config entries f mounted (record notes { cursors = set notes.cursors n None })) faults faults
       (close-of config old n (saying c (reply.Done ∷ []) after) true (Some (cursor_of mark)) h'.is_mounted at (says c (reply.Done ∷ []) after))
-      (subst (λ m. SessionStands config t name f m (record notes { cursors = set notes.cursors n None }) (record old { cursors = set old.cursors n None })) (sym on) (stands-set config t name notes f n None old h'))
+      (subst (λ m. SessionStands config entries f m (record notes { cursors = set notes.cursors n None }) (record old { cursors = set old.cursors n None })) (sym on) (stands-set config entries notes f n None old h'))

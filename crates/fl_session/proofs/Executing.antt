@@ -16,7 +16,7 @@ alike-same m = record { cost = refl; tables = refl; mounted = refl; device = ref
 
 -- a step whose replies were written
 pub executes-by : (E : Type 0) (config : Config) (old : Machine) (command : Command) (stands : Machine → Type 0) (f g : FlashState) (told told_now : Option (List ℕ)) (result : Result (Unit {0}) E) (moment : Moment) →
-    moment.command ≡ command → Step config old moment → stands moment.after → CountsReads f moment g command → ReadsAsStated config old moment g command → (IsTrue moment.rose → Rose f.media.faults g.media.faults) → Written {E = E} told told_now result (texts moment.replies) →
+    moment.command ≡ command → Step config old moment → stands moment.after → CountsReads f moment g command → ReadsAsStated config old moment g result command → (IsTrue moment.rose → Rose f.media.faults g.media.faults) → Written {E = E} told told_now result (texts moment.replies) →
     Executes config old command stands f g told told_now result
 executes-by E config old command stands f g told told_now (Ok done) moment is step s reads stated rose w = record {
   moment = moment;

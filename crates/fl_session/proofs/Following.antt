@@ -1,17 +1,19 @@
 -- What the next rows of a cursor are in the model.
-use Rattle.std.proofs.Common.{◌≡◌, ℕ, zero, suc, ◌+◌, ◌-◌, ◌<◌, ◌≤◌, Bool, true, false, IsTrue, Option, Some, None, Result, Ok, Err, OnOk, List, [], ◌∷◌, ◌++◌, length, map, take, refl, sym, ◌∙◌, ap, subst, arith, inl, inr, append-nil}
-use Rattle.std.specs.Prelude.{◌==◌, if◌then◌else◌}
+use Rattle.std.proofs.Common.{◌≡◌, ℕ, zero, suc, ◌+◌, ◌<◌, ◌≤◌, Bool, true, false, Option, Result, Ok, Err, OnOk, List, [], ◌∷◌, ◌++◌, length, map, take, refl, sym, ◌∙◌, ap, subst, arith, inl, inr, append-nil}
+use Rattle.std.specs.Prelude.{if◌then◌else◌}
 use Rattle.std.specs.List.{last_or}
-use Rattle.std.proofs.lemmas.Bool.{eq-eqb, ne_eqb}
-use Rattle.std.proofs.lemmas.List.{take-map, length-map, take_all, take-append-le}
+use Rattle.std.proofs.lemmas.Bool.{eq-eqb, ne_eqb, cases_lt}
+use Rattle.std.proofs.lemmas.List.{take-map, length-map, take_all}
 use Rattle.fl_base.specs.Causes.{Rose, AppendsFront}
 use Rattle.fl_base.specs.declared.stream.SinkFailed.{SinkFailed}
-use Rattle.fl_cursor.specs.Asked.{asked_by}
+use Rattle.fl_cursor.specs.Asked.{asked_by, lowest_of}
+use Rattle.fl_cursor.specs.Reads.{most_of, IsBounded}
 use Rattle.fl_cursor.specs.Cursor.{mark_of, left_of}
 use Rattle.fl_cursor.specs.declared.bookmark.Bookmark.{Bookmark}
 use Rattle.fl_cursor.specs.declared.cursor.Cursor.{Cursor}
-use Rattle.fl_flash.specs.declared.flash.FlashFault.{FlashFault}
-use Rattle.fl_machine.specs.Step.{rows_of, row_of}
+use Rattle.fl_flash.specs.Flash.{FlashState}
+use Rattle.fl_machine.specs.Step.{rows_of}
+use Rattle.fl_model.specs.Limits.{scan_limit}
 use Rattle.fl_model.specs.Query as query
 use Rattle.fl_model.specs.Query.{moved}
 use Rattle.fl_model.specs.Record.{Plan, has_var}
@@ -22,21 +24,19 @@ use Rattle.fl_page.specs.Contents.{Contents}
 use Rattle.fl_script.specs.Written.{Written}
 use Rattle.fl_words.specs.Reply as words
 use Rattle.fl_words.specs.Reply.{Reply, text, texts}
-use Rattle.fl_session.specs.Gives.{Gave}
+use Rattle.fl_page.specs.declared.fault.ReadFault.TheVariants.{Flash, BadPage}
+use Rattle.fl_session.specs.Gives.{Gave, Gives}
+use Rattle.fl_session.specs.Listed.{SaysFault, IfUnread}
+use Rattle.fl_session.specs.declared.listing.ListFault.{ListFault}
+use Rattle.fl_session.specs.declared.listing.ListFault.TheVariants.{Sink, Read}
 use Rattle.fl_session.specs.Nexts.{Nexts, given_of, ending_of}
 use Rattle.fl_session.specs.Rows.{row_reply}
-use Rattle.fl_session.proofs.Scanned.{row-line, written-last, front-last}
-
-lines-stored : (plan : Plan) (es : List Entry) → has_var plan ≡ false → map row_reply (map stored_row es) ≡ rows_of plan es
-lines-stored plan [] none = refl
-lines-stored plan (e ∷ es) none = ap (λ (r : Reply). r ∷ map row_reply (map stored_row es)) (row-line plan e none) ∙ ap (λ (l : List Reply). row_of plan e ∷ l) (lines-stored plan es none)
+use Rattle.fl_session.proofs.Resumed.{rose-read}
+use Rattle.fl_session.proofs.RowLines.{lines-stored, rows-front, written-last, front-last}
 
 keys-stored : (es : List Entry) → map (λ (r : Row). r.key) (map stored_row es) ≡ map (λ (e : Entry). e.kept.key) es
 keys-stored [] = refl
 keys-stored (e ∷ es) = ap (λ (l : List ℕ). e.kept.key ∷ l) (keys-stored es)
-
-rows-front : (rows rest : List Row) (es : List Entry) → map stored_row es ≡ rows ++ rest → rows ≡ map stored_row (take (length rows) es)
-rows-front rows rest es e = sym (take-append-le (length rows) rows rest (omega arith) ∙ take_all (length rows) rows (omega arith)) ∙ (ap (take (length rows)) (sym e) ∙ take-map stored_row (length rows) es)
 
 take-less : {X : Type 0} (n m : ℕ) (xs : List X) → n ≤ m → take n (take m xs) ≡ take n xs
 take-less zero m [] le = refl
@@ -46,8 +46,9 @@ take-less (suc n) zero xs le = absurd (omega (arith, le))
 take-less (suc n) (suc m) [] le = refl
 take-less (suc n) (suc m) (x ∷ xs) le = ap (λ l. x ∷ l) (take-less n m xs (omega (arith, le)))
 
-module _ (plan : Plan) (table : model.Table) (count : ℕ) (first new : Cursor) (contents : Contents) (told mid now : Option (List ℕ)) (faults faults_now : ℕ) (result : Result (Unit {0}) SinkFailed) (none : has_var plan ≡ false)
-    (are : left_of first contents ≡ map stored_row (query.left_of (asked_by (mark_of first)) table.entries)) where
+module _ (plan : Plan) (table : model.Table) (count : ℕ) (first new : Cursor) (contents : Contents) (told mid now : Option (List ℕ)) (f g : FlashState) (result : Result (Unit {0}) SinkFailed) (none : has_var plan ≡ false)
+    (are : left_of first contents ≡ map stored_row (query.left_of (asked_by (mark_of first)) table.entries))
+    (within : IsBounded (mark_of first).top (mark_of first).range.high → g.work.reads ≤ f.work.reads + scan_limit 64 plan table (mark_of first).range (mark_of first).span (lowest_of (asked_by (mark_of first)))) where
   abbrev all : List Entry
   all = query.left_of (asked_by (mark_of first)) table.entries
 
@@ -68,7 +69,7 @@ module _ (plan : Plan) (table : model.Table) (count : ℕ) (first new : Cursor) 
 
     -- all that were wanted were given, or all that were left
     nexts-whole : (last : Reply) → take (length rows) (query.left_of (asked_by (mark_of first)) table.entries) ≡ given_of count (mark_of first) table → ending_of count (length (given_of count (mark_of first) table)) ≡ last →
-        length (given_of count (mark_of first) table) ≡ length rows → Written mid now result (text last) → Nexts plan table count (mark_of first) (mark_of new) told now faults faults_now result
+        length (given_of count (mark_of first) table) ≡ length rows → Written mid now result (text last) → Nexts plan table count (mark_of first) (mark_of new) told now f.media.faults g.media.faults f.work.reads g.work.reads result
     nexts-whole last same ends many wrote = record {
       rose = false;
       risen = λ t. absurd (no t);
@@ -80,18 +81,19 @@ module _ (plan : Plan) (table : model.Table) (count : ℕ) (first new : Cursor) 
       wrote = subst (λ (r : Reply). Written told now result (texts (rows_of plan (given_of count (mark_of first) table) ++ r ∷ []))) (sym ends)
           (subst (λ (l : List Reply). Written told now result (texts (l ++ last ∷ []))) (lines-are ∙ ap (rows_of plan) same)
           (written-last (map row_reply rows) last told mid now result gave.wrote wrote));
+      within = within;
     }
       where
         no : false ≡ true → ⊥
         no e = cc
 
-    pub nexts-more : length rows ≡ count → Written mid now result (text words.More) → Nexts plan table count (mark_of first) (mark_of new) told now faults faults_now result
+    nexts-more : length rows ≡ count → Written mid now result (text words.More) → Nexts plan table count (mark_of first) (mark_of new) told now f.media.faults g.media.faults f.work.reads g.work.reads result
     nexts-more full wrote =
         let same = ap (λ n. take n (query.left_of (asked_by (mark_of first)) table.entries)) full in
         let many : length (given_of count (mark_of first) table) ≡ length rows = ap length (sym same) ∙ (sym (length-map (take (length rows) (query.left_of (asked_by (mark_of first)) table.entries)) stored_row) ∙ sym (ap length rows-are)) in
         nexts-whole words.More same (ap (λ (b : Bool). if b then words.More else words.CursorEnd) (eq-eqb (length (given_of count (mark_of first) table)) count (many ∙ full))) many wrote
 
-    pub nexts-end : length rows < count → left_of new contents ≡ [] → Written mid now result (text words.CursorEnd) → Nexts plan table count (mark_of first) (mark_of new) told now faults faults_now result
+    nexts-end : length rows < count → left_of new contents ≡ [] → Written mid now result (text words.CursorEnd) → Nexts plan table count (mark_of first) (mark_of new) told now f.media.faults g.media.faults f.work.reads g.work.reads result
     nexts-end less gone wrote =
         let whole : map stored_row (query.left_of (asked_by (mark_of first)) table.entries) ≡ rows = sym are ∙ (gave.left ∙ (ap (λ (l : List Row). rows ++ l) gone ∙ append-nil rows)) in
         let long : length (query.left_of (asked_by (mark_of first)) table.entries) ≡ length rows = sym (length-map (query.left_of (asked_by (mark_of first)) table.entries) stored_row) ∙ ap length whole in
@@ -100,7 +102,7 @@ module _ (plan : Plan) (table : model.Table) (count : ℕ) (first new : Cursor) 
         let many : length (given_of count (mark_of first) table) ≡ length rows = ap length (take_all count (query.left_of (asked_by (mark_of first)) table.entries) (omega (arith, long, less))) ∙ long in
         nexts-whole words.CursorEnd same (ap (λ (b : Bool). if b then words.More else words.CursorEnd) (ne_eqb (length (given_of count (mark_of first) table)) count (λ e. omega (arith, e, many, less)))) many wrote
 
-    pub nexts-unread : length rows < count → Rose faults faults_now → Written mid now result (text words.ReadFault) → Nexts plan table count (mark_of first) (mark_of new) told now faults faults_now result
+    nexts-unread : length rows < count → Rose f.media.faults g.media.faults → Written mid now result (text words.ReadFault) → Nexts plan table count (mark_of first) (mark_of new) told now f.media.faults g.media.faults f.work.reads g.work.reads result
     nexts-unread less rises wrote =
         let same = take-less (length rows) count (query.left_of (asked_by (mark_of first)) table.entries) (omega (arith, less)) in
         let many : length (take (length rows) (given_of count (mark_of first) table)) ≡ length rows = ap length same ∙ (sym (length-map (take (length rows) (query.left_of (asked_by (mark_of first)) table.entries)) stored_row) ∙ sym (ap length rows-are)) in
@@ -113,6 +115,7 @@ module _ (plan : Plan) (table : model.Table) (count : ℕ) (first new : Cursor) 
           replied = inr (refl, less, refl);
           moved_to = on-ok _ (moved-are ∙ ap (moved (asked_by (mark_of first))) (sym same)) result;
           wrote = subst (λ (l : List Reply). Written told now result (texts (l ++ words.ReadFault ∷ []))) (lines-are ∙ ap (rows_of plan) (sym same)) (written-last (map row_reply rows) words.ReadFault told mid now result gave.wrote wrote);
+          within = within;
         }
       where
         length-take-most : {X : Type 0} (n : ℕ) (xs : List X) → length (take n xs) ≤ length xs
@@ -122,7 +125,7 @@ module _ (plan : Plan) (table : model.Table) (count : ℕ) (first new : Cursor) 
         length-take-most (suc n) (x ∷ xs) = let h = length-take-most n xs in omega (arith, h)
 
   -- the sink failed in one of the lines
-  pub nexts-failed : AppendsFront told mid (texts (map row_reply (take count (left_of first contents)))) → (failed : SinkFailed) → Nexts plan table count (mark_of first) (mark_of new) told mid faults faults_now (Err failed)
+  nexts-failed : AppendsFront told mid (texts (map row_reply (take count (left_of first contents)))) → (failed : SinkFailed) → Nexts plan table count (mark_of first) (mark_of new) told mid f.media.faults g.media.faults f.work.reads g.work.reads (Err failed)
   nexts-failed front failed =
       let lines : map row_reply (take count (left_of first contents)) ≡ rows_of plan (given_of count (mark_of first) table) =
       ap (λ (l : List Row). map row_reply (take count l)) are ∙ (ap (map row_reply) (take-map stored_row count (query.left_of (asked_by (mark_of first)) table.entries)) ∙ lines-stored plan (given_of count (mark_of first) table) none) in
@@ -135,7 +138,36 @@ module _ (plan : Plan) (table : model.Table) (count : ℕ) (first new : Cursor) 
         replied = inl (refl, refl);
         moved_to = tt;
         wrote = front-last (rows_of plan (given_of count (mark_of first) table)) (ending_of count (length (given_of count (mark_of first) table))) told mid (subst (λ (l : List Reply). AppendsFront told mid (texts l)) lines front);
+        within = within;
       }
     where
       no : false ≡ true → ⊥
       no e = cc
+
+  -- so many were given, and that there may be more or that none is left was said
+  pub nexts-given : (given : ℕ) → Gives count first new contents told mid (Ok given) → Written mid now result (text (ending_of count given)) →
+      Nexts plan table count (mark_of first) (mark_of new) told now f.media.faults g.media.faults f.work.reads g.work.reads result
+  nexts-given given gives wrote = elim (cases_lt given count) [
+    | inl less ↦
+        let said : ending_of count given ≡ words.CursorEnd = ap (λ (b : Bool). if b then words.More else words.CursorEnd) (ne_eqb given count (λ e. omega (arith, e, less))) in
+        nexts-end gives.0 gives.1 (omega (arith, gives.2, less)) (gives.4 less) (subst (λ r. Written mid now result (text r)) said wrote)
+    | inr more ↦
+        let full : given ≡ count = omega (arith, more, gives.3) in
+        let said : ending_of count given ≡ words.More = ap (λ (b : Bool). if b then words.More else words.CursorEnd) (eq-eqb given count full) in
+        nexts-more gives.0 gives.1 (gives.2 ∙ full) (subst (λ r. Written mid now result (text r)) said wrote)
+  ]
+
+  -- .. or why not
+  pub nexts-fault : (fault : ListFault) → Gives count first new contents told mid (Err fault) → f.is_on ≡ true → IfUnread f g fault → SaysFault fault mid now result →
+      Nexts plan table count (mark_of first) (mark_of new) told now f.media.faults g.media.faults f.work.reads g.work.reads result
+  nexts-fault (Sink failed) front on why says = rw (says.0, says.1) (nexts-failed front failed)
+  nexts-fault (Read (Flash fault)) gives on why says = nexts-unread gives.0 gives.1 gives.2 (rose-read f g fault on why) says
+  nexts-fault (Read (BadPage bad)) gives on why says = absurd gives
+
+-- the reads of a cursor that is resumed
+pub reads-within : (plan : Plan) (table : model.Table) (first : Cursor) (contents : Contents) (reads reads_now : ℕ) {mark : Bookmark} → mark_of first ≡ mark →
+    (IsBounded mark.top mark.range.high → most_of first contents ≤ scan_limit 64 plan table mark.range mark.span (lowest_of (asked_by mark))) → reads_now ≤ reads + most_of first contents →
+    IsBounded (mark_of first).top (mark_of first).range.high → reads_now ≤ reads + scan_limit 64 plan table (mark_of first).range (mark_of first).span (lowest_of (asked_by (mark_of first)))
+reads-within plan table first contents reads reads_now {mark} is limit most =
+    subst (λ (m : Bookmark). IsBounded m.top m.range.high → reads_now ≤ reads + scan_limit 64 plan table m.range m.span (lowest_of (asked_by m))) (sym is)
+    (λ bounded. let few = limit bounded in omega (arith, few, most))

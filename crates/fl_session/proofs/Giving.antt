@@ -1,10 +1,13 @@
 -- Rows that a cursor gives one after another.
-use Rattle.std.proofs.Common.{◌≡◌, ℕ, zero, suc, ◌+◌, ◌-◌, ◌<◌, ◌≤◌, true, false, Option, Some, None, Result, Ok, Err, List, [], ◌∷◌, ◌++◌, length, map, take, refl, sym, ◌∙◌, ap, subst, arith, append_assoc, append-nil, length-append}
+use Rattle.std.proofs.Common.{◌≡◌, ℕ, zero, suc, ◌-◌, ◌<◌, true, Option, Some, Ok, Err, List, [], ◌∷◌, ◌++◌, length, map, take, refl, sym, ◌∙◌, ap, subst, arith, append_assoc, append-nil}
 use Rattle.std.proofs.lemmas.List.{map-append}
 use Rattle.std.proofs.lemmas.Grind.{flat_map-append}
 use Rattle.std.specs.List.{last_or}
 use Rattle.fl_base.specs.Causes.{Appends, AppendsFront}
-use Rattle.fl_cursor.specs.Cursor.{mark_of, present_of, left_of}
+use Rattle.fl_cursor.specs.Cursor.{table_of, mark_of, asked_of, left_of, is_end, has_ended}
+use Rattle.fl_cursor.specs.Reads.{least_of, least_from}
+use Rattle.fl_cursor.specs.declared.place.Place.{Place}
+use Rattle.fl_cursor.specs.declared.place.Place.TheVariants.{Start, Pages, InPage, Pending, Ended}
 use Rattle.fl_cursor.specs.declared.bookmark.Bookmark.{Bookmark}
 use Rattle.fl_cursor.specs.declared.cursor.Cursor.{Cursor}
 use Rattle.fl_model.specs.Row.{Row}
@@ -14,11 +17,10 @@ use Rattle.fl_page.specs.Steps.{Steps}
 use Rattle.fl_page.specs.declared.fault.ReadFault.{ReadFault}
 use Rattle.fl_page.specs.declared.fault.ReadFault.TheVariants.{Flash, BadPage}
 use Rattle.fl_script.proofs.Sending.{appends-append, sent-failed}
-use Rattle.fl_words.specs.Reply.{Reply, text, texts}
+use Rattle.fl_words.specs.Reply.{text, texts}
 use Rattle.fl_session.specs.Gives.{Gave, Gives}
 use Rattle.fl_session.specs.Rows.{row_reply}
-use Rattle.fl_session.specs.declared.listing.ListFault.{ListFault}
-use Rattle.fl_session.specs.declared.listing.ListFault.TheVariants.{Sink, Read}
+use Rattle.fl_session.specs.declared.listing.ListFault.TheVariants.{Read}
 use Rattle.fl_session.proofs.RowLines.{appends-none}
 
 -- the lines of rows, and of one more
@@ -73,5 +75,16 @@ module _ (first mid new : Cursor) (contents : Contents) (told told_mid : Option 
   gives-fault count row (Flash fault) steps mark less = (rows, gave-same mark steps, less)
   gives-fault count row (BadPage bad) steps mark less = steps
 
-  pub gives-all : (count : ℕ) → left_of mid contents ≡ [] → left_of new contents ≡ [] → mark_of new ≡ mark_of mid → length rows < count → Gives count first new contents told told_mid (Ok false)
-  gives-all count none left mark less = (rows, gave-same mark (left ∙ sym none), less, left)
+  pub gives-all : (count given : ℕ) → length rows ≡ given → left_of mid contents ≡ [] → left_of new contents ≡ [] → mark_of new ≡ mark_of mid → given < count → Gives count first new contents told told_mid (Ok given)
+  gives-all count given many none left mark less = (rows, gave-same mark (left ∙ sym none), many, omega (arith, less), λ _. left)
+
+-- at the end nothing more is read
+pub least-ended : (cursor : Cursor) (contents : Contents) → has_ended cursor ≡ true → least_of cursor contents ≡ 0
+least-ended cursor contents e = by_place cursor.place e
+  where
+    by_place : (place : Place) → is_end place ≡ true → least_from (table_of cursor) contents (asked_of cursor) place ≡ 0
+    by_place Ended e = refl
+    by_place Start e = cc
+    by_place (Pages next) e = cc
+    by_place (InPage number row) e = cc
+    by_place (Pending row) e = cc

@@ -1,10 +1,15 @@
--- A flash over several calls.
-use Rattle.std.proofs.Common.{◌≡◌, ◌+◌, IsTrue, take, drop, refl, sym, ◌∙◌, subst, arith, le_trans}
+-- A flash and a table over several calls.
+use Rattle.std.proofs.Common.{◌≡◌, ◌+◌, Bool, Option, IsTrue, take, drop, refl, sym, ◌∙◌, subst, arith, le_trans}
 use Rattle.fl_flash.specs.Flash.{FlashState, Goes}
 use Rattle.fl_flash.specs.Places.{extent}
+use Rattle.fl_flash.specs.declared.armed.Armed.{Armed}
+use Rattle.fl_table.specs.Memory.{IsSamePlan}
+use Rattle.fl_table.specs.declared.table.Table.{Table}
+use Rattle.fl_table.proofs.Indexing.{plan-same, plan-then}
 
-pub goes-same : (f : FlashState) → Goes f f
-goes-same f = record {
+-- the power or the armed cut alone was changed
+pub goes-set : (f : FlashState) (is_on : Bool) (armed : Option Armed) → Goes f (record f { is_on = is_on; armed = armed })
+goes-set f is_on armed = record {
   geometry = refl;
   blocks = refl;
   start = refl;
@@ -35,3 +40,14 @@ goes-on old mid new a b = record {
   cuts = le_trans a.cuts b.cuts;
   faults = le_trans a.faults b.faults;
 }
+
+-- .. or nothing
+pub goes-same : (f : FlashState) → Goes f f
+goes-same f = goes-set f f.is_on f.armed
+
+-- .. and a table
+pub same-plan : (t : Table) → IsSamePlan t t
+same-plan t = record { geometry = refl; layout = refl; place = refl; buckets = refl; error = refl; bitmaps = plan-same t.bitmaps }
+
+pub same-on : (old mid new : Table) → IsSamePlan old mid → IsSamePlan mid new → IsSamePlan old new
+same-on old mid new a b = record { geometry = b.geometry ∙ a.geometry; layout = b.layout ∙ a.layout; place = b.place ∙ a.place; buckets = b.buckets ∙ a.buckets; error = b.error ∙ a.error; bitmaps = plan-then old.bitmaps mid.bitmaps new.bitmaps a.bitmaps b.bitmaps }

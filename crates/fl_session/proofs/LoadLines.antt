@@ -1,6 +1,7 @@
 -- The lines of a load, which are written one after another.
-use Rattle.std.proofs.Common.{◌≡◌, ℕ, Bool, true, false, Option, Some, None, Result, Ok, Err, List, [], ◌∷◌, ◌++◌, append_assoc, refl, sym, ◌∙◌, ap, subst}
+use Rattle.std.proofs.Common.{◌≡◌, ℕ, Bool, true, false, Option, Some, Result, Ok, Err, List, [], ◌∷◌, ◌++◌, append_assoc, refl, sym, ◌∙◌, ap, subst, arith}
 use Rattle.std.specs.Prelude.{is_err, not}
+use Rattle.std.specs.List.{slice_get}
 use Rattle.fl_base.specs.Causes.{Appends, AppendsFront}
 use Rattle.fl_flash.specs.Flash.{FlashState}
 use Rattle.fl_model.specs.Record.{Config}
@@ -16,10 +17,12 @@ use Rattle.fl_script.specs.declared.reply.Reply as code
 use Rattle.fl_table.specs.Causes.{put_breaks}
 use Rattle.fl_table.specs.declared.faults.PutRefusal.{PutRefusal}
 use Rattle.fl_table.specs.declared.table.Table.{Table}
-use Rattle.fl_session.specs.Answer.{Answers, Refusal, put_reply, load_replies}
+use Rattle.fl_session.specs.Answer.{Answers, Refusal, IsReached, put_reply, load_replies}
 use Rattle.fl_session.specs.Execute.{Executes}
 use Rattle.fl_session.specs.declared.notes.Notes.{Notes}
 use Rattle.fl_session.specs.Standing.{SessionStands}
+use Rattle.fl_session.specs.Tables.{entries_with, IsNamed}
+use Rattle.fl_session.specs.declared.tables.Entry.{Entry}
 use Rattle.fl_session.proofs.Answering.{executes-answered, step-is}
 use Rattle.fl_session.proofs.Refusing.{answers-refused}
 
@@ -47,26 +50,25 @@ front-second told mid now count (Err refusal) line e is first h =
     (a ++ h.0, (h.1.0 ++ [], parts), appends-append told mid now a h.0 first h.2)
 
 -- a load that is executed
-pub load-executes : (E : Type 0) (config : Config) (old : Machine) (t u : Table) (name asked : List ℕ) (notes : Notes) (f g : FlashState) (mounted breaks : Bool) (count step seed loaded : ℕ) (outcome : Result (Unit {0}) PutRefusal) (told told_now : Option (List ℕ)) (result : Result (Unit {0}) E) →
-    SessionStands config t name f mounted notes old → Refusal name mounted asked None →
-    ((config : Config) (name : List ℕ) (notes : Notes) (old : Machine) → SessionStands config t name f true notes old →
-    Answers config old (command.Load name count step seed) (SessionStands config u name g (not (put_breaks outcome)) notes) f.media.faults g.media.faults (texts (load_replies loaded outcome))) →
+pub load-executes : (E : Type 0) (config : Config) (old : Machine) (entries : List Entry) (at : ℕ) (entry : Entry) (u : Table) (asked : List ℕ) (notes : Notes) (f g : FlashState) (mounted breaks : Bool) (count step seed loaded : ℕ) (outcome : Result (Unit {0}) PutRefusal) (told told_now : Option (List ℕ)) (result : Result (Unit {0}) E) →
+    SessionStands config entries f mounted notes old → IsReached entries mounted asked at → slice_get entries at ≡ Some entry → g.work.reads ≡ f.work.reads →
+    ((config : Config) (entries : List Entry) (at : ℕ) (e : Entry) (name : List ℕ) (notes : Notes) (old : Machine) → SessionStands config entries f true notes old → slice_get entries at ≡ Some e → e.table ≡ entry.table → IsNamed entries name at →
+    Answers config old (command.Load name count step seed) (SessionStands config (entries_with entries at e u) g (not (put_breaks outcome)) notes) f.media.faults g.media.faults (texts (load_replies loaded outcome))) →
     breaks ≡ put_breaks outcome → Written told told_now result (texts (load_replies loaded outcome)) →
-    Executes config old (command.Load asked count step seed) (SessionStands config u name g (not breaks) notes) f g told told_now result
-load-executes E config old t u name asked notes f g mounted breaks count step seed loaded outcome told told_now result h r answers b wrote =
-    let h' = subst (λ m. SessionStands config t name f m notes old) r.0 h in
-    subst (λ asked. Executes config old (command.Load asked count step seed) (SessionStands config u name g (not breaks) notes) f g told told_now result) (sym r.1)
-    (subst (λ broken. Executes config old (command.Load name count step seed) (SessionStands config u name g (not broken) notes) f g told told_now result) (sym b)
-    (executes-answered E config old (command.Load name count step seed) (SessionStands config u name g (not (put_breaks outcome)) notes) f g (texts (load_replies loaded outcome)) told told_now result
-    (answers config name notes old h') (λ moment none. none) (λ moment none. tt) wrote))
+    Executes config old (command.Load asked count step seed) (SessionStands config (entries_with entries at entry u) g (not breaks) notes) f g told told_now result
+load-executes E config old entries at entry u asked notes f g mounted breaks count step seed loaded outcome told told_now result h r here unread answers b wrote =
+    let h' = subst (λ m. SessionStands config entries f m notes old) r.mounted_is h in
+    subst (λ broken. Executes config old (command.Load asked count step seed) (SessionStands config (entries_with entries at entry u) g (not broken) notes) f g told told_now result) (sym b)
+    (executes-answered E config old (command.Load asked count step seed) (SessionStands config (entries_with entries at entry u) g (not (put_breaks outcome)) notes) f g (texts (load_replies loaded outcome)) told told_now result
+    (answers config entries at entry asked notes old h' here refl r.named) (λ moment none. (none, omega (arith, unread))) (λ moment none. tt) wrote)
 
 -- .. and one that isn't
-pub load-refused : (E : Type 0) (config : Config) (old : Machine) (t : Table) (name : List ℕ) (notes : Notes) (f : FlashState) (mounted : Bool) (asked : List ℕ) (count step seed : ℕ) (said : code.Reply) (told told_now : Option (List ℕ)) (result : Result (Unit {0}) E) →
-    SessionStands config t name f mounted notes old → Refusal name mounted asked (Some said) → Written told told_now result (reply_text said) →
-    Executes config old (command.Load asked count step seed) (SessionStands config t name f mounted notes) f f told told_now result
-load-refused E config old t name notes f mounted asked count step seed said told told_now result h r wrote =
-    executes-answered E config old (command.Load asked count step seed) (SessionStands config t name f mounted notes) f f (reply_text said) told told_now result
-    (answers-refused config old t name notes f mounted (command.Load asked count step seed) asked (λ moment. LoadStep config old moment count step seed) said f.media.faults h r (λ moment is w. step-is config old moment (command.Load asked count step seed) is w)) (λ moment none. none) (λ moment none. tt) wrote
+pub load-refused : (E : Type 0) (config : Config) (old : Machine) (entries : List Entry) (notes : Notes) (f : FlashState) (mounted : Bool) (asked : List ℕ) (count step seed : ℕ) (said : code.Reply) (told told_now : Option (List ℕ)) (result : Result (Unit {0}) E) →
+    SessionStands config entries f mounted notes old → Refusal entries mounted asked said → Written told told_now result (reply_text said) →
+    Executes config old (command.Load asked count step seed) (SessionStands config entries f mounted notes) f f told told_now result
+load-refused E config old entries notes f mounted asked count step seed said told told_now result h r wrote =
+    executes-answered E config old (command.Load asked count step seed) (SessionStands config entries f mounted notes) f f (reply_text said) told told_now result
+    (answers-refused config old entries notes f mounted (command.Load asked count step seed) asked (λ moment. LoadStep config old moment count step seed) said f.media.faults h r (λ moment is w. step-is config old moment (command.Load asked count step seed) is w)) (λ moment none. (none, omega arith)) (λ moment none. tt) wrote
 
 -- a put that was done broke nothing
 pub unbroken : (outcome : Result (Unit {0}) PutRefusal) → is_err outcome ≡ false → put_breaks outcome ≡ false

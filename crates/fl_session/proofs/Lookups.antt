@@ -18,7 +18,7 @@ use Rattle.fl_table.specs.Finding.{IsFound, ShowsEntry, row_of_place}
 use Rattle.fl_table.specs.declared.find.RowAt.{RowAt}
 use Rattle.fl_session.specs.Looked.{Looks}
 use Rattle.fl_session.specs.Rows.{row_reply}
-use Rattle.fl_session.proofs.Scanned.{row-line}
+use Rattle.fl_session.proofs.RowLines.{row-line}
 
 same-some : {X : Type 0} (a b : X) → Some a ≡ Some b → a ≡ b
 same-some a b e = cc

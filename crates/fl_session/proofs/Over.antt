@@ -1,7 +1,10 @@
 -- A session that was begun over an opened image, and ended.
-use Rattle.std.proofs.Common.{◌≡◌, ℕ, ◌+◌, Bool, true, false, IsTrue, Option, Some, None, Result, Ok, Err, inl, inr, length, take, List, [], ◌∷◌, ◌≤◌, sum_by, refl, sym, ◌∙◌, ap, subst, le_trans, arith}
-use Rattle.std.specs.Prelude.{if◌then◌else◌, ◌*◌, ◌^◌, ◌<◌, ◌||◌, nat_lt, is_some, IfSome}
+use Rattle.std.proofs.Common.{◌≡◌, ℕ, zero, suc, ◌+◌, Bool, true, false, IsTrue, Option, Some, None, Result, Ok, Err, inl, inr, length, take, List, [], ◌∷◌, ◌≤◌, sum_by, refl, sym, ◌∙◌, ap, subst, le_trans, arith}
+use Rattle.std.specs.Prelude.{if◌then◌else◌, ◌*◌, ◌^◌, ◌<◌, ◌||◌, nat_lt, IfSome, slice_get, replicate}
 use Rattle.std.proofs.lemmas.Bool.{ltb-false}
+use Rattle.std.proofs.lemmas.List.Sums.{sum_by-take-le}
+use Rattle.std.proofs.lemmas.Option.{slice_get_within}
+use Rattle.fl_model.proofs.Lists.{slice_get-some}
 use base.Fml.{GName}
 use Rattle.fl_base.specs.declared.types.Geometry.{Geometry}
 use Rattle.fl_flash.specs.Flash.{FlashState, pages, Goes}
@@ -18,11 +21,12 @@ use Rattle.fl_script.specs.declared.command.Command as code
 use Rattle.fl_session.specs.declared.status.Status.{Status}
 use Rattle.fl_session.specs.Built.{are_built}
 use Rattle.fl_session.specs.Stream.{LinesState}
-use Rattle.fl_table.specs.declared.table.Table as code_table
-use Rattle.fl_table.specs.Memory.{IsPlanned, LiesOn}
 use Rattle.fl_session.specs.Notes.{no_notes}
 use Rattle.fl_session.specs.declared.notes.Notes.{Notes}
-use Rattle.fl_session.specs.Standing.{SessionStands, IsSound, RestsOn, IsNewTable, HasRooms}
+use Rattle.fl_session.specs.Standing.{SessionStands, IsSound, RestsOn, HasRooms}
+use Rattle.fl_session.specs.Tables.{first_of, AreNewTables, LieOn}
+use Rattle.fl_session.specs.declared.tables.Entry.{Entry}
+use Rattle.fl_session.specs.declared.notes.TableCursor.{TableCursor}
 use Rattle.fl_session.specs.declared.buffers.Buffers.{Buffers}
 use Rattle.fl_session.specs.Run.{RunsFrom, around_of, IsOfCommands, refused_status}
 use Rattle.fl_session.specs.declared.status.Status.TheVariants.{Usage, MediaMake, OtherConfig}
@@ -40,8 +44,10 @@ use Rattle.fl_config.specs.Whole.{is_whole, is_whole_of, Makes}
 use Rattle.fl_session.proofs.Running.{nothing-added}
 use Rattle.fl_session.proofs.Ready.{ready-room, stands-ready}
 use Rattle.fl_session.proofs.Ending.{runs-seen, ends-of_run, begins-ready, begins-takes}
-use Rattle.fl_session.proofs.Rooms.{some-plan}
-use Rattle.fl_session.proofs.Rested.{IsOne, built-one, session-begins, session-ends, opened-rests, opened-formed}
+use Rattle.fl_session.proofs.Apart.{blocks-apart}
+use Rattle.fl_session.proofs.TablesChanged.{some-is}
+use Rattle.fl_session.proofs.BuiltAll.{ArePlain, built-all}
+use Rattle.fl_session.proofs.Rested.{session-begins, session-ends, opened-rests, opened-formed}
 
 -- the parts of a whole configuration
 pub record AreParts (knots : ℕ) (lines : Lines) (config : Config) : Type 0 where
@@ -68,59 +74,69 @@ parts_of knots lines (Some geometry) (plan ∷ plans) config d p e =
 pub whole-parts : (knots : ℕ) (lines : Lines) (config : Config) → whole knots lines ≡ Some config → AreParts knots lines config
 whole-parts knots lines config e = parts_of knots lines lines.device lines.plans config refl refl e
 
-pub one-of : (knots : ℕ) (lines : Lines) (config : Config) → are_built lines.plans ≡ true → AreParts knots lines config → IsOne config.plans
-one-of knots lines config built parts = built-one config.plans (ap are_built (sym parts.plans) ∙ built) parts.some
+pub plain-of : (knots : ℕ) (lines : Lines) (config : Config) → are_built lines.plans ≡ true → AreParts knots lines config → ArePlain config.plans
+plain-of knots lines config built parts = built-all config.plans (ap are_built (sym parts.plans) ∙ built)
 
 or-left : (a b : Bool) → (a || b) ≡ false → a ≡ false
 or-left true b e = e
 or-left false b e = refl
 
--- a new table lies on a flash of its configuration
+-- new tables lie on a flash of their configuration
+blocks-within : (plans : List Plan) (i : ℕ) (plan : Plan) → slice_get plans i ≡ Some plan → first_of plans i + blocks_of plan ≤ sum_by blocks_of plans
+blocks-within plans i plan e =
+    le_trans (blocks-apart plans i (length plans) plan e (slice_get_within plans i plan e)) (sum_by-take-le blocks_of plans (length plans))
+
 few-pages : (f : FlashState) (plans : List Plan) → f.blocks ≡ sum_by blocks_of plans → too_large f.geometry plans ≡ false → pages f < 2 ^ 32
 few-pages f plans e fits =
     let few = ltb-false 65536 (sum_by blocks_of plans * f.geometry.block) (or-left (nat_lt 65536 (sum_by blocks_of plans * f.geometry.block)) (nat_lt 67108864 (sum_by blocks_of plans * f.geometry.block * f.geometry.page)) fits) in
     subst (λ blocks. blocks * f.geometry.block < 2 ^ 32) (sym e) (omega (arith, few))
 
-pub new-lies : (t : code_table.Table) (lines : Lines) (f : FlashState) → IsNewTable t lines → (one : IsOne lines.plans) → lines.device ≡ Some f.geometry → f.blocks ≡ sum_by blocks_of lines.plans → too_large f.geometry lines.plans ≡ false → LiesOn t f
-new-lies t lines f new one device blocks fits =
-    let planned = new.planned one.plan one.plans_are in
-    let geometry : f.geometry ≡ t.geometry = cc (device, new.device) in
-    let all : sum_by blocks_of lines.plans ≡ 0 + blocks_of one.plan = ap (λ ps. sum_by blocks_of ps) one.plans_are in
-    record {
-      geometry = geometry;
-      within = omega (arith, blocks, all, planned.begins, planned.blocks);
-      few = few-pages f lines.plans blocks fits;
-      ring = λ r is. absurd (some (ap is_some (sym is) ∙ new.rests));
-    }
-  where
-    some : true ≡ false → ⊥
-    some e = cc
+new-lie : (entries : List Entry) (lines : Lines) (f : FlashState) → AreNewTables entries lines → lines.device ≡ Some f.geometry → f.blocks ≡ sum_by blocks_of lines.plans → too_large f.geometry lines.plans ≡ false → LieOn entries f
+new-lie entries lines f new device blocks fits i entry e =
+    let plan = slice_get-some lines.plans i (omega (arith, slice_get_within entries i entry e, new.as_many)) in
+    let made = new.each i plan.0 entry plan.1 e in
+    made.lies f (some-is lines.device f.geometry entry.table.geometry device made.device ∙ sym made.planned.geometry) (omega (arith, blocks, blocks-within lines.plans i plan.0 plan.1)) (few-pages f lines.plans blocks fits)
 
--- a session that begins over it is sound
-pub new-sound : (t t' : code_table.Table) (lines : Lines) (f f' : FlashState) (buf buf' : Buffers) → t' ≡ t → f' ≡ f → buf' ≡ buf → IsNewTable t lines → IsTrue (is_whole lines) → are_built lines.plans ≡ true → lines.device ≡ Some f.geometry → f.blocks ≡ sum_by blocks_of lines.plans →
-    IfSome lines.device (λ geometry. too_large geometry lines.plans ≡ false) → ((geometry : Geometry) → lines.device ≡ Some geometry → HasRooms buf geometry.page) → (mounted : Bool) → mounted ≡ false → IsSound t' f' buf' mounted
-new-sound t t' lines f f' buf buf' t_is f_is buf_is new whole built device blocks fits page mounted off =
-    let one = built-one lines.plans built (some-plan lines.device lines.plans whole) in
+no-cursor : (n i : ℕ) (c : TableCursor) → slice_get (replicate n None) i ≡ Some (Some c) → ⊥
+no-cursor zero i c e = none e
+  where
+    none : ◌≡◌ {A = Option (Option TableCursor)} None (Some (Some c)) → ⊥
+    none k = cc
+no-cursor (suc n) zero c e = none e
+  where
+    none : ◌≡◌ {A = Option (Option TableCursor)} (Some None) (Some (Some c)) → ⊥
+    none k = cc
+no-cursor (suc n) (suc i) c e = no-cursor n i c e
+
+-- a session that begins over them is sound
+pub new-sound : (entries entries' : List Entry) (lines : Lines) (f f' : FlashState) (buf buf' : Buffers) (notes : Notes) → entries' ≡ entries → f' ≡ f → buf' ≡ buf → notes ≡ no_notes → AreNewTables entries lines → lines.device ≡ Some f.geometry → f.blocks ≡ sum_by blocks_of lines.plans →
+    IfSome lines.device (λ geometry. too_large geometry lines.plans ≡ false) → ((geometry : Geometry) → lines.device ≡ Some geometry → HasRooms buf geometry.page) → (mounted : Bool) → mounted ≡ false → IsSound entries' f' buf' mounted notes
+new-sound entries entries' lines f f' buf buf' notes entries_are f_is buf_is fresh new device blocks fits page mounted off =
     let small : too_large f.geometry lines.plans ≡ false = subst (λ d. IfSome d (λ geometry. too_large geometry lines.plans ≡ false)) device fits in
-    rw (t_is, f_is, buf_is) (record { lies = new-lies t lines f new one device blocks small; room = page f.geometry device; running = λ on. absurd (not_on (sym on ∙ off)) })
+    rw (entries_are, f_is, buf_is) (record {
+      lie = new-lie entries lines f new device blocks small;
+      room = page f.geometry device;
+      running = λ on. absurd (not_on (sym on ∙ off));
+      cursors = λ i c e. absurd (no-cursor 4 i c (ap (λ (n : Notes). slice_get n.cursors i) (sym fresh) ∙ e));
+    })
   where
     not_on : true ≡ false → ⊥
     not_on e = cc
 
 -- what was run in the session was run over the medium
-pub session-runs : (config : Config) (t t' : code_table.Table) (name name' : List ℕ) (notes notes' : Notes) (f f' : FlashState) (old new : MediaState) (mounted mounted' : Bool) (geometry : Geometry) (blocks : ℕ) (origin : GName) →
+pub session-runs : (config : Config) (lines : Lines) (entries entries' : List Entry) (notes notes' : Notes) (f f' : FlashState) (old new : MediaState) (mounted mounted' : Bool) (geometry : Geometry) (blocks : ℕ) (origin : GName) →
     f ≡ on_medium geometry blocks 1024 origin true None 0 (record { reads = 0; programs = 0; erases = 0 }) old → geometry ≡ config.geometry → new ≡ f'.media → IsTrue old.tells →
-    (one : IsOne config.plans) → one.plan.name ≡ name → IsPlanned t 0 one.plan → mounted ≡ false → notes ≡ no_notes → config.knots ≡ 64 →
+    lines.device ≡ Some config.geometry → lines.plans ≡ config.plans → AreNewTables entries lines → mounted ≡ false → notes ≡ no_notes → config.knots ≡ 64 → are_built config.plans ≡ true →
     (first : Option code.Command) (number : ℕ) (state : LinesState) (left left_now told told_now : Option (List ℕ)) (status : Status) →
-    RunsFrom first number state left left_now (around_of config f.media f'.media told told_now) (SessionStands config t name f mounted notes) (SessionStands config t' name' f' mounted' notes') status →
+    RunsFrom first number state left left_now (around_of config f.media f'.media told told_now) (SessionStands config entries f mounted notes) (SessionStands config entries' f' mounted' notes') status →
     RunsFrom first number state left left_now (around_of config old new told told_now) (RestsOn config old.content) (StandsAfter config (Some new.content)) status
-session-runs config t t' name name' notes notes' f f' old new mounted mounted' geometry blocks origin is g_is media tells one named planned off fresh knots first number state left left_now told told_now status h =
-    let begin : (m : Machine) → RestsOn config old.content m → SessionStands config t name f mounted notes m =
-    λ m r. subst (λ b. SessionStands config t name f b notes m) (sym off)
-    (subst (λ x. SessionStands config t name x false notes m) (sym is)
-    (session-begins config t name notes (on_medium geometry blocks 1024 origin true None 0 (record { reads = 0; programs = 0; erases = 0 }) old) m fresh tells refl g_is refl refl refl one named planned knots r)) in
-    let end : (m : Machine) → SessionStands config t' name' f' mounted' notes' m → StandsAfter config (Some f'.media.content) m = λ m s. session-ends config t' name' notes' f' mounted' m s in
-    let seen = runs-seen first number state left left_now (around_of config f.media f'.media told told_now) (SessionStands config t name f mounted notes) (SessionStands config t' name' f' mounted' notes')
+session-runs config lines entries entries' notes notes' f f' old new mounted mounted' geometry blocks origin is g_is media tells device plans made off fresh knots built first number state left left_now told told_now status h =
+    let begin : (m : Machine) → RestsOn config old.content m → SessionStands config entries f mounted notes m =
+    λ m r. subst (λ b. SessionStands config entries f b notes m) (sym off)
+    (subst (λ x. SessionStands config entries x false notes m) (sym is)
+    (session-begins config lines entries notes (on_medium geometry blocks 1024 origin true None 0 (record { reads = 0; programs = 0; erases = 0 }) old) m fresh tells refl g_is refl refl refl device plans made knots built r)) in
+    let end : (m : Machine) → SessionStands config entries' f' mounted' notes' m → StandsAfter config (Some f'.media.content) m = λ m s. session-ends config entries' notes' f' mounted' m s in
+    let seen = runs-seen first number state left left_now (around_of config f.media f'.media told told_now) (SessionStands config entries f mounted notes) (SessionStands config entries' f' mounted' notes')
     (RestsOn config old.content) (StandsAfter config (Some f'.media.content)) status begin end h in
     let from : RunsFrom first number state left left_now (around_of config old f'.media told told_now) (RestsOn config old.content) (StandsAfter config (Some f'.media.content)) status =
     subst (λ (x : FlashState). RunsFrom first number state left left_now (around_of config x.media f'.media told told_now) (RestsOn config old.content) (StandsAfter config (Some f'.media.content)) status) is seen in
@@ -158,7 +174,7 @@ pub ends-opened : (knots : ℕ) (text : List ℕ) (lines : Lines) (first : Optio
 ends-opened knots text lines first number state left left_now told told_now config old mid new origin status begins w built tells opened kept same_tells later later' h =
     let ready = begins-ready knots text lines first number state left config begins w in
     let room = ready-room config ready.0 ready.1 (start_in knots text) (start-room knots text) ready.2 in
-    let one = one-of knots lines config built (whole-parts knots lines config w) in
+    let plain = plain-of knots lines config built (whole-parts knots lines config w) in
     let f : FlashState = record { geometry = config.geometry; blocks = 0; start = 1024; origin = origin; media = mid; is_on = true; armed = None; cuts = 0; work = record { reads = 0; programs = 0; erases = 0 } } in
     ends-of_run knots text lines first number state left config (told_of old new left_now told told_now) (around_of config mid new told told_now) (RestsOn config mid.content) (StandsAfter config (Some new.content)) status begins w
     (record {
@@ -169,7 +185,7 @@ ends-opened knots text lines first number state left left_now told told_now conf
       written_now = refl;
       own = opened.own tells;
       formed = kept-formed config mid new (opened-formed config old mid tells opened) (subst IsTrue (sym same_tells) tells) kept;
-      begins = λ m s. (opened-rests config old mid f m refl refl refl room one tells opened s, stands-ready config old.content m room s);
+      begins = λ m s. (opened-rests config old mid f m refl refl refl room plain tells opened s, stands-ready config old.content m room s);
       ends = λ m s. s;
     })
     (le_trans later later') h

@@ -9,6 +9,8 @@ use Rattle.fl_model.specs.Image.{AreTableImages}
 use Rattle.fl_words.specs.Medium.{IsImage}
 use Rattle.fl_machine.specs.Machine.{Machine, begins, fresh_tables}
 use Rattle.fl_machine.specs.Found.{HasRoom, IsAtRest}
+use Rattle.fl_machine.specs.OpenCursors.{AreWithin}
+use Rattle.fl_machine.proofs.OpenCursors.{none-within}
 use Rattle.fl_machine.specs.Script.{Start, Ready, StandsFor, StandsAfter}
 use Rattle.fl_machine.proofs.Accepted.{StartHasRoom}
 use Rattle.fl_session.specs.Execute.{IsReady, StandsAlike}
@@ -28,6 +30,7 @@ images-rest config bytes place (plan ∷ plans) (table ∷ tables) h = (settled-
 
 begins-ready : (config : Config) (tables : List Table) (machine : Machine) → AllByRecursion HasRoom config.plans → AllByRecursion IsAtRest tables → machine ≡ begins tables → IsReady config machine
 begins-ready config tables machine room rest e = record {
+  cursors = subst (λ (m : Machine). AreWithin m.cursors) (sym e) none-within;
   room = room;
   off = ap (λ (m : Machine). m.mounted) e;
   rest = subst (λ (m : Machine). AllByRecursion IsAtRest m.tables) (sym e) rest;

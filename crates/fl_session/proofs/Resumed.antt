@@ -41,7 +41,7 @@ rose-read f g PowerLost on off = absurd (no (sym on ∙ off))
 rose-read f g Media on rose = rose
 
 -- the same bookmarks by other names
-pub nexts-by : {E : Type 0} {plan : Plan} {table : model.Table} {count : ℕ} {a b old new : Bookmark} {told now : Option (List ℕ)} {faults faults_now : ℕ} {result : Result (Unit {0}) E} → a ≡ old → b ≡ new →
-    Nexts plan table count a b told now faults faults_now result → Nexts plan table count old new told now faults faults_now result
-nexts-by {E} {plan} {table} {count} {a} {b} {old} {new} {told} {now} {faults} {faults_now} {result} is new_is h =
-    subst (λ m. Nexts plan table count m new told now faults faults_now result) is (subst (λ m. Nexts plan table count a m told now faults faults_now result) new_is h)
+pub nexts-by : {E : Type 0} {plan : Plan} {table : model.Table} {count : ℕ} {a b old new : Bookmark} {told now : Option (List ℕ)} {faults faults_now reads reads_now : ℕ} {result : Result (Unit {0}) E} → a ≡ old → b ≡ new →
+    Nexts plan table count a b told now faults faults_now reads reads_now result → Nexts plan table count old new told now faults faults_now reads reads_now result
+nexts-by {E} {plan} {table} {count} {a} {b} {old} {new} {told} {now} {faults} {faults_now} {reads} {reads_now} {result} is new_is h =
+    subst (λ m. Nexts plan table count m new told now faults faults_now reads reads_now result) is (subst (λ m. Nexts plan table count a m told now faults faults_now reads reads_now result) new_is h)

@@ -1,5 +1,5 @@
 -- A run goes on by one command.
-use Rattle.std.proofs.Common.{◌≡◌, ℕ, ◌+◌, ◌-◌, ◌^◌, ◌≤◌, Bool, true, false, inl, inr, IsTrue, Option, Some, None, Ok, Err, List, [], ◌∷◌, ◌++◌, cond, refl, sym, ◌∙◌, ap, subst, append-nil, append_assoc, add-zero, arith}
+use Rattle.std.proofs.Common.{◌≡◌, ℕ, ◌+◌, ◌-◌, ◌^◌, ◌<◌, ◌≤◌, Bool, true, false, inl, inr, IsTrue, Option, Some, None, Result, Ok, Err, List, [], ◌∷◌, ◌++◌, cond, refl, sym, ◌∙◌, ap, subst, append-nil, append_assoc, add-zero, arith}
 use Rattle.std.specs.Prelude.{MatchBool, MatchOption}
 use Rattle.std.proofs.lemmas.List.{map-append}
 use Rattle.std.proofs.lemmas.Grind.{flat_map-append}
@@ -7,17 +7,20 @@ use Rattle.std.proofs.lemmas.Bool.{cases_lt}
 use Rattle.fl_base.specs.Causes.{Rose, Appends}
 use Rattle.fl_flash.specs.Flash.{FlashState}
 use Rattle.fl_model.specs.Record.{Config}
-use Rattle.fl_model.specs.Spline.{lookup_limit}
+use Rattle.fl_model.specs.Limits.{scan_limit, least_reads}
+use Rattle.fl_model.specs.Spline.{lookup_limit, lookup_reads}
 use Rattle.fl_words.specs.Command as command
 use Rattle.fl_words.specs.Command.{Command}
 use Rattle.fl_words.specs.Reply.{texts}
 use Rattle.fl_machine.specs.Machine.{Machine}
-use Rattle.fl_machine.specs.Reads.{none_read, PromisedReads, RunPromised}
+use Rattle.fl_machine.specs.OpenCursors.{AreWithin}
+use Rattle.fl_machine.proofs.OpenCursors.{run-within}
+use Rattle.fl_machine.specs.Reads.{none_read, is_unread, has_reads, OnTable, LimitOf, RunLimits, ExactOf, RunExact, reads_in}
 use Rattle.fl_machine.specs.Step.{Moment, Step, Located, located}
 use Rattle.fl_machine.specs.Run.{Run, end_of, written_by, risen_in}
 use Rattle.fl_machine.specs.Script.{Ran, RanInto, RoseBy}
 use Rattle.fl_machine.proofs.Steps.{finds}
-use Rattle.fl_session.specs.Cost.{CountsReads, ReadsGet, ReadsAsStated}
+use Rattle.fl_session.specs.Cost.{CountsReads, ReadsGet, ReadsScan, ReadsAsStated}
 use Rattle.fl_session.specs.Execute.{Executes, IsAlike, IsReady, StandsAlike}
 
 -- a run and one more step
@@ -61,36 +64,71 @@ pub rose-more : (n before mid now : ℕ) (b : Bool) → RoseBy n before mid → 
 rose-more n before mid now true h later rose = one_more n before mid now h later (rose refl)
 rose-more n before mid now false h later rose = rw add-zero (at_end n before mid now h later)
 
--- ---- what is promised of the reads
+-- ---- the limits of the reads
 
-within-at : (config : Config) (moment : Moment) (key : ℕ) (now : FlashState) (at : Option Located) → MatchOption at (none_read moment) (ReadsGet config moment key now) →
-    MatchOption at (none_read moment) (λ (x : Located). moment.reads ≤ lookup_limit config.knots x.plan x.table key)
-within-at config moment key now None h = h
-within-at config moment key now (Some at) h = h.within
+-- what is so of a command on a table
+pub on-table-weaker : (config : Config) (old : Machine) (moment : Moment) (name : List ℕ) (P Q : Located → Type 0) → ((at : Located) → P at → Q at) → OnTable config old moment name P → OnTable config old moment name Q
+on-table-weaker config old moment name P Q f h = by_cases old.mounted (located config old name) h
+  where
+    by_cases : (b : Bool) (at : Option Located) → MatchBool b (MatchOption at (none_read moment) P) (none_read moment) → MatchBool b (MatchOption at (none_read moment) Q) (none_read moment)
+    by_cases true None h = h
+    by_cases true (Some at) h = f at h
+    by_cases false at h = h
 
-within-when : (config : Config) (moment : Moment) (key : ℕ) (now : FlashState) (mounted : Bool) (at : Option Located) → MatchBool mounted (MatchOption at (none_read moment) (ReadsGet config moment key now)) (none_read moment) →
-    MatchBool mounted (MatchOption at (none_read moment) (λ (x : Located). moment.reads ≤ lookup_limit config.knots x.plan x.table key)) (none_read moment)
-within-when config moment key now true at h = within-at config moment key now at h
-within-when config moment key now false at h = h
+limit-by : {E : Type 0} (config : Config) (old : Machine) (moment : Moment) (before now : FlashState) (result : Result (Unit {0}) E) (c : Command) → AreWithin old.cursors → CountsReads before moment now c → ReadsAsStated config old moment now result c → LimitOf config old moment c
+limit-by config old moment before now result command.Mount within h k = k
+limit-by config old moment before now result (command.Get name key) within h k =
+    on-table-weaker config old moment name (ReadsGet config moment key now) (λ at. moment.reads ≤ lookup_limit config.knots at.plan at.table key) (λ at p. p.within) k
+limit-by config old moment before now result (command.Blob name key) within h k = tt
+limit-by config old moment before now result (command.Scan name range span) within h k =
+    on-table-weaker config old moment name (ReadsScan config moment range span now result) (λ at. moment.reads ≤ scan_limit config.knots at.plan at.table range span range.low) (λ at p. p.within) k
+limit-by config old moment before now result (command.Next cursor count) within h k = k within
+limit-by config old moment before now result (command.Select name range column op value) within h k = tt
+limit-by config old moment before now result (command.Project name range columns) within h k = tt
+limit-by config old moment before now result (command.Agg name range column width) within h k = tt
+limit-by config old moment before now result (command.Join left right range) within h k = tt
+limit-by config old moment before now result c within h k = h.0
 
-promised-by : (config : Config) (old : Machine) (moment : Moment) (before now : FlashState) (c : Command) → CountsReads before moment now c → ReadsAsStated config old moment now c → PromisedReads config old moment c
-promised-by config old moment before now command.Mount h k = tt
-promised-by config old moment before now (command.Get name key) h k = within-when config moment key now old.mounted (located config old name) k
-promised-by config old moment before now (command.Blob name key) h k = tt
-promised-by config old moment before now (command.Scan name range span) h k = tt
-promised-by config old moment before now (command.Next cursor count) h k = tt
-promised-by config old moment before now (command.Select name range column op value) h k = tt
-promised-by config old moment before now (command.Project name range columns) h k = tt
-promised-by config old moment before now (command.Agg name range column width) h k = tt
-promised-by config old moment before now (command.Join left right range) h k = tt
-promised-by config old moment before now c h k = h
+limit : {E : Type 0} (config : Config) (old : Machine) (moment : Moment) (before now : FlashState) (result : Result (Unit {0}) E) (c : Command) → moment.command ≡ c → AreWithin old.cursors → CountsReads before moment now c → ReadsAsStated config old moment now result c → LimitOf config old moment moment.command
+limit config old moment before now result c is within h k = subst (λ x. LimitOf config old moment x) (sym is) (limit-by config old moment before now result c within h k)
 
-promised : (config : Config) (old : Machine) (moment : Moment) (before now : FlashState) (c : Command) → moment.command ≡ c → CountsReads before moment now c → ReadsAsStated config old moment now c → PromisedReads config old moment moment.command
-promised config old moment before now c is h k = subst (λ x. PromisedReads config old moment x) (sym is) (promised-by config old moment before now c h k)
+limits-more : (config : Config) (old : Machine) (moments : List Moment) (moment : Moment) → RunLimits config old moments → LimitOf config (end_of old moments) moment moment.command → RunLimits config old (moments ++ moment ∷ [])
+limits-more config old [] moment run reads = (reads, tt)
+limits-more config old (m ∷ moments) moment run reads = (run.0, limits-more config m.after moments moment run.1 reads)
 
-promised-more : (config : Config) (old : Machine) (moments : List Moment) (moment : Moment) → RunPromised config old moments → PromisedReads config (end_of old moments) moment moment.command → RunPromised config old (moments ++ moment ∷ [])
-promised-more config old [] moment run reads = (reads, tt)
-promised-more config old (m ∷ moments) moment run reads = (run.0, promised-more config m.after moments moment run.1 reads)
+-- ---- the exact reads, and the flash's count
+
+exact-by : (E : Type 0) (config : Config) (old : Machine) (moment : Moment) (now : FlashState) (c : Command) → now.work.reads < 2 ^ 64 - 1 → ReadsAsStated {E = E} config old moment now (Ok tt) c → ExactOf config old moment c
+exact-by E config old moment now (command.Get name key) below k =
+    on-table-weaker config old moment name (ReadsGet config moment key now) (λ at. is_unread moment ≡ false → IsTrue (has_reads config.knots at.plan at.table key) → moment.reads ≡ lookup_reads config.knots at.plan at.table key) (λ at p. p.exact below) k
+exact-by E config old moment now (command.Scan name range span) below k =
+    on-table-weaker config old moment name (ReadsScan {E = E} config moment range span now (Ok tt)) (λ at. is_unread moment ≡ false → least_reads at.plan at.table range span ≤ moment.reads) (λ at p. p.least below) k
+exact-by E config old moment now c below k = tt
+
+counted-by : (before : FlashState) (moment : Moment) (now : FlashState) (c : Command) → CountsReads before moment now c → now.work.reads ≤ before.work.reads + moment.reads
+counted-by before moment now command.Mount h = omega (arith, h)
+counted-by before moment now (command.Get name key) h = omega (arith, h.flash)
+counted-by before moment now (command.Blob name key) h = omega (arith, h.flash)
+counted-by before moment now (command.Scan name range span) h = omega (arith, h.flash)
+counted-by before moment now (command.Next cursor count) h = omega (arith, h.flash)
+counted-by before moment now (command.Select name range column op value) h = omega (arith, h.flash)
+counted-by before moment now (command.Project name range columns) h = omega (arith, h.flash)
+counted-by before moment now (command.Agg name range column width) h = omega (arith, h.flash)
+counted-by before moment now (command.Join left right range) h = omega (arith, h.flash)
+counted-by before moment now c h = omega (arith, h.1)
+
+reads-more : (moments : List Moment) (moment : Moment) → reads_in (moments ++ moment ∷ []) ≡ reads_in moments + moment.reads
+reads-more [] moment = omega arith
+reads-more (m ∷ moments) moment = omega (arith, reads-more moments moment)
+
+exact-more : (config : Config) (before : ℕ) (old : Machine) (moments : List Moment) (moment : Moment) → RunExact config before old moments → (before + reads_in moments + moment.reads < 2 ^ 64 - 1 → ExactOf config (end_of old moments) moment moment.command) → RunExact config before old (moments ++ moment ∷ [])
+exact-more config before old [] moment run exact = (λ below. exact (omega (arith, below)), tt)
+exact-more config before old (m ∷ moments) moment run exact = (run.0, exact-more config (before + m.reads) m.after moments moment run.1 (λ below. exact (omega (arith, below))))
+
+-- a run, and the flash counts no more reads than it made
+abbrev pub RanSoFar : Config → Machine → List Command → (Machine → Type 0) → ℕ → ℕ → ℕ → Option (List ℕ) → Option (List ℕ) → Type 0
+RanSoFar config old commands stands faults now reads told told_now =
+    (ran : Ran config old commands stands faults now told told_now) × (reads ≤ reads_in ran.moments)
 
 -- before any command
 pub ran-none : (config : Config) (old : Machine) (stands : Machine → Type 0) (faults : ℕ) (told : Option (List ℕ)) → stands old → Ran config old [] stands faults faults told told
@@ -99,37 +137,49 @@ ran-none config old stands faults told h = record {
   commands_are = refl;
   run = tt;
   stands_after = h;
-  reads = tt;
+  reads = record { limits = tt; exact = tt };
   rose = inl (omega arith);
   found = λ place. tt;
   told_all = nothing-added told;
 }
 
+-- .. which a flash counts that was never read
+pub none-counted : (config : Config) (old : Machine) (stands : Machine → Type 0) (faults reads : ℕ) (told : Option (List ℕ)) → reads ≡ 0 → stands old → RanSoFar config old [] stands faults faults reads told told
+none-counted config old stands faults reads told unread h = (ran-none config old stands faults told h, omega (arith, unread))
+
 -- the commands before, and one more
 pub ran-more : {E : Type 0} (config : Config) (old : Machine) (commands : List Command) (command : Command) (stands stands_now : Machine → Type 0) (faults : ℕ) (mid now : FlashState) (told told_mid told_now : Option (List ℕ)) →
-    IsReady config old → Ran config old commands stands faults mid.media.faults told told_mid → mid.media.faults ≤ now.media.faults →
+    IsReady config old → RanSoFar config old commands stands faults mid.media.faults mid.work.reads told told_mid → mid.media.faults ≤ now.media.faults →
     ((m : Machine) → stands m → Executes {E = E} config m command stands_now mid now told_mid told_now (Ok tt)) →
-    Ran config old (commands ++ command ∷ []) stands_now faults now.media.faults told told_now
-ran-more config old commands command stands stands_now faults mid now told told_mid told_now ready h later executes =
+    RanSoFar config old (commands ++ command ∷ []) stands_now faults now.media.faults now.work.reads told told_now
+ran-more {E} config old commands command stands stands_now faults mid now told told_mid told_now ready (h, counted) later executes =
     let e = executes (end_of old h.moments) h.stands_after in
     let run = run-more config old h.moments e.moment h.run e.step in
-    record {
-      moments = h.moments ++ e.moment ∷ [];
-      commands_are = map-append (λ (m : Moment). m.command) h.moments (e.moment ∷ []) ∙ (ap (λ cs. cs ++ e.moment.command ∷ []) h.commands_are ∙ ap (λ c. commands ++ c ∷ []) e.command_is);
-      run = run;
-      stands_after = subst stands_now (e.same ∙ sym (end_of-more old h.moments e.moment)) e.stands_after;
-      reads = promised-more config old h.moments e.moment h.reads (promised config (end_of old h.moments) e.moment mid now command e.command_is e.reads e.stated);
-      rose = rw risen-more (rose-more (risen_in h.moments) faults mid.media.faults now.media.faults e.moment.rose h.rose later e.rose);
-      found = λ place. finds config old (h.moments ++ e.moment ∷ []) place ready.room ready.off ready.rest run;
-      told_all = rw written-more (appends-more told told_mid told_now (written_by h.moments) (texts e.moment.replies) h.told_all e.told_all);
-    }
+    let more = counted-by mid e.moment now command e.reads in
+    let exact : 0 + reads_in h.moments + e.moment.reads < 2 ^ 64 - 1 → ExactOf config (end_of old h.moments) e.moment e.moment.command = λ below.
+    subst (λ x. ExactOf config (end_of old h.moments) e.moment x) (sym e.command_is) (exact-by E config (end_of old h.moments) e.moment now command (omega (arith, below, counted, more)) e.stated) in (
+      record {
+        moments = h.moments ++ e.moment ∷ [];
+        commands_are = map-append (λ (m : Moment). m.command) h.moments (e.moment ∷ []) ∙ (ap (λ cs. cs ++ e.moment.command ∷ []) h.commands_are ∙ ap (λ c. commands ++ c ∷ []) e.command_is);
+        run = run;
+        stands_after = subst stands_now (e.same ∙ sym (end_of-more old h.moments e.moment)) e.stands_after;
+        reads = record {
+          limits = limits-more config old h.moments e.moment h.reads.limits (limit config (end_of old h.moments) e.moment mid now (Ok tt) command e.command_is (run-within config old h.moments ready.cursors h.run) e.reads e.stated);
+          exact = exact-more config 0 old h.moments e.moment h.reads.exact exact;
+        };
+        rose = rw risen-more (rose-more (risen_in h.moments) faults mid.media.faults now.media.faults e.moment.rose h.rose later e.rose);
+        found = λ place. finds config old (h.moments ++ e.moment ∷ []) place ready.room ready.off ready.rest run;
+        told_all = rw written-more (appends-more told told_mid told_now (written_by h.moments) (texts e.moment.replies) h.told_all e.told_all);
+      },
+      omega (arith, reads-more h.moments e.moment, counted, more),
+    )
 
 -- .. and into the reply of one more
 pub ran-into : {E : Type 0} (config : Config) (old : Machine) (commands : List Command) (command : Command) (stands stands_now : Machine → Type 0) (faults : ℕ) (mid now : FlashState) (told told_mid told_now : Option (List ℕ)) (error : E) →
-    IsReady config old → Ran config old commands stands faults mid.media.faults told told_mid → mid.media.faults ≤ now.media.faults →
+    IsReady config old → RanSoFar config old commands stands faults mid.media.faults mid.work.reads told told_mid → mid.media.faults ≤ now.media.faults →
     ((m : Machine) → stands m → Executes {E = E} config m command stands_now mid now told_mid told_now (Err error)) →
     RanInto config old (commands ++ command ∷ []) (StandsAlike stands_now) faults now.media.faults told told_now
-ran-into config old commands command stands stands_now faults mid now told told_mid told_now error ready h later executes =
+ran-into config old commands command stands stands_now faults mid now told told_mid told_now error ready (h, counted) later executes =
     let e = executes (end_of old h.moments) h.stands_after in
     let run = run-more config old h.moments e.moment h.run e.step in
     record {
@@ -137,12 +187,13 @@ ran-into config old commands command stands stands_now faults mid now told told_
       commands_are = map-append (λ (m : Moment). m.command) h.moments (e.moment ∷ []) ∙ (ap (λ cs. cs ++ e.moment.command ∷ []) h.commands_are ∙ ap (λ c. commands ++ c ∷ []) e.command_is);
       run = run;
       stands_after = (e.after, e.stands_after, subst (λ m. IsAlike m e.after) (sym (end_of-more old h.moments e.moment)) e.alike);
-      reads = promised-more config old h.moments e.moment h.reads (promised config (end_of old h.moments) e.moment mid now command e.command_is e.reads e.stated);
+      limits = limits-more config old h.moments e.moment h.reads.limits (limit config (end_of old h.moments) e.moment mid now (Err error) command e.command_is (run-within config old h.moments ready.cursors h.run) e.reads e.stated);
       rose = rw risen-more (rose-more (risen_in h.moments) faults mid.media.faults now.media.faults e.moment.rose h.rose later e.rose);
       found = λ place. finds config old (h.moments ++ e.moment ∷ []) place ready.room ready.off ready.rest run;
       before = h.moments;
       last = e.moment;
       split = refl;
+      exact = h.reads.exact;
       front = e.told_front.0;
       is_front = e.told_front.1;
       told_front = appends-more told told_mid told_now (written_by h.moments) e.told_front.0 h.told_all e.told_front.2;
@@ -169,12 +220,13 @@ ran_into-seen config old commands stands stands_now faults now told told_now f h
   commands_are = h.commands_are;
   run = h.run;
   stands_after = f (end_of old h.moments) h.stands_after;
-  reads = h.reads;
+  limits = h.limits;
   rose = h.rose;
   found = h.found;
   before = h.before;
   last = h.last;
   split = h.split;
+  exact = h.exact;
   front = h.front;
   is_front = h.is_front;
   told_front = h.told_front;

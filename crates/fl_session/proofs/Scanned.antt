@@ -1,114 +1,108 @@
 -- The replies to a whole scan.
-use Rattle.std.proofs.Common.{◌≡◌, ℕ, ◌-◌, Bool, true, false, Option, Some, None, Result, Ok, Err, List, [], ◌∷◌, ◌++◌, length, take, refl, sym, ◌∙◌, ap, subst, inl, inr, append-nil, append_assoc, arith}
-use Rattle.std.proofs.lemmas.List.{take-append-drop}
-use Rattle.fl_base.specs.Causes.{Appends, AppendsFront}
+use Rattle.std.proofs.Common.{◌≡◌, ℕ, ◌+◌, ◌-◌, ◌^◌, ◌<◌, ◌≤◌, true, false, Option, None, option_map, unwrap_or, Result, Ok, Err, OnOk, List, [], ◌∷◌, ◌++◌, length, map, take, refl, sym, ◌∙◌, ap, subst, inl, inr, append-nil, length-append, arith}
+use Rattle.std.proofs.lemmas.List.{length-map, take-map, take_all}
+use Rattle.fl_base.specs.Causes.{AppendsFront}
 use Rattle.fl_base.specs.declared.stream.SinkFailed.{SinkFailed}
 use Rattle.fl_base.specs.declared.types.KeyRange.{KeyRange}
 use Rattle.fl_base.specs.declared.types.Span.{Span}
-use Rattle.fl_flash.specs.declared.flash.FlashFault.{FlashFault}
-use Rattle.fl_model.specs.Query.{matches, selected}
+use Rattle.fl_cursor.specs.Cursor.{left_of}
+use Rattle.fl_cursor.specs.declared.cursor.Cursor.{Cursor}
+use Rattle.fl_flash.specs.Flash.{FlashState}
+use Rattle.fl_machine.specs.Reads.{is_read_fault}
+use Rattle.fl_machine.specs.Step.{rows_of, row_of}
+use Rattle.fl_model.specs.Limits.{scan_limit, least_reads}
+use Rattle.fl_model.specs.Query.{selected}
 use Rattle.fl_model.specs.Record.{Plan, has_var}
-use Rattle.fl_model.specs.Row.{stored_row}
+use Rattle.fl_model.specs.Row.{Row, stored_row}
 use Rattle.fl_model.specs.Table as model
-use Rattle.fl_model.specs.Table.{Entry, pending_entries, written}
-use Rattle.fl_page.specs.declared.fault.ReadFault.TheVariants.{Flash}
-use Rattle.fl_machine.specs.Step.{rows_of, row_of, row_note}
+use Rattle.fl_model.specs.Table.{Entry}
+use Rattle.fl_model.proofs.Lists.{last_or-push}
+use Rattle.fl_page.specs.Contents.{Contents}
+use Rattle.fl_page.specs.declared.fault.ReadFault.TheVariants.{Flash, BadPage}
 use Rattle.fl_script.specs.Written.{Written}
-use Rattle.fl_script.proofs.Sending.{appends-append, sent-failed}
 use Rattle.fl_words.specs.Reply as reply
 use Rattle.fl_words.specs.Reply.{Reply, text, texts}
-use Rattle.fl_session.specs.Listed.{ListsAll, Scans}
-use Rattle.fl_session.specs.Rows.{row_reply, lines_of}
+use Rattle.fl_session.specs.Gives.{Gives}
+use Rattle.fl_session.specs.Listed.{Scans, SaysFault, IfUnread, ends_unread}
+use Rattle.fl_session.specs.Rows.{row_reply}
 use Rattle.fl_session.specs.declared.listing.ListFault.{ListFault}
 use Rattle.fl_session.specs.declared.listing.ListFault.TheVariants.{Sink, Read}
-use Rattle.fl_session.proofs.PagesListed.{lines-append, lists-stop}
-use Rattle.fl_session.proofs.RowLines.{appends-none}
+use Rattle.fl_session.proofs.Resumed.{rose-read}
+use Rattle.fl_session.proofs.RowLines.{lines-stored, rows-front, written-last, front-last}
 
--- the written entries, and then the pending ones
-pub all-lines : (range : KeyRange) (span : Option Span) (table : model.Table) → lines_of range span (written table) ++ lines_of range span (pending_entries table) ≡ lines_of range span table.entries
-all-lines range span table =
-    sym (lines-append range span (written table) (pending_entries table)) ∙ ap (lines_of range span) (take-append-drop (length table.entries - table.pending) table.entries)
+pub on-ok : {E P : Type 0} → P → (r : Result (Unit {0}) E) → OnOk r P
+on-ok p (Ok done) = p
+on-ok p (Err e) = tt
 
--- a fault ends the list, and more lines would have come
-pub lists-cut : (ys zs all : List Reply) (told now : Option (List ℕ)) (f h : ℕ) (fault : ListFault) → ys ++ zs ≡ all → ListsAll ys told now f h (Err fault) → ListsAll all told now f h (Err fault)
-lists-cut ys zs all told now f h fault is b = lists-stop [] ys zs all told told now f f h 0 fault is (omega arith) (appends-none told, refl) b
+no : false ≡ true → ⊥
+no e = cc
 
--- the line of an entry of a table without variable data
-pub row-line : (plan : Plan) (entry : Entry) → has_var plan ≡ false → row_reply (stored_row entry) ≡ row_of plan entry
-row-line plan entry none = ap (λ n. reply.Row entry.kept.key entry.kept.values n) (sym (note entry.kept.blob))
-  where
-    note : (blob : Option (List ℕ)) → row_note plan blob ≡ reply.NoRing
-    note None = rw none refl
-    note (Some bytes) = rw none refl
+-- what ends with a read fault
+unread-last : (lines : List Reply) → ends_unread (lines ++ reply.ReadFault ∷ []) ≡ true
+unread-last lines = ap (λ (last : Option Reply). unwrap_or (option_map is_read_fault last) false) (last_or-push None lines reply.ReadFault)
 
--- the lines of entries of a table without variable data
-pub lines-are : (plan : Plan) (range : KeyRange) (span : Option Span) (entries : List Entry) → has_var plan ≡ false → lines_of range span entries ≡ rows_of plan (selected range span entries)
-lines-are plan range span [] none = refl
-lines-are plan range span (entry ∷ entries) none = by_test (lines-are plan range span entries none) (matches range span entry.kept) refl
-  where
-    one : row_reply (stored_row entry) ≡ row_of plan entry
-    one = row-line plan entry none
+module _ (plan : Plan) (table : model.Table) (range : KeyRange) (span : Option Span) (count : ℕ) (first new : Cursor) (contents : Contents) (told mid now : Option (List ℕ)) (f g : FlashState) (result : Result (Unit {0}) SinkFailed)
+    (none : has_var plan ≡ false) (are : left_of first contents ≡ map stored_row (selected range span table.entries)) (few : length (selected range span table.entries) < count)
+    (within : g.work.reads ≤ f.work.reads + scan_limit 64 plan table range span range.low) where
+  abbrev wanted : List Entry
+  wanted = selected range span table.entries
 
-    by_test : lines_of range span entries ≡ rows_of plan (selected range span entries) → (b : Bool) → matches range span entry.kept ≡ b → lines_of range span (entry ∷ entries) ≡ rows_of plan (selected range span (entry ∷ entries))
-    by_test rest true e = rw e (ap (λ (l : List Reply). row_reply (stored_row entry) ∷ l) rest ∙ ap (λ (r : Reply). r ∷ rows_of plan (selected range span entries)) one)
-    by_test rest false e = rw e rest
+  abbrev lines : List Reply
+  lines = rows_of plan (selected range span table.entries)
 
--- a last reply behind lines
-texts-last : (lines : List Reply) (last : Reply) → texts lines ++ text last ≡ texts (lines ++ last ∷ [])
-texts-last [] last = sym (append-nil (text last))
-texts-last (line ∷ lines) last = append_assoc (text line) (texts lines) (text last) ∙ ap (λ (l : List ℕ). text line ++ l) (texts-last lines last)
-
-pub written-last : {E : Type 0} (lines : List Reply) (last : Reply) (told mid now : Option (List ℕ)) (result : Result (Unit {0}) E) → Appends told mid (texts lines) → Written mid now result (text last) → Written told now result (texts (lines ++ last ∷ []))
-written-last lines last told mid now (Ok done) lines_are wrote = subst (λ (l : List ℕ). Appends told now l) (texts-last lines last) (appends-append told mid now (texts lines) (text last) lines_are wrote)
-written-last lines last told mid now (Err failed) lines_are wrote =
-    sent-failed told mid now (texts (lines ++ last ∷ [])) (text last) [] (text last) (record { front = texts lines; parts = texts-last lines last; appended = lines_are }) wrote (append-nil (text last))
-
-pub front-last : (lines : List Reply) (last : Reply) (told now : Option (List ℕ)) → AppendsFront told now (texts lines) → AppendsFront told now (texts (lines ++ last ∷ []))
-front-last lines last told now front =
-    (front.0, (front.1.0 ++ text last, sym (append_assoc front.0 front.1.0 (text last)) ∙ (ap (λ (l : List ℕ). l ++ text last) front.1.1 ∙ texts-last lines last)), front.2)
-
-module _ {E : Type 0} (plan : Plan) (table : model.Table) (range : KeyRange) (span : Option Span) (none : has_var plan ≡ false) (told mid now : Option (List ℕ)) (faults faults_now : ℕ) (result : Result (Unit {0}) E) where
-  are : lines_of range span table.entries ≡ rows_of plan (selected range span table.entries)
-  are = lines-are plan range span table.entries none
-
-  -- all rows were listed, and the number of lines is said
-  pub scans-all : (count : ℕ) → ListsAll (lines_of range span table.entries) told mid faults faults_now (Ok count) → Written mid now result (text (reply.EndCount count)) → Scans plan table range span told now faults faults_now result
-  scans-all count listed wrote = record {
-    rose = false;
-    risen = λ t. absurd (no t);
-    replies = rows_of plan (selected range span table.entries) ++ reply.EndCount (length (rows_of plan (selected range span table.entries))) ∷ [];
-    lists = inl refl;
-    wrote = written-last (rows_of plan (selected range span table.entries)) (reply.EndCount (length (rows_of plan (selected range span table.entries)))) told mid now result
-        (subst (λ (l : List Reply). Appends told mid (texts l)) are listed.0)
-        (subst (λ n. Written mid now result (text (reply.EndCount n))) (listed.1 ∙ ap length are) wrote);
-  }
-    where
-      no : false ≡ true → ⊥
-      no e = cc
-
-  -- a page wasn't read
-  pub scans-unread : (fault : FlashFault) → ListsAll (lines_of range span table.entries) told mid faults faults_now (Err (Read (Flash fault))) → Written mid now result (text reply.ReadFault) → Scans plan table range span told now faults faults_now result
-  scans-unread fault listed wrote =
-      let n = listed.1.0 in
+  -- all rows were listed, and their number was said
+  pub scans-all : (given : ℕ) → Gives count first new contents told mid (Ok given) → Written mid now result (text (reply.EndCount given)) →
+      (given < count → g.work.reads < 2 ^ 64 - 1 → f.work.reads + least_reads plan table range span ≤ g.work.reads) → Scans plan table range span told now f.media.faults g.media.faults f.work.reads g.work.reads result
+  scans-all given gives wrote least =
+      let rows = gives.0 in
+      let gave = gives.1 in
+      let front : length rows ≤ length (selected range span table.entries) =
+      omega (arith, ap length (sym are ∙ gave.left), length-map (selected range span table.entries) stored_row, length-append rows (left_of new contents)) in
+      let less : given < count = omega (arith, front, few, gives.2) in
+      let all : rows ≡ map stored_row (selected range span table.entries) = sym (sym are ∙ (gave.left ∙ (ap (λ (l : List Row). rows ++ l) (gives.4 less) ∙ append-nil rows))) in
+      let lines_are : map row_reply rows ≡ rows_of plan (selected range span table.entries) = ap (map row_reply) all ∙ lines-stored plan (selected range span table.entries) none in
+      let many : given ≡ length (rows_of plan (selected range span table.entries)) = sym gives.2 ∙ (sym (length-map rows row_reply) ∙ ap length lines_are) in
       record {
-        rose = true;
-        risen = λ t. listed.0;
-        replies = take n (rows_of plan (selected range span table.entries)) ++ reply.ReadFault ∷ [];
-        lists = inr (refl, (n, omega (arith, listed.1.1, ap length are), refl));
-        wrote = written-last (take n (rows_of plan (selected range span table.entries))) reply.ReadFault told mid now result (subst (λ (l : List Reply). Appends told mid (texts (take n l))) are listed.1.2) wrote;
+        rose = false;
+        risen = λ t. absurd (no t);
+        replies = lines ++ reply.EndCount (length lines) ∷ [];
+        lists = inl refl;
+        wrote = subst (λ (l : List Reply). Written told now result (texts (l ++ reply.EndCount (length (rows_of plan (selected range span table.entries))) ∷ []))) lines_are
+            (subst (λ n. Written told now result (texts (map row_reply rows ++ reply.EndCount n ∷ []))) many (written-last (map row_reply rows) (reply.EndCount given) told mid now result gave.wrote wrote));
+        within = within;
+        least = on-ok (λ unread below. least less below) result;
       }
 
--- the sink failed
-pub scans-failed : {E : Type 0} (plan : Plan) (table : model.Table) (range : KeyRange) (span : Option Span) → has_var plan ≡ false → (told now : Option (List ℕ)) (faults faults_now : ℕ) (failed : SinkFailed) (e : E) →
-    ListsAll (lines_of range span table.entries) told now faults faults_now (Err (Sink failed)) → Scans plan table range span told now faults faults_now (Err e)
-scans-failed plan table range span none told now faults faults_now failed e listed = record {
-  rose = false;
-  risen = λ t. absurd (no t);
-  replies = rows_of plan (selected range span table.entries) ++ reply.EndCount (length (rows_of plan (selected range span table.entries))) ∷ [];
-  lists = inl refl;
-  wrote = front-last (rows_of plan (selected range span table.entries)) (reply.EndCount (length (rows_of plan (selected range span table.entries)))) told now
-      (subst (λ (l : List Reply). AppendsFront told now (texts l)) (lines-are plan range span table.entries none) listed);
-}
-  where
-    no : false ≡ true → ⊥
-    no e = cc
+  -- a page wasn't read, or the sink failed
+  pub scans-fault : (fault : ListFault) → Gives count first new contents told mid (Err fault) → f.is_on ≡ true → IfUnread f g fault → SaysFault fault mid now result → Scans plan table range span told now f.media.faults g.media.faults f.work.reads g.work.reads result
+  scans-fault (Sink failed) front on why says =
+      let all : take count (left_of first contents) ≡ map stored_row (selected range span table.entries) =
+      take_all count (left_of first contents) (omega (arith, ap length are, length-map (selected range span table.entries) stored_row, few)) ∙ are in
+      let lines_are : map row_reply (take count (left_of first contents)) ≡ rows_of plan (selected range span table.entries) = ap (map row_reply) all ∙ lines-stored plan (selected range span table.entries) none in
+      record {
+        rose = false;
+        risen = λ t. absurd (no t);
+        replies = lines ++ reply.EndCount (length lines) ∷ [];
+        lists = inl refl;
+        wrote = rw (says.0, says.1) (front-last lines (reply.EndCount (length lines)) told mid (subst (λ (l : List Reply). AppendsFront told mid (texts l)) lines_are front));
+        within = within;
+        least = rw says.0 tt;
+      }
+  scans-fault (Read (Flash fault)) gives on why says =
+      let rows = gives.0 in
+      let gave = gives.1 in
+      let rows_are : rows ≡ map stored_row (take (length rows) (selected range span table.entries)) = rows-front rows (left_of new contents) (selected range span table.entries) (sym are ∙ gave.left) in
+      let lines_are : map row_reply rows ≡ rows_of plan (take (length rows) (selected range span table.entries)) = ap (map row_reply) rows_are ∙ lines-stored plan (take (length rows) (selected range span table.entries)) none in
+      let front : map row_reply rows ≡ take (length rows) (rows_of plan (selected range span table.entries)) = lines_are ∙ sym (take-map (row_of plan) (length rows) (selected range span table.entries)) in
+      let most : length rows ≤ length (rows_of plan (selected range span table.entries)) =
+      omega (arith, ap length (sym are ∙ gave.left), length-map (selected range span table.entries) stored_row, length-map (selected range span table.entries) (row_of plan), length-append rows (left_of new contents)) in
+      record {
+        rose = true;
+        risen = λ t. rose-read f g fault on why;
+        replies = take (length rows) lines ++ reply.ReadFault ∷ [];
+        lists = inr (refl, (length rows, most, refl));
+        wrote = subst (λ (l : List Reply). Written told now result (texts (l ++ reply.ReadFault ∷ []))) front (written-last (map row_reply rows) reply.ReadFault told mid now result gave.wrote says);
+        within = within;
+        least = on-ok (λ unread. absurd (no (sym unread ∙ unread-last (take (length rows) lines)))) result;
+      }
+  scans-fault (Read (BadPage bad)) gives on why says = absurd gives

@@ -1,14 +1,12 @@
 -- The commands of a session, each by its step.
-use Rattle.std.proofs.Common.{◌≡◌, ℕ, ◌≤◌, Bool, true, false, Option, Some, None, Ok, List, [], ◌∷◌, map, refl, sym, ap, subst, arith}
+use Rattle.std.proofs.Common.{◌≡◌, ℕ, ◌≤◌, Bool, true, false, Option, Some, None, Ok, List, [], ◌∷◌, refl, sym, subst, arith}
 use Rattle.std.specs.Prelude.{MatchBool}
-use Rattle.std.proofs.lemmas.Bool.{le-ltb}
 use Rattle.fl_base.specs.declared.types.CutKind.{CutKind}
 use Rattle.fl_flash.specs.declared.tear.Tear.TheVariants.{Kind}
 use Rattle.fl_flash.specs.Flash.{FlashState}
 use Rattle.fl_model.specs.Record.{Config, Plan}
 use Rattle.fl_model.specs.Table as model
 use Rattle.fl_model.specs.Table.{lose}
-use Rattle.fl_model.proofs.Plain.{IsPlain, plain-facts, facts-plain, plain-lose}
 use Rattle.fl_words.specs.Command as command
 use Rattle.fl_words.specs.Command.{Command}
 use Rattle.fl_words.specs.Reply as reply
@@ -18,18 +16,23 @@ use Rattle.fl_script.specs.Written.{Written}
 use Rattle.fl_script.specs.declared.command.Command as code
 use Rattle.fl_script.specs.CommandView.{command_view}
 use Rattle.fl_table.specs.declared.table.Table.{Table}
-use Rattle.fl_table.specs.Memory.{IsPlanned}
 use Rattle.fl_table.specs.Pages.{Rests}
 use Rattle.fl_table.specs.Standing.{Stands}
 use Rattle.fl_table.proofs.Holding.{lost-twice}
+use Rattle.fl_table.proofs.Plain.{plain-facts, facts-plain, plain-lose}
+use Rattle.fl_table.proofs.SealAnswers.{planned-plain}
 use Rattle.fl_session.specs.Answer.{Answers}
 use Rattle.fl_session.specs.Built.{IsRunnable}
 use Rattle.fl_session.specs.Execute.{Executes}
 use Rattle.fl_session.specs.declared.notes.Notes.{Notes}
 use Rattle.fl_session.specs.Standing.{SessionStands}
+use Rattle.fl_session.specs.Tables.{first_of, EntryStands}
+use Rattle.fl_session.specs.declared.tables.Entry.{Entry}
+use Rattle.fl_session.proofs.Apart.{stands-pages}
 use Rattle.fl_session.proofs.Answering.{answers-saying, saying, says}
 use Rattle.fl_session.proofs.Executing.{executes-by}
 use Rattle.fl_session.proofs.Running.{nothing-added}
+use Rattle.fl_session.proofs.TablesChanged.{tables-still, tables-become}
 
 -- nothing is done
 pub executes-nothing : (E : Type 0) (config : Config) (old : Machine) (c : Command) (stands : Machine → Type 0) (f : FlashState) (told : Option (List ℕ)) → c ≡ command.Nothing → stands old →
@@ -37,73 +40,67 @@ pub executes-nothing : (E : Type 0) (config : Config) (old : Machine) (c : Comma
 executes-nothing E config old c stands f told e s =
     let w : Written {E = E} told told (Ok tt) [] = nothing-added told in
     subst (λ x. Executes {E = E} config old x stands f f told told (Ok tt)) (sym e)
-    (executes-by E config old command.Nothing stands f f told told (Ok tt) (saying command.Nothing [] old) refl (record { replies_are = refl; after_is = refl; last_is = refl }) s refl tt (λ t. cc) w)
+    (executes-by E config old command.Nothing stands f f told told (Ok tt) (saying command.Nothing [] old) refl (record { replies_are = refl; after_is = refl; last_is = refl }) s (refl, omega arith) tt (λ t. cc) w)
 
 -- a table rests where what it has in memory is lost
-planned-plain : (t : Table) (plan : Plan) → IsPlanned t 0 plan → IsPlain plan
-planned-plain t plan h = record { no_index = le-ltb 0 plan.index_blocks (omega (arith, h.index)); no_var = le-ltb 0 plan.var_blocks (omega (arith, h.var)) }
-
-stands-rests : (t : Table) (f : FlashState) (plan : Plan) (table : model.Table) → Stands t f 0 plan table → Rests f 0 plan (lose table)
-stands-rests t f plan table h =
-    let plain = planned-plain t plan h.planned in
+stands-rests : (t : Table) (f : FlashState) (first : ℕ) (plan : Plan) (table : model.Table) → Stands t f first plan table → Rests f first plan (lose table)
+stands-rests t f first plan table h =
+    let plain = planned-plain t first plan h.planned in
     record {
       settled = record { facts = facts-plain plan (lose table) plain (plain-lose plan table (plain-facts plan table plain h.facts)); lost = lost-twice table };
       pages = h.pages;
     }
 
-pub off-rests : (t : Table) (f : FlashState) (plan : Plan) (table : model.Table) (mounted : Bool) → MatchBool mounted (Stands t f 0 plan table) (Rests f 0 plan table) → Rests f 0 plan (lose table)
-off-rests t f plan table true h = stands-rests t f plan table h
-off-rests t f plan table false h = subst (λ x. Rests f 0 plan x) h.settled.lost h
+pub off-rests : (t : Table) (f : FlashState) (first : ℕ) (plan : Plan) (table : model.Table) (mounted : Bool) → MatchBool mounted (Stands t f first plan table) (Rests f first plan table) → Rests f first plan (lose table)
+off-rests t f first plan table true h = stands-rests t f first plan table h
+off-rests t f first plan table false h = subst (λ x. Rests f first plan x) h.settled.lost h
 
-pub stands-off : (config : Config) (old : Machine) (t : Table) (name : List ℕ) (notes : Notes) (f : FlashState) (mounted : Bool) → SessionStands config t name f mounted notes old → SessionStands config t name (record f { is_on = false }) false notes (stopped old)
-stands-off config old t name notes f mounted h =
-    let r = off-rests t f h.plan h.table mounted h.on_flash in
-    record {
-      knots = h.knots;
-      medium = record { told = h.medium.told; len = h.medium.len; head = h.medium.head; start = h.medium.start; geometry = h.medium.geometry };
-      plan = h.plan;
-      plans = h.plans;
-      named = h.named;
-      planned = h.planned;
-      table = lose h.table;
-      tables = ap (map lose) h.tables;
-      is_mounted = refl;
-      cursors = refl;
-      device = record { armed = h.device.armed; programs = h.device.programs; erases = h.device.erases };
-      cost_is = h.cost_is;
-      on_flash = record { settled = r.settled; pages = r.pages };
-      power = λ t. cc;
-    }
+pub entry-off : (entry : Entry) (f : FlashState) (mounted : Bool) (first : ℕ) (plan : Plan) (table : model.Table) → EntryStands entry f mounted first plan table → EntryStands entry f false first plan (lose table)
+entry-off entry f mounted first plan table h = record { named = h.named; geometry = h.geometry; planned = h.planned; on_flash = off-rests entry.table f first plan table mounted h.on_flash }
+
+entry-dark : (entry : Entry) (f : FlashState) (first : ℕ) (plan : Plan) (table : model.Table) → EntryStands entry f false first plan table → EntryStands entry (record f { is_on = false }) false first plan table
+entry-dark entry f first plan table h = record { named = h.named; geometry = h.geometry; planned = h.planned; on_flash = record { settled = h.on_flash.settled; pages = h.on_flash.pages } }
+
+pub stands-off : (config : Config) (old : Machine) (entries : List Entry) (notes : Notes) (f : FlashState) (mounted : Bool) → SessionStands config entries f mounted notes old → SessionStands config entries (record f { is_on = false }) false notes (stopped old)
+stands-off config old entries notes f mounted h = record {
+  knots = h.knots;
+  built = h.built;
+  medium = record { told = h.medium.told; len = h.medium.len; head = h.medium.head; start = h.medium.start; geometry = h.medium.geometry };
+  tables = tables-become f (record f { is_on = false }) (λ i. mounted) (λ i. false) config.plans entries old.tables lose h.tables
+      (λ i plan e x k. entry-dark e f (first_of config.plans i) plan (lose x) (entry-off e f mounted (first_of config.plans i) plan x k));
+  is_mounted = refl;
+  cursors = refl;
+  device = record { armed = h.device.armed; programs = h.device.programs; erases = h.device.erases };
+  cost_is = h.cost_is;
+  power = λ t. cc;
+}
 
 pub answers-off : (config : Config) (old : Machine) (stands : Machine → Type 0) (faults faults_now : ℕ) → stands (stopped old) → Answers config old command.Off stands faults faults_now (text reply.Done)
 answers-off config old stands faults faults_now s = answers-saying config old command.Off reply.Done (stopped old) stands faults faults_now (says command.Off (reply.Done ∷ []) (stopped old)) s
 
-cut-flash : (t : Table) (f : FlashState) (plan : Plan) (table : model.Table) (mounted : Bool) (n : ℕ) (kind : CutKind) →
-    MatchBool mounted (Stands t f 0 plan table) (Rests f 0 plan table) →
-    MatchBool mounted (Stands t (record f { armed = Some (record { left = n; tear = Kind kind }) }) 0 plan table) (Rests (record f { armed = Some (record { left = n; tear = Kind kind }) }) 0 plan table)
-cut-flash t f plan table true n kind h = record { planned = h.planned; facts = h.facts; whole = h.whole; clean = h.clean; pages = h.pages; memory = h.memory; points = h.points }
-cut-flash t f plan table false n kind h = record { settled = h.settled; pages = h.pages }
+entry-cut : (entry : Entry) (f : FlashState) (mounted : Bool) (first : ℕ) (plan : Plan) (table : model.Table) (n : ℕ) (kind : CutKind) → EntryStands entry f mounted first plan table →
+    EntryStands entry (record f { armed = Some (record { left = n; tear = Kind kind }) }) mounted first plan table
+entry-cut entry f true first plan table n kind h =
+    record { named = h.named; geometry = h.geometry; planned = h.planned; on_flash = stands-pages f (record f { armed = Some (record { left = n; tear = Kind kind }) }) refl entry.table first plan table h.on_flash }
+entry-cut entry f false first plan table n kind h =
+    record { named = h.named; geometry = h.geometry; planned = h.planned; on_flash = record { settled = h.on_flash.settled; pages = h.on_flash.pages } }
 
 -- a cut is armed
 abbrev pub cut_to_come : Machine → ℕ → CutKind → Machine
 cut_to_come old n kind = record old { device = record old.device { armed = Some (n, kind) } }
 
-pub stands-cut : (config : Config) (old : Machine) (t : Table) (name : List ℕ) (notes : Notes) (f : FlashState) (mounted : Bool) (n : ℕ) (kind : CutKind) → 1 ≤ n →
-    SessionStands config t name f mounted notes old → SessionStands config t name (record f { armed = Some (record { left = n; tear = Kind kind }) }) mounted notes (cut_to_come old n kind)
-stands-cut config old t name notes f mounted n kind counted h = record {
+pub stands-cut : (config : Config) (old : Machine) (entries : List Entry) (notes : Notes) (f : FlashState) (mounted : Bool) (n : ℕ) (kind : CutKind) → 1 ≤ n →
+    SessionStands config entries f mounted notes old → SessionStands config entries (record f { armed = Some (record { left = n; tear = Kind kind }) }) mounted notes (cut_to_come old n kind)
+stands-cut config old entries notes f mounted n kind counted h = record {
   knots = h.knots;
+  built = h.built;
   medium = record { told = h.medium.told; len = h.medium.len; head = h.medium.head; start = h.medium.start; geometry = h.medium.geometry };
-  plan = h.plan;
-  plans = h.plans;
-  named = h.named;
-  planned = h.planned;
-  table = h.table;
-  tables = h.tables;
+  tables = tables-still f (record f { armed = Some (record { left = n; tear = Kind kind }) }) (λ i. mounted) config.plans entries old.tables h.tables
+      (λ i plan e x k. entry-cut e f mounted (first_of config.plans i) plan x n kind k);
   is_mounted = h.is_mounted;
   cursors = h.cursors;
   device = record { armed = (kind, refl, counted, refl); programs = h.device.programs; erases = h.device.erases };
   cost_is = h.cost_is;
-  on_flash = cut-flash t f h.plan h.table mounted n kind h.on_flash;
   power = h.power;
 }
 
@@ -115,30 +112,33 @@ answers-cut config old n kind stands faults faults_now s =
 pub default-view : (c : code.Command) (room : List ℕ) → IsRunnable (command_view c room) → (c ≡ code.TheVariants.Mount → ⊥) → (c ≡ code.TheVariants.Off → ⊥) → ((n : ℕ) (kind : CutKind) → c ≡ code.TheVariants.Cut n kind → ⊥) →
     ((name : _) (key : ℕ) (values : _) (blob : Bool) → c ≡ code.TheVariants.Put name key values blob → ⊥) → ((name : _) → c ≡ code.TheVariants.Flush name → ⊥) → ((name : _) → c ≡ code.TheVariants.Stat name → ⊥) → ((name : _) (key : ℕ) → c ≡ code.TheVariants.Get name key → ⊥) → ((name : _) (range : _) (span : _) → c ≡ code.TheVariants.Scan name range span → ⊥) →
     ((name : _) (count step seed : ℕ) → c ≡ code.TheVariants.Load name count step seed → ⊥) → ((cursor : ℕ) (name : _) (range : _) (span : _) → c ≡ code.TheVariants.Open cursor name range span → ⊥) → ((cursor : ℕ) → c ≡ code.TheVariants.Close cursor → ⊥) → ((cursor count : ℕ) → c ≡ code.TheVariants.Next cursor count → ⊥) →
-    (c ≡ code.TheVariants.Cost → ⊥) → command_view c room ≡ command.Nothing
-default-view code.TheVariants.Nothing room r m n k p f s t l o u v w q = refl
-default-view code.TheVariants.Mount room r m n k p f s t l o u v w q = absurd (m refl)
-default-view code.TheVariants.Off room r m n k p f s t l o u v w q = absurd (n refl)
-default-view (code.TheVariants.Cut i kind) room r m n k p f s t l o u v w q = absurd (k i kind refl)
-default-view (code.TheVariants.Put name key values blob) room r m n k p f s t l o u v w q = absurd (p name key values blob refl)
-default-view (code.TheVariants.Flush name) room r m n k p f s t l o u v w q = absurd (f name refl)
-default-view (code.TheVariants.Stat name) room r m n k p f s t l o u v w q = absurd (s name refl)
-default-view (code.TheVariants.Get name key) room r m n k p f s t l o u v w q = absurd (t name key refl)
-default-view (code.TheVariants.Scan name range span) room r m n k p f s t l o u v w q = absurd (l name range span refl)
-default-view code.TheVariants.Cost room r m n k p f s t l o u v w q = absurd (q refl)
-default-view (code.TheVariants.Load name count step seed) room r m n k p f s t l o u v w q = absurd (o name count step seed refl)
-default-view (code.TheVariants.Open cursor name range span) room r m n k p f s t l o u v w q = absurd (u cursor name range span refl)
-default-view (code.TheVariants.Close cursor) room r m n k p f s t l o u v w q = absurd (v cursor refl)
-default-view (code.TheVariants.Next cursor count) room r m n k p f s t l o u v w q = absurd (w cursor count refl)
-default-view (code.TheVariants.Device page block) room r m n k p f s t l o u v w q = absurd (none r.runs)
+    (c ≡ code.TheVariants.Cost → ⊥) → ((name : _) (range : _) (column : ℕ) (op : _) (value : _) → c ≡ code.TheVariants.Select name range column op value → ⊥) → ((name : _) (range : _) (columns : _) → c ≡ code.TheVariants.Project name range columns → ⊥) → ((name : _) (range : _) (column width : ℕ) → c ≡ code.TheVariants.Agg name range column width → ⊥) → command_view c room ≡ command.Nothing
+default-view code.TheVariants.Nothing room r m n k p f s t l o u v w q x y z = refl
+default-view code.TheVariants.Mount room r m n k p f s t l o u v w q x y z = absurd (m refl)
+default-view code.TheVariants.Off room r m n k p f s t l o u v w q x y z = absurd (n refl)
+default-view (code.TheVariants.Cut i kind) room r m n k p f s t l o u v w q x y z = absurd (k i kind refl)
+default-view (code.TheVariants.Put name key values blob) room r m n k p f s t l o u v w q x y z = absurd (p name key values blob refl)
+default-view (code.TheVariants.Flush name) room r m n k p f s t l o u v w q x y z = absurd (f name refl)
+default-view (code.TheVariants.Stat name) room r m n k p f s t l o u v w q x y z = absurd (s name refl)
+default-view (code.TheVariants.Get name key) room r m n k p f s t l o u v w q x y z = absurd (t name key refl)
+default-view (code.TheVariants.Scan name range span) room r m n k p f s t l o u v w q x y z = absurd (l name range span refl)
+default-view code.TheVariants.Cost room r m n k p f s t l o u v w q x y z = absurd (q refl)
+default-view (code.TheVariants.Load name count step seed) room r m n k p f s t l o u v w q x y z = absurd (o name count step seed refl)
+default-view (code.TheVariants.Open cursor name range span) room r m n k p f s t l o u v w q x y z = absurd (u cursor name range span refl)
+default-view (code.TheVariants.Close cursor) room r m n k p f s t l o u v w q x y z = absurd (v cursor refl)
+default-view (code.TheVariants.Next cursor count) room r m n k p f s t l o u v w q x y z = absurd (w cursor count refl)
+default-view (code.TheVariants.Select name range column op value) room r m n k p f s t l o u v w q x y z = absurd (x name range column op value refl)
+default-view (code.TheVariants.Project name range columns) room r m n k p f s t l o u v w q x y z = absurd (y name range columns refl)
+default-view (code.TheVariants.Agg name range column width) room r m n k p f s t l o u v w q x y z = absurd (z name range column width refl)
+default-view (code.TheVariants.Device page block) room r m n k p f s t l o u v w q x y z = absurd (none r.runs)
   where
     none : None ≡ Some (command.Device page block) → ⊥
     none e = cc
-default-view (code.TheVariants.Table name key rows index var bits base width error blob) room r m n k p f s t l o u v w q = absurd (none r.runs)
+default-view (code.TheVariants.Table name key rows index var bits base width error blob) room r m n k p f s t l o u v w q x y z = absurd (none r.runs)
   where
     none : None ≡ Some (command_view (code.TheVariants.Table name key rows index var bits base width error blob) room) → ⊥
     none e = cc
-default-view c room r m n k p f s t l o u v w q = absurd (unbuilt r.built)
+default-view c room r m n k p f s t l o u v w q x y z = absurd (unbuilt r.built)
   where
     unbuilt : false ≡ true → ⊥
     unbuilt e = cc

@@ -1,5 +1,5 @@
 -- One command of a session, up to its reply.
-use Rattle.std.specs.Prelude.{◌≡◌, ℕ, Bool, true, false, IsTrue, Option, Some, None, Result, Ok, Err, List, [], ◌∷◌}
+use Rattle.std.specs.Prelude.{◌≡◌, ℕ, Bool, true, false, IsTrue, None, Result, Ok, Err, List, [], ◌∷◌}
 use Rattle.fl_base.specs.Causes.{Rose}
 use Rattle.fl_flash.specs.declared.flash.FlashFault.{FlashFault}
 use Rattle.fl_flash.specs.declared.flash.FlashFault.TheVariants.{PowerLost, Media}
@@ -13,11 +13,13 @@ use Rattle.fl_machine.specs.Step.{Moment, Step}
 use Rattle.fl_script.specs.declared.reply.Reply as code
 use Rattle.fl_table.specs.declared.faults.PutRefusal.{PutRefusal}
 use Rattle.fl_table.specs.declared.faults.PutRefusal.TheVariants as put
-use Rattle.fl_table.specs.declared.counts.Mounted.{Mounted}
 use Rattle.fl_table.specs.declared.faults.MountFault.{MountFault}
 use Rattle.fl_table.specs.declared.faults.MountFault.TheVariants as mount
 use Rattle.fl_table.specs.declared.faults.FlushFault.{FlushFault}
 use Rattle.fl_table.specs.declared.faults.FlushFault.TheVariants as flush
+use Rattle.fl_session.specs.Tables.{IsNamed, Names}
+use Rattle.fl_session.specs.declared.tables.BadMount.{BadMount}
+use Rattle.fl_session.specs.declared.tables.Entry.{Entry}
 
 -- From a state of the machine a command that reads no rows went on to another one, for which the session stands; this is
 -- the text of its replies.
@@ -56,15 +58,26 @@ flush_reply (Ok done) = reply.Done
 flush_reply (Err flush.Stopped) = reply.NotMounted
 flush_reply (Err (flush.Flash fault)) = fault_reply fault
 
--- why a command on a table isn't executed: nothing is mounted, or the table is no other name's
-abbrev pub Refusal : List ℕ → Bool → List ℕ → Option code.Reply → Type 0
-Refusal own mounted name None = (mounted ≡ true) × (name ≡ own)
-Refusal own mounted name (Some code.TheVariants.NotMounted) = mounted ≡ false
-Refusal own mounted name (Some code.TheVariants.NoTable) = (mounted ≡ true) × (name ≡ own → ⊥)
-Refusal own mounted name (Some _) = ⊥
+-- why a command on a table isn't executed: nothing is mounted, or no table has this name
+abbrev pub Refusal : List Entry → Bool → List ℕ → code.Reply → Type 0
+Refusal entries mounted name code.TheVariants.NotMounted = mounted ≡ false
+Refusal entries mounted name code.TheVariants.NoTable = (mounted ≡ true) × Names entries name None
+Refusal entries mounted name _ = ⊥
 
--- the reply to a mount of the table of this name
-abbrev pub mount_reply : List ℕ → Result Mounted MountFault → Reply
-mount_reply name (Ok done) = reply.Done
-mount_reply name (Err (mount.Flash fault)) = fault_reply fault
-mount_reply name (Err _) = reply.BadImage name
+-- the table of this name is at this place, and a command on it is executed
+pub record IsReached (entries : List Entry) (mounted : Bool) (name : List ℕ) (at : ℕ) : Type 0 where
+  pub mounted_is : mounted ≡ true
+  pub named : IsNamed entries name at
+
+abbrev pub Reaches : List Entry → Bool → List ℕ → Result ℕ code.Reply → Type 0
+Reaches entries mounted name (Ok at) = IsReached entries mounted name at
+Reaches entries mounted name (Err refusal) = Refusal entries mounted name refusal
+
+-- the reply to a mount of the tables; this is the name of the one that isn't mounted
+abbrev pub bad_reply : List ℕ → MountFault → Reply
+bad_reply name (mount.Flash fault) = fault_reply fault
+bad_reply name _ = reply.BadImage name
+
+abbrev pub mount_reply : Result (Unit {0}) BadMount → Reply
+mount_reply (Ok done) = reply.Done
+mount_reply (Err bad) = bad_reply bad.name bad.fault

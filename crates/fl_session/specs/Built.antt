@@ -1,5 +1,5 @@
 -- The forms of lines that are built. A line of another form is not executed: the run ends there.
-use Rattle.std.specs.Prelude.{◌≡◌, Bool, true, false, Some, ◌&&◌, ◌==◌, nat_le, nat_lt, List, length}
+use Rattle.std.specs.Prelude.{◌≡◌, Bool, true, false, Some, ◌&&◌, ◌==◌, nat_le, nat_lt, List}
 use Rattle.std.specs.List.{list_all}
 use Rattle.fl_model.specs.Record.{Plan, Config}
 use Rattle.fl_words.specs.Command as command
@@ -19,6 +19,10 @@ is_built (command.Put name key values blob) = true
 is_built (command.Flush name) = true
 is_built (command.Get name key) = true
 is_built (command.Scan name range span) = true
+is_built (command.Select name range column op value) = true
+is_built (command.Project name range columns) = true
+-- a group has room for a key
+is_built (command.Agg name range column width) = nat_le 1 width
 is_built (command.Stat name) = true
 -- there are four cursors
 is_built (command.Open cursor name range span) = nat_lt cursor 4
@@ -29,12 +33,12 @@ is_built command.Cost = true
 is_built (command.Load name count step seed) = nat_le 1 step
 is_built c = false
 
--- the configurations: one table, without an index ring and without variable data
+-- the configurations: tables without an index ring and without variable data
 abbrev pub is_built_plan : Plan → Bool
 is_built_plan plan = (plan.index_blocks == 0) && (plan.var_blocks == 0)
 
 abbrev pub are_built : List Plan → Bool
-are_built plans = nat_le (length plans) 1 && list_all is_built_plan plans
+are_built plans = list_all is_built_plan plans
 
 abbrev pub is_built_config : Config → Bool
 is_built_config config = are_built config.plans

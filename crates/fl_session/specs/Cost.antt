@@ -1,13 +1,17 @@
 -- The cost of a command: the pages that it reads.
-use Rattle.std.specs.Prelude.{◌≡◌, ℕ, ◌+◌, ◌-◌, ◌^◌, ◌<◌, ◌≤◌, false, IsTrue}
+use Rattle.std.specs.Prelude.{◌≡◌, ℕ, ◌+◌, ◌-◌, ◌^◌, ◌<◌, ◌≤◌, Bool, true, false, IsTrue, OnOk, Option, Result}
+use Rattle.fl_base.specs.declared.types.KeyRange.{KeyRange}
+use Rattle.fl_base.specs.declared.types.Span.{Span}
 use Rattle.fl_flash.specs.Flash.{FlashState}
 use Rattle.fl_model.specs.Record.{Config}
+use Rattle.fl_model.specs.Limits.{scan_limit, least_reads}
 use Rattle.fl_model.specs.Spline.{lookup_limit, lookup_reads}
 use Rattle.fl_words.specs.Command as command
 use Rattle.fl_words.specs.Command.{Command}
 use Rattle.fl_machine.specs.Machine as machine
 use Rattle.fl_machine.specs.Machine.{Machine}
-use Rattle.fl_machine.specs.Reads.{none_read, is_unread, has_reads, OnTable}
+use Rattle.fl_machine.specs.OpenCursors.{AreWithin}
+use Rattle.fl_machine.specs.Reads.{none_read, is_unread, has_reads, OnTable, LimitOf}
 use Rattle.fl_machine.specs.Step.{Moment, Located}
 use Rattle.fl_session.specs.declared.cost.Cost.{Cost}
 use Rattle.fl_session.specs.declared.cost.Cost.TheVariants.{NothingYet, OfGet, OfScan}
@@ -23,10 +27,10 @@ pub record HasRead (old : FlashState) (reads : ℕ) (new : FlashState) : Type 0 
   pub flash : new.work.reads ≡ old.work.reads + reads
   pub medium : new.work.reads < 2 ^ 64 - 1 → new.media.reads < 2 ^ 64 - 1 → new.media.reads ≡ old.media.reads + reads
 
--- The machine's reads are those of the flash and its medium in a command that reads rows. Of a mount they aren't told, and
--- another command has none.
+-- The machine's reads are those of the flash and its medium in a command that reads rows, and in a mount by how much the
+-- flash's count rose. Another command has none, and the flash's count doesn't rise.
 abbrev pub CountsReads : FlashState → Moment → FlashState → Command → Type 0
-CountsReads old moment new command.Mount = Unit {0}
+CountsReads old moment new command.Mount = moment.reads ≡ new.work.reads - old.work.reads
 CountsReads old moment new (command.Get name key) = HasRead old moment.reads new
 CountsReads old moment new (command.Blob name key) = HasRead old moment.reads new
 CountsReads old moment new (command.Scan name range span) = HasRead old moment.reads new
@@ -35,7 +39,7 @@ CountsReads old moment new (command.Select name range column op value) = HasRead
 CountsReads old moment new (command.Project name range columns) = HasRead old moment.reads new
 CountsReads old moment new (command.Agg name range column width) = HasRead old moment.reads new
 CountsReads old moment new (command.Join left right range) = HasRead old moment.reads new
-CountsReads old moment new _ = none_read moment
+CountsReads old moment new _ = none_read moment × (new.work.reads ≤ old.work.reads)
 
 -- The reads of a get: at most its limit. Of a covered key that isn't pending they are those of the definition, where no read
 -- failed and the flash's count isn't at its end.
@@ -43,7 +47,22 @@ pub record ReadsGet (config : Config) (moment : Moment) (key : ℕ) (now : Flash
   pub within : moment.reads ≤ lookup_limit config.knots at.plan at.table key
   pub exact : now.work.reads < 2 ^ 64 - 1 → is_unread moment ≡ false → IsTrue (has_reads config.knots at.plan at.table key) → moment.reads ≡ lookup_reads config.knots at.plan at.table key
 
--- a command reads as many pages as is stated; of the others than a get nothing is stated yet
-abbrev pub ReadsAsStated : Config → Machine → Moment → FlashState → Command → Type 0
-ReadsAsStated config old moment now (command.Get name key) = OnTable config old moment name (ReadsGet config moment key now)
-ReadsAsStated config old moment now _ = Unit {0}
+-- The reads of a scan: at most its limit. They are at least the least number, where no read and no write failed and the
+-- flash's count isn't at its end.
+pub record ReadsScan {E : Type 0} (config : Config) (moment : Moment) (range : KeyRange) (span : Option Span) (now : FlashState) (result : Result (Unit {0}) E) (at : Located) : Type 0 where
+  pub within : moment.reads ≤ scan_limit config.knots at.plan at.table range span range.low
+  pub least : OnOk result (now.work.reads < 2 ^ 64 - 1 → is_unread moment ≡ false → least_reads at.plan at.table range span ≤ moment.reads)
+
+-- the flash's count rose by no more than this in a mount, and not where it was mounted already
+abbrev pub ReadsMount : Bool → FlashState → FlashState → ℕ → Type 0
+ReadsMount true old new most = new.work.reads ≡ old.work.reads
+ReadsMount false old new most = new.work.reads ≤ old.work.reads + most
+
+-- A command reads as many pages as is stated: a mount and a `next` at most their limits, `next` where the open cursors are
+-- within their ranges. Of a blob and of the operators nothing is stated yet.
+abbrev pub ReadsAsStated : {E : Type 0} → Config → Machine → Moment → FlashState → Result (Unit {0}) E → Command → Type 0
+ReadsAsStated config old moment now result command.Mount = LimitOf config old moment command.Mount
+ReadsAsStated config old moment now result (command.Get name key) = OnTable config old moment name (ReadsGet config moment key now)
+ReadsAsStated config old moment now result (command.Scan name range span) = OnTable config old moment name (ReadsScan config moment range span now result)
+ReadsAsStated config old moment now result (command.Next cursor count) = AreWithin old.cursors → LimitOf config old moment (command.Next cursor count)
+ReadsAsStated config old moment now result _ = Unit {0}

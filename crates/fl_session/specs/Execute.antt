@@ -9,6 +9,7 @@ use Rattle.fl_words.specs.Reply.{texts}
 use Rattle.fl_machine.specs.Machine.{Machine}
 use Rattle.fl_machine.specs.Step.{Moment, Step}
 use Rattle.fl_machine.specs.Found.{HasRoom, IsAtRest}
+use Rattle.fl_machine.specs.OpenCursors.{AreWithin}
 use Rattle.fl_machine.specs.Script.{Ran, RanInto}
 use Rattle.fl_session.specs.Cost.{CountsReads, ReadsAsStated}
 
@@ -30,13 +31,14 @@ pub record Executes {E : Type 0} (config : Config) (old : Machine) (command : Co
   pub alike : IsAlike moment.after after
   pub same : OnOk result (after ≡ moment.after)
   pub reads : CountsReads flash moment flash_now command
-  pub stated : ReadsAsStated config old moment flash_now command
+  pub stated : ReadsAsStated config old moment flash_now result command
   pub rose : IsTrue moment.rose → Rose flash.media.faults flash_now.media.faults
   pub told_all : OnOk result (Appends told told_now (texts moment.replies))
   pub told_front : OnErr result (AppendsFront told told_now (texts moment.replies))
 
 -- the configuration is one that is accepted, and the state one between two runs
 pub record IsReady (config : Config) (old : Machine) : Type 0 where
+  pub cursors : AreWithin old.cursors
   pub room : AllByRecursion HasRoom config.plans
   pub off : old.mounted ≡ false
   pub rest : AllByRecursion IsAtRest old.tables

@@ -1,8 +1,9 @@
 -- The rows that a cursor gives one after another, as their lines are written.
-use Rattle.std.specs.Prelude.{◌≡◌, ℕ, ◌<◌, Bool, true, false, Option, Result, Ok, Err, List, [], ◌++◌, length, map, take}
+use Rattle.std.specs.Prelude.{◌≡◌, ℕ, ◌+◌, ◌-◌, ◌^◌, ◌<◌, ◌≤◌, Option, Result, Ok, Err, IfOk, List, [], ◌++◌, length, map, take}
 use Rattle.std.specs.List.{last_or}
 use Rattle.fl_base.specs.Causes.{Appends, AppendsFront}
 use Rattle.fl_cursor.specs.Cursor.{mark_of, left_of}
+use Rattle.fl_cursor.specs.Reads.{most_of, least_of}
 use Rattle.fl_cursor.specs.declared.cursor.Cursor.{Cursor}
 use Rattle.fl_model.specs.Row.{Row}
 use Rattle.fl_page.specs.Contents.{Contents}
@@ -18,11 +19,17 @@ pub record Gave (old new : Cursor) (contents : Contents) (told told_now : Option
   pub mark : mark_of new ≡ record (mark_of old) { after = last_or (mark_of old).after (map (λ row. row.key) rows) }
   pub wrote : Appends told told_now (texts (map row_reply rows))
 
--- As many as were wanted were given, or all that were left. Or a read failed after some, or the sink in a line; no page
--- is bad.
-abbrev pub Gives : ℕ → Cursor → Cursor → Contents → Option (List ℕ) → Option (List ℕ) → Result Bool ListFault → Type 0
-Gives count old new contents told told_now (Ok true) = (rows : List Row) × Gave old new contents told told_now rows × (length rows ≡ count)
-Gives count old new contents told told_now (Ok false) = (rows : List Row) × Gave old new contents told told_now rows × (length rows < count) × (left_of new contents ≡ [])
+-- As many as were wanted were given, or all that were left, and counted. Or a read failed after some, or the sink in a
+-- line; no page is bad.
+abbrev pub Gives : ℕ → Cursor → Cursor → Contents → Option (List ℕ) → Option (List ℕ) → Result ℕ ListFault → Type 0
+Gives count old new contents told told_now (Ok given) =
+    (rows : List Row) × Gave old new contents told told_now rows × (length rows ≡ given) × (given ≤ count) × (given < count → left_of new contents ≡ [])
 Gives count old new contents told told_now (Err (Sink failed)) = AppendsFront told told_now (texts (map row_reply (take count (left_of old contents))))
 Gives count old new contents told told_now (Err (Read (Flash fault))) = (rows : List Row) × Gave old new contents told told_now rows × (length rows < count)
 Gives count old new contents told told_now (Err (Read (BadPage bad))) = ⊥
+
+-- the count of reads rose from one number to another: by no more than the cursor reads at most, and where it gave all that
+-- were left by no less than it reads at least
+pub record ReadsToGive (count : ℕ) (old : Cursor) (contents : Contents) (reads reads_now : ℕ) (result : Result ℕ ListFault) : Type 0 where
+  pub most : reads_now ≤ reads + most_of old contents
+  pub least : IfOk result (λ given. given < count → reads_now < 2 ^ 64 - 1 → reads + least_of old contents ≤ reads_now)

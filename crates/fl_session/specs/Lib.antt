@@ -11,6 +11,7 @@ pub mod Loop
 pub mod Given
 pub mod Begin
 pub mod Opening
+pub mod Tables
 pub mod Answer
 pub mod Cost
 pub mod Notes
@@ -22,3 +23,5 @@ pub mod Run
 pub mod Rows
 pub mod Listed
 pub mod Looked
+pub mod Lines
+pub mod Asked

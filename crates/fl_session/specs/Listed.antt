@@ -1,40 +1,24 @@
--- Rows that are listed in a sink, up to a fault.
-use Rattle.std.specs.Prelude.{◌≡◌, ℕ, ◌+◌, ◌<◌, ◌≤◌, IsTrue, Bool, IfErr, Option, Some, Result, Ok, Err, List, length, take, sum, slice_get}
-use Rattle.fl_base.specs.Causes.{Rose, Appends, AppendsFront}
+-- The replies to a scan, and why rows aren't listed to the end.
+use Rattle.std.specs.Prelude.{◌≡◌, ℕ, ◌+◌, ◌-◌, ◌^◌, ◌<◌, ◌≤◌, IsTrue, Bool, false, option_map, unwrap_or, OnOk, Option, None, Result, Err, List, length}
+use Rattle.std.specs.List.{last_or}
+use Rattle.fl_base.specs.Causes.{Rose}
+use Rattle.fl_base.specs.declared.stream.SinkFailed.{SinkFailed}
 use Rattle.fl_base.specs.declared.types.KeyRange.{KeyRange}
 use Rattle.fl_base.specs.declared.types.Span.{Span}
 use Rattle.fl_flash.specs.Flash.{FlashState}
 use Rattle.fl_page.specs.Contents.{IsCaused}
+use Rattle.fl_model.specs.Limits.{scan_limit, least_reads}
 use Rattle.fl_model.specs.Query.{selected}
 use Rattle.fl_model.specs.Record.{Plan}
 use Rattle.fl_model.specs.Table as model
 use Rattle.fl_page.specs.declared.fault.ReadFault.TheVariants.{Flash, BadPage}
 use Rattle.fl_words.specs.Reply as words
-use Rattle.fl_words.specs.Reply.{texts}
+use Rattle.fl_words.specs.Reply.{text, texts}
+use Rattle.fl_machine.specs.Reads.{is_read_fault}
 use Rattle.fl_machine.specs.Step.{Lists, rows_of}
 use Rattle.fl_script.specs.Written.{Written}
 use Rattle.fl_session.specs.declared.listing.ListFault.{ListFault}
-use Rattle.fl_session.specs.declared.listing.PageListed.{PageListed}
 use Rattle.fl_session.specs.declared.listing.ListFault.TheVariants.{Sink, Read}
-
--- These lines were written and counted. Or the sink failed in one of them, or the medium behind some of them; no page
--- is bad.
-abbrev pub ListsAll : List words.Reply → Option (List ℕ) → Option (List ℕ) → ℕ → ℕ → Result ℕ ListFault → Type 0
-ListsAll lines told told_now faults faults_now (Ok count) = Appends told told_now (texts lines) × (count ≡ length lines)
-ListsAll lines told told_now faults faults_now (Err (Sink failed)) = AppendsFront told told_now (texts lines)
-ListsAll lines told told_now faults faults_now (Err (Read (Flash fault))) =
-    Rose faults faults_now × ((n : ℕ) × (n ≤ length lines) × Appends told told_now (texts (take n lines)))
-ListsAll lines told told_now faults faults_now (Err (Read (BadPage bad))) = ⊥
-
--- how many of a page's rows were listed
-abbrev pub counted : Result PageListed ListFault → Result ℕ ListFault
-counted (Ok page) = Ok page.count
-counted (Err fault) = Err fault
-
--- the keys of the rows behind the i-th kept page are above the range
-abbrev pub EndsIn : KeyRange → model.Table → ℕ → Type 0
-EndsIn range table i =
-    (k : ℕ) (entry : model.Entry) → sum (take (i + 1) table.rows.counts) ≤ k → slice_get table.entries k ≡ Some entry → range.high < entry.kept.key
 
 -- a fault of the sink has this cause
 abbrev pub IfSink : ListFault → Type 0 → Type 0
@@ -46,14 +30,23 @@ abbrev pub IfUnread : FlashState → FlashState → ListFault → Type 0
 IfUnread old new (Sink failed) = Unit {0}
 IfUnread old new (Read fault) = IsCaused old fault new
 
-pub record HasSinkCause (before now : ℕ) (result : Result ℕ ListFault) : Type 0 where
-  pub later : before ≤ now
-  pub failed : IfErr result (λ fault. IfSink fault (Rose before now))
+-- what is said of it: nothing more to a sink that failed
+abbrev pub SaysFault : ListFault → Option (List ℕ) → Option (List ℕ) → Result (Unit {0}) SinkFailed → Type 0
+SaysFault (Sink failed) told told_now result = (result ≡ Err failed) × (told_now ≡ told)
+SaysFault (Read (Flash fault)) told told_now result = Written told told_now result (text words.ReadFault)
+SaysFault (Read (BadPage bad)) told told_now result = Written told told_now result (text (words.BadPage bad.wanted))
 
--- The replies to a scan of this table of the model were written, or a front of them where the sink failed.
-pub record Scans {E : Type 0} (plan : Plan) (table : model.Table) (range : KeyRange) (span : Option Span) (told told_now : Option (List ℕ)) (faults faults_now : ℕ) (result : Result (Unit {0}) E) : Type 0 where
+-- the last of these replies says that a read failed
+abbrev pub ends_unread : List words.Reply → Bool
+ends_unread replies = unwrap_or (option_map is_read_fault (last_or None replies)) false
+
+-- The replies to a scan of this table of the model were written, or a front of them where the sink failed. The count of
+-- reads rose by no more than the limit, and where no read failed by no less than the least number.
+pub record Scans {E : Type 0} (plan : Plan) (table : model.Table) (range : KeyRange) (span : Option Span) (told told_now : Option (List ℕ)) (faults faults_now reads reads_now : ℕ) (result : Result (Unit {0}) E) : Type 0 where
   pub rose : Bool
   pub risen : IsTrue rose → Rose faults faults_now
   pub replies : List words.Reply
   pub lists : Lists rose (rows_of plan (selected range span table.entries)) (words.EndCount (length (rows_of plan (selected range span table.entries)))) replies
   pub wrote : Written told told_now result (texts replies)
+  pub within : reads_now ≤ reads + scan_limit 64 plan table range span range.low
+  pub least : OnOk result (ends_unread replies ≡ false → reads_now < 2 ^ 64 - 1 → reads + least_reads plan table range span ≤ reads_now)

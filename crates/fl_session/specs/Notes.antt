@@ -1,10 +1,10 @@
 -- What a session remembers between two commands, as the machine has it.
 use Rattle.std.specs.Prelude.{Option, None, option_map, List, map, replicate}
 use Rattle.fl_cursor.specs.Asked.{asked_by}
-use Rattle.fl_cursor.specs.declared.bookmark.Bookmark.{Bookmark}
 use Rattle.fl_machine.specs.Machine.{OpenCursor}
 use Rattle.fl_session.specs.declared.cost.Cost.TheVariants.{NothingYet}
 use Rattle.fl_session.specs.declared.notes.Notes.{Notes}
+use Rattle.fl_session.specs.declared.notes.TableCursor.{TableCursor}
 
 -- nothing was executed yet
 abbrev pub no_notes : Notes
@@ -14,9 +14,9 @@ no_notes = record { cost = NothingYet; cursors = replicate 4 None }
 abbrev pub without_cursors : Notes → Notes
 without_cursors notes = record notes { cursors = replicate 4 None }
 
--- a cursor over the only table, which is kept as a bookmark
-abbrev pub cursor_of : Bookmark → OpenCursor
-cursor_of mark = record { table = 0; cursor = asked_by mark }
+-- a cursor over a table, which is kept as a bookmark
+abbrev pub cursor_of : TableCursor → OpenCursor
+cursor_of c = record { table = c.table; cursor = asked_by c.mark }
 
-abbrev pub cursors_of : List (Option Bookmark) → List (Option OpenCursor)
-cursors_of marks = map (option_map cursor_of) marks
+abbrev pub cursors_of : List (Option TableCursor) → List (Option OpenCursor)
+cursors_of cursors = map (option_map cursor_of) cursors

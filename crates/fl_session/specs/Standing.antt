@@ -1,21 +1,20 @@
 -- A session, and the states of the machine for which it stands.
-use Rattle.std.specs.Prelude.{◌≡◌, ℕ, Bool, true, false, IsTrue, MatchBool, List, [], ◌∷◌, length, take, Some, if◌then◌else◌}
+use Rattle.std.specs.Prelude.{◌≡◌, ℕ, ◌<◌, Bool, true, IsTrue, List, length, take, Some, slice_get, if◌then◌else◌}
 use Rattle.fl_flash.specs.Flash.{FlashState}
 use Rattle.fl_ring.specs.Device.{SameDevice}
-use Rattle.fl_model.specs.Record.{Config, Plan}
+use Rattle.fl_model.specs.Record.{Config}
 use Rattle.fl_model.specs.Table as model
 use Rattle.fl_model.specs.Image.{medium_len}
 use Rattle.fl_words.specs.Medium.{header, IsImage}
-use Rattle.fl_words.specs.Config.{Lines}
 use Rattle.fl_machine.specs.Machine.{Machine, begins, no_cursors}
-use Rattle.fl_table.specs.declared.table.Table.{Table}
-use Rattle.fl_table.specs.Memory.{IsPlanned, LiesOn, is_running}
-use Rattle.fl_table.specs.Pages.{Rests}
-use Rattle.fl_table.specs.Standing.{Stands}
+use Rattle.fl_session.specs.Built.{are_built}
 use Rattle.fl_session.specs.Cost.{cost_of}
 use Rattle.fl_session.specs.Notes.{cursors_of}
+use Rattle.fl_session.specs.Tables.{TablesStand, LieOn, AreRunning}
 use Rattle.fl_session.specs.declared.buffers.Buffers.{Buffers}
 use Rattle.fl_session.specs.declared.notes.Notes.{Notes}
+use Rattle.fl_session.specs.declared.notes.TableCursor.{TableCursor}
+use Rattle.fl_session.specs.declared.tables.Entry.{Entry}
 
 -- the header and the length of the medium are those of the configuration
 pub record IsOnMedium (config : Config) (f : FlashState) : Type 0 where
@@ -25,39 +24,28 @@ pub record IsOnMedium (config : Config) (f : FlashState) : Type 0 where
   pub start : f.start ≡ 1024
   pub geometry : f.geometry ≡ config.geometry
 
--- a session over one table, which has this name; it notes the cost of the last get or scan and, while it is mounted, the
--- cursors that are open
-pub record SessionStands (config : Config) (t : Table) (name : List ℕ) (f : FlashState) (mounted : Bool) (notes : Notes) (m : Machine) : Type 0 where
+-- a session over tables; it notes the cost of the last get or scan and, while it is mounted, the cursors that are open
+pub record SessionStands (config : Config) (entries : List Entry) (f : FlashState) (mounted : Bool) (notes : Notes) (m : Machine) : Type 0 where
   pub knots : config.knots ≡ 64
+  pub built : are_built config.plans ≡ true
   pub medium : IsOnMedium config f
-  pub plan : Plan
-  pub plans : config.plans ≡ plan ∷ []
-  pub named : plan.name ≡ name
-  pub planned : IsPlanned t 0 plan
-  pub table : model.Table
-  pub tables : m.tables ≡ table ∷ []
+  pub tables : TablesStand f (λ i. mounted) config.plans entries m.tables
   pub is_mounted : m.mounted ≡ mounted
   pub cursors : m.cursors ≡ (if mounted then cursors_of notes.cursors else no_cursors)
   pub device : SameDevice f m.device
   pub cost_is : m.cost ≡ cost_of notes.cost
-  pub on_flash : MatchBool mounted (Stands t f 0 plan table) (Rests f 0 plan table)
   pub power : IsTrue mounted → f.is_on ≡ true
 
 -- each buffer has room for a page of this size
 abbrev pub HasRooms : Buffers → ℕ → Type 0
 HasRooms buf size = (length buf.rows.bytes ≡ size) × (length buf.index.bytes ≡ size)
 
--- what holds of a session always
-pub record IsSound (t : Table) (f : FlashState) (buf : Buffers) (mounted : Bool) : Type 0 where
-  pub lies : LiesOn t f
+-- what holds of a session always: a cursor that is open is over one of its tables
+pub record IsSound (entries : List Entry) (f : FlashState) (buf : Buffers) (mounted : Bool) (notes : Notes) : Type 0 where
+  pub lie : LieOn entries f
   pub room : HasRooms buf f.geometry.page
-  pub running : mounted ≡ true → is_running t ≡ true
-
--- a table that was made for the one that the lines configure, and never mounted
-pub record IsNewTable (t : Table) (lines : Lines) : Type 0 where
-  pub device : lines.device ≡ Some t.geometry
-  pub planned : (plan : Plan) → lines.plans ≡ plan ∷ [] → IsPlanned t 0 plan
-  pub rests : is_running t ≡ false
+  pub running : mounted ≡ true → AreRunning entries
+  pub cursors : (i : ℕ) (c : TableCursor) → slice_get notes.cursors i ≡ Some (Some c) → c.table < length entries
 
 -- a medium stands for a state between two runs; it is no empty one
 abbrev pub RestsOn : Config → List ℕ → Machine → Type 0

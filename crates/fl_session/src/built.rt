@@ -15,13 +15,14 @@ fn is_built_table(table: &TableConfig) -> bool
     table.index.is_none() && table.var.is_none()
 }
 
-/// Whether the configuration is one that is built: one table, without an index ring and without variable data.
+/// Whether the configuration is one that is built: its tables have no index rings and no variable data.
 pub(crate) fn is_built_config(config: &Config) -> bool
     ensures { result ≡ are_built config.now.plans }
 {
-    match config.tables() {
-        0 => true,
-        1 => is_built_table(config.table(0)),
-        _ => false,
+    for i in 0..config.tables() {
+        if !is_built_table(config.table(i)) {
+            return false;
+        }
     }
+    true
 }

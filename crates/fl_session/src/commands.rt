@@ -27,6 +27,7 @@ pub(crate) fn run_commands<T: Executor, S: Source, K: Sink>(
     out: &mut K,
 ) -> Status
     requires sound { T.sound session.old }
+    requires unread { (T.flash session.old).work.reads ≡ 0 }
     requires numbered { number + lines.old.most < 2 ^ 32 }
     requires reads { IsToRun lines.old.line (command_view first room.old) }
     ensures runs { (config : Config) (left : List ℕ) → S.left script.old ≡ Some left → (lines.old.closed ≡ true → lines.old.ahead ++ left ≡ []) →

@@ -1,5 +1,5 @@
 // The puts of a load.
-ghost use Rattle.std.specs.Prelude.{◌≡◌, ◌≤◌, ℕ, ◌&&◌, List, not, true};
+ghost use Rattle.std.specs.Prelude.{◌≡◌, ◌≤◌, ℕ, ◌&&◌, List, not, true, Some, slice_get};
 ghost use Rattle.fl_base.specs.Causes.{HasCause};
 ghost use Rattle.fl_flash.specs.Flash.{Goes};
 ghost use Rattle.fl_model.specs.Record.{Config};
@@ -8,9 +8,11 @@ ghost use Rattle.fl_words.specs.Reply.{texts};
 ghost use Rattle.fl_machine.specs.Machine.{Machine};
 ghost use Rattle.fl_script.specs.Written.{Written};
 ghost use Rattle.fl_table.specs.Causes.{put_breaks};
-ghost use Rattle.fl_table.specs.Memory.{is_running, LiesOn};
+ghost use Rattle.fl_table.specs.Memory.{is_running, IsSamePlan, LiesOn};
 ghost use Rattle.fl_session.specs.Answer.{Answers, load_replies};
 ghost use Rattle.fl_session.specs.Standing.{SessionStands};
+ghost use Rattle.fl_session.specs.Tables.{IsNamed, entries_with};
+ghost use Rattle.fl_session.specs.declared.tables.Entry.{Entry};
 ghost use Rattle.fl_session.specs.declared.notes.Notes.{Notes};
 
 use crate::generator::Generator;
@@ -55,9 +57,12 @@ pub(crate) fn load<F: Flash>(
     requires steps { 1 ≤ step }
     ensures lies { LiesOn table.new (F.state flash.new) }
     ensures goes { Goes (F.state flash.old) (F.state flash.new) }
+    ensures reads { (F.state flash.new).work.reads ≡ (F.state flash.old).work.reads }
     ensures running { is_running table.new ≡ (is_running table.old && not (put_breaks result.outcome)) }
-    ensures answers { (config : Config) → (name : List ℕ) → (notes : Notes) → (old : Machine) → SessionStands config table.old name (F.state flash.old) true notes old →
-        Answers config old (words.Load name count step seed) (SessionStands config table.new name (F.state flash.new) (not (put_breaks result.outcome)) notes)
+    ensures same { IsSamePlan table.old table.new }
+    ensures answers { (config : Config) → (entries : List Entry) → (at : ℕ) → (entry : Entry) → (name : List ℕ) → (notes : Notes) → (old : Machine) → SessionStands config entries (F.state flash.old) true notes old →
+        slice_get entries at ≡ Some entry → entry.table ≡ table.old → IsNamed entries name at →
+        Answers config old (words.Load name count step seed) (SessionStands config (entries_with entries at entry table.new) (F.state flash.new) (not (put_breaks result.outcome)) notes)
         (F.state flash.old).media.faults (F.state flash.new).media.faults (texts (load_replies result.count result.outcome)) }
 {
     let mut records = Generator::new(table, step, seed);

@@ -22,9 +22,12 @@ fn is_built(command: &Command) -> bool
         | Command::Flush { .. }
         | Command::Get { .. }
         | Command::Scan { .. }
+        | Command::Select { .. }
+        | Command::Project { .. }
         | Command::Stat { .. }
         | Command::Cost => true,
         Command::Cut { n, .. } => 1 <= *n,
+        Command::Agg { width, .. } => 1 <= *width,
         Command::Load { step, .. } => 1 <= *step,
         Command::Open { cursor, .. } | Command::Next { cursor, .. } | Command::Close { cursor } =>
             *cursor < 4,

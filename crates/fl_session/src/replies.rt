@@ -8,10 +8,10 @@ ghost use Rattle.fl_session.specs.Cost.{cost_of};
 ghost use Rattle.fl_table.specs.Causes as causes;
 
 use crate::cost::Cost;
-use fl_base::Name;
+use crate::tables::BadMount;
 use fl_flash::FlashFault;
 use fl_script::Reply;
-use fl_table::{FlushFault, MountFault, Mounted, PutRefusal};
+use fl_table::{FlushFault, MountFault, PutRefusal};
 
 pub(crate) fn fault_reply(fault: FlashFault) -> Reply
     ensures { reply_text result ≡ text (said.fault_reply fault) }
@@ -60,13 +60,15 @@ pub(crate) fn flush_breaks(outcome: &Result<(), FlushFault>) -> bool
     matches!(outcome, Err(FlushFault::Flash(_)))
 }
 
-pub(crate) fn mount_reply(name: Name, outcome: Result<Mounted, MountFault>) -> Reply
-    ensures { reply_text result ≡ text (said.mount_reply name outcome) }
+pub(crate) fn mount_reply(outcome: Result<(), BadMount>) -> Reply
+    ensures { reply_text result ≡ text (said.mount_reply outcome) }
 {
-    match outcome {
-        Ok(_) => Reply::Done,
-        Err(MountFault::Flash(fault)) => fault_reply(fault),
-        Err(_) => Reply::BadImage { name },
+    let Err(BadMount { name, fault }) = outcome else {
+        return Reply::Done;
+    };
+    match fault {
+        MountFault::Flash(fault) => fault_reply(fault),
+        _ => Reply::BadImage { name },
     }
 }
 

@@ -1,5 +1,5 @@
 // A session over a flash.
-ghost use Rattle.std.specs.Prelude.{◌≡◌, ◌≤◌, ◌<◌, ℕ, false, Some, None, option_map, if◌then◌else◌};
+ghost use Rattle.std.specs.Prelude.{◌≡◌, ◌≤◌, ◌<◌, ℕ, ◌*◌, false, Some, None, option_map, if◌then◌else◌, IsTrue};
 ghost use Rattle.fl_base.specs.Causes.{HasCause};
 ghost use Rattle.fl_flash.specs.Flash.{Goes};
 ghost use Rattle.fl_model.specs.Record.{Config};
@@ -9,11 +9,12 @@ ghost use Rattle.fl_words.specs.Reply as said;
 ghost use Rattle.fl_machine.specs.Machine.{Machine};
 ghost use Rattle.fl_script.specs.CommandView.{command_view};
 ghost use Rattle.fl_script.specs.ReplyView.{reply_text};
-ghost use Rattle.fl_session.specs.Answer.{Answers, Refusal};
+ghost use Rattle.fl_session.specs.Answer.{Answers, Reaches};
 ghost use Rattle.fl_session.specs.Built.{IsRunnable};
+ghost use Rattle.fl_session.specs.Cost.{ReadsMount};
 ghost use Rattle.fl_session.specs.Execute.{Executes};
 ghost use Rattle.fl_session.specs.Notes.{no_notes};
-ghost use Rattle.fl_session.specs.Standing.{SessionStands, IsSound};
+ghost use Rattle.fl_session.specs.Tables.{pages_of};
 
 use crate::buffers::Buffers;
 use crate::cost::Cost;
@@ -21,19 +22,20 @@ use crate::cursors::{next_rows, open_cursor};
 use crate::executor::Executor;
 use crate::load::load;
 use crate::lookup::look_up;
-use crate::notes::{NO_CURSORS, Notes};
+use crate::notes::{NO_CURSORS, Notes, TableCursor};
+use crate::operators::{Comparison, aggregate, lacked_column, project, select};
 use crate::replies::{cost_reply, flush_breaks, flush_reply, mount_reply, put_breaks, put_reply};
-use crate::rows::Wanted;
+use crate::scans::list_rows;
+use crate::tables::Tables;
+use arrayvec::ArrayVec;
 use fl_base::{CutKind, KeyRange, Name, Sink, SinkFailed, Span};
 use fl_flash::{Flash, Media, SimFlash};
 use fl_script::{Command, LineRoom, Reply, write_reply};
-use fl_table::Table;
 
-/// A session over a flash: it mounts the table there and executes commands on it.
+/// A session over a flash: it mounts the tables there and executes commands on them.
 pub struct Session<'m, M: Media> {
     flash: SimFlash<'m, M>,
-    table: Table,
-    name: Name,
+    tables: Tables,
     buf: Buffers,
     mounted: bool,
     notes: Notes,
@@ -41,16 +43,15 @@ pub struct Session<'m, M: Media> {
 
 impl<'m, M: Media> Session<'m, M> {
     /// A session that isn't mounted.
-    pub(crate) fn new(flash: SimFlash<'m, M>, table: Table, name: Name, buf: Buffers) -> Self
+    pub(crate) fn new(flash: SimFlash<'m, M>, tables: Tables, buf: Buffers) -> Self
         ensures flash { ⟦<SimFlash<'m, M> as Flash>⟧.state result.flash ≡ ⟦<SimFlash<'m, M> as Flash>⟧.state flash.entry }
-        ensures rooms { (result.table ≡ table) × (result.name ≡ name) × (result.buf ≡ buf) }
+        ensures rooms { (result.tables ≡ tables) × (result.buf ≡ buf) }
         ensures off { result.mounted ≡ false }
         ensures fresh { result.notes ≡ no_notes }
     {
         Session {
             flash,
-            table,
-            name,
+            tables,
             buf,
             mounted: false,
             notes: Notes::new(),
@@ -64,8 +65,7 @@ impl<'m, M: Media> Session<'m, M> {
     {
         let Session {
             flash,
-            table: _,
-            name: _,
+            tables: _,
             buf: _,
             mounted: _,
             notes: _,
@@ -77,12 +77,13 @@ impl<'m, M: Media> Session<'m, M> {
 impl<'m, M: Media> Session<'m, M> {
     /// Ends the session: the power goes off, and what is in memory alone is lost.
     fn off(&mut self) -> Reply
-        requires { IsSound self.old.table (⟦<SimFlash<'m, M> as Flash>⟧.state self.old.flash) self.old.buf self.old.mounted }
-        ensures sound { IsSound self.new.table (⟦<SimFlash<'m, M> as Flash>⟧.state self.new.flash) self.new.buf self.new.mounted }
-        ensures goes { Goes (⟦<SimFlash<'m, M> as Flash>⟧.state self.old.flash) (⟦<SimFlash<'m, M> as Flash>⟧.state self.new.flash) }
-        ensures step { (config : Config) (old : Machine) → SessionStands config self.old.table self.old.name (⟦<SimFlash<'m, M> as Flash>⟧.state self.old.flash) self.old.mounted self.old.notes old →
-            Answers config old words.Off (SessionStands config self.new.table self.new.name (⟦<SimFlash<'m, M> as Flash>⟧.state self.new.flash) self.new.mounted self.new.notes)
-            (⟦<SimFlash<'m, M> as Flash>⟧.state self.old.flash).media.faults (⟦<SimFlash<'m, M> as Flash>⟧.state self.new.flash).media.faults (reply_text result) }
+        requires { ⟦<Self as Executor>⟧.sound self.old }
+        ensures sound { ⟦<Self as Executor>⟧.sound self.new }
+        ensures goes { Goes (⟦<Self as Executor>⟧.flash self.old) (⟦<Self as Executor>⟧.flash self.new) }
+        ensures reads { (⟦<Self as Executor>⟧.flash self.new).work.reads ≡ (⟦<Self as Executor>⟧.flash self.old).work.reads }
+        ensures step { (config : Config) (old : Machine) → ⟦<Self as Executor>⟧.stands self.old config old →
+            Answers config old words.Off (⟦<Self as Executor>⟧.stands self.new config)
+            (⟦<Self as Executor>⟧.flash self.old).media.faults (⟦<Self as Executor>⟧.flash self.new).media.faults (reply_text result) }
     {
         self.flash.power_off();
         self.mounted = false;
@@ -92,94 +93,101 @@ impl<'m, M: Media> Session<'m, M> {
 
     /// The n-th program or erase from now on is torn.
     fn cut(&mut self, n: u64, kind: CutKind) -> Reply
-        requires sound { IsSound self.old.table (⟦<SimFlash<'m, M> as Flash>⟧.state self.old.flash) self.old.buf self.old.mounted }
+        requires sound { ⟦<Self as Executor>⟧.sound self.old }
         requires counted { 1 ≤ n }
-        ensures sound { IsSound self.new.table (⟦<SimFlash<'m, M> as Flash>⟧.state self.new.flash) self.new.buf self.new.mounted }
-        ensures goes { Goes (⟦<SimFlash<'m, M> as Flash>⟧.state self.old.flash) (⟦<SimFlash<'m, M> as Flash>⟧.state self.new.flash) }
-        ensures step { (config : Config) (old : Machine) → SessionStands config self.old.table self.old.name (⟦<SimFlash<'m, M> as Flash>⟧.state self.old.flash) self.old.mounted self.old.notes old →
-            Answers config old (words.Cut n kind) (SessionStands config self.new.table self.new.name (⟦<SimFlash<'m, M> as Flash>⟧.state self.new.flash) self.new.mounted self.new.notes)
-            (⟦<SimFlash<'m, M> as Flash>⟧.state self.old.flash).media.faults (⟦<SimFlash<'m, M> as Flash>⟧.state self.new.flash).media.faults (reply_text result) }
+        ensures sound { ⟦<Self as Executor>⟧.sound self.new }
+        ensures goes { Goes (⟦<Self as Executor>⟧.flash self.old) (⟦<Self as Executor>⟧.flash self.new) }
+        ensures reads { (⟦<Self as Executor>⟧.flash self.new).work.reads ≡ (⟦<Self as Executor>⟧.flash self.old).work.reads }
+        ensures step { (config : Config) (old : Machine) → ⟦<Self as Executor>⟧.stands self.old config old →
+            Answers config old (words.Cut n kind) (⟦<Self as Executor>⟧.stands self.new config)
+            (⟦<Self as Executor>⟧.flash self.old).media.faults (⟦<Self as Executor>⟧.flash self.new).media.faults (reply_text result) }
     {
         self.flash.arm(n, kind);
         Reply::Done
     }
 
-    /// Mounts the table: the power goes on, and what stands on the flash is found and repaired.
+    /// Mounts the tables: the power goes on, and what stands on the flash is found and repaired.
     fn mount(&mut self) -> Reply
-        requires sound { IsSound self.old.table (⟦<SimFlash<'m, M> as Flash>⟧.state self.old.flash) self.old.buf self.old.mounted }
-        ensures sound { IsSound self.new.table (⟦<SimFlash<'m, M> as Flash>⟧.state self.new.flash) self.new.buf self.new.mounted }
-        ensures goes { Goes (⟦<SimFlash<'m, M> as Flash>⟧.state self.old.flash) (⟦<SimFlash<'m, M> as Flash>⟧.state self.new.flash) }
-        ensures step { (config : Config) (old : Machine) → SessionStands config self.old.table self.old.name (⟦<SimFlash<'m, M> as Flash>⟧.state self.old.flash) self.old.mounted self.old.notes old →
-            Answers config old words.Mount (SessionStands config self.new.table self.new.name (⟦<SimFlash<'m, M> as Flash>⟧.state self.new.flash) self.new.mounted self.new.notes)
-            (⟦<SimFlash<'m, M> as Flash>⟧.state self.old.flash).media.faults (⟦<SimFlash<'m, M> as Flash>⟧.state self.new.flash).media.faults (reply_text result) }
+        requires sound { ⟦<Self as Executor>⟧.sound self.old }
+        ensures sound { ⟦<Self as Executor>⟧.sound self.new }
+        ensures goes { Goes (⟦<Self as Executor>⟧.flash self.old) (⟦<Self as Executor>⟧.flash self.new) }
+        ensures step { (config : Config) (old : Machine) → ⟦<Self as Executor>⟧.stands self.old config old →
+            Answers config old words.Mount (⟦<Self as Executor>⟧.stands self.new config)
+            (⟦<Self as Executor>⟧.flash self.old).media.faults (⟦<Self as Executor>⟧.flash self.new).media.faults (reply_text result) }
+        ensures reads { IsTrue (⟦<Self as Executor>⟧.flash self.old).media.tells →
+            ReadsMount self.old.mounted (⟦<Self as Executor>⟧.flash self.old) (⟦<Self as Executor>⟧.flash self.new) (4 * pages_of self.old.tables.entries.items) }
     {
         if self.mounted {
             return Reply::AlreadyMounted;
         }
         self.flash.power_on();
-        let outcome = self.table.mount(&mut self.flash, &mut self.buf.rows);
+        let outcome = self.tables.mount(&mut self.flash, &mut self.buf.rows);
         self.mounted = outcome.is_ok();
         self.notes.cursors = NO_CURSORS;
-        mount_reply(self.name, outcome)
+        mount_reply(outcome)
     }
 
-    /// Why a command on the table of this name isn't executed, if it isn't.
-    fn refusal(&self, name: Name) -> Option<Reply>
-        ensures { Refusal self.now.name self.now.mounted name result }
+    /// The place of the table with this name, or why a command on it isn't executed.
+    fn find(&self, name: Name) -> Result<usize, Reply>
+        ensures { Reaches self.now.tables.entries.items self.now.mounted name result }
     {
         if !self.mounted {
-            return Some(Reply::NotMounted);
+            return Err(Reply::NotMounted);
         }
-        if name.bytes() != self.name.bytes() {
-            return Some(Reply::NoTable);
-        }
-        None
+        self.tables.find(name).ok_or(Reply::NoTable)
     }
 
     /// Puts a record.
     fn put(&mut self, name: Name, key: u64, values: &[i64], blob: Option<&[u8]>) -> Reply
-        requires sound { IsSound self.old.table (⟦<SimFlash<'m, M> as Flash>⟧.state self.old.flash) self.old.buf self.old.mounted }
-        ensures sound { IsSound self.new.table (⟦<SimFlash<'m, M> as Flash>⟧.state self.new.flash) self.new.buf self.new.mounted }
-        ensures goes { Goes (⟦<SimFlash<'m, M> as Flash>⟧.state self.old.flash) (⟦<SimFlash<'m, M> as Flash>⟧.state self.new.flash) }
-        ensures step { (config : Config) (old : Machine) → SessionStands config self.old.table self.old.name (⟦<SimFlash<'m, M> as Flash>⟧.state self.old.flash) self.old.mounted self.old.notes old →
-            Answers config old (words.Put name key values.now (option_map (λ b. b.now) blob.entry)) (SessionStands config self.new.table self.new.name (⟦<SimFlash<'m, M> as Flash>⟧.state self.new.flash) self.new.mounted self.new.notes)
-            (⟦<SimFlash<'m, M> as Flash>⟧.state self.old.flash).media.faults (⟦<SimFlash<'m, M> as Flash>⟧.state self.new.flash).media.faults (reply_text result) }
+        requires sound { ⟦<Self as Executor>⟧.sound self.old }
+        ensures sound { ⟦<Self as Executor>⟧.sound self.new }
+        ensures goes { Goes (⟦<Self as Executor>⟧.flash self.old) (⟦<Self as Executor>⟧.flash self.new) }
+        ensures reads { (⟦<Self as Executor>⟧.flash self.new).work.reads ≡ (⟦<Self as Executor>⟧.flash self.old).work.reads }
+        ensures step { (config : Config) (old : Machine) → ⟦<Self as Executor>⟧.stands self.old config old →
+            Answers config old (words.Put name key values.now (option_map (λ b. b.now) blob.entry)) (⟦<Self as Executor>⟧.stands self.new config)
+            (⟦<Self as Executor>⟧.flash self.old).media.faults (⟦<Self as Executor>⟧.flash self.new).media.faults (reply_text result) }
     {
-        if let Some(refusal) = self.refusal(name) {
-            return refusal;
-        }
-        let outcome = self.table.put(&mut self.flash, key, values, blob);
+        let at = match self.find(name) {
+            Ok(at) => at,
+            Err(refusal) => return refusal,
+        };
+        let outcome = self.tables.entries[at]
+            .table
+            .put(&mut self.flash, key, values, blob);
         self.mounted = !put_breaks(&outcome);
         put_reply(outcome)
     }
 
     /// Makes a page of the rows that wait in memory.
     fn flush(&mut self, name: Name) -> Reply
-        requires sound { IsSound self.old.table (⟦<SimFlash<'m, M> as Flash>⟧.state self.old.flash) self.old.buf self.old.mounted }
-        ensures sound { IsSound self.new.table (⟦<SimFlash<'m, M> as Flash>⟧.state self.new.flash) self.new.buf self.new.mounted }
-        ensures goes { Goes (⟦<SimFlash<'m, M> as Flash>⟧.state self.old.flash) (⟦<SimFlash<'m, M> as Flash>⟧.state self.new.flash) }
-        ensures step { (config : Config) (old : Machine) → SessionStands config self.old.table self.old.name (⟦<SimFlash<'m, M> as Flash>⟧.state self.old.flash) self.old.mounted self.old.notes old →
-            Answers config old (words.Flush name) (SessionStands config self.new.table self.new.name (⟦<SimFlash<'m, M> as Flash>⟧.state self.new.flash) self.new.mounted self.new.notes)
-            (⟦<SimFlash<'m, M> as Flash>⟧.state self.old.flash).media.faults (⟦<SimFlash<'m, M> as Flash>⟧.state self.new.flash).media.faults (reply_text result) }
+        requires sound { ⟦<Self as Executor>⟧.sound self.old }
+        ensures sound { ⟦<Self as Executor>⟧.sound self.new }
+        ensures goes { Goes (⟦<Self as Executor>⟧.flash self.old) (⟦<Self as Executor>⟧.flash self.new) }
+        ensures reads { (⟦<Self as Executor>⟧.flash self.new).work.reads ≡ (⟦<Self as Executor>⟧.flash self.old).work.reads }
+        ensures step { (config : Config) (old : Machine) → ⟦<Self as Executor>⟧.stands self.old config old →
+            Answers config old (words.Flush name) (⟦<Self as Executor>⟧.stands self.new config)
+            (⟦<Self as Executor>⟧.flash self.old).media.faults (⟦<Self as Executor>⟧.flash self.new).media.faults (reply_text result) }
     {
-        if let Some(refusal) = self.refusal(name) {
-            return refusal;
-        }
-        let outcome = self.table.flush(&mut self.flash);
+        let at = match self.find(name) {
+            Ok(at) => at,
+            Err(refusal) => return refusal,
+        };
+        let outcome = self.tables.entries[at].table.flush(&mut self.flash);
         self.mounted = !flush_breaks(&outcome);
         flush_reply(outcome)
     }
 
     /// How much the table holds, and the programs and erases of the whole run.
     fn stat(&self, name: Name) -> Reply
-        ensures { (config : Config) (old : Machine) → SessionStands config self.now.table self.now.name (⟦<SimFlash<'m, M> as Flash>⟧.state self.now.flash) self.now.mounted self.now.notes old →
-            Answers config old (words.Stat name) (SessionStands config self.now.table self.now.name (⟦<SimFlash<'m, M> as Flash>⟧.state self.now.flash) self.now.mounted self.now.notes)
-            (⟦<SimFlash<'m, M> as Flash>⟧.state self.now.flash).media.faults (⟦<SimFlash<'m, M> as Flash>⟧.state self.now.flash).media.faults (reply_text result) }
+        ensures { (config : Config) (old : Machine) → ⟦<Self as Executor>⟧.stands self.now config old →
+            Answers config old (words.Stat name) (⟦<Self as Executor>⟧.stands self.now config)
+            (⟦<Self as Executor>⟧.flash self.now).media.faults (⟦<Self as Executor>⟧.flash self.now).media.faults (reply_text result) }
     {
-        if let Some(refusal) = self.refusal(name) {
-            return refusal;
-        }
-        let counts = self.table.counts();
+        let at = match self.find(name) {
+            Ok(at) => at,
+            Err(refusal) => return refusal,
+        };
+        let counts = self.tables.entries[at].table.counts();
         let work = self.flash.work();
         Reply::Stat {
             rows: counts.rows,
@@ -193,40 +201,45 @@ impl<'m, M: Media> Session<'m, M> {
 
     /// What the last get or scan cost.
     fn cost(&self) -> Reply
-        ensures { (config : Config) (old : Machine) → SessionStands config self.now.table self.now.name (⟦<SimFlash<'m, M> as Flash>⟧.state self.now.flash) self.now.mounted self.now.notes old →
-            Answers config old words.Cost (SessionStands config self.now.table self.now.name (⟦<SimFlash<'m, M> as Flash>⟧.state self.now.flash) self.now.mounted self.now.notes)
-            (⟦<SimFlash<'m, M> as Flash>⟧.state self.now.flash).media.faults (⟦<SimFlash<'m, M> as Flash>⟧.state self.now.flash).media.faults (reply_text result) }
+        ensures { (config : Config) (old : Machine) → ⟦<Self as Executor>⟧.stands self.now config old →
+            Answers config old words.Cost (⟦<Self as Executor>⟧.stands self.now config)
+            (⟦<Self as Executor>⟧.flash self.now).media.faults (⟦<Self as Executor>⟧.flash self.now).media.faults (reply_text result) }
     {
         cost_reply(self.notes.cost)
     }
 
     /// Opens a cursor over the rows that are asked for.
     fn open(&mut self, cursor: u64, name: Name, range: KeyRange, span: Option<Span>) -> Reply
-        requires sound { IsSound self.old.table (⟦<SimFlash<'m, M> as Flash>⟧.state self.old.flash) self.old.buf self.old.mounted }
+        requires sound { ⟦<Self as Executor>⟧.sound self.old }
         requires cursor { cursor < 4 }
-        ensures sound { IsSound self.new.table (⟦<SimFlash<'m, M> as Flash>⟧.state self.new.flash) self.new.buf self.new.mounted }
-        ensures goes { Goes (⟦<SimFlash<'m, M> as Flash>⟧.state self.old.flash) (⟦<SimFlash<'m, M> as Flash>⟧.state self.new.flash) }
-        ensures step { (config : Config) (old : Machine) → SessionStands config self.old.table self.old.name (⟦<SimFlash<'m, M> as Flash>⟧.state self.old.flash) self.old.mounted self.old.notes old →
-            Answers config old (words.Open cursor name range span) (SessionStands config self.new.table self.new.name (⟦<SimFlash<'m, M> as Flash>⟧.state self.new.flash) self.new.mounted self.new.notes)
-            (⟦<SimFlash<'m, M> as Flash>⟧.state self.old.flash).media.faults (⟦<SimFlash<'m, M> as Flash>⟧.state self.new.flash).media.faults (reply_text result) }
+        ensures sound { ⟦<Self as Executor>⟧.sound self.new }
+        ensures goes { Goes (⟦<Self as Executor>⟧.flash self.old) (⟦<Self as Executor>⟧.flash self.new) }
+        ensures reads { (⟦<Self as Executor>⟧.flash self.new).work.reads ≡ (⟦<Self as Executor>⟧.flash self.old).work.reads }
+        ensures step { (config : Config) (old : Machine) → ⟦<Self as Executor>⟧.stands self.old config old →
+            Answers config old (words.Open cursor name range span) (⟦<Self as Executor>⟧.stands self.new config)
+            (⟦<Self as Executor>⟧.flash self.old).media.faults (⟦<Self as Executor>⟧.flash self.new).media.faults (reply_text result) }
     {
-        if let Some(refusal) = self.refusal(name) {
-            return refusal;
-        }
-        let mark = open_cursor(&self.table, range, span, &mut self.buf);
-        self.notes.set_cursor(cursor, Some(mark));
+        let at = match self.find(name) {
+            Ok(at) => at,
+            Err(refusal) => return refusal,
+        };
+        let table = &self.tables.entries[at].table;
+        let mark = open_cursor(table, range, span, &mut self.buf);
+        self.notes
+            .set_cursor(cursor, Some(TableCursor { table: at, mark }));
         Reply::Done
     }
 
     /// Closes a cursor.
     fn close(&mut self, cursor: u64) -> Reply
-        requires sound { IsSound self.old.table (⟦<SimFlash<'m, M> as Flash>⟧.state self.old.flash) self.old.buf self.old.mounted }
+        requires sound { ⟦<Self as Executor>⟧.sound self.old }
         requires cursor { cursor < 4 }
-        ensures sound { IsSound self.new.table (⟦<SimFlash<'m, M> as Flash>⟧.state self.new.flash) self.new.buf self.new.mounted }
-        ensures goes { Goes (⟦<SimFlash<'m, M> as Flash>⟧.state self.old.flash) (⟦<SimFlash<'m, M> as Flash>⟧.state self.new.flash) }
-        ensures step { (config : Config) (old : Machine) → SessionStands config self.old.table self.old.name (⟦<SimFlash<'m, M> as Flash>⟧.state self.old.flash) self.old.mounted self.old.notes old →
-            Answers config old (words.Close cursor) (SessionStands config self.new.table self.new.name (⟦<SimFlash<'m, M> as Flash>⟧.state self.new.flash) self.new.mounted self.new.notes)
-            (⟦<SimFlash<'m, M> as Flash>⟧.state self.old.flash).media.faults (⟦<SimFlash<'m, M> as Flash>⟧.state self.new.flash).media.faults (reply_text result) }
+        ensures sound { ⟦<Self as Executor>⟧.sound self.new }
+        ensures goes { Goes (⟦<Self as Executor>⟧.flash self.old) (⟦<Self as Executor>⟧.flash self.new) }
+        ensures reads { (⟦<Self as Executor>⟧.flash self.new).work.reads ≡ (⟦<Self as Executor>⟧.flash self.old).work.reads }
+        ensures step { (config : Config) (old : Machine) → ⟦<Self as Executor>⟧.stands self.old config old →
+            Answers config old (words.Close cursor) (⟦<Self as Executor>⟧.stands self.new config)
+            (⟦<Self as Executor>⟧.flash self.old).media.faults (⟦<Self as Executor>⟧.flash self.new).media.faults (reply_text result) }
     {
         if !self.mounted {
             return Reply::NotMounted;
@@ -240,40 +253,50 @@ impl<'m, M: Media> Session<'m, M> {
 
     /// Tells the record with the key. The pages that it reads, and how many they might have been, are its cost.
     fn get<K: Sink>(&mut self, name: Name, key: u64, out: &mut K) -> Result<(), SinkFailed>
-        requires sound { IsSound self.old.table (⟦<SimFlash<'m, M> as Flash>⟧.state self.old.flash) self.old.buf self.old.mounted }
-        ensures sound { IsSound self.new.table (⟦<SimFlash<'m, M> as Flash>⟧.state self.new.flash) self.new.buf self.new.mounted }
-        ensures goes { Goes (⟦<SimFlash<'m, M> as Flash>⟧.state self.old.flash) (⟦<SimFlash<'m, M> as Flash>⟧.state self.new.flash) }
+        requires sound { ⟦<Self as Executor>⟧.sound self.old }
+        ensures sound { ⟦<Self as Executor>⟧.sound self.new }
+        ensures goes { Goes (⟦<Self as Executor>⟧.flash self.old) (⟦<Self as Executor>⟧.flash self.new) }
         ensures sink { HasCause (K.faults out.old) (K.faults out.new) result }
-        ensures step { (config : Config) (old : Machine) → SessionStands config self.old.table self.old.name (⟦<SimFlash<'m, M> as Flash>⟧.state self.old.flash) self.old.mounted self.old.notes old →
-            Executes config old (words.Get name key) (SessionStands config self.new.table self.new.name (⟦<SimFlash<'m, M> as Flash>⟧.state self.new.flash) self.new.mounted self.new.notes)
-            (⟦<SimFlash<'m, M> as Flash>⟧.state self.old.flash) (⟦<SimFlash<'m, M> as Flash>⟧.state self.new.flash) (K.written out.old) (K.written out.new) result }
+        ensures step { (config : Config) (old : Machine) → ⟦<Self as Executor>⟧.stands self.old config old →
+            Executes config old (words.Get name key) (⟦<Self as Executor>⟧.stands self.new config)
+            (⟦<Self as Executor>⟧.flash self.old) (⟦<Self as Executor>⟧.flash self.new) (K.written out.old) (K.written out.new) result }
     {
-        if let Some(refusal) = self.refusal(name) {
-            return write_reply(&refusal, out);
-        }
-        let limit = self.table.lookup_limit(key);
+        let at = match self.find(name) {
+            Ok(at) => at,
+            Err(refusal) => return write_reply(&refusal, out),
+        };
+        let table = &self.tables.entries[at].table;
+        let limit = table.lookup_limit(key);
         let before = self.flash.work().reads;
-        let reply = look_up(&self.table, key, &mut self.flash, &mut self.buf.rows);
+        let reply = look_up(table, key, &mut self.flash, &mut self.buf.rows);
         let reads = self.flash.work().reads.saturating_sub(before);
         self.notes.cost = Cost::OfGet { reads, limit };
         write_reply(&reply, out)
     }
 
     /// Lists the rows that are asked for, and their number. The pages that it reads are its cost.
-    fn scan<K: Sink>(&mut self, name: Name, wanted: Wanted, out: &mut K) -> Result<(), SinkFailed>
-        requires sound { IsSound self.old.table (⟦<SimFlash<'m, M> as Flash>⟧.state self.old.flash) self.old.buf self.old.mounted }
-        ensures sound { IsSound self.new.table (⟦<SimFlash<'m, M> as Flash>⟧.state self.new.flash) self.new.buf self.new.mounted }
-        ensures goes { Goes (⟦<SimFlash<'m, M> as Flash>⟧.state self.old.flash) (⟦<SimFlash<'m, M> as Flash>⟧.state self.new.flash) }
+    fn scan<K: Sink>(
+        &mut self,
+        name: Name,
+        range: KeyRange,
+        span: Option<Span>,
+        out: &mut K,
+    ) -> Result<(), SinkFailed>
+        requires sound { ⟦<Self as Executor>⟧.sound self.old }
+        ensures sound { ⟦<Self as Executor>⟧.sound self.new }
+        ensures goes { Goes (⟦<Self as Executor>⟧.flash self.old) (⟦<Self as Executor>⟧.flash self.new) }
         ensures sink { HasCause (K.faults out.old) (K.faults out.new) result }
-        ensures step { (config : Config) (old : Machine) → SessionStands config self.old.table self.old.name (⟦<SimFlash<'m, M> as Flash>⟧.state self.old.flash) self.old.mounted self.old.notes old →
-            Executes config old (words.Scan name wanted.range wanted.span) (SessionStands config self.new.table self.new.name (⟦<SimFlash<'m, M> as Flash>⟧.state self.new.flash) self.new.mounted self.new.notes)
-            (⟦<SimFlash<'m, M> as Flash>⟧.state self.old.flash) (⟦<SimFlash<'m, M> as Flash>⟧.state self.new.flash) (K.written out.old) (K.written out.new) result }
+        ensures step { (config : Config) (old : Machine) → ⟦<Self as Executor>⟧.stands self.old config old →
+            Executes config old (words.Scan name range span) (⟦<Self as Executor>⟧.stands self.new config)
+            (⟦<Self as Executor>⟧.flash self.old) (⟦<Self as Executor>⟧.flash self.new) (K.written out.old) (K.written out.new) result }
     {
-        if let Some(refusal) = self.refusal(name) {
-            return write_reply(&refusal, out);
-        }
+        let at = match self.find(name) {
+            Ok(at) => at,
+            Err(refusal) => return write_reply(&refusal, out),
+        };
+        let table = &self.tables.entries[at].table;
         let before = self.flash.work().reads;
-        let written = wanted.scan(&self.table, &mut self.flash, &mut self.buf.rows, out);
+        let written = list_rows(table, range, span, &mut self.flash, &mut self.buf, out);
         let reads = self.flash.work().reads.saturating_sub(before);
         self.notes.cost = Cost::OfScan { reads };
         written
@@ -281,33 +304,140 @@ impl<'m, M: Media> Session<'m, M> {
 
     /// Tells the next rows of a cursor, up to so many, and moves it behind those that it told.
     fn next<K: Sink>(&mut self, cursor: u64, count: u64, out: &mut K) -> Result<(), SinkFailed>
-        requires sound { IsSound self.old.table (⟦<SimFlash<'m, M> as Flash>⟧.state self.old.flash) self.old.buf self.old.mounted }
+        requires sound { ⟦<Self as Executor>⟧.sound self.old }
         requires cursor { cursor < 4 }
-        ensures sound { IsSound self.new.table (⟦<SimFlash<'m, M> as Flash>⟧.state self.new.flash) self.new.buf self.new.mounted }
-        ensures goes { Goes (⟦<SimFlash<'m, M> as Flash>⟧.state self.old.flash) (⟦<SimFlash<'m, M> as Flash>⟧.state self.new.flash) }
+        ensures sound { ⟦<Self as Executor>⟧.sound self.new }
+        ensures goes { Goes (⟦<Self as Executor>⟧.flash self.old) (⟦<Self as Executor>⟧.flash self.new) }
         ensures sink { HasCause (K.faults out.old) (K.faults out.new) result }
-        ensures step { (config : Config) (old : Machine) → SessionStands config self.old.table self.old.name (⟦<SimFlash<'m, M> as Flash>⟧.state self.old.flash) self.old.mounted self.old.notes old →
-            Executes config old (words.Next cursor count) (SessionStands config self.new.table self.new.name (⟦<SimFlash<'m, M> as Flash>⟧.state self.new.flash) self.new.mounted self.new.notes)
-            (⟦<SimFlash<'m, M> as Flash>⟧.state self.old.flash) (⟦<SimFlash<'m, M> as Flash>⟧.state self.new.flash) (K.written out.old) (K.written out.new) result }
+        ensures step { (config : Config) (old : Machine) → ⟦<Self as Executor>⟧.stands self.old config old →
+            Executes config old (words.Next cursor count) (⟦<Self as Executor>⟧.stands self.new config)
+            (⟦<Self as Executor>⟧.flash self.old) (⟦<Self as Executor>⟧.flash self.new) (K.written out.old) (K.written out.new) result }
     {
         if !self.mounted {
             return write_reply(&Reply::NotMounted, out);
         }
-        let Some(mut mark) = self.notes.cursor(cursor) else {
+        let Some(mut open) = self.notes.cursor(cursor) else {
             return write_reply(&Reply::NoCursor, out);
         };
         // The reads of this command are a difference of two counts, of which this is the first.
         let _before = self.flash.work();
         let written = next_rows(
-            &self.table,
-            &mut mark,
+            &self.tables.entries[open.table].table,
+            &mut open.mark,
             count,
             &mut self.flash,
             &mut self.buf,
             out,
         );
-        self.notes.set_cursor(cursor, Some(mark));
+        self.notes.set_cursor(cursor, Some(open));
         written
+    }
+
+    /// Lists the rows of a range that pass a comparison, and their number.
+    fn select<K: Sink>(
+        &mut self,
+        name: Name,
+        range: KeyRange,
+        comparison: Comparison,
+        out: &mut K,
+    ) -> Result<(), SinkFailed>
+        requires sound { ⟦<Self as Executor>⟧.sound self.old }
+        ensures sound { ⟦<Self as Executor>⟧.sound self.new }
+        ensures goes { Goes (⟦<Self as Executor>⟧.flash self.old) (⟦<Self as Executor>⟧.flash self.new) }
+        ensures sink { HasCause (K.faults out.old) (K.faults out.new) result }
+        ensures step { (config : Config) (old : Machine) → ⟦<Self as Executor>⟧.stands self.old config old →
+            Executes config old (words.Select name range comparison.column comparison.op comparison.value) (⟦<Self as Executor>⟧.stands self.new config)
+            (⟦<Self as Executor>⟧.flash self.old) (⟦<Self as Executor>⟧.flash self.new) (K.written out.old) (K.written out.new) result }
+    {
+        let at = match self.find(name) {
+            Ok(at) => at,
+            Err(refusal) => return write_reply(&refusal, out),
+        };
+        let table = &self.tables.entries[at].table;
+        if table.columns() < comparison.column {
+            let column = comparison.column as u64;
+            return write_reply(&Reply::NoColumn { column }, out);
+        }
+        // The reads of this command are a difference of two counts, of which this is the first.
+        let _before = self.flash.work();
+        select(
+            table,
+            range,
+            comparison,
+            &mut self.flash,
+            &mut self.buf,
+            out,
+        )
+    }
+
+    /// Lists columns of each row of a range, and the number of rows.
+    fn project<K: Sink>(
+        &mut self,
+        name: Name,
+        range: KeyRange,
+        columns: &ArrayVec<u64, 8>,
+        out: &mut K,
+    ) -> Result<(), SinkFailed>
+        requires sound { ⟦<Self as Executor>⟧.sound self.old }
+        ensures sound { ⟦<Self as Executor>⟧.sound self.new }
+        ensures goes { Goes (⟦<Self as Executor>⟧.flash self.old) (⟦<Self as Executor>⟧.flash self.new) }
+        ensures sink { HasCause (K.faults out.old) (K.faults out.new) result }
+        ensures step { (config : Config) (old : Machine) → ⟦<Self as Executor>⟧.stands self.old config old →
+            Executes config old (words.Project name range columns.now.items) (⟦<Self as Executor>⟧.stands self.new config)
+            (⟦<Self as Executor>⟧.flash self.old) (⟦<Self as Executor>⟧.flash self.new) (K.written out.old) (K.written out.new) result }
+    {
+        let at = match self.find(name) {
+            Ok(at) => at,
+            Err(refusal) => return write_reply(&refusal, out),
+        };
+        let table = &self.tables.entries[at].table;
+        if let Some(column) = lacked_column(table, columns.as_slice()) {
+            return write_reply(&Reply::NoColumn { column }, out);
+        }
+        // The reads of this command are a difference of two counts, of which this is the first.
+        let _before = self.flash.work();
+        let columns = columns.as_slice();
+        project(table, range, columns, &mut self.flash, &mut self.buf, out)
+    }
+
+    /// Lists the groups of the rows of a range, and their number.
+    fn aggregate<K: Sink>(
+        &mut self,
+        name: Name,
+        range: KeyRange,
+        column: usize,
+        width: u64,
+        out: &mut K,
+    ) -> Result<(), SinkFailed>
+        requires sound { ⟦<Self as Executor>⟧.sound self.old }
+        requires width { 1 ≤ width }
+        ensures sound { ⟦<Self as Executor>⟧.sound self.new }
+        ensures goes { Goes (⟦<Self as Executor>⟧.flash self.old) (⟦<Self as Executor>⟧.flash self.new) }
+        ensures sink { HasCause (K.faults out.old) (K.faults out.new) result }
+        ensures step { (config : Config) (old : Machine) → ⟦<Self as Executor>⟧.stands self.old config old →
+            Executes config old (words.Agg name range column width) (⟦<Self as Executor>⟧.stands self.new config)
+            (⟦<Self as Executor>⟧.flash self.old) (⟦<Self as Executor>⟧.flash self.new) (K.written out.old) (K.written out.new) result }
+    {
+        let at = match self.find(name) {
+            Ok(at) => at,
+            Err(refusal) => return write_reply(&refusal, out),
+        };
+        let table = &self.tables.entries[at].table;
+        if table.columns() < column {
+            let column = column as u64;
+            return write_reply(&Reply::NoColumn { column }, out);
+        }
+        // The reads of this command are a difference of two counts, of which this is the first.
+        let _before = self.flash.work();
+        aggregate(
+            table,
+            range,
+            column,
+            width,
+            &mut self.flash,
+            &mut self.buf,
+            out,
+        )
     }
 
     /// Puts generated records, up to the first one that is refused, and tells how many.
@@ -319,19 +449,22 @@ impl<'m, M: Media> Session<'m, M> {
         seed: u64,
         out: &mut K,
     ) -> Result<(), SinkFailed>
-        requires sound { IsSound self.old.table (⟦<SimFlash<'m, M> as Flash>⟧.state self.old.flash) self.old.buf self.old.mounted }
+        requires sound { ⟦<Self as Executor>⟧.sound self.old }
         requires steps { 1 ≤ step }
-        ensures sound { IsSound self.new.table (⟦<SimFlash<'m, M> as Flash>⟧.state self.new.flash) self.new.buf self.new.mounted }
-        ensures goes { Goes (⟦<SimFlash<'m, M> as Flash>⟧.state self.old.flash) (⟦<SimFlash<'m, M> as Flash>⟧.state self.new.flash) }
+        ensures sound { ⟦<Self as Executor>⟧.sound self.new }
+        ensures goes { Goes (⟦<Self as Executor>⟧.flash self.old) (⟦<Self as Executor>⟧.flash self.new) }
+        ensures reads { (⟦<Self as Executor>⟧.flash self.new).work.reads ≡ (⟦<Self as Executor>⟧.flash self.old).work.reads }
         ensures sink { HasCause (K.faults out.old) (K.faults out.new) result }
-        ensures step { (config : Config) (old : Machine) → SessionStands config self.old.table self.old.name (⟦<SimFlash<'m, M> as Flash>⟧.state self.old.flash) self.old.mounted self.old.notes old →
-            Executes config old (words.Load name count step seed) (SessionStands config self.new.table self.new.name (⟦<SimFlash<'m, M> as Flash>⟧.state self.new.flash) self.new.mounted self.new.notes)
-            (⟦<SimFlash<'m, M> as Flash>⟧.state self.old.flash) (⟦<SimFlash<'m, M> as Flash>⟧.state self.new.flash) (K.written out.old) (K.written out.new) result }
+        ensures step { (config : Config) (old : Machine) → ⟦<Self as Executor>⟧.stands self.old config old →
+            Executes config old (words.Load name count step seed) (⟦<Self as Executor>⟧.stands self.new config)
+            (⟦<Self as Executor>⟧.flash self.old) (⟦<Self as Executor>⟧.flash self.new) (K.written out.old) (K.written out.new) result }
     {
-        if let Some(refusal) = self.refusal(name) {
-            return write_reply(&refusal, out);
-        }
-        let loaded = load(&mut self.table, &mut self.flash, count, step, seed);
+        let at = match self.find(name) {
+            Ok(at) => at,
+            Err(refusal) => return write_reply(&refusal, out),
+        };
+        let table = &mut self.tables.entries[at].table;
+        let loaded = load(table, &mut self.flash, count, step, seed);
         self.mounted = !put_breaks(&loaded.outcome);
         loaded.write(out)
     }
@@ -347,9 +480,9 @@ fn blob_in(room: &LineRoom, blob: bool) -> Option<&[u8]>
 impl<'m, M: Media> Executor for Session<'m, M> {
     ghost use Rattle.fl_session.specs.Standing.{SessionStands, IsSound};
 
-    ghost stands = { λ s config. SessionStands config s.table s.name (⟦<SimFlash<'m, M> as Flash>⟧.state s.flash) s.mounted s.notes };
+    ghost stands = { λ s config. SessionStands config s.tables.entries.items (⟦<SimFlash<'m, M> as Flash>⟧.state s.flash) s.mounted s.notes };
 
-    ghost sound = { λ s. IsSound s.table (⟦<SimFlash<'m, M> as Flash>⟧.state s.flash) s.buf s.mounted };
+    ghost sound = { λ s. IsSound s.tables.entries.items (⟦<SimFlash<'m, M> as Flash>⟧.state s.flash) s.buf s.mounted s.notes };
 
     ghost flash = { λ s. ⟦<SimFlash<'m, M> as Flash>⟧.state s.flash };
 
@@ -381,13 +514,34 @@ impl<'m, M: Media> Executor for Session<'m, M> {
             Command::Close { cursor } => self.close(*cursor),
             Command::Get { name, key } => return self.get(*name, *key, out),
             Command::Scan { name, range, span } => {
-                let wanted = Wanted {
-                    range: *range,
-                    span: *span,
-                };
-                return self.scan(*name, wanted, out);
+                return self.scan(*name, *range, *span, out);
             }
             Command::Next { cursor, count } => return self.next(*cursor, *count, out),
+            Command::Select {
+                name,
+                range,
+                column,
+                op,
+                value,
+            } => {
+                let comparison = Comparison {
+                    column: *column as usize,
+                    op: *op,
+                    value: *value,
+                };
+                return self.select(*name, *range, comparison, out);
+            }
+            Command::Project {
+                name,
+                range,
+                columns,
+            } => return self.project(*name, *range, columns, out),
+            Command::Agg {
+                name,
+                range,
+                column,
+                width,
+            } => return self.aggregate(*name, *range, *column as usize, *width, out),
             Command::Load {
                 name,
                 count,

@@ -14,7 +14,8 @@ ghost use Rattle.fl_session.specs.Words.{image_named};
 ghost use Rattle.fl_session.specs.Ends.{Ends, told_of, IsEarlyBy, IsWhole, RunsToEnd, start_in};
 ghost use Rattle.fl_session.specs.Opening.{MediaGoes, KeepsForm, IsBlankBehind};
 ghost use Rattle.fl_session.specs.Run.{RunsFrom, HasRoom, around_of, IsOfCommands, refused_status};
-ghost use Rattle.fl_session.specs.Standing.{RestsOn, IsNewTable, HasRooms};
+ghost use Rattle.fl_session.specs.Standing.{RestsOn, HasRooms};
+ghost use Rattle.fl_session.specs.Tables.{AreNewTables};
 ghost use Rattle.fl_machine.specs.Script.{StandsAfter};
 
 use crate::begin::{Begun, read_config};
@@ -23,12 +24,12 @@ use crate::commands::run_commands;
 use crate::executor::Executor;
 use crate::lines::Lines;
 use crate::session::Session;
+use crate::tables::Tables;
 use crate::{Status, image_of};
 use fl_base::{Geometry, NoMemory, Sink, Source};
 use fl_config::{Config, ImageRefusal};
 use fl_flash::{Flash, FlashRoom, Media, SimFlash};
 use fl_script::{Command, LineRoom};
-use fl_table::Table;
 use std::alloc::Global;
 
 /// The knots that a table's spline keeps.
@@ -40,7 +41,7 @@ const HEADER: u64 = 1024;
 /// What a session needs, taken before its image is opened.
 #[derive(Drop)]
 struct Rooms {
-    table: Table,
+    tables: Tables,
     buf: Buffers,
     flash: FlashRoom,
 }
@@ -48,16 +49,13 @@ struct Rooms {
 fn make_rooms(alloc: Global, config: &Config) -> Result<Rooms, NoMemory>
     requires whole { IsTrue (is_whole config.now) }
     requires built { are_built config.now.plans ≡ true }
-    ensures table { IfOk result (λ r. IsNewTable r.table config.now) }
+    ensures tables { IfOk result (λ r. AreNewTables r.tables.entries.items config.now) }
     ensures page { IfOk result (λ r. (g : Geometry) → config.now.device ≡ Some g → HasRooms r.buf g.page) }
     ensures flash { IfOk result (λ r. (g : Geometry) → config.now.device ≡ Some g → HasRoom r.flash g (sum_by blocks_of config.now.plans)) }
 {
     let geometry = config.geometry();
-    let Ok(table) = Table::plan(alloc, config.table(0)) else {
-        return Err(NoMemory);
-    };
     Ok(Rooms {
-        table,
+        tables: Tables::plan(alloc, config)?,
         buf: Buffers::new(alloc, geometry.page)?,
         flash: FlashRoom::new(alloc, geometry, config.blocks())?,
     })
@@ -74,6 +72,7 @@ fn run_first<E: Executor, S: Source, K: Sink>(
     out: &mut K,
 ) -> Status
     requires sound { E.sound session.old }
+    requires unread { (E.flash session.old).work.reads ≡ 0 }
     requires in_hand { HoldsFirst first number room.old lines.old }
     ensures runs { (configured : Configuration) → RunsFrom first number lines.old (S.left script.old) (S.left script.new) (around_of configured (E.flash session.old).media (E.flash session.new).media (K.written out.old) (K.written out.new))
         (E.stands session.old configured) (E.stands session.new configured) result }
@@ -128,7 +127,7 @@ fn run_session<M: Media, S: Source, K: Sink>(
     requires in_hand { HoldsFirst begun.first begun.number room.old lines.old }
     requires reach { (g : Geometry) → config.now.device ≡ Some g → 1024 + extent g (sum_by blocks_of config.now.plans) ≤ length (M.state media.old).content }
     requires blank { is_new ≡ true → IsTrue (M.state media.old).tells → (g : Geometry) → config.now.device ≡ Some g → IsBlankBehind g (sum_by blocks_of config.now.plans) (M.state media.old).content }
-    requires table { IsNewTable rooms.table config.now }
+    requires tables { AreNewTables rooms.tables.entries.items config.now }
     requires page { (g : Geometry) → config.now.device ≡ Some g → HasRooms rooms.buf g.page }
     requires flash { (g : Geometry) → config.now.device ≡ Some g → HasRoom rooms.flash g (sum_by blocks_of config.now.plans) }
     ensures runs { (configured : Configuration) → whole KNOTS config.now ≡ Some configured → IsTrue (M.state media.old).tells →
@@ -142,9 +141,9 @@ fn run_session<M: Media, S: Source, K: Sink>(
     ensures later { (S.faults script.old ≤ S.faults script.new) × (K.faults out.old ≤ K.faults out.new) }
 {
     let Begun { first, number } = begun;
-    let Rooms { table, buf, flash } = rooms;
+    let Rooms { tables, buf, flash } = rooms;
     let flash = flash_on(media, config.geometry(), config.blocks(), is_new, flash);
-    let mut session = Session::new(flash, table, config.name(0), buf);
+    let mut session = Session::new(flash, tables, buf);
     let status = run_first(&mut session, first, number, lines, room, script, out);
     let _media = session.end();
     status

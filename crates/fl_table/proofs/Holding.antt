@@ -1,23 +1,24 @@
--- A table without an index and without variable data, and its pages.
-use Rattle.std.proofs.Common.{◌≡◌, ℕ, ◌+◌, ◌-◌, ◌*◌, ◌%◌, ◌<◌, ◌≤◌, List, length, sym, ◌∙◌, ap, arith}
+-- A table without variable data, and its pages.
+use Rattle.std.proofs.Common.{◌≡◌, ℕ, ◌+◌, ◌-◌, ◌*◌, ◌%◌, ◌<◌, ◌≤◌, List, length, refl, sym, ◌∙◌, ap, arith}
 use Rattle.std.proofs.lemmas.List.{take_all}
 use Rattle.std.proofs.Math.Nat.{mod-lt, mul-le-mul_right, add-mul}
 use Rattle.fl_flash.specs.Flash.{FlashState, pages, page_at}
 use Rattle.fl_flash.specs.Places.{extent}
 use Rattle.fl_model.specs.Record.{Plan}
 use Rattle.fl_model.specs.Table.{Table, lose}
-use Rattle.fl_model.proofs.Plain.{IsPlain, IsPlainTable, plain-lose, facts-plain}
+use Rattle.fl_table.proofs.Plain.{IsPlain, IsPlainTable, plain-lose, facts-plain}
 use Rattle.fl_ring.specs.Ring.{OnRing, place}
 use Rattle.fl_ring.proofs.Lengths.{page_length}
 use Rattle.fl_table.specs.Pages.{HoldsTable, Rests}
+use Rattle.fl_table.proofs.Moved.{HoldsIndexed, indexed-moved, keeps-lose}
 use Rattle.fl_table.proofs.States.{shape_in, state_of, HaveSize, to-ring, to-image}
 
--- its ring's pages are all that it holds
+-- the pages of its rings are all that it holds
 pub plain-holds : (page : ℕ → List ℕ) (first : ℕ) (plan : Plan) (table : Table) → HaveSize first plan page → 64 ≤ plan.geometry.page → IsPlainTable plan table →
-    OnRing (shape_in first plan) page (state_of plan table) → HoldsTable page first plan table
-plain-holds page first plan table sizes large facts on = record {
+    OnRing (shape_in first plan) page (state_of plan table) → HoldsIndexed page first plan table → HoldsTable page first plan table
+plain-holds page first plan table sizes large facts on indexed = record {
   rows = to-image page first plan table sizes large facts.rows on;
-  index = rw facts.index tt;
+  index = indexed;
   var = rw facts.var tt;
   blobs = rw facts.var tt;
 }
@@ -33,10 +34,11 @@ lost-twice table =
     ap (λ xs. record (lose table) { entries = xs }) (sym (take_all (length es - 0) es (omega arith)))
 
 pub plain-rests : (f : FlashState) (first : ℕ) (plan : Plan) (table : Table) → IsPlain plan → HaveSize first plan (page_at f) → 64 ≤ plan.geometry.page → IsPlainTable plan table →
-    OnRing (shape_in first plan) (page_at f) (state_of plan (lose table)) → Rests f first plan (lose table)
-plain-rests f first plan table plain sizes large facts on = record {
+    OnRing (shape_in first plan) (page_at f) (state_of plan (lose table)) → HoldsIndexed (page_at f) first plan table → Rests f first plan (lose table)
+plain-rests f first plan table plain sizes large facts on indexed = record {
   settled = record { facts = facts-plain plan (lose table) plain (plain-lose plan table facts); lost = lost-twice table };
-  pages = plain-holds (page_at f) first plan (lose table) sizes large (plain-lose plan table facts) on;
+  pages = plain-holds (page_at f) first plan (lose table) sizes large (plain-lose plan table facts) on
+      (indexed-moved (page_at f) first plan table (lose table) facts.index (keeps-lose table facts.kept.counted) refl refl indexed);
 }
 
 -- the pages of a flash have their size

@@ -1,16 +1,16 @@
 -- A table at rest on a flash, and its image on the flash's medium.
-use Rattle.std.proofs.Common.{◌≡◌, ℕ, ◌+◌, ◌-◌, ◌*◌, ◌<◌, true, false, Some, None, IfSome, List, length, take, drop, refl, sym, ◌∙◌, ap, subst, arith, sum_by}
+use Rattle.std.proofs.Common.{◌≡◌, ℕ, ◌+◌, ◌-◌, ◌*◌, ◌<◌, Bool, true, false, cond, Some, None, IfSome, List, length, take, drop, refl, sym, ◌∙◌, ap, subst, arith, sum_by}
 use Rattle.std.proofs.Math.Path.{fun_ext}
 use Rattle.std.proofs.lemmas.Nat.Gcd.{dvd-zero}
 use Rattle.std.specs.List.{slice_get}
 use Rattle.fl_flash.specs.Flash.{FlashState, page_at}
-use Rattle.fl_model.specs.Record.{Plan, Config, blocks_of}
-use Rattle.fl_model.specs.Ring.{IsShape}
+use Rattle.fl_model.specs.Record.{Plan, Config, blocks_of, has_index}
+use Rattle.fl_model.specs.Ring.{Shape, IsRing, fresh}
 use Rattle.fl_model.specs.Table.{Table, Entry, RingName, DataRing, IndexRing, VarRing, shape_of, fresh_table}
 use Rattle.fl_model.specs.Layout.{is_blank}
 use Rattle.fl_model.specs.Query.{page_stands}
 use Rattle.fl_model.specs.Image.{IsTableImage, IsRingImage, HoldsRows, HoldsBitmaps, HoldsContent, HoldsBlob, page_bytes}
-use Rattle.fl_model.proofs.Plain.{IsPlain, facts-plain}
+use Rattle.fl_table.proofs.Plain.{IsPlain, IsIndexed, facts-plain}
 use Rattle.fl_table.specs.Pages.{HoldsTable, Rests, bytes_in, place_in}
 
 -- the pages of a medium whose flash begins behind its header
@@ -53,52 +53,91 @@ holds-same old new first plan table same h = record {
     equal : (ring : RingName) → bytes_in new first plan ring ≡ bytes_in old first plan ring
     equal ring = fun_ext (λ n. same ring n)
 
+no : false ≡ true → ⊥
+no e = cc
+
+nothing : {n : ℕ} → None ≡ Some n → ⊥
+nothing e = cc
+
+-- an empty ring, and its pages
+fresh_ring : (shape : Shape) → IsRing shape fresh
+fresh_ring shape = record {
+  not_negative = omega arith;
+  whole_blocks = dvd-zero shape.pages;
+  whole_rounds = λ few. dvd-zero (shape.blocks * shape.pages);
+  kept = omega arith;
+  kept_at_end = λ e. omega arith;
+  dirty_at_end = λ d. absurd (no d);
+  not_both = λ b. no b;
+}
+
+fresh_image : (shape : Shape) (at : ℕ → List ℕ) (Holds : ℕ → ℕ → List ℕ → Type 0) → ((n : ℕ) → is_blank (at n) ≡ true) → IsRingImage shape fresh at Holds
+fresh_image shape at Holds blank = record {
+  void = λ i e. absurd (nothing e);
+  kept = λ i count e some. absurd (nothing e);
+  blank_next = λ e. blank 0;
+  torn_next = λ e. absurd (no e);
+  dirty = λ e. absurd (no e);
+  others = λ k some few clear. blank (0 + k);
+}
+
+-- the index of an empty table
+fresh_index : (plan : Plan) → IsIndexed plan (fresh_table plan)
+fresh_index plan = by_index (has_index plan) refl
+  where
+    by_index : (b : Bool) → has_index plan ≡ b → IsIndexed plan (record (fresh_table plan) { index = cond b (Some fresh) None })
+    by_index true e = record {
+      has = sym e;
+      ring = fresh_ring (shape_of plan IndexRing);
+      counts = tt;
+      first_each = refl;
+      firsts = λ i j a b lt e k. absurd (nothing e);
+      waiting = λ t. omega arith;
+      listed = omega arith;
+      number = omega arith;
+      number_pending = λ p. absurd (p refl);
+      number_listed = λ lt. absurd (omega (arith, lt));
+    }
+    by_index false e = record {
+      has = sym e;
+      ring = tt;
+      counts = tt;
+      first_each = refl;
+      firsts = λ i j a b lt e k. absurd (nothing e);
+      waiting = λ t. omega arith;
+      listed = omega arith;
+      number = tt;
+      number_pending = λ p. absurd (p refl);
+      number_listed = λ lt. absurd (omega (arith, lt));
+    }
+
 -- an empty table rests on blank pages
-pub blank-rests : (f : FlashState) (first : ℕ) (plan : Plan) → IsPlain plan → IsShape (shape_of plan DataRing) → ((n : ℕ) → is_blank (page_at f (place_in first plan DataRing n)) ≡ true) → Rests f first plan (fresh_table plan)
-blank-rests f first plan plain shape blank = record {
+pub blank-rests : (f : FlashState) (first : ℕ) (plan : Plan) → IsPlain plan → ((ring : RingName) (n : ℕ) → is_blank (page_at f (place_in first plan ring n)) ≡ true) → Rests f first plan (fresh_table plan)
+blank-rests f first plan plain blank = record {
   settled = record {
     facts = facts-plain plan (fresh_table plan) plain (record {
-      rows = record {
-        not_negative = omega arith;
-        whole_blocks = dvd-zero plan.geometry.block;
-        whole_rounds = λ few. dvd-zero (plan.data_blocks * plan.geometry.block);
-        kept = omega arith;
-        kept_at_end = λ e. omega arith;
-        dirty_at_end = λ d. absurd (no d);
-        not_both = λ b. no b;
-      };
+      rows = fresh_ring (shape_of plan DataRing);
       kept = record { fit = tt; counted = refl; few_rows = tt; ascending = λ i j a b lt e k. absurd (none a e) };
       few_pending = omega arith;
-      index = rw plain.no_index refl;
+      index = fresh_index plan;
       var = rw plain.no_var refl;
-      firsts = refl;
       fill = omega arith;
-      waiting = omega arith;
       number = omega arith;
       number_pending = λ some. absurd (some refl);
     });
     lost = refl;
   };
   pages = record {
-    rows = record {
-      void = λ i e. absurd (nothing e);
-      kept = λ i count e some. absurd (nothing e);
-      blank_next = λ e. blank 0;
-      torn_next = λ e. absurd (no e);
-      dirty = λ e. absurd (no e);
-      others = λ k some few clear. blank (0 + k);
-    };
-    index = rw plain.no_index tt;
+    rows = fresh_image (shape_of plan DataRing) (bytes_in (page_at f) first plan DataRing) (HoldsRows plan (fresh_table plan)) (blank DataRing);
+    index = by_index (has_index plan);
     var = rw plain.no_var tt;
     blobs = rw plain.no_var tt;
   };
 }
   where
-    no : false ≡ true → ⊥
-    no e = cc
-
     none : (a : Entry) → None ≡ Some a → ⊥
     none a e = cc
 
-    nothing : {n : ℕ} → None ≡ Some n → ⊥
-    nothing e = cc
+    by_index : (b : Bool) → IfSome (cond b (Some fresh) None) (λ ring. IsRingImage (shape_of plan IndexRing) ring (bytes_in (page_at f) first plan IndexRing) (HoldsBitmaps plan (fresh_table plan) ring))
+    by_index true = fresh_image (shape_of plan IndexRing) (bytes_in (page_at f) first plan IndexRing) (HoldsBitmaps plan (fresh_table plan) fresh) (blank IndexRing)
+    by_index false = tt

@@ -16,7 +16,7 @@ use Rattle.fl_model.specs.Facts.{FitsPlan, BlobFits}
 use Rattle.fl_model.specs.Layout.{data_body, committed}
 use Rattle.fl_model.specs.Image.{IsRingImage, HoldsRows, rows_at}
 use Rattle.fl_model.proofs.Lists.{slice_get-some, slice_get-short, each-drop, each-take}
-use Rattle.fl_model.proofs.Plain.{IsPlain, IsPlainTable}
+use Rattle.fl_table.proofs.Plain.{IsPlain, IsPlainTable}
 use Rattle.fl_page.specs.Page.{IsGoodPage, rows_in}
 use Rattle.fl_page.proofs.DataPages.{data_page}
 use Rattle.fl_ring.specs.Ring.{OnRing, place}

@@ -14,7 +14,7 @@ use Rattle.fl_model.specs.Ring as rings
 use Rattle.fl_model.specs.Row.{stored_row}
 use Rattle.fl_model.specs.Table as model
 use Rattle.fl_model.specs.Table.{Entry, lose}
-use Rattle.fl_model.proofs.Plain.{IsPlain, IsPlainTable, plain-facts, plain-lose}
+use Rattle.fl_table.proofs.Plain.{IsPlain, IsPlainTable, plain-facts, plain-lose}
 use Rattle.fl_page.specs.Header.{page_count}
 use Rattle.fl_page.specs.Page.{IsGoodPage, rows_in}
 use Rattle.fl_page.specs.declared.fault.ReadFault.{ReadFault}

@@ -1,3 +1,12 @@
+pub mod Plain
+pub mod Planning
+pub mod Moved
+pub mod Indexing
+pub mod IndexSeals
+pub mod Following
+pub mod Gathering
+pub mod MountIndexed
+pub mod MountJoined
 pub mod States
 pub mod Sealed
 pub mod Lifted

@@ -1,9 +1,9 @@
 -- The operations of a seal of the data ring are those of its table.
-use Rattle.std.proofs.Common.{◌≡◌, ℕ, ◌<◌, Bool, true, false, cond, Result, List, [], ◌∷◌, map, refl, sym, ◌∙◌, ap, subst, arith, IsOk, IsErrOf}
+use Rattle.std.proofs.Common.{◌≡◌, ℕ, ◌<◌, Bool, true, false, cond, Result, List, [], ◌∷◌, map, refl, sym, ◌∙◌, ap, subst, arith, IsOk, IsErrOf, IsTrue}
 use Rattle.fl_flash.specs.Flash.{FlashState, page_at}
 use Rattle.fl_flash.specs.declared.flash.FlashFault.{FlashFault}
 use Rattle.fl_flash.specs.declared.flash.FlashFault.TheVariants.{PowerLost, Media}
-use Rattle.fl_model.specs.Record.{Plan}
+use Rattle.fl_model.specs.Record.{Plan, has_index, entries_per_page}
 use Rattle.fl_model.specs.Ring as model
 use Rattle.fl_model.specs.Table.{Table, RingName, DataRing, shape_of, with_ring, seal_buffer, pending_entries, lose, after_seal, is_dirty}
 use Rattle.fl_model.specs.Layout.{data_body}
@@ -11,7 +11,8 @@ use Rattle.fl_model.specs.Work.{Kind, Body, Mark, VoidMark, Erase, effect, Devic
 use Rattle.fl_model.specs.Within.{seal_within, effect_within, TablePerforms}
 use Rattle.fl_model.proofs.Performs.{performs-along, performs-map, performs-whole, EndsAlong}
 use Rattle.fl_model.proofs.Among.{seal-all_done}
-use Rattle.fl_model.proofs.Plain.{IsPlain, IsPlainTable, plain-body, plain-mark, plain-erase}
+use Rattle.fl_table.proofs.Plain.{IsPlainTable, plain-body, plain-mark, plain-erase}
+use Rattle.fl_table.proofs.Moved.{HoldsIndexed, indexed-moved, keeps-same, keeps-sealed}
 use Rattle.fl_ring.specs.Device.{SameDevice}
 use Rattle.fl_ring.specs.Operations.{change, seal_kinds}
 use Rattle.fl_ring.specs.Ring.{RingState, OnRing, sealed, begun, erased}
@@ -23,11 +24,12 @@ use Rattle.fl_table.proofs.Sealed.{state-sealed, state-begun, state-erased}
 abbrev pub of_rows : Kind → RingName × Kind
 of_rows kind = (DataRing, kind)
 
--- rows are pending that make this body, and no block waits for its erase
+-- rows are pending that make this body, no block waits for its erase, and one bitmap more has room
 pub record MakesBody (plan : Plan) (body : List ℕ) (table : Table) : Type 0 where
   pub some : table.pending ≡ 0 → ⊥
   pub body_is : body ≡ data_body plan table.rows.next (pending_entries table)
   pub clean : table.rows.dirty ≡ false
+  pub room : IsTrue (has_index plan) → table.waiting < entries_per_page plan
 
 -- what is left of a seal's operations
 abbrev pub AreErases : List Kind → Type 0
@@ -52,9 +54,10 @@ HasCome plan body (VoidMark ∷ kinds) table = ⊥
 HasCome plan body (Erase ∷ kinds) table = AreErases kinds
 
 -- the ring's state is that of the table, of which these operations are left
-pub record IsRingOf (plan : Plan) (body : List ℕ) (kinds : List Kind) (s : RingState) (table : Table) : Type 0 where
+pub record IsRingOf (page : ℕ → List ℕ) (first : ℕ) (plan : Plan) (body : List ℕ) (kinds : List Kind) (s : RingState) (table : Table) : Type 0 where
   pub state : s ≡ state_of plan (lose table)
   pub facts : IsPlainTable plan table
+  pub indexed : HoldsIndexed page first plan table
   pub come : HasCome plan body kinds table
 
 erases_come : (plan : Plan) (body : List ℕ) (kinds : List Kind) (table : Table) → AreErases kinds → HasCome plan body kinds table
@@ -72,31 +75,35 @@ mark_comes plan body (VoidMark ∷ kinds) table m h = absurd h
 mark_comes plan body (Erase ∷ kinds) table m h = absurd h
 
 -- each operation keeps it
-step-along : (first : ℕ) (plan : Plan) (body : List ℕ) → IsPlain plan → model.IsShape (shape_of plan DataRing) → (kind : Kind) (kinds : List Kind) (s : RingState) (table : Table) →
-    IsRingOf plan body (kind ∷ kinds) s table → IsRingOf plan body kinds (change (shape_in first plan) body kind s) (effect plan DataRing kind table)
-step-along first plan body plain shape Body kinds s table r =
+step-along : (page : ℕ → List ℕ) (first : ℕ) (plan : Plan) (body : List ℕ) → model.IsShape (shape_of plan DataRing) → (kind : Kind) (kinds : List Kind) (s : RingState) (table : Table) →
+    IsRingOf page first plan body (kind ∷ kinds) s table → IsRingOf page first plan body kinds (change (shape_in first plan) body kind s) (effect plan DataRing kind table)
+step-along page first plan body shape Body kinds s table r =
     let m = r.come.0 in
     record {
       state = ap begun r.state ∙ state-begun plan table;
       facts = plain-body plan table r.facts m.some m.clean;
-      come = mark_comes plan body kinds (with_ring DataRing model.begun table) (record { some = m.some; body_is = m.body_is; clean = m.clean }) r.come.1;
+      indexed = indexed-moved page first plan table (with_ring DataRing model.begun table) r.facts.index (keeps-same table (with_ring DataRing model.begun table) refl refl refl) refl refl r.indexed;
+      come = mark_comes plan body kinds (with_ring DataRing model.begun table) (record { some = m.some; body_is = m.body_is; clean = m.clean; room = m.room }) r.come.1;
     }
-step-along first plan body plain shape Mark kinds s table r =
+step-along page first plan body shape Mark kinds s table r =
     let m = r.come.0 in
     record {
       state = ap (λ (x : RingState). sealed (shape_in first plan) x body) r.state
           ∙ (ap (sealed (shape_in first plan) (state_of plan (lose table))) m.body_is
           ∙ state-sealed first plan table shape r.facts.rows.not_negative r.facts.kept.counted (positive table.pending m.some));
-      facts = plain-mark plan table plain shape r.facts m.some m.clean;
+      facts = plain-mark plan table shape r.facts m.room m.some m.clean;
+      indexed = indexed-moved page first plan table (seal_buffer plan DataRing table) r.facts.index
+          (keeps-sealed (shape_of plan DataRing) table.pending table (seal_buffer plan DataRing table) shape r.facts.rows.not_negative refl refl) refl refl r.indexed;
       come = erases_come plan body kinds (seal_buffer plan DataRing table) r.come.1;
     }
   where
     positive : (n : ℕ) → (n ≡ 0 → ⊥) → 0 < n
     positive n h = omega arith
-step-along first plan body plain shape VoidMark kinds s table r = absurd r.come
-step-along first plan body plain shape Erase kinds s table r = record {
+step-along page first plan body shape VoidMark kinds s table r = absurd r.come
+step-along page first plan body shape Erase kinds s table r = record {
   state = ap erased r.state ∙ state-erased plan table;
   facts = plain-erase plan table r.facts;
+  indexed = indexed-moved page first plan table (with_ring DataRing model.erased table) r.facts.index (keeps-same table (with_ring DataRing model.erased table) refl refl refl) refl refl r.indexed;
   come = erases_come plan body kinds (with_ring DataRing model.erased table) r.come;
 }
 
@@ -151,15 +158,15 @@ module _ (Q : Table → Type 0) (first : ℕ) (plan : Plan) (body : List ℕ) (R
       ends (FailedIn s') (CutIn t') x t e a = absurd e
 
 -- a seal of the pending rows
-pub seal-lifts : (first : ℕ) (plan : Plan) (body : List ℕ) (table : Table) (rose : Bool) (device : Device) (result : Result (Unit {0}) FlashFault) (new : FlashState) →
-    IsPlain plan → model.IsShape (shape_of plan DataRing) → IsPlainTable plan table → MakesBody plan body table →
+pub seal-lifts : (page : ℕ → List ℕ) (first : ℕ) (plan : Plan) (body : List ℕ) (table : Table) (rose : Bool) (device : Device) (result : Result (Unit {0}) FlashFault) (new : FlashState) →
+    model.IsShape (shape_of plan DataRing) → IsPlainTable plan table → MakesBody plan body table → HoldsIndexed page first plan table →
     (h : Performed (shape_in first plan) (change (shape_in first plan) body) rose (seal_kinds (shape_in first plan) (state_of plan (lose table)) body) device (state_of plan (lose table)) result new) →
-    TablePerformed (λ _. Unit {0}) first plan (seal_within plan DataRing table) table rose device result new h.now.state
-seal-lifts first plan body table rose device result new plain shape facts makes h =
-    subst (λ (ops : List (RingName × Kind)). TablePerformed (λ _. Unit {0}) first plan ops table rose device result new h.now.state) (kinds_are (sealed (shape_in first plan) (state_of plan (lose table)) body).dirty refl)
-    (performed-lifts (λ _. Unit {0}) first plan body (IsRingOf plan body) (step-along first plan body plain shape) (λ kinds s t r. (r.state, r.facts, tt)) rose
+    TablePerformed (HoldsIndexed page first plan) first plan (seal_within plan DataRing table) table rose device result new h.now.state
+seal-lifts page first plan body table rose device result new shape facts makes indexed h =
+    subst (λ (ops : List (RingName × Kind)). TablePerformed (HoldsIndexed page first plan) first plan ops table rose device result new h.now.state) (kinds_are (sealed (shape_in first plan) (state_of plan (lose table)) body).dirty refl)
+    (performed-lifts (HoldsIndexed page first plan) first plan body (IsRingOf page first plan body) (step-along page first plan body shape) (λ kinds s t r. (r.state, r.facts, r.indexed)) rose
     (seal_kinds (shape_in first plan) (state_of plan (lose table)) body) device (state_of plan (lose table)) table result new
-    (record { state = refl; facts = facts; come = (makes, erases (sealed (shape_in first plan) (state_of plan (lose table)) body).dirty) }) h)
+    (record { state = refl; facts = facts; indexed = indexed; come = (makes, erases (sealed (shape_in first plan) (state_of plan (lose table)) body).dirty) }) h)
   where
     erases : (b : Bool) → AreErases (cond b (Erase ∷ []) [])
     erases true = tt

@@ -1,11 +1,11 @@
 -- What the calls of a mount say of its table.
-use Rattle.std.proofs.Common.{◌≡◌, ℕ, ◌-◌, Bool, true, false, List, Some, sym, ◌∙◌, ap, subst, arith, IsTrue, inl, inr}
+use Rattle.std.proofs.Common.{◌≡◌, ℕ, ◌-◌, ◌<◌, ◌≤◌, Bool, true, false, List, Some, refl, sym, ◌∙◌, ap, subst, arith, IsTrue, inl, inr}
 use Rattle.fl_base.specs.Causes.{Rose}
 use Rattle.fl_base.specs.declared.types.Geometry.{Geometry}
 use Rattle.fl_base.specs.declared.types.RingPlace.{RingPlace}
 use Rattle.fl_flash.specs.Flash.{FlashState, Goes, page_at}
 use Rattle.fl_flash.specs.declared.flash.FlashFault.TheVariants.{PowerLost, Media}
-use Rattle.fl_model.specs.Record.{RowLayout}
+use Rattle.fl_model.specs.Record.{Plan, RowLayout}
 use Rattle.fl_model.specs.Work.{Device}
 use Rattle.fl_ring.specs.Causes as ring_causes
 use Rattle.fl_ring.specs.Causes.{CausedBy}
@@ -22,8 +22,12 @@ use Rattle.fl_ring.proofs.Founds.{same_pages}
 use Rattle.fl_ring.proofs.Readings.{same_page}
 use Rattle.fl_schema.specs.Schema.{layout_of}
 use Rattle.fl_table.specs.Causes.{IfFlash, IfPage, MountCausedBy, is_of_pages, of_ring}
-use Rattle.fl_table.specs.Memory.{IsSamePlan}
-use Rattle.fl_table.specs.Mounting.{ReadsRing, FindsPages, HasBadPage, RefusesPages}
+use Rattle.fl_model.specs.Table.{IndexRing}
+use Rattle.fl_table.specs.Memory.{IsPlanned, IsSamePlan}
+use Rattle.fl_table.specs.Pages.{bytes_in, place_in}
+use Rattle.fl_table.proofs.Moved.{index-stands}
+use Rattle.fl_table.proofs.SealAnswers.{planned-ring}
+use Rattle.fl_table.specs.Mounting.{ReadsRing, FindsRows, HasBadPage, RefusesRows}
 use Rattle.fl_table.specs.Reading.{AreRead, AreRefused, last_after, rows_after, voids_after, pages_of}
 use Rattle.fl_table.specs.declared.counts.Mounted.{Mounted}
 use Rattle.fl_table.specs.declared.faults.MountFault.{MountFault}
@@ -34,35 +38,39 @@ use Rattle.fl_table.specs.declared.table.Table.{Table}
 pub same-shape : (old new : Table) (f : FlashState) → IsSamePlan old new → f.geometry ≡ old.geometry → shape_at new.place f.geometry ≡ shape_at old.place old.geometry
 same-shape old new f same geometry = ap (λ (p : RingPlace). shape_at p f.geometry) same.place ∙ ap (λ (g : Geometry). shape_at old.place g) geometry
 
--- a call within another is watched as that is
-pub watched-front : (old mid new : FlashState) (rose : Bool) (device : Device) → IsWatched old new rose device → Goes mid new → IsWatched old mid rose device
-watched-front old mid new rose device w goes = record {
-  told = w.told;
-  on = w.on;
-  risen = λ rises. w.risen (omega (arith, rises, goes.faults));
-  counts = w.counts;
-}
-
+-- a fault in a later call is one in both
 pub risen-later : (old mid new : FlashState) (rose : Bool) (device : Device) → IsWatched old new rose device → Goes old mid → Rose mid.media.faults new.media.faults → IsTrue rose
 risen-later old mid new rose device w goes rises = w.risen (omega (arith, rises, goes.faults))
+
+-- the index ring stands beside the mount of the data ring
+pub index-still : (t : Table) (f mid : FlashState) (first : ℕ) (plan : Plan) → IsPlanned t first plan → f.geometry ≡ t.geometry → OutsideStands (shape_at t.place f.geometry) (page_at f) (page_at mid) → (k : ℕ) →
+    bytes_in (page_at mid) first plan IndexRing k ≡ bytes_in (page_at f) first plan IndexRing k
+index-still t f mid first plan planned geometry outside =
+    index-stands (page_at f) (page_at mid) first plan
+    (subst (λ (r : Shape). OutsideStands r (page_at f) (page_at mid)) (ap (λ (x : Geometry). shape_at t.place x) geometry ∙ planned-ring t first plan planned) outside)
+
+pub index-read : (t : Table) (f mid g : FlashState) (n first : ℕ) (plan : Plan) → IsPlanned t first plan → f.geometry ≡ t.geometry → OnlyReads mid n g → OutsideStands (shape_at t.place f.geometry) (page_at f) (page_at mid) → (k : ℕ) →
+    bytes_in (page_at g) first plan IndexRing k ≡ bytes_in (page_at f) first plan IndexRing k
+index-read t f mid g n first plan planned geometry reads outside k = same_page mid g n (place_in first plan IndexRing k) reads ∙ index-still t f mid first plan planned geometry outside k
 
 -- the kept pages are read on a flash that a repair left
 module _ (old new : Table) (f mid g : FlashState) (n : ℕ) (same : IsSamePlan old new) (geometry : f.geometry ≡ old.geometry) (reads : OnlyReads mid n g) where
   pub outside-stands : OutsideStands (shape_at new.place f.geometry) (page_at f) (page_at mid) → OutsideStands (shape_at old.place old.geometry) (page_at f) (page_at g)
   outside-stands h q out = same_page mid g n q reads ∙ subst (λ (r : Shape). OutsideStands r (page_at f) (page_at mid)) (same-shape old new f same geometry) h q out
 
-  module _ (ring : Ring) (numbers : HasNumbers f (shape_at new.place f.geometry) 0 ring mid) (all : n ≡ next_of ring - oldest_of ring) where
-    pub reads-ring : ReadsRing old f ring g
+  module _ (ring : Ring) (least : ℕ) (numbers : HasNumbers f (shape_at new.place f.geometry) least ring mid) (within : least ≤ next_of ring) (all : n ≡ next_of ring - oldest_of ring) where
+    pub reads-ring : ReadsRing old f least ring g
     reads-ring = record {
       repaired = mid;
-      numbers = subst (λ (r : Shape). HasNumbers f r 0 ring mid) (same-shape old new f same geometry) numbers;
+      numbers = subst (λ (r : Shape). HasNumbers f r least ring mid) (same-shape old new f same geometry) numbers;
+      within = within;
       reads = subst (λ (k : ℕ). OnlyReads mid k g) all reads;
     }
 
     now_read : (P : (ℕ → List ℕ) → Type 0) → P (pages_of ring mid) → P (pages_of ring g)
     now_read P h = subst (λ (page : ℕ → List ℕ). P (λ number. page (place (shape_of ring) number))) (sym (same_pages mid g n reads)) h
 
-    refused-page : (fault : MountFault) → AreRefused (layout_of new.schema) (pages_of ring mid) (oldest_of ring) (next_of ring - oldest_of ring) fault → HasBadPage old f fault g
+    refused-page : (fault : MountFault) → AreRefused (layout_of new.schema) (pages_of ring mid) (oldest_of ring) (next_of ring - oldest_of ring) fault → HasBadPage old f least fault g
     refused-page fault h = record {
       ring = ring;
       ring_reads = reads-ring;
@@ -70,7 +78,7 @@ module _ (old new : Table) (f mid g : FlashState) (n : ℕ) (same : IsSamePlan o
           (now_read (λ page. AreRefused (layout_of new.schema) page (oldest_of ring) (next_of ring - oldest_of ring) fault) h);
     }
 
-    pub refuses-page : (e : MountFault) → is_of_pages e ≡ true → IsTrue mid.media.tells → IfFlash (λ fault. ReadFails mid fault g) e → IfPage (λ fault. IsTrue mid.media.tells → AreRefused (layout_of new.schema) (pages_of ring mid) (oldest_of ring) (next_of ring - oldest_of ring) fault) e → RefusesPages old f e g
+    pub refuses-page : (e : MountFault) → is_of_pages e ≡ true → IsTrue mid.media.tells → IfFlash (λ fault. ReadFails mid fault g) e → IfPage (λ fault. IsTrue mid.media.tells → AreRefused (layout_of new.schema) (pages_of ring mid) (oldest_of ring) (next_of ring - oldest_of ring) fault) e → RefusesRows old f least e g
     unfolding reads-ring
     refuses-page (Flash fault) only told fails h = inr (record { ring = ring; ring_reads = reads-ring; fails = fails })
     refuses-page (OfRing fault) only told fails h = absurd (cc only)
@@ -84,7 +92,7 @@ module _ (old new : Table) (f mid g : FlashState) (n : ℕ) (same : IsSamePlan o
           rows = rows_after (layout_of new.schema) (pages_of ring mid) (oldest_of ring) (next_of ring - oldest_of ring);
           pages = next_of ring - oldest_of ring;
           voids = voids_after (layout_of new.schema) (pages_of ring mid) (oldest_of ring) (next_of ring - oldest_of ring);
-        } → now.last_key ≡ last_after (layout_of new.schema) (pages_of ring mid) (oldest_of ring) (next_of ring - oldest_of ring) → FindsPages old f mounted now g
+        } → now.last_key ≡ last_after (layout_of new.schema) (pages_of ring mid) (oldest_of ring) (next_of ring - oldest_of ring) → FindsRows old f least mounted now g
     finds-pages mounted now ring_is read is last =
         let m = next_of ring - oldest_of ring in
         record {
@@ -99,17 +107,28 @@ module _ (old new : Table) (f mid g : FlashState) (n : ℕ) (same : IsSamePlan o
         }
 
 -- the ring was refused
-pub refuses-ring : (old new : Table) (f g : FlashState) (e : RingFault) → IsSamePlan old new → f.geometry ≡ old.geometry → FoundFault f (shape_at new.place f.geometry) 0 e → FailsAs f (shape_at new.place f.geometry) 0 e g →
-    RefusesPages old f (of_ring e) g
-refuses-ring old new f g e same geometry found fails =
-    by_fault e (subst (λ (r : Shape). FoundFault f r 0 e) (same-shape old new f same geometry) found) (subst (λ (r : Shape). FailsAs f r 0 e g) (same-shape old new f same geometry) fails)
+pub refuses-ring : (old new : Table) (f g : FlashState) (least : ℕ) (e : RingFault) → IsSamePlan old new → f.geometry ≡ old.geometry → FoundFault f (shape_at new.place f.geometry) least e → FailsAs f (shape_at new.place f.geometry) least e g →
+    RefusesRows old f least (of_ring e) g
+refuses-ring old new f g least e same geometry found fails =
+    by_fault e (subst (λ (r : Shape). FoundFault f r least e) (same-shape old new f same geometry) found) (subst (λ (r : Shape). FailsAs f r least e g) (same-shape old new f same geometry) fails)
   where
-    by_fault : (e : RingFault) → FoundFault f (shape_at old.place old.geometry) 0 e → FailsAs f (shape_at old.place old.geometry) 0 e g → RefusesPages old f (of_ring e) g
+    by_fault : (e : RingFault) → FoundFault f (shape_at old.place old.geometry) least e → FailsAs f (shape_at old.place old.geometry) least e g → RefusesRows old f least (of_ring e) g
     by_fault (ring.Flash fault) found fails = inl fails
     by_fault (ring.BadHead heads) found fails = record { found = found; reads = fails }
     by_fault (ring.BadGap page) found fails = record { found = found; reads = fails }
     by_fault (ring.BadPage page wanted there) found fails = record { found = found; reads = fails }
     by_fault (ring.NoNumber least) found fails = record { found = found; reads = fails }
+
+-- the ring was found, and the index ends behind it
+pub refuses-end : (old new : Table) (f g : FlashState) (least next : ℕ) (ring : Ring) → IsSamePlan old new → f.geometry ≡ old.geometry → HasNumbers f (shape_at new.place f.geometry) least ring g → next ≡ next_of ring → next < least →
+    RefusesRows old f least (BadIndex least next) g
+refuses-end old new f g least next ring same geometry numbers is beyond = record {
+  ring = ring;
+  numbers = subst (λ (r : Shape). HasNumbers f r least ring g) (same-shape old new f same geometry) numbers;
+  end_is = refl;
+  next_is = is;
+  beyond = beyond;
+}
 
 -- why the ring's mount failed
 pub ring-cause : (old new : FlashState) (e : RingFault) → ring_causes.IfFlash (λ fault. CausedBy old fault new) e → MountCausedBy old (of_ring e) new

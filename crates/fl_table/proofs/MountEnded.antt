@@ -1,22 +1,23 @@
 -- How the mount of a table ends, by the mount of its ring and the read of the kept pages.
-use Rattle.std.proofs.Common.{◌≡◌, ℕ, ◌+◌, ◌-◌, ◌*◌, ◌%◌, ◌≤◌, Bool, true, false, cond, ◌==◌, Option, Some, Result, Ok, Err, List, [], ◌∷◌, map, length, drop, get_or, refl, sym, ◌∙◌, ap, subst, ◌⊎◌, inl, inr, arith, IsTrue}
+use Rattle.std.proofs.Common.{◌≡◌, ℕ, ◌+◌, ◌-◌, ◌*◌, ◌%◌, ◌≤◌, min, max, Bool, true, false, cond, ◌==◌, Option, Some, None, Result, Ok, Err, List, [], ◌∷◌, map, length, drop, get_or, refl, sym, ◌∙◌, ap, subst, ◌⊎◌, inl, inr, arith, IsTrue}
 use Rattle.fl_base.specs.Causes.{Rose}
 use Rattle.fl_flash.specs.Flash.{FlashState, page_at}
 use Rattle.fl_flash.specs.Places.{extent}
 use Rattle.fl_flash.specs.declared.armed.Armed.{Armed}
 use Rattle.fl_flash.specs.declared.flash.FlashFault.{FlashFault}
 use Rattle.fl_flash.specs.declared.flash.FlashFault.TheVariants.{PowerLost, Media}
-use Rattle.fl_model.specs.Record.{Plan, RowLayout, row_layout, row_len, layout_len}
+use Rattle.fl_model.specs.Record.{Plan, RowLayout, row_layout, row_len, layout_len, has_index, entries_per_page}
 use Rattle.fl_model.specs.Ring as model
 use Rattle.fl_model.specs.Row.{stored_row}
-use Rattle.fl_model.specs.Table.{Table, Entry, DataRing, shape_of, pending_entries, lose}
+use Rattle.fl_model.specs.Table.{Table, Entry, DataRing, IndexRing, shape_of, pending_entries, lose}
 use Rattle.fl_model.specs.Layout.{bitmap_of}
-use Rattle.fl_model.specs.Mount.{renumber, rings_of, ready}
+use Rattle.fl_model.specs.Mount.{renumber, ready, index_end}
 use Rattle.fl_model.specs.Facts.{IsTable}
 use Rattle.fl_model.specs.Work.{Device, PartProgress}
 use Rattle.fl_model.specs.Within.{TableMounts, TableStopped, TableUnread}
 use Rattle.fl_model.proofs.Lists.{slice_get-short}
-use Rattle.fl_model.proofs.Plain.{IsPlain, IsPlainTable, plain-facts, facts-plain}
+use Rattle.fl_table.proofs.Plain.{IsPlain, IsPlainTable, indexed-as, plain-lose, plain-facts, facts-plain}
+use Rattle.fl_table.proofs.Moved.{HoldsIndexed, KeepsPages, has-index, indexed-moved, indexed-same, keeps-lost, keeps-same, ring-moved}
 use Rattle.fl_page.specs.Writer.{Gathers}
 use Rattle.fl_ring.specs.Device.{ArmsAs, SameDevice}
 use Rattle.fl_ring.specs.Looking.{OnlyReads, ReadFails}
@@ -33,49 +34,65 @@ use Rattle.fl_ring.specs.declared.ring.Ring.{Ring}
 use Rattle.fl_ring.proofs.Founds.{same_pages}
 use Rattle.fl_schema.specs.Schema.{layout_of, types_of}
 use Rattle.fl_table.specs.Causes.{of_ring, IfFlash, IfPage, is_of_pages}
-use Rattle.fl_table.specs.Memory.{IsPlanned, LiesOn}
-use Rattle.fl_table.specs.Outcomes.{FaultEnds, MountsBadly, MountEnds, mounted_of}
-use Rattle.fl_table.specs.Pages.{Rests}
+use Rattle.fl_table.specs.Memory.{IsPlanned}
+use Rattle.fl_table.specs.Outcomes.{FaultEnds, MountsBadly, RingsEnd, mounted_of}
+use Rattle.fl_model.specs.Spline.{points_of}
+use Rattle.fl_bitmap.specs.Widths.{is_bits}
+use Rattle.fl_index.specs.declared.index.Index.{Index}
+use Rattle.fl_index.specs.Memory as memory
+use Rattle.fl_index.specs.Standing.{Waits}
+use Rattle.fl_index.proofs.Lists.{end_after}
+use Rattle.fl_index.proofs.Memories as memories
+use Rattle.fl_index.proofs.Sealings.{planned-bits, planned-page}
+use Rattle.fl_model.specs.Image.{rows_at}
+use Rattle.fl_table.specs.Bitmaps.{ArePlanned, AreSamePlan, AreSameRing, AreIdle, AreWaiting, EndAt, Stand, StandForRing, first_to_wait}
+use Rattle.fl_table.proofs.Gathering.{gather-waits, page-bitmap}
+use Rattle.fl_table.proofs.Indexing.{planned-none, planned-some}
+use Rattle.fl_table.specs.Pages.{Rests, bytes_in}
 use Rattle.fl_find.specs.Index.{IndexOf}
 use Rattle.fl_find.proofs.Points.{mounts-points}
-use Rattle.fl_table.specs.Reading.{AreRefused, AreNoted, last_after, rows_after, voids_after, pages_of, points_after}
+use Rattle.fl_table.specs.Reading.{AreRefused, AreNoted, last_after, rows_after, voids_after, pages_of, points_after, HaveBitmaps, GatherUpTo}
 use Rattle.fl_table.specs.Standing.{Stands}
 use Rattle.fl_table.specs.declared.counts.Mounted.{Mounted}
 use Rattle.fl_table.specs.declared.faults.MountFault.{MountFault}
 use Rattle.fl_table.specs.declared.faults.MountFault.TheVariants as mount
 use Rattle.fl_table.specs.declared.table.Table as code
-use Rattle.fl_table.proofs.Holding.{plain-on, plain-rests}
+use Rattle.fl_table.proofs.Holding.{plain-holds, plain-on, plain-rests}
 use Rattle.fl_table.proofs.Lifted.{TableAnswers}
 use Rattle.fl_table.proofs.Memories.{few-kept}
-use Rattle.fl_table.proofs.MountGood.{ring-renumbered, numbered-facts, numbered-idle, good-ring}
+use Rattle.fl_table.proofs.MountGood.{ring-renumbered, numbered-facts, numbered-idle, keeps-numbered, good-ring}
 use Rattle.fl_table.proofs.MountLifted.{RowsMount, mount-lifts, mount-fails}
 use Rattle.fl_table.proofs.MountRead.{HoldRows, hold-rows, not-refused}
-use Rattle.fl_table.proofs.Repaired.{IsIdle, idle-lost, lost-idle}
-use Rattle.fl_table.proofs.SealAnswers.{planned-plain, planned-shape, planned-large, lies-size, counts-room}
+use Rattle.fl_table.proofs.Repaired.{IsIdle, IsRepaired, idle-lost, lost-idle}
+use Rattle.fl_table.proofs.SealAnswers.{planned-plain, planned-shape, planned-large, planned-few, lies-size, counts-room}
 use Rattle.fl_table.proofs.Sealings.{fault-ends}
-use Rattle.fl_table.proofs.States.{shape_in, state_of, state-oldest, HaveSize}
+use Rattle.fl_table.proofs.States.{shape_in, state_of, state-oldest, HaveSize, to-image}
 
--- what a mount is told of its table
+-- what the mount of the data ring is told of its table
 pub record IsMounting (first : ℕ) (plan : Plan) (table : Table) (old : FlashState) : Type 0 where
   pub plain : IsPlain plan
   pub shape : model.IsShape (shape_of plan DataRing)
   pub large : 64 ≤ plan.geometry.page
+  pub few : IsTrue (has_index plan) → plan.data_blocks * plan.geometry.block + 6 ≤ 65536
   pub facts : IsPlainTable plan table
   pub idle : IsIdle table
   pub on : OnRing (shape_in first plan) (page_at old) (state_of plan table)
+  pub indexed : HoldsIndexed (page_at old) first plan table
 
-pub mounting-of : (t : code.Table) (f : FlashState) (first : ℕ) (plan : Plan) (table : Table) → IsPlanned t first plan → LiesOn t f → f.start + extent f.geometry f.blocks ≤ length f.media.content → Rests f first plan table →
+pub mounting-of : (t : code.Table) (f : FlashState) (first : ℕ) (plan : Plan) (table : Table) → IsPlanned t first plan → f.geometry ≡ t.geometry → t.place.first_block + t.place.blocks ≤ f.blocks → f.start + extent f.geometry f.blocks ≤ length f.media.content → Rests f first plan table →
     IsMounting first plan table f
-mounting-of t f first plan table planned lies reaches rests =
+mounting-of t f first plan table planned geometry within reaches rests =
     let facts = plain-facts plan table (planned-plain t first plan planned) rests.settled.facts in
     let large = planned-large t first plan planned in
     record {
       plain = planned-plain t first plan planned;
       shape = planned-shape t first plan planned;
       large = large;
+      few = planned-few t first plan planned;
       facts = facts;
       idle = lost-idle table rests.settled.lost;
-      on = plain-on (page_at f) first plan table (lies-size t f first plan planned lies.geometry lies.within reaches) large facts rests.pages;
+      on = plain-on (page_at f) first plan table (lies-size t f first plan planned geometry within reaches) large facts rests.pages;
+      indexed = rests.pages.index;
     }
 
 module _ (first : ℕ) (plan : Plan) (table : Table) (rose : Bool) (device : Device) (old : FlashState) (is : IsMounting first plan table old) where
@@ -94,25 +111,44 @@ module _ (first : ℕ) (plan : Plan) (table : Table) (rose : Bool) (device : Dev
   idle : IsIdle table
   idle = is.idle
 
+  numbered : Table
+  numbered = renumber plan DataRing table
+
+  known : IsPlainTable plan (renumber plan DataRing table)
+  known = numbered-facts first plan table shape large is.few facts idle (page_at old) is.on
+
+  keeps : KeepsPages table (renumber plan DataRing table)
+  keeps = keeps-numbered first plan table shape large is.few facts idle (page_at old) is.on
+
+  same_state : renumbered (shape_in first plan) (index_end plan table) (state_of plan table) ≡ state_of plan (renumber plan DataRing table)
+  same_state = ring-renumbered first plan table shape large is.few facts idle (page_at old) is.on
+
+  -- what the index lists stands where its pages do
+  still_indexed : (now : Table) (new : FlashState) → IsRepaired (renumber plan DataRing table) now → ((n : ℕ) → bytes_in (page_at new) first plan IndexRing n ≡ bytes_in (page_at old) first plan IndexRing n) → HoldsIndexed (page_at new) first plan now
+  still_indexed now new r still =
+      indexed-same (page_at old) (page_at new) first plan now still
+      (indexed-moved (page_at old) first plan (renumber plan DataRing table) now known.index r.keeps r.index r.firsts
+      (indexed-moved (page_at old) first plan table (renumber plan DataRing table) facts.index keeps refl refl is.indexed))
+
   -- the mount of the ring failed
-  pub ring-fails : (e : RingFault) (t : code.Table) (new : FlashState) → HaveSize first plan (page_at new) →
-      ring_mount.MountEnds (shape_in first plan) rose device (renumbered (shape_in first plan) 0 (state_of plan table)) (Err e) new → MountEnds first plan table rose device (Err (of_ring e)) t new
-  ring-fails e t new sizes h =
-      by_fault e (subst (λ (s : RingState). ring_mount.MountEnds (shape_in first plan) rose device s (Err e) new) (ring-renumbered first plan table shape facts idle) h)
+  pub ring-fails : (e : RingFault) (t : code.Table) (new : FlashState) → HaveSize first plan (page_at new) → ((n : ℕ) → bytes_in (page_at new) first plan IndexRing n ≡ bytes_in (page_at old) first plan IndexRing n) →
+      ring_mount.MountEnds (shape_in first plan) rose device (renumbered (shape_in first plan) (index_end plan table) (state_of plan table)) (Err e) new → RingsEnd first plan (DataRing ∷ []) table rose device (Err (of_ring e)) t new
+  ring-fails e t new sizes still h =
+      by_fault e (subst (λ (s : RingState). ring_mount.MountEnds (shape_in first plan) rose device s (Err e) new) same_state h)
     where
-      did_not : (now : PartProgress Table) (fault : FlashFault) → (TableMounts plan rose (rings_of plan) device table (TableStopped now) × TableAnswers now.end (Err fault) new) ⊎ (TableMounts plan rose (rings_of plan) device table (TableUnread now) × (fault ≡ Media)) →
-          (TableMounts plan rose (rings_of plan) device table (TableStopped now) × FaultEnds now.end fault new) ⊎ (TableMounts plan rose (rings_of plan) device table (TableUnread now) × (fault ≡ Media))
+      did_not : (now : PartProgress Table) (fault : FlashFault) → (TableMounts plan rose (DataRing ∷ []) device table (TableStopped now) × TableAnswers now.end (Err fault) new) ⊎ (TableMounts plan rose (DataRing ∷ []) device table (TableUnread now) × (fault ≡ Media)) →
+          (TableMounts plan rose (DataRing ∷ []) device table (TableStopped now) × FaultEnds now.end fault new) ⊎ (TableMounts plan rose (DataRing ∷ []) device table (TableUnread now) × (fault ≡ Media))
       did_not now fault (inl p) = inl (p.0, fault-ends now.end fault new p.1)
       did_not now fault (inr p) = inr p
 
-      by_fault : (e : RingFault) → ring_mount.MountEnds (shape_in first plan) rose device (state_of plan (renumber plan DataRing table)) (Err e) new → MountEnds first plan table rose device (Err (of_ring e)) t new
+      by_fault : (e : RingFault) → ring_mount.MountEnds (shape_in first plan) rose device (state_of plan (renumber plan DataRing table)) (Err e) new → RingsEnd first plan (DataRing ∷ []) table rose device (Err (of_ring e)) t new
       by_fault (ring.Flash fault) m =
-          let l = mount-fails first plan table rose device new plain shape (numbered-facts first plan table shape facts idle) (numbered-idle first plan table shape facts idle) fault m in
+          let l = mount-fails first plan table rose device new shape known (numbered-idle first plan table shape large is.few facts idle (page_at old) is.on) fault m in
           record {
             now = l.now;
             did = did_not l.now fault l.did;
             counts = l.counts;
-            rests = subst (λ (x : Table). Rests new first plan x) (sym (idle-lost l.now.state l.idle)) (plain-rests new first plan l.now.state plain sizes large l.facts l.on);
+            rests = subst (λ (x : Table). Rests new first plan x) (sym (idle-lost l.now.state l.repaired.idle)) (plain-rests new first plan l.now.state plain sizes large l.facts l.on (still_indexed l.now.state new l.repaired still));
           }
       by_fault (ring.BadHead heads) m = absurd m
       by_fault (ring.BadGap page) m = absurd m
@@ -120,22 +156,31 @@ module _ (first : ℕ) (plan : Plan) (table : Table) (rose : Bool) (device : Dev
       by_fault (ring.NoNumber least) m = absurd m
 
   -- what the ring's mount says of its state says it of the table
-  pub ring-ends : (r : Shape) → r ≡ shape_in first plan → (new : FlashState) (result : Result Ring RingFault) →
-      ((s : RingState) (rose : Bool) (device : Device) → ring_mount.IsGood old r 0 s → IsWatched old new rose device → ring_mount.MountEnds r rose device (renumbered r 0 s) result new) →
-      IsWatched old new rose device → ring_mount.MountEnds (shape_in first plan) rose device (renumbered (shape_in first plan) 0 (state_of plan table)) result new
-  ring-ends r e new result ends watched =
-      subst (λ (x : Shape). ring_mount.MountEnds x rose device (renumbered x 0 (state_of plan table)) result new) e
-      (ends (state_of plan table) rose device (subst (λ (x : Shape). ring_mount.IsGood old x 0 (state_of plan table)) (sym e) (good-ring first plan table shape facts idle old watched.told is.on)) watched)
+  pub ring-ends : (r : Shape) → r ≡ shape_in first plan → (least : ℕ) → least ≡ index_end plan table → (new : FlashState) (result : Result Ring RingFault) →
+      ((s : RingState) (rose : Bool) (device : Device) → ring_mount.IsGood old r least s → IsWatched old new rose device → ring_mount.MountEnds r rose device (renumbered r least s) result new) →
+      IsWatched old new rose device → ring_mount.MountEnds (shape_in first plan) rose device (renumbered (shape_in first plan) (index_end plan table) (state_of plan table)) result new
+  ring-ends r e least end new result ends watched =
+      subst (λ n. ring_mount.MountEnds (shape_in first plan) rose device (renumbered (shape_in first plan) n (state_of plan table)) result new) end
+      (subst (λ (x : Shape). ring_mount.MountEnds x rose device (renumbered x least (state_of plan table)) result new) e
+      (ends (state_of plan table) rose device (subst (λ (x : Shape). ring_mount.IsGood old x least (state_of plan table)) (sym e)
+      (subst (λ n. ring_mount.IsGood old (shape_in first plan) n (state_of plan table)) (sym end) (good-ring first plan table shape large is.few facts idle (page_at old) is.on old refl watched.told))) watched))
 
   -- it ended well
-  pub ring-mounts : (ring : Ring) (new : FlashState) → ring_mount.MountEnds (shape_in first plan) rose device (renumbered (shape_in first plan) 0 (state_of plan table)) (Ok ring) new →
+  pub ring-mounts : (ring : Ring) (new : FlashState) → ring_mount.MountEnds (shape_in first plan) rose device (renumbered (shape_in first plan) (index_end plan table) (state_of plan table)) (Ok ring) new →
       RowsMount first plan table rose device ring new
   ring-mounts ring new h =
-      mount-lifts first plan table rose device new plain shape (numbered-facts first plan table shape facts idle) (numbered-idle first plan table shape facts idle) ring
-      (subst (λ (s : RingState). ring_mount.MountEnds (shape_in first plan) rose device s (Ok ring) new) (ring-renumbered first plan table shape facts idle) h)
+      mount-lifts first plan table rose device new shape known (numbered-idle first plan table shape large is.few facts idle (page_at old) is.on) ring
+      (subst (λ (s : RingState). ring_mount.MountEnds (shape_in first plan) rose device s (Ok ring) new) same_state h)
+
+  -- the index ends before its next number
+  pub ends-within : (ring : Ring) (mid : FlashState) (l : RowsMount first plan table rose device ring mid) (least : ℕ) → least ≡ index_end plan table → least ≤ next_of ring
+  ends-within ring mid l least end =
+      let ended : index_end plan l.now.state ≡ index_end plan table = ap (λ (fs : List ℕ). end_after (entries_per_page plan) fs) l.repaired.firsts in
+      omega (arith, l.facts.index.listed, ended, end, l.stands.next)
 
   -- and then the kept pages are read
-  module _ (ring : Ring) (mid new : FlashState) (n : ℕ) (l : RowsMount first plan table rose device ring mid) (reads : OnlyReads mid n new) (sizes : HaveSize first plan (page_at new)) where
+  module _ (ring : Ring) (mid new : FlashState) (n : ℕ) (l : RowsMount first plan table rose device ring mid) (reads : OnlyReads mid n new) (sizes : HaveSize first plan (page_at new))
+      (still : (n : ℕ) → bytes_in (page_at new) first plan IndexRing n ≡ bytes_in (page_at old) first plan IndexRing n) where
     on_now : OnRing (shape_in first plan) (page_at new) (state_of plan (lose l.now.state))
     on_now = subst (λ (page : ℕ → List ℕ). OnRing (shape_in first plan) page (state_of plan (lose l.now.state))) (sym (same_pages mid new n reads)) l.on
 
@@ -147,9 +192,9 @@ module _ (first : ℕ) (plan : Plan) (table : Table) (rose : Bool) (device : Dev
     }
 
     rests_now : Rests new first plan l.now.state
-    rests_now = subst (λ (x : Table). Rests new first plan x) (sym (idle-lost l.now.state l.idle)) (plain-rests new first plan l.now.state plain sizes large l.facts on_now)
+    rests_now = subst (λ (x : Table). Rests new first plan x) (sym (idle-lost l.now.state l.repaired.idle)) (plain-rests new first plan l.now.state plain sizes large l.facts on_now (still_indexed l.now.state new l.repaired still))
 
-    pub reads-fail : (fault : FlashFault) → ReadFails mid fault new → (Rose mid.media.faults new.media.faults → IsTrue rose) → MountsBadly first plan table rose device fault new
+    pub reads-fail : (fault : FlashFault) → ReadFails mid fault new → (Rose mid.media.faults new.media.faults → IsTrue rose) → MountsBadly first plan (DataRing ∷ []) table rose device fault new
     reads-fail PowerLost off risen = absurd (not_both l.power off)
       where
         not_both : mid.is_on ≡ true → mid.is_on ≡ false → ⊥
@@ -167,13 +212,13 @@ module _ (first : ℕ) (plan : Plan) (table : Table) (rose : Bool) (device : Dev
     pub reads-hold : (t : code.Table) → IsPlanned t first plan → place.shape_of ring ≡ shape_in first plan → HoldRows l.now.state (layout_of t.schema) (pages_of ring mid) (oldest_of ring) (next_of ring - oldest_of ring)
     reads-hold t planned is =
         let st = l.now.state in
-        let on : OnRing (shape_in first plan) (page_at mid) (state_of plan l.now.state) = subst (λ (x : Table). OnRing (shape_in first plan) (page_at mid) (state_of plan x)) (sym (idle-lost l.now.state l.idle)) l.on in
+        let on : OnRing (shape_in first plan) (page_at mid) (state_of plan l.now.state) = subst (λ (x : Table). OnRing (shape_in first plan) (page_at mid) (state_of plan x)) (sym (idle-lost l.now.state l.repaired.idle)) l.on in
         let old : oldest_of ring ≡ model.oldest st.rows = l.stands.oldest ∙ state-oldest plan (lose l.now.state) in
         let many : next_of ring - oldest_of ring ≡ length st.rows.counts = omega (arith, l.stands.next, old, l.facts.rows.not_negative) in
         let mid_sizes : HaveSize first plan (page_at mid) = subst (λ (page : ℕ → List ℕ). HaveSize first plan page) (same_pages mid new n reads) sizes in
         let size : t.geometry.page ≡ plan.geometry.page = ap (λ g. g.page) (sym planned.geometry) in
         let len : row_len plan ≡ layout_len (layout_of t.schema) = ap (λ (x : RowLayout). layout_len x) planned.layout in
-        let h = hold-rows (page_at mid) first plan st t.schema.key (types_of t.schema) t.schema.blobs (sym planned.layout) plain l.facts l.idle.pending large
+        let h = hold-rows (page_at mid) first plan st t.schema.key (types_of t.schema) t.schema.blobs (sym planned.layout) plain l.facts l.repaired.idle.pending large
         (omega (arith, len, size, t.room_for_row)) (omega (arith, len, t.some_row)) (omega (arith, size, t.served.page_greatest)) mid_sizes on in
         subst (λ (x : RowLayout). HoldRows l.now.state x (pages_of ring mid) (oldest_of ring) (next_of ring - oldest_of ring)) planned.layout
         (subst (λ (r : Shape). HoldRows l.now.state (row_layout plan) (λ number. page_at mid (place_at r number)) (oldest_of ring) (next_of ring - oldest_of ring)) (sym is)
@@ -182,7 +227,7 @@ module _ (first : ℕ) (plan : Plan) (table : Table) (rose : Bool) (device : Dev
 
     -- no page is refused
     pub reads-end : (t t' : code.Table) (e : MountFault) → IsPlanned t first plan → place.shape_of ring ≡ shape_in first plan → (Rose mid.media.faults new.media.faults → IsTrue rose) → is_of_pages e ≡ true → IfFlash (λ fault. ReadFails mid fault new) e →
-        IsTrue mid.media.tells → IfPage (λ fault. IsTrue mid.media.tells → AreRefused (layout_of t.schema) (pages_of ring mid) (oldest_of ring) (next_of ring - oldest_of ring) fault) e → MountEnds first plan table rose device (Err e) t' new
+        IsTrue mid.media.tells → IfPage (λ fault. IsTrue mid.media.tells → AreRefused (layout_of t.schema) (pages_of ring mid) (oldest_of ring) (next_of ring - oldest_of ring) fault) e → RingsEnd first plan (DataRing ∷ []) table rose device (Err e) t' new
     reads-end t t' (mount.Flash fault) planned is risen only fails told refused = reads-fail fault fails risen
     reads-end t t' (mount.BadPage bad) planned is risen only fails told refused = absurd (not-refused _ _ _ _ (mount.BadPage bad) (reads-hold t planned is).read (refused told))
     reads-end t t' (mount.BadKeys page last first_key) planned is risen only fails told refused = absurd (not-refused _ _ _ _ (mount.BadKeys page last first_key) (reads-hold t planned is).read (refused told))
@@ -191,7 +236,7 @@ module _ (first : ℕ) (plan : Plan) (table : Table) (rose : Bool) (device : Dev
     reads-end t t' (mount.BadBlob page next) planned is risen only fails told refused = absurd (cc only)
 
     nothing_pending : pending_entries (ready plan l.now.state) ≡ []
-    nothing_pending = ap (λ k. drop (length l.now.state.entries - k) l.now.state.entries) l.idle.pending ∙ gone l.now.state.entries
+    nothing_pending = ap (λ k. drop (length l.now.state.entries - k) l.now.state.entries) l.repaired.idle.pending ∙ gone l.now.state.entries
       where
         rest : (xs : List Entry) → drop (length xs) xs ≡ []
         rest [] = refl
@@ -204,22 +249,30 @@ module _ (first : ℕ) (plan : Plan) (table : Table) (rose : Bool) (device : Dev
     no_values true = refl
     no_values false = refl
 
-    idle_now : (ready plan l.now.state).waiting ≡ 0
-    idle_now = rw plain.no_index refl
+    -- the bitmaps of the pages that the index doesn't list wait
+    few_wait : (b : Bool) → cond b (min (entries_per_page plan) (l.now.state.rows.next - max (index_end plan l.now.state) (model.oldest l.now.state.rows))) 0 ≤ entries_per_page plan
+    few_wait true = omega arith
+    few_wait false = omega arith
 
-    ready_facts : IsTable plan (ready plan l.now.state)
-    ready_facts = facts-plain plan (ready plan l.now.state) plain (record {
+    late_wait : (b : Bool) → index_end plan l.now.state + (cond b (min (entries_per_page plan) (l.now.state.rows.next - max (index_end plan l.now.state) (model.oldest l.now.state.rows))) 0) ≤ l.now.state.rows.next
+    late_wait true = omega (arith, l.facts.index.listed)
+    late_wait false = omega (arith, l.facts.index.listed)
+
+    ready_plain : IsPlainTable plan (ready plan l.now.state)
+    ready_plain = record {
       rows = l.facts.rows;
       kept = l.facts.kept;
       few_pending = l.facts.few_pending;
-      index = l.facts.index;
+      index = indexed-as plan l.now.state l.now.state.entries l.now.state.rows l.now.state.pending l.now.state.fill (ready plan l.now.state).waiting (points_of l.now.state) l.facts.index
+          (λ t. few_wait (has_index plan)) (late_wait (has_index plan)) (λ p. p) l.facts.index.number_listed;
       var = l.facts.var;
-      firsts = l.facts.firsts;
       fill = l.facts.fill;
-      waiting = omega (arith, idle_now);
       number = l.facts.number;
       number_pending = l.facts.number_pending;
-    })
+    }
+
+    ready_facts : IsTable plan (ready plan l.now.state)
+    ready_facts = facts-plain plan (ready plan l.now.state) plain ready_plain
 
     -- the table that was started
     pub started-stands : (t : code.Table) → IsPlanned t first plan → place.shape_of ring ≡ shape_in first plan → t.ring ≡ Some ring → ((layout : RowLayout) → Gathers layout [] t.writer) → t.bitmap ≡ 0 →
@@ -227,8 +280,8 @@ module _ (first : ℕ) (plan : Plan) (table : Table) (rose : Bool) (device : Dev
         (next_of ring - oldest_of ring ≤ length t.counts.items → AreNoted (layout_of t.schema) (pages_of ring mid) (oldest_of ring) (next_of ring - oldest_of ring) t.counts.items) →
         IndexOf plan.error (points_after (layout_of t.schema) (pages_of ring mid) (oldest_of ring) (next_of ring - oldest_of ring)) t.index →
         t.voids ≡ voids_after (layout_of t.schema) (pages_of ring mid) (oldest_of ring) (next_of ring - oldest_of ring) →
-        Stands t new first plan (ready plan l.now.state)
-    started-stands t planned is ring_is empty bitmap last noted index voids =
+        Stand t.bitmaps new (first + plan.data_blocks) plan (ready plan l.now.state) → Stands t new first plan (ready plan l.now.state)
+    started-stands t planned is ring_is empty bitmap last noted index voids stand =
         let st = l.now.state in
         let h = reads-hold t planned is in
         let old : oldest_of ring ≡ model.oldest st.rows = l.stands.oldest ∙ state-oldest plan (lose l.now.state) in
@@ -241,7 +294,8 @@ module _ (first : ℕ) (plan : Plan) (table : Table) (rose : Bool) (device : Dev
           facts = ready_facts;
           whole = l.whole;
           clean = l.clean;
-          pages = (plain-rests new first plan l.now.state plain sizes large l.facts on_now).pages;
+          pages = plain-holds (page_at new) first plan (lose (ready plan l.now.state)) sizes large (plain-lose plan (ready plan l.now.state) ready_plain) on_now
+              (indexed-moved (page_at new) first plan l.now.state (lose (ready plan l.now.state)) l.facts.index (keeps-lost l.now.state (lose (ready plan l.now.state)) l.facts.kept.counted refl refl) refl refl (still_indexed l.now.state new l.repaired still));
           memory = record {
             ring = ring;
             ring_is = ring_is;
@@ -256,9 +310,9 @@ module _ (first : ℕ) (plan : Plan) (table : Table) (rose : Bool) (device : Dev
                 ∙ (are i (omega (arith, many, slice_get-short st.rows.counts i c e)) ∙ h.each i c e));
             voids = voids ∙ h.voids;
             index = subst (λ (points : List (ℕ × ℕ)). IndexOf plan.error points t.index) h.points index;
-            no_fill = l.idle.fill;
-            idle = idle_now;
+            no_fill = l.repaired.idle.fill;
           };
+          bitmaps = stand;
           points = mounts-points plan l.now.state;
         }
 
@@ -274,3 +328,45 @@ module _ (first : ℕ) (plan : Plan) (table : Table) (rose : Bool) (device : Dev
         let old : oldest_of ring ≡ model.oldest st.rows = l.stands.oldest ∙ state-oldest plan (lose l.now.state) in
         let many : next_of ring - oldest_of ring ≡ length st.rows.counts = omega (arith, l.stands.next, old, l.facts.rows.not_negative) in
         e ∙ rw (h.rows, h.voids, many) refl
+
+    -- the bitmaps of the pages that the ring reads
+    reads-bitmaps : place.shape_of ring ≡ shape_in first plan → IsTrue (is_bits plan.bits) → HaveBitmaps plan (ready plan l.now.state) (pages_of ring mid)
+    reads-bitmaps is bits =
+        let on : OnRing (shape_in first plan) (page_at mid) (state_of plan l.now.state) = subst (λ (x : Table). OnRing (shape_in first plan) (page_at mid) (state_of plan x)) (sym (idle-lost l.now.state l.repaired.idle)) l.on in
+        let mid_sizes : HaveSize first plan (page_at mid) = subst (λ (page : ℕ → List ℕ). HaveSize first plan page) (same_pages mid new n reads) sizes in
+        let image = to-image (page_at mid) first plan l.now.state mid_sizes large l.facts.rows on in
+        subst (λ (r : Shape). HaveBitmaps plan (ready plan l.now.state) (λ number. page_at mid (place_at r number))) (sym is)
+        (λ k rows e some. page-bitmap plan (model.oldest l.now.state.rows + k) (rows_at l.now.state k rows) _ bits (image.kept k rows e some))
+
+    -- the index stands for that of the table that was started
+    pub started-stand : (was begun now : Option Index) (least wait : ℕ) → place.shape_of ring ≡ shape_in first plan → ArePlanned was (first + plan.data_blocks) plan → StandForRing was old (first + plan.data_blocks) plan table → least ≡ index_end plan table →
+        wait ≡ first_to_wait was least (oldest_of ring) (next_of ring) → AreSamePlan was begun → AreSameRing was begun → AreIdle begun → EndAt begun wait → ((plan : Plan) (x : Table) → AreWaiting begun plan x wait 0) →
+        AreSamePlan begun now → AreSameRing begun now → GatherUpTo begun (pages_of ring mid) (next_of ring) now → Stand now new (first + plan.data_blocks) plan (ready plan l.now.state)
+    started-stand None None None least wait is planned stands end wait_is same kept unused at waits same' still' gathers =
+        ap (λ b. cond b (min (entries_per_page plan) (l.now.state.rows.next - max (index_end plan l.now.state) (model.oldest l.now.state.rows))) 0) (planned-none (first + plan.data_blocks) plan planned)
+    started-stand None None (Some now) least wait is planned stands end wait_is same kept unused at waits same' still' gathers = absurd same'
+    started-stand None (Some begun) now least wait is planned stands end wait_is same kept unused at waits same' still' gathers = absurd same
+    started-stand (Some was) None now least wait is planned stands end wait_is same kept unused at waits same' still' gathers = absurd same
+    started-stand (Some was) (Some begun) None least wait is planned stands end wait_is same kept unused at waits same' still' gathers = absurd same'
+    started-stand (Some was) (Some begun) (Some now) least wait is planned stands end wait_is same kept unused at waits same' still' gathers =
+        let D = first + plan.data_blocks in
+        let st = l.now.state in
+        let has = planned-some was D plan planned in
+        let old_is : oldest_of ring ≡ model.oldest st.rows = l.stands.oldest ∙ state-oldest plan (lose l.now.state) in
+        let next_is : next_of ring ≡ st.rows.next = l.stands.next in
+        let ended : index_end plan st ≡ index_end plan table = ap (λ (fs : List ℕ). end_after (entries_per_page plan) fs) l.repaired.firsts in
+        let per = planned-page was D plan planned in
+        let waiting : (ready plan l.now.state).waiting ≡ min (entries_per_page plan) (st.rows.next - max (index_end plan st) (model.oldest st.rows)) =
+        ap (λ b. cond b (min (entries_per_page plan) (l.now.state.rows.next - max (index_end plan l.now.state) (model.oldest l.now.state.rows))) 0) has in
+        let there : wait ≡ next_of ring - min (next_of ring - max least (oldest_of ring)) (memory.per_page was) = wait_is in
+        let first_is : wait ≡ st.rows.next - min (st.rows.next - max (index_end plan st) (model.oldest st.rows)) (entries_per_page plan) = omega (arith, there, end, ended, old_is, next_is, per) in
+        let s0 = memories.ring-same begun now old D plan table same' still' (memories.ring-same was begun old D plan table same kept stands) in
+        let s1 = ring-moved now old old D plan table (renumber plan DataRing table) s0 keeps refl (has-index plan (renumber plan DataRing table) s0.ring s0.facts.ring_is known (omega (arith, idle.waiting))) (λ k. refl) in
+        let s2 = ring-moved now old new D plan (renumber plan DataRing table) st s1 l.repaired.keeps l.repaired.firsts (has-index plan st s1.ring (l.repaired.index ∙ s1.facts.ring_is) l.facts (omega (arith, l.repaired.idle.waiting))) still in
+        let s3 = ring-moved now new new D plan st (ready plan st) s2 (keeps-same st (ready plan st) refl refl refl) refl (has-index plan (ready plan st) s2.ring s2.facts.ring_is ready_plain (few_wait (has_index plan))) (λ k. refl) in
+        let w : Waits now plan (ready plan st) wait (next_of ring - wait) =
+        gather-waits (Some begun) (Some now) (pages_of ring mid) (next_of ring) wait plan (ready plan st) unused at (waits plan (ready plan st)) (reads-bitmaps is (planned-bits was D plan planned)) gathers in
+        record {
+          in_ring = s3;
+          waits = subst (λ k. Waits now plan (ready plan st) k (ready plan st).waiting) (omega (arith, first_is, waiting)) (subst (λ k. Waits now plan (ready plan st) wait k) (omega (arith, first_is, waiting, next_is)) w);
+        }

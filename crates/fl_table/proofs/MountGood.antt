@@ -1,18 +1,21 @@
 -- A table at rest is good for the mount of its ring.
-use Rattle.std.proofs.Common.{◌≡◌, ℕ, ◌+◌, ◌*◌, ◌^◌, ◌<◌, Bool, true, false, cond, nat_lt, ◌==◌, Option, Some, None, IfSome, List, length, take, drop, refl, sym, ◌∙◌, ap, subst, arith, IsTrue}
+use Rattle.std.proofs.Common.{◌≡◌, ℕ, ◌+◌, ◌*◌, ◌^◌, ◌<◌, ◌≤◌, Bool, true, false, cond, nat_lt, ◌==◌, Option, Some, None, IfSome, List, length, take, drop, refl, sym, ◌∙◌, ap, subst, arith, IsTrue}
 use Rattle.std.specs.List.{list_any, sum}
 use Rattle.fl_flash.specs.Flash.{FlashState, page_at}
-use Rattle.fl_model.specs.Record.{Plan}
+use Rattle.fl_model.specs.Record.{Plan, has_index}
 use Rattle.fl_model.specs.Ring as model
 use Rattle.fl_model.specs.Row.{le}
 use Rattle.fl_model.specs.Table.{Table, Entry, DataRing, shape_of}
 use Rattle.fl_model.specs.Layout.{data_body}
-use Rattle.fl_model.specs.Mount.{renumber, at_least_of}
+use Rattle.fl_model.specs.Mount.{renumber, at_least_of, index_end}
 use Rattle.fl_model.specs.Mount as numbering
 use Rattle.fl_model.proofs.Lists.{slice_get-some}
 use Rattle.fl_model.proofs.Pages.{pages-at}
-use Rattle.fl_model.proofs.Plain.{IsPlainTable}
-use Rattle.fl_model.proofs.Renumber.{plain-renumber}
+use Rattle.fl_ring.specs.Ring.{IsShape}
+use Rattle.fl_ring.proofs.Moved.{renumbered_on}
+use Rattle.fl_table.proofs.Memories.{few-kept}
+use Rattle.fl_table.proofs.Moved.{KeepsPages, keeps-same, keeps-none}
+use Rattle.fl_table.proofs.Plain.{IsPlainTable, plain-renumber}
 use Rattle.fl_ring.specs.Head.{one}
 use Rattle.fl_ring.specs.Mounting.{IsGood}
 use Rattle.fl_ring.specs.Newest.{number_of}
@@ -20,7 +23,7 @@ use Rattle.fl_ring.specs.Numbers.{renumbered, IsNumbered}
 use Rattle.fl_ring.specs.Ring.{RingState, OnRing, oldest}
 use Rattle.fl_schema.proofs.Numbers.{length-le, number_of-le}
 use Rattle.fl_schema.proofs.References.{from_le_bytes_4}
-use Rattle.fl_table.proofs.States.{shape_in, state_of, state-count, state-oldest}
+use Rattle.fl_table.proofs.States.{shape_in, state_of, state-count, state-oldest, ring-back}
 use Rattle.fl_table.proofs.Repaired.{IsIdle, state-renumbered}
 
 -- a body begins with its number
@@ -41,15 +44,25 @@ state-numbered plan table facts i lt =
     by_count small e true entries = tt
     by_count small e false entries = body-number plan (model.oldest table.rows + i) entries small ∙ e
 
-module _ (first : ℕ) (plan : Plan) (table : Table) (shape : model.IsShape (shape_of plan DataRing)) (facts : IsPlainTable plan table) (idle : IsIdle table) where
-  at_none : at_least_of plan DataRing table ≡ 0
-  at_none = rw facts.firsts refl
-
-  pub ring-renumbered : renumbered (shape_in first plan) 0 (state_of plan table) ≡ state_of plan (renumber plan DataRing table)
-  ring-renumbered = ap (λ n. renumbered (shape_in first plan) n (state_of plan table)) (sym at_none) ∙ state-renumbered first plan table facts.rows.not_negative
+module _ (first : ℕ) (plan : Plan) (table : Table) (shape : model.IsShape (shape_of plan DataRing)) (large : 64 ≤ plan.geometry.page) (few : IsTrue (has_index plan) → plan.data_blocks * plan.geometry.block + 6 ≤ 65536)
+    (facts : IsPlainTable plan table) (idle : IsIdle table) (page : ℕ → List ℕ) (on : OnRing (shape_in first plan) page (state_of plan table)) where
+  pub ring-renumbered : renumbered (shape_in first plan) (index_end plan table) (state_of plan table) ≡ state_of plan (renumber plan DataRing table)
+  ring-renumbered = state-renumbered first plan table facts.rows.not_negative
 
   pub numbered-facts : IsPlainTable plan (renumber plan DataRing table)
-  numbered-facts = plain-renumber plan table shape facts idle.pending idle.waiting
+  numbered-facts =
+      let there = renumbered_on (shape_in first plan) page (state_of plan table) (index_end plan table) (record { blocks = shape.blocks; per_block = shape.pages; size = large }) on in
+      plain-renumber plan table shape few (few-kept plan table shape facts.rows) facts
+      (ring-back first plan (renumber plan DataRing table) (subst (λ (s : RingState). OnRing (shape_in first plan) page s) ring-renumbered there).ring) idle.pending idle.waiting
+
+  -- its pages with rows have the same numbers
+  pub keeps-numbered : KeepsPages table (renumber plan DataRing table)
+  keeps-numbered = by_test (list_any (nat_lt 0) table.rows.counts) refl
+    where
+      by_test : (b : Bool) → list_any (nat_lt 0) table.rows.counts ≡ b →
+          KeepsPages table (record table { rows = cond b table.rows (record table.rows { next = numbering.least_alike (plan.data_blocks * plan.geometry.block) table.rows.next (at_least_of plan DataRing table + length table.rows.counts) }) })
+      by_test true e = keeps-same table table refl refl refl
+      by_test false e = keeps-none table _ e
 
   pub numbered-idle : IsIdle (renumber plan DataRing table)
   numbered-idle = record { pending = idle.pending; fill = idle.fill; waiting = idle.waiting; points = idle.points }
@@ -65,10 +78,10 @@ module _ (first : ℕ) (plan : Plan) (table : Table) (shape : model.IsShape (sha
   one_is true = refl
   one_is false = refl
 
-  pub good-ring : (f : FlashState) → IsTrue f.media.tells → OnRing (shape_in first plan) (page_at f) (state_of plan table) → IsGood f (shape_in first plan) 0 (state_of plan table)
-  good-ring f told on = record {
+  pub good-ring : (f : FlashState) → page ≡ page_at f → IsTrue f.media.tells → IsGood f (shape_in first plan) (index_end plan table) (state_of plan table)
+  good-ring f is told = record {
     told = told;
-    on = on;
+    on = subst (λ (p : ℕ → List ℕ). OnRing (shape_in first plan) p (state_of plan table)) is on;
     numbered = state-numbered plan table facts;
     fits =
         let next = ap (λ (s : RingState). s.next) ring-renumbered in

@@ -8,9 +8,10 @@ use Rattle.fl_model.specs.Ring as model
 use Rattle.fl_model.specs.Table.{Table, RingName, DataRing, shape_of, lose, seal_page, is_dirty}
 use Rattle.fl_model.specs.Work.{Kind, VoidMark, Erase, Device, PartEnd, Whole, CutIn, FailedIn, PartProgress}
 use Rattle.fl_model.specs.Within.{repair_within, effect_within, TablePerforms, TableUnreads, TableGoesOn, TableMounts, TableMounted, TableStopped, TableUnread, all_done}
-use Rattle.fl_model.specs.Mount.{renumber, rings_of}
+use Rattle.fl_model.specs.Mount.{renumber}
 use Rattle.fl_model.proofs.Performs.{performs-whole}
-use Rattle.fl_model.proofs.Plain.{IsPlain, IsPlainTable, sealed-torn}
+use Rattle.fl_model.proofs.Plain.{sealed-torn}
+use Rattle.fl_table.proofs.Plain.{IsPlainTable}
 use Rattle.fl_ring.specs.declared.ring.Ring.{Ring}
 use Rattle.fl_ring.specs.Device.{SameDevice}
 use Rattle.fl_ring.specs.Mounting.{Mounted, RepairEnds}
@@ -19,17 +20,13 @@ use Rattle.fl_ring.specs.Place.{StandsFor}
 use Rattle.fl_ring.specs.Ring.{RingState, OnRing}
 use Rattle.fl_table.proofs.States.{shape_in, state_of}
 use Rattle.fl_table.proofs.Lifted.{of_rows, TableAnswers}
-use Rattle.fl_table.proofs.Repaired.{IsIdle, repair-lifts, repair-kinds}
+use Rattle.fl_table.proofs.Repaired.{IsIdle, IsRepaired, repair-lifts, repair-kinds}
 
 ok_not_err : (u : Unit {0}) (fault : FlashFault) → ◌≡◌ {A = Result (Unit {0}) FlashFault} (Ok u) (Err fault) → ⊥
 ok_not_err u fault e = cc
 
 err_not_ok : (fault : FlashFault) → IsOk {T = Unit {0}} {E = FlashFault} (Err fault) → ⊥
 err_not_ok fault e = cc
-
--- one ring alone
-plain-rings : (plan : Plan) → IsPlain plan → rings_of plan ≡ DataRing ∷ []
-plain-rings plan plain = rw (plain.no_index, plain.no_var) refl
 
 -- after all repairs no page is torn and no block waits
 repairs_clean : (plan : Plan) (table : Table) →
@@ -49,29 +46,29 @@ repairs_clean plan table = by_torn table.rows.torn refl
 -- the table after its ring was mounted; nothing of it is in memory yet
 pub record RowsMount (first : ℕ) (plan : Plan) (table : Table) (rose : Bool) (device : Device) (ring : Ring) (new : FlashState) : Type 0 where
   pub now : PartProgress Table
-  pub did : TableMounts plan rose (rings_of plan) device table (TableMounted now)
+  pub did : TableMounts plan rose (DataRing ∷ []) device table (TableMounted now)
   pub counts : SameDevice new now.device
   pub power : new.is_on ≡ true
   pub facts : IsPlainTable plan now.state
-  pub idle : IsIdle now.state
+  pub repaired : IsRepaired (renumber plan DataRing table) now.state
   pub whole : now.state.rows.torn ≡ false
   pub clean : now.state.rows.dirty ≡ false
   pub on : OnRing (shape_in first plan) (page_at new) (state_of plan (lose now.state))
   pub stands : StandsFor ring (state_of plan (lose now.state))
   -- the same mount where a read fails after it
-  pub unread : IsTrue rose → (last : PartProgress Table) × TableMounts plan rose (rings_of plan) device table (TableUnread last) × (last.device ≡ now.device) × (last.state ≡ now.state)
+  pub unread : IsTrue rose → (last : PartProgress Table) × TableMounts plan rose (DataRing ∷ []) device table (TableUnread last) × (last.device ≡ now.device) × (last.state ≡ now.state)
 
 -- a mount that failed in its ring
 pub record RowsFail (first : ℕ) (plan : Plan) (table : Table) (rose : Bool) (device : Device) (fault : FlashFault) (new : FlashState) : Type 0 where
   pub now : PartProgress Table
-  pub did : (TableMounts plan rose (rings_of plan) device table (TableStopped now) × TableAnswers now.end (Err fault) new)
-      ⊎ (TableMounts plan rose (rings_of plan) device table (TableUnread now) × (fault ≡ Media))
+  pub did : (TableMounts plan rose (DataRing ∷ []) device table (TableStopped now) × TableAnswers now.end (Err fault) new)
+      ⊎ (TableMounts plan rose (DataRing ∷ []) device table (TableUnread now) × (fault ≡ Media))
   pub counts : SameDevice new now.device
   pub facts : IsPlainTable plan now.state
-  pub idle : IsIdle now.state
+  pub repaired : IsRepaired (renumber plan DataRing table) now.state
   pub on : OnRing (shape_in first plan) (page_at new) (state_of plan (lose now.state))
 
-module _ (first : ℕ) (plan : Plan) (table : Table) (rose : Bool) (device : Device) (new : FlashState) (plain : IsPlain plan) (shape : model.IsShape (shape_of plan DataRing))
+module _ (first : ℕ) (plan : Plan) (table : Table) (rose : Bool) (device : Device) (new : FlashState) (shape : model.IsShape (shape_of plan DataRing))
     (facts : IsPlainTable plan (renumber plan DataRing table)) (idle : IsIdle (renumber plan DataRing table)) where
   numbered : Table
   numbered = renumber plan DataRing table
@@ -102,11 +99,11 @@ module _ (first : ℕ) (plan : Plan) (table : Table) (rose : Bool) (device : Dev
       let tidy = repairs_clean plan (renumber plan DataRing table) in
       record {
         now = record { end = Whole; device = l.now.device; state = l.now.state };
-        did = rw (plain-rings plan plain) (inr (l.now, did, goes_on l.now whole.0));
+        did = (inr (l.now, did, goes_on l.now whole.0));
         counts = l.counts;
         power = whole.1;
         facts = l.facts;
-        idle = l.more;
+        repaired = l.more;
         whole = ap (λ (t : Table). t.rows.torn) after ∙ tidy.0;
         clean = ap (λ (t : Table). t.rows.dirty) after ∙ tidy.1;
         on = l.on;
@@ -121,7 +118,7 @@ module _ (first : ℕ) (plan : Plan) (table : Table) (rose : Bool) (device : Dev
               did = did;
               whole = whole.0;
             } in
-            (l.now, rw (plain-rings plan plain) (inl (l.now, unread, refl)), refl, refl);
+            (l.now, (inl (l.now, unread, refl)), refl, refl);
       }
     where
       all_whole : (e : PartEnd Table) → TableAnswers e (Ok tt) new → (e ≡ Whole) × (new.is_on ≡ true)
@@ -142,10 +139,10 @@ module _ (first : ℕ) (plan : Plan) (table : Table) (rose : Bool) (device : Dev
       subst (λ (ops : List (RingName × Kind)). TablePerforms plan rose ops device (renumber plan DataRing table) l.now) same l.did in
       record {
         now = l.now;
-        did = inl (rw (plain-rings plan plain) (inr (l.now, did, stops l.now l.now.end refl l.answer)), l.answer);
+        did = inl ((inr (l.now, did, stops l.now l.now.end refl l.answer)), l.answer);
         counts = l.counts;
         facts = l.facts;
-        idle = l.more;
+        repaired = l.more;
         on = l.on;
       }
     where
@@ -168,10 +165,10 @@ module _ (first : ℕ) (plan : Plan) (table : Table) (rose : Bool) (device : Dev
       } in
       record {
         now = l.now;
-        did = inr (rw (plain-rings plan plain) (inl (l.now, unread, refl)), is_media u.is);
+        did = inr ((inl (l.now, unread, refl)), is_media u.is);
         counts = l.counts;
         facts = l.facts;
-        idle = l.more;
+        repaired = l.more;
         on = l.on;
       }
     where

@@ -7,7 +7,7 @@ use Rattle.fl_model.specs.Record.{Plan, RowLayout, row_layout, row_len}
 use Rattle.fl_model.specs.Ring as model
 use Rattle.fl_model.specs.Table.{Table, Entry, last_entry}
 use Rattle.fl_model.specs.Spline.{voids_of, points_of}
-use Rattle.fl_model.proofs.Plain.{IsPlain, IsPlainTable}
+use Rattle.fl_table.proofs.Plain.{IsPlain, IsPlainTable}
 use Rattle.fl_ring.specs.Ring.{OnRing, place}
 use Rattle.fl_schema.specs.Form.{layout_with}
 use Rattle.fl_schema.specs.declared.column.ColumnType.{ColumnType}

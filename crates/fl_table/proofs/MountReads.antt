@@ -31,8 +31,8 @@ kept-few r full sealed some below = by_test (sealed == r.per_block - 1)
         at_most true = omega arith
         at_most false = omega arith
 
-pub ring-few : (old new : FlashState) (r : Shape) (ring : Ring) → 1 ≤ r.blocks → HasNumbers old r 0 ring new → IsTrue old.media.tells → next_of ring - oldest_of ring ≤ room r
-ring-few old new r ring some h told =
+pub ring-few : (old new : FlashState) (r : Shape) (least : ℕ) (ring : Ring) → 1 ≤ r.blocks → HasNumbers old r least ring new → IsTrue old.media.tells → next_of ring - oldest_of ring ≤ room r
+ring-few old new r least ring some h told =
     let found = h.is_found told in
     let few : kept_at old r found.front < room r = kept-few r (fulls (full_of old r) r.blocks) found.front.sealed some found.head.front_is.below in
     let next = h.next in
@@ -68,10 +68,10 @@ module _ (old new : Table) (f mid : FlashState) (same : IsSamePlan old new) (geo
   pub few-first : FewReads (4 * (old.place.blocks * old.geometry.block)) f mid
   few-first = record { reads = omega (arith, searched.few_reads, all); media_reads = omega (arith, searched.media_reads, all) }
 
-  pub few-all : (ring : Ring) (n : ℕ) (g : FlashState) → n ≡ next_of ring - oldest_of ring → HasNumbers f (shape_at new.place f.geometry) 0 ring mid → OnlyReads mid n g → IsTrue f.media.tells →
+  pub few-all : (least : ℕ) (ring : Ring) (n : ℕ) (g : FlashState) → n ≡ next_of ring - oldest_of ring → HasNumbers f (shape_at new.place f.geometry) least ring mid → OnlyReads mid n g → IsTrue f.media.tells →
       FewReads (4 * (old.place.blocks * old.geometry.block)) f g
-  few-all ring n g many numbers reads told =
-      let few = ring-few f mid (shape_at old.place old.geometry) ring (omega (arith, old.some_blocks)) (subst (λ (r : Shape). HasNumbers f r 0 ring mid) (same-shape old new f same geometry) numbers) told in
+  few-all least ring n g many numbers reads told =
+      let few = ring-few f mid (shape_at old.place old.geometry) least ring (omega (arith, old.some_blocks)) (subst (λ (r : Shape). HasNumbers f r least ring mid) (same-shape old new f same geometry) numbers) told in
       record {
         reads = omega (arith, searched.few_reads, reads.reads, few, many, all);
         media_reads = omega (arith, searched.media_reads, reads.media_reads, few, many, all);

@@ -9,8 +9,7 @@ use Rattle.fl_model.specs.Table as model
 use Rattle.fl_model.specs.Table.{Table, Refusal, BadKey, BadColumns, BadValue, BadBlob, refusal_of, make_room_seals, after_seals, put_seals, put_record, with_record, spent_from}
 use Rattle.fl_model.specs.Within.{seals_within}
 use Rattle.fl_model.specs.Work.{Device}
-use Rattle.fl_model.proofs.Plain.{plain-facts}
-use Rattle.fl_model.proofs.Puts.{accepted}
+use Rattle.fl_table.proofs.Plain.{plain-facts, plain-accepted}
 use Rattle.fl_schema.specs.Schema.{layout_of}
 use Rattle.fl_table.specs.Accepting.{IsAcceptedBy}
 use Rattle.fl_table.specs.Outcomes.{Finishes, Breaks, PutEnds}
@@ -48,7 +47,7 @@ pub broken-ends : (t : code.Table) (f : FlashState) (first : ℕ) (plan : Plan) 
     PutEnds first plan (record { key = key; values = values; blob = blob }) table rose device (Err (put.Flash fault)) after new
 broken-ends t f first plan table key values blob rose device s e fault after new h =
     let none = not-refused t f first plan table key values blob s e in
-    let ok = accepted plan table (record { key = key; values = values; blob = blob }) (planned-plain t first plan s.planned) none in
+    let ok = plain-accepted plan table (record { key = key; values = values; blob = blob }) (planned-plain t first plan s.planned) none in
     (none, put-breaks first plan (record { key = key; values = values; blob = blob }) table rose device fault new ok.0.no_blob h)
 
 -- a page has room for a row
@@ -69,10 +68,10 @@ pub put-ends : (t : code.Table) (f : FlashState) (first : ℕ) (plan : Plan) (ta
 put-ends t f first plan table key values blob rose device s e room after new h left adds =
     let none = not-refused t f first plan table key values blob s e in
     let plain = planned-plain t first plan s.planned in
-    let ok = accepted plan table (record { key = key; values = values; blob = blob }) plain none in
+    let ok = plain-accepted plan table (record { key = key; values = values; blob = blob }) plain none in
     let before = after_seals plan (make_room_seals plan table) table in
     let less = has-room room new first plan before h.stands left in
-    let by = room-accepts plan table (record { key = key; values = values; blob = blob }) plain (planned-shape t first plan s.planned) (plain-facts plan table plain s.facts) s.memory.no_fill (some-rows t f first plan table s) ok.0 ok.1 less in (
+    let by = room-accepts plan table (record { key = key; values = values; blob = blob }) (planned-shape t first plan s.planned) (plain-facts plan table plain s.facts) s.memory.no_fill (some-rows t f first plan table s) ok.0 ok.1 less in (
       none,
       put-finishes first plan (record { key = key; values = values; blob = blob }) table rose device room after new ok.0.no_blob h
           (subst (λ (b : Option (List ℕ)). Stands after new first plan (with_record plan (record { key = key; values = values; blob = b }) before before)) (sym ok.0.no_blob) (adds before h.stands by)),

@@ -1,32 +1,38 @@
 -- A record joins the pending ones, and pages that are full.
-use Rattle.std.proofs.Common.{◌≡◌, ℕ, ◌+◌, ◌-◌, ◌*◌, ◌/◌, ◌^◌, ◌<◌, ◌≤◌, Bool, true, false, cond, ◌==◌, Option, Some, None, Result, Ok, Err, eq-eqb, unwrap_or, List, [], ◌∷◌, ◌++◌, length, take, drop, get_or, fold, refl, sym, ◌∙◌, ap, subst, arith, inl, inr, length-append, pos, bit_or}
+use Rattle.std.proofs.Common.{◌≡◌, ℕ, ◌+◌, ◌-◌, ◌*◌, ◌/◌, ◌^◌, ◌<◌, ◌≤◌, Bool, true, false, cond, ◌&&◌, ◌==◌, Option, Some, None, Result, Ok, Err, eq-eqb, unwrap_or, List, [], ◌∷◌, ◌++◌, length, take, drop, get_or, fold, refl, sym, ◌∙◌, ap, subst, arith, inl, inr, length-append, pos, bit_or}
 use Rattle.std.proofs.Math.IntN.{ℤ}
 use Rattle.std.proofs.Math.Nat.{le-div_iff_mul-le, add-mul}
 use Rattle.std.proofs.lemmas.Bool.{eqb-true, cases_lt}
 use Rattle.std.proofs.lemmas.List.{take-append-le, drop-append-le}
 use Rattle.std.proofs.lemmas.List.Sums.{fold_push}
 use Rattle.std.proofs.lemmas.Option.{unwrap_or-slice_get}
-use Rattle.std.specs.List.{slice_get}
+use Rattle.std.specs.List.{slice_get, sum, last_or}
 use Rattle.fl_bitmap.specs.Bucket.{bucket_in}
 use Rattle.fl_bitmap.specs.Widths.{is_bits}
 use Rattle.fl_bitmap.specs.declared.buckets.Buckets.{Buckets}
 use Rattle.fl_flash.specs.Flash.{FlashState, page_at}
 use Rattle.fl_model.specs.Facts.{IsTable}
 use Rattle.fl_model.specs.Layout.{bitmap_of, bucket_of}
-use Rattle.fl_model.specs.Record.{Record, Plan, RowLayout, layout_len, row_len, rows_per_page}
-use Rattle.fl_model.specs.Table.{Table, Entry, DataRing, RingName, shape_of, pending_entries, last_entry, with_record, lose, after_seal, after_seals, make_room_seals, table_seals, flushed, put_seals, put_record, spent_from}
+use Rattle.fl_model.specs.Record.{Record, Plan, RowLayout, layout_len, row_len, rows_per_page, entries_per_page, has_index}
+use Rattle.fl_model.specs.Table.{Table, Entry, DataRing, IndexRing, RingName, shape_of, pending_entries, last_entry, with_record, lose, after_seal, after_seals, make_room_seals, table_seals, flushed, put_seals, put_record, spent_from}
 use Rattle.fl_model.specs.Within.{seal_within, seals_within}
-use Rattle.fl_model.specs.Ring.{IsShape}
+use Rattle.fl_model.specs.Ring.{Ring, IsShape}
 use Rattle.fl_model.specs.Work.{Kind, Device, Whole}
 use Rattle.fl_ring.specs.Device.{SameDevice}
 use Rattle.fl_model.proofs.Lists.{last_or-push}
-use Rattle.fl_model.proofs.Plain.{IsPlain, IsPlainTable, plain-facts, facts-plain, sealed-next}
-use Rattle.fl_model.proofs.Puts.{plain_entry, IsAccepted, plain-record, plain-table_seals, idle-table_seals, plain-put_seals, plain-put_record, full-room_seals, room-room_seals}
+use Rattle.fl_model.proofs.Plain.{sealed-next}
+use Rattle.fl_model.proofs.Among.{after_seals-append}
+use Rattle.fl_table.specs.Bitmaps.{Stand, bitmap_seals, next_of as index_next}
+use Rattle.fl_table.proofs.Indexing.{index-number, stand-moved}
+use Rattle.fl_table.proofs.IndexSeals.{IsBeside}
+use Rattle.fl_table.proofs.Moved.{keeps-record}
+use Rattle.fl_table.proofs.Plain.{IsPlain, IsPlainTable, plain-facts, facts-plain, plain-record, plain-table_seals}
+use Rattle.fl_model.proofs.Puts.{plain_entry, IsAccepted, idle-table_seals, plain-put_seals, plain-put_record, full-room_seals, room-room_seals}
 use Rattle.fl_flash.specs.declared.flash.FlashFault.{FlashFault}
 use Rattle.fl_schema.specs.Schema.{layout_of}
 use Rattle.fl_table.specs.Accepting.{IsAcceptedBy}
 use Rattle.fl_table.specs.Memory.{HasBuckets, bitmap_with}
-use Rattle.fl_table.specs.Outcomes.{Finishes, Breaks, SealEnds, MakesRoom}
+use Rattle.fl_table.specs.Outcomes.{Finishes, Breaks}
 use Rattle.fl_table.specs.Pages.{HoldsTable}
 use Rattle.fl_table.specs.Standing.{Stands}
 use Rattle.fl_table.specs.declared.table.Table as code
@@ -76,10 +82,11 @@ pub record IsAdded (t : code.Table) (f : FlashState) (first : ℕ) (plan : Plan)
   pub pending : pending_entries after ≡ pending_entries table ++ entry ∷ []
   pub last : last_entry after ≡ Some entry
   pub bits : bitmap_with t.buckets t.bitmap (get_or entry.kept.values 0 (pos 0)) ≡ bitmap_of plan (pending_entries after)
+  pub bitmaps : Stand t.bitmaps f (first + plan.data_blocks) plan after
 
-pub added : (t : code.Table) (f : FlashState) (first : ℕ) (plan : Plan) (table : Table) (key : ℕ) (values : List ℤ) → Stands t f first plan table → IsAcceptedBy plan table key values →
+pub added : (t : code.Table) (f : FlashState) (first : ℕ) (plan : Plan) (table : Table) (key : ℕ) (values : List ℤ) → Stands t f first plan table → index_next t.bitmaps ≤ spent_from → IsAcceptedBy plan table key values →
     let item : Record = record { key = key; values = values; blob = None } in IsAdded t f first plan table (plain_entry item) (with_record plan item table table)
-added t f first plan table key values s ok =
+added t f first plan table key values s left ok =
     let item : Record = record { key = key; values = values; blob = None } in
     let plain = planned-plain t first plan s.planned in
     let facts = plain-facts plan table plain s.facts in
@@ -90,9 +97,12 @@ added t f first plan table key values s ok =
     ap (λ n. take n (table.entries ++ plain_entry item ∷ [])) cut ∙ take-append-le (length table.entries - table.pending) table.entries (plain_entry item ∷ []) (omega arith) in
     let waiting : drop (length (table.entries ++ plain_entry item ∷ []) - (table.pending + 1)) (table.entries ++ plain_entry item ∷ []) ≡ pending_entries table ++ plain_entry item ∷ [] =
     ap (λ n. drop n (table.entries ++ plain_entry item ∷ [])) cut ∙ drop-append-le (length table.entries - table.pending) table.entries (plain_entry item ∷ []) (omega arith) in
+    let known = plain-record plan table item facts ok.room (record { above = ok.above; key = ok.fits; as_many = ok.as_many; values = ok.values_fit; no_blob = refl }) ok.left
+    (index-number t.bitmaps f (first + plan.data_blocks) plan table (spent_from + 64) s.planned.index facts.index s.bitmaps (omega (arith, left))) in
     record {
-      facts = facts-plain plan (with_record plan item table table) plain
-          (plain-record plan table item plain facts ok.room (record { above = ok.above; key = ok.fits; as_many = ok.as_many; values = ok.values_fit; no_blob = refl }) ok.left);
+      facts = facts-plain plan (with_record plan item table table) plain known;
+      bitmaps = stand-moved t.bitmaps f f first plan table (with_record plan item table table)
+          (keeps-record table (with_record plan item table table) (plain_entry item ∷ []) (omega (arith, facts.kept.counted)) refl refl) refl refl refl refl facts known (λ n. refl) s.bitmaps;
       pages = subst (λ (es : List Entry). HoldsTable (page_at f) first plan (record (lose table) { entries = es })) (sym written) s.pages;
       pending = waiting;
       last = last_or-push None table.entries (plain_entry item);
@@ -142,10 +152,7 @@ append-nil : {X : Type 0} (xs : List X) → xs ++ [] ≡ xs
 append-nil [] = refl
 append-nil (x ∷ xs) = ap (λ ys. x ∷ ys) (append-nil xs)
 
--- the operations of one seal alone
-pub one-seal : (plan : Plan) (table : Table) (rings : List RingName) → rings ≡ DataRing ∷ [] → seal_within plan DataRing table ≡ seals_within plan rings table
-one-seal plan table rings e = sym (ap (λ (rs : List RingName). seals_within plan rs table) e ∙ append-nil (seal_within plan DataRing table))
-
+-- no operation
 pub no-seal : (plan : Plan) (table : Table) (rings : List RingName) → rings ≡ [] → [] ≡ seals_within plan rings table
 no-seal plan table rings e = sym (ap (λ (rs : List RingName). seals_within plan rs table) e)
 
@@ -157,27 +164,6 @@ finishes-as first plan operations others table after else_after rose device t ne
 pub breaks-as : (first : ℕ) (plan : Plan) (operations others : List (RingName × Kind)) (table : Table) (rose : Bool) (device : Device) (fault : FlashFault) (new : FlashState) →
     operations ≡ others → Breaks first plan operations table rose device fault new → Breaks first plan others table rose device fault new
 breaks-as first plan operations others table rose device fault new e h = subst (λ (ops : List (RingName × Kind)). Breaks first plan ops table rose device fault new) e h
-
--- where a page is full
-pub room-ends : (first : ℕ) (plan : Plan) (table : Table) (rose : Bool) (device : Device) (result : Result (Unit {0}) FlashFault) (t : code.Table) (new : FlashState) → make_room_seals plan table ≡ DataRing ∷ [] →
-    SealEnds first plan table rose device result t new → MakesRoom first plan table rose device result t new
-room-ends first plan table rose device (Ok u) t new rings h =
-    finishes-as first plan (seal_within plan DataRing table) (seals_within plan (make_room_seals plan table) table) table (after_seal plan DataRing table) (after_seals plan (make_room_seals plan table) table) rose device t new
-    (one-seal plan table (make_room_seals plan table) rings) (sym (ap (λ (rs : List RingName). after_seals plan rs table) rings)) h
-room-ends first plan table rose device (Err fault) t new rings h =
-    breaks-as first plan (seal_within plan DataRing table) (seals_within plan (make_room_seals plan table) table) table rose device fault new (one-seal plan table (make_room_seals plan table) rings) h
-
--- a flush of pending rows
-pub flush-finishes : (first : ℕ) (plan : Plan) (table : Table) (rose : Bool) (device : Device) (t : code.Table) (new : FlashState) → table_seals plan table ≡ DataRing ∷ [] →
-    Finishes first plan (seal_within plan DataRing table) table (after_seal plan DataRing table) rose device t new → Finishes first plan (seals_within plan (table_seals plan table) table) table (flushed plan table) rose device t new
-flush-finishes first plan table rose device t new rings h =
-    finishes-as first plan (seal_within plan DataRing table) (seals_within plan (table_seals plan table) table) table (after_seal plan DataRing table) (flushed plan table) rose device t new
-    (one-seal plan table (table_seals plan table) rings) (sym (ap (λ (rs : List RingName). after_seals plan rs table) rings)) h
-
-pub flush-breaks : (first : ℕ) (plan : Plan) (table : Table) (rose : Bool) (device : Device) (fault : FlashFault) (new : FlashState) → table_seals plan table ≡ DataRing ∷ [] →
-    Breaks first plan (seal_within plan DataRing table) table rose device fault new → Breaks first plan (seals_within plan (table_seals plan table) table) table rose device fault new
-flush-breaks first plan table rose device fault new rings h =
-    breaks-as first plan (seal_within plan DataRing table) (seals_within plan (table_seals plan table) table) table rose device fault new (one-seal plan table (table_seals plan table) rings) h
 
 -- nothing is pending
 pub flush-idle : (f : FlashState) (first : ℕ) (plan : Plan) (table : Table) (rose : Bool) (device : Device) (t : code.Table) → table.pending ≡ 0 → Stands t f first plan table → SameDevice f device → f.is_on ≡ true →
@@ -204,36 +190,45 @@ put-finishes first plan item table rose device room t new e h stands =
     (ap (λ (rs : List RingName). seals_within plan rs table) (sym (plain-put_seals plan table item e))) (sym (plain-put_record plan table item e))
     (record { now = h.now; did = h.did; whole = h.whole; counts = h.counts; power = h.power; stands = stands })
 
+-- a seal of the waiting bitmaps leaves all else
+beside-bitmaps : (plan : Plan) (table : Table) → IsBeside table (after_seals plan (bitmap_seals plan table) table)
+beside-bitmaps plan table = by_index (has_index plan && (table.waiting == entries_per_page plan))
+  where
+    by_index : (b : Bool) → IsBeside table (after_seals plan (cond b (IndexRing ∷ []) []) table)
+    by_index true = record { entries = refl; rows = refl; var = refl; pending = refl; fill = refl; points = refl }
+    by_index false = record { entries = refl; rows = refl; var = refl; pending = refl; fill = refl; points = refl }
+
 -- the last record and the number of a table in which room was made
-pub room-accepts : (plan : Plan) (table : Table) (item : Record) → IsPlain plan → IsShape (shape_of plan DataRing) → IsPlainTable plan table → table.fill ≡ 0 → 1 ≤ rows_per_page plan → IsAccepted plan table item → table.rows.next < spent_from →
+pub room-accepts : (plan : Plan) (table : Table) (item : Record) → IsShape (shape_of plan DataRing) → IsPlainTable plan table → table.fill ≡ 0 → 1 ≤ rows_per_page plan → IsAccepted plan table item → table.rows.next < spent_from →
     let before = after_seals plan (make_room_seals plan table) table in (before.pending < rows_per_page plan) → IsAcceptedBy plan before item.key item.values
-room-accepts plan table item plain shape facts empty some ok left room =
+room-accepts plan table item shape facts empty some ok left room =
     by_full (table.pending == rows_per_page plan) refl room
   where
-    full : table.pending ≡ rows_per_page plan → make_room_seals plan table ≡ DataRing ∷ []
-    full e = full-room_seals plan table e ∙ plain-table_seals plan table plain empty (λ none. absurd (omega (arith, none, e, some)))
-
-    same : IsAcceptedBy plan table item.key item.values → make_room_seals plan table ≡ [] → IsAcceptedBy plan (after_seals plan (make_room_seals plan table) table) item.key item.values
-    same h e = subst (λ (rs : List RingName). IsAcceptedBy plan (after_seals plan rs table) item.key item.values) (sym e) h
+    full : table.pending ≡ rows_per_page plan → make_room_seals plan table ≡ bitmap_seals plan table ++ DataRing ∷ []
+    full e = full-room_seals plan table e ∙ plain-table_seals plan table empty (λ none. absurd (omega (arith, none, e, some)))
 
     by_full : (b : Bool) → (table.pending == rows_per_page plan) ≡ b → (after_seals plan (make_room_seals plan table) table).pending < rows_per_page plan →
         IsAcceptedBy plan (after_seals plan (make_room_seals plan table) table) item.key item.values
     by_full true e room =
         let is : table.pending ≡ rows_per_page plan = eqb-true table.pending (rows_per_page plan) e in
-        let next : (after_seal plan DataRing table).rows.next ≡ table.rows.next + 1 = sealed-next (shape_of plan DataRing) table.pending table.rows in
-        let last = last-sealed plan table shape facts.kept.counted (omega (arith, is, some)) in
-        subst (λ (rs : List RingName). IsAcceptedBy plan (after_seals plan rs table) item.key item.values) (sym (full is)) (record {
-          above = λ e' k. ok.above e' (sym last ∙ k);
+        let mid = after_seals plan (bitmap_seals plan table) table in
+        let beside = beside-bitmaps plan table in
+        let rows : sum mid.rows.counts ≡ sum table.rows.counts = ap (λ (r : Ring). sum r.counts) beside.rows in
+        let counted : sum mid.rows.counts + mid.pending ≡ length mid.entries = omega (arith, rows, beside.pending, ap length beside.entries, facts.kept.counted) in
+        let next : (after_seal plan DataRing mid).rows.next ≡ mid.rows.next + 1 = sealed-next (shape_of plan DataRing) mid.pending mid.rows in
+        let last = last-sealed plan mid shape counted (omega (arith, is, some, beside.pending)) in
+        subst (λ (x : Table). IsAcceptedBy plan x item.key item.values) (sym (ap (λ (rs : List RingName). after_seals plan rs table) (full is) ∙ after_seals-append plan (bitmap_seals plan table) (DataRing ∷ []) table)) (record {
+          above = λ e' k. ok.above e' (ap (λ (es : List Entry). last_or None es) (sym beside.entries) ∙ (sym last ∙ k));
           fits = ok.key;
           as_many = ok.as_many;
           values_fit = ok.values;
           room = omega (arith, some);
-          left = omega (arith, next, left);
+          left = omega (arith, next, ap (λ (r : Ring). r.next) beside.rows, left);
         })
     by_full false e room =
         let less : table.pending < rows_per_page plan = elim (cases_lt table.pending (rows_per_page plan)) [ inl lt ↦ lt | inr more ↦ absurd (no (sym e ∙ eq-eqb table.pending (rows_per_page plan) (omega (arith, more, facts.few_pending)))) ] in
-        same (record { above = ok.above; fits = ok.key; as_many = ok.as_many; values_fit = ok.values; room = less; left = omega (arith, left) })
-        (room-room_seals plan table (λ is. absurd (omega (arith, is, less))))
+        subst (λ (rs : List RingName). IsAcceptedBy plan (after_seals plan rs table) item.key item.values) (sym (room-room_seals plan table (λ is. absurd (omega (arith, is, less)))))
+        (record { above = ok.above; fits = ok.key; as_many = ok.as_many; values_fit = ok.values; room = less; left = omega (arith, left) })
       where
         no : false ≡ true → ⊥
         no x = cc

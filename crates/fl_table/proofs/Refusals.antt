@@ -1,11 +1,13 @@
 -- A table refuses as its model does.
-use Rattle.std.proofs.Common.{◌≡◌, ℕ, Bool, true, false, cond, not, ◌&&◌, ◌||◌, ◌==◌, nat_le, nat_lt, Option, Some, None, is_some, option_map, unwrap_or, List, length, refl, sym, ◌∙◌, ap}
+use Rattle.std.proofs.Common.{◌≡◌, ℕ, ◌+◌, Bool, true, false, cond, not, ◌&&◌, ◌||◌, ◌==◌, nat_le, nat_lt, Option, Some, None, is_some, option_map, unwrap_or, List, length, refl, sym, ◌∙◌, ap}
 use Rattle.std.proofs.Math.IntN.{ℤ}
 use Rattle.fl_flash.specs.Flash.{FlashState}
 use Rattle.fl_model.specs.Record.{Record, Plan, RowLayout, row_layout, has_var, key_limit, greatest_key, first_misfit}
 use Rattle.fl_model.specs.Table as model
 use Rattle.fl_model.specs.Table.{Table, Entry, Refusal, BadKey, BadColumns, BadValue, BadBlob, first_of as or_model, refuse_if, key_refusal, value_refusal, blob_refusal, refusal_of, is_spent, spent_from, last_entry, blob_len}
-use Rattle.fl_model.proofs.Plain.{plain-facts}
+use Rattle.fl_table.specs.Bitmaps as bitmaps
+use Rattle.fl_table.proofs.Indexing.{index-spent}
+use Rattle.fl_table.proofs.Plain.{plain-facts}
 use Rattle.fl_ring.specs.Place.{next_of}
 use Rattle.fl_ring.specs.declared.ring.Ring.{Ring}
 use Rattle.fl_schema.specs.Schema.{layout_of}
@@ -85,13 +87,15 @@ module _ (t : code.Table) (f : FlashState) (first : ℕ) (plan : Plan) (table : 
   spent_same : spent_refused t ≡ answer (refuse_if (is_spent table) model.Spent)
   spent_same =
       let facts = plain-facts plan table (planned-plain t first plan s.planned) s.facts in
-      ap (λ (o : Option Ring). refused_if (unwrap_or (option_map (λ ring. nat_le spent_from (next_of ring)) o) false) Spent) s.memory.ring_is
-      ∙ (ap (λ n. refused_if (nat_le spent_from n) Spent) s.memory.next
-      ∙ (rw (facts.index, facts.var) (rest (nat_le spent_from table.rows.next))))
+      ap (λ (o : Option Ring). refused_if (unwrap_or (option_map (λ ring. nat_le spent_from (next_of ring)) o) false || nat_le spent_from (bitmaps.next_of t.bitmaps)) Spent) s.memory.ring_is
+      ∙ (ap (λ n. refused_if (nat_le spent_from n || nat_le spent_from (bitmaps.next_of t.bitmaps)) Spent) s.memory.next
+      ∙ (ap (λ b. refused_if (nat_le spent_from table.rows.next || b) Spent) (index-spent t.bitmaps f (first + plan.data_blocks) plan table s.planned.index facts.index s.bitmaps)
+      ∙ (rw facts.var (rest (nat_le spent_from table.rows.next) (unwrap_or (option_map (λ ring. nat_le spent_from ring.next) table.index) false)))))
     where
-      rest : (b : Bool) → refused_if b Spent ≡ answer (refuse_if (b || false || false) model.Spent)
-      rest true = refl
-      rest false = refl
+      rest : (a b : Bool) → refused_if (a || b) Spent ≡ answer (refuse_if (a || b || false) model.Spent)
+      rest true b = refl
+      rest false true = refl
+      rest false false = refl
 
   pub refusals-agree : put_refusal t key values (is_some blob) ≡ answer (refusal_of plan table (record { key = key; values = values; blob = blob }))
   refusals-agree =

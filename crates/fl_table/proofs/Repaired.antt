@@ -13,7 +13,9 @@ use Rattle.fl_model.specs.Within.{repair_within}
 use Rattle.fl_model.specs.Mount.{renumber, at_least_of}
 use Rattle.fl_model.specs.Mount as numbering
 use Rattle.fl_model.proofs.Pages.{page_with, pages_from}
-use Rattle.fl_model.proofs.Plain.{IsPlainTable, plain-void, plain-erase}
+use Rattle.fl_model.proofs.Plain.{sealed-next}
+use Rattle.fl_table.proofs.Moved.{KeepsPages, keeps-same, keeps-sealed, keeps-then}
+use Rattle.fl_table.proofs.Plain.{IsPlainTable, plain-void, plain-erase}
 use Rattle.fl_ring.specs.Operations.{change, repair_kinds}
 use Rattle.fl_ring.specs.Numbers.{renumbered}
 use Rattle.fl_ring.specs.Ring.{RingState, voided, unerased, erased}
@@ -97,6 +99,14 @@ state-renumbered first plan table known =
         ∙ ap (λ (k : List (Option (List ℕ))). record { kept = k; next = number (length table.rows.counts); torn = table.rows.torn; dirty = table.rows.dirty })
         (void_pages plan (model.oldest table.rows) (number (length table.rows.counts) - length table.rows.counts) table.entries table.rows.counts e)
 
+-- what a repair keeps of a table: nothing is in memory, and its pages with rows and its index are the same
+pub record IsRepaired (table now : Table) : Type 0 where
+  pub idle : IsIdle now
+  pub keeps : KeepsPages table now
+  pub later : table.rows.next ≤ now.rows.next
+  pub index : now.index ≡ table.index
+  pub firsts : now.firsts ≡ table.firsts
+
 -- the repairs that are left
 abbrev pub RepairsCome : List Kind → Table → Type 0
 RepairsCome [] table = Unit {0}
@@ -105,10 +115,10 @@ RepairsCome (Erase ∷ kinds) table = AreErases kinds
 RepairsCome (Body ∷ kinds) table = ⊥
 RepairsCome (Mark ∷ kinds) table = ⊥
 
-pub record IsRepairOf (plan : Plan) (kinds : List Kind) (s : RingState) (table : Table) : Type 0 where
+pub record IsRepairOf (first : Table) (plan : Plan) (kinds : List Kind) (s : RingState) (table : Table) : Type 0 where
   pub state : s ≡ state_of plan (lose table)
   pub facts : IsPlainTable plan table
-  pub idle : IsIdle table
+  pub repaired : IsRepaired first table
   pub come : RepairsCome kinds table
 
 erases_come : (kinds : List Kind) (table : Table) → AreErases kinds → RepairsCome kinds table
@@ -123,28 +133,40 @@ not_dirty true true e h = absurd (h refl)
 not_dirty true false e h = refl
 not_dirty false d e h = cc
 
-repair-along : (first : ℕ) (plan : Plan) → model.IsShape (shape_of plan DataRing) → (kind : Kind) (kinds : List Kind) (s : RingState) (table : Table) →
-    IsRepairOf plan (kind ∷ kinds) s table → IsRepairOf plan kinds (change (shape_in first plan) [] kind s) (effect plan DataRing kind table)
-repair-along first plan shape Body kinds s table r = absurd r.come
-repair-along first plan shape Mark kinds s table r = absurd r.come
-repair-along first plan shape VoidMark kinds s table r =
+repair-along : (begin : Table) (first : ℕ) (plan : Plan) → model.IsShape (shape_of plan DataRing) → (kind : Kind) (kinds : List Kind) (s : RingState) (table : Table) →
+    IsRepairOf begin plan (kind ∷ kinds) s table → IsRepairOf begin plan kinds (change (shape_in first plan) [] kind s) (effect plan DataRing kind table)
+repair-along begin first plan shape Body kinds s table r = absurd r.come
+repair-along begin first plan shape Mark kinds s table r = absurd r.come
+repair-along begin first plan shape VoidMark kinds s table r =
     let after = seal_page plan DataRing 0 table in
-    let idle : IsIdle after = record { pending = r.idle.pending; fill = r.idle.fill; waiting = r.idle.waiting; points = r.idle.points } in
+    let idle : IsIdle after = record { pending = r.repaired.idle.pending; fill = r.repaired.idle.fill; waiting = r.repaired.idle.waiting; points = r.repaired.idle.points } in
     record {
-      state = ap (voided (shape_in first plan)) (r.state ∙ ap (state_of plan) (sym (idle-lost table r.idle)))
+      state = ap (voided (shape_in first plan)) (r.state ∙ ap (state_of plan) (sym (idle-lost table r.repaired.idle)))
           ∙ (state-voided first plan table shape r.facts.rows.not_negative ∙ ap (state_of plan) (idle-lost after idle));
-      facts = plain-void plan table shape r.facts r.idle.pending r.come.0 (not_dirty table.rows.torn table.rows.dirty r.come.0 (λ b. r.facts.rows.not_both (as_and table.rows.torn table.rows.dirty b)));
-      idle = idle;
+      facts = plain-void plan table shape r.facts r.repaired.idle.pending r.come.0 (not_dirty table.rows.torn table.rows.dirty r.come.0 (λ b. r.facts.rows.not_both (as_and table.rows.torn table.rows.dirty b)));
+      repaired = record {
+        idle = idle;
+        keeps = keeps-then begin table after r.repaired.keeps (keeps-sealed (shape_of plan DataRing) 0 table after shape r.facts.rows.not_negative refl refl) r.repaired.later;
+        later = let next = sealed-next (shape_of plan DataRing) 0 table.rows in omega (arith, next, r.repaired.later);
+        index = r.repaired.index;
+        firsts = r.repaired.firsts;
+      };
       come = erases_come kinds after r.come.1;
     }
   where
     as_and : (t d : Bool) → cond t d false ≡ true → (t && d) ≡ true
     as_and true d e = e
     as_and false d e = cc
-repair-along first plan shape Erase kinds s table r = record {
+repair-along begin first plan shape Erase kinds s table r = record {
   state = ap erased r.state ∙ state-erased plan table;
   facts = plain-erase plan table r.facts;
-  idle = record { pending = r.idle.pending; fill = r.idle.fill; waiting = r.idle.waiting; points = r.idle.points };
+  repaired = record {
+    idle = record { pending = r.repaired.idle.pending; fill = r.repaired.idle.fill; waiting = r.repaired.idle.waiting; points = r.repaired.idle.points };
+    keeps = keeps-then begin table (with_ring DataRing model.erased table) r.repaired.keeps (keeps-same table (with_ring DataRing model.erased table) refl refl refl) r.repaired.later;
+    later = r.repaired.later;
+    index = r.repaired.index;
+    firsts = r.repaired.firsts;
+  };
   come = erases_come kinds (with_ring DataRing model.erased table) r.come;
 }
 
@@ -192,12 +214,12 @@ repair-kinds first plan table shape known =
 pub repair-lifts : (first : ℕ) (plan : Plan) (table : Table) (rose : Bool) (front others : List Kind) (device : Device) (result : Result (Unit {0}) FlashFault) (new : FlashState) →
     model.IsShape (shape_of plan DataRing) → IsPlainTable plan table → IsIdle table → repair_kinds (shape_in first plan) (state_of plan table) ≡ front ++ others →
     (h : Performed (shape_in first plan) (change (shape_in first plan) []) rose front device (state_of plan table) result new) →
-    TablePerformed IsIdle first plan (map of_rows front) table rose device result new h.now.state
+    TablePerformed (IsRepaired table) first plan (map of_rows front) table rose device result new h.now.state
 repair-lifts first plan table rose front others device result new shape facts idle split h =
-    performed-lifts IsIdle first plan [] (IsRepairOf plan) (repair-along first plan shape) (λ kinds s t r. (r.state, r.facts, r.idle)) rose front device (state_of plan table) table result new
+    performed-lifts (IsRepaired table) first plan [] (IsRepairOf table plan) (repair-along table first plan shape) (λ kinds s t r. (r.state, r.facts, r.repaired)) rose front device (state_of plan table) table result new
     (record {
       state = ap (state_of plan) (idle-lost table idle);
       facts = facts;
-      idle = idle;
+      repaired = record { idle = idle; keeps = keeps-same table table refl refl refl; later = omega arith; index = refl; firsts = refl };
       come = repairs_front front others table (subst (λ (ks : List Kind). RepairsCome ks table) split (repairs_come first plan table));
     }) h

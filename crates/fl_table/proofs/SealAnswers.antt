@@ -1,15 +1,19 @@
 -- What a table that is sealed tells of its ring.
-use Rattle.std.proofs.Common.{◌≡◌, ℕ, ◌+◌, ◌-◌, ◌*◌, ◌%◌, ◌≤◌, Some, List, ◌++◌, map, length, take, drop, set, refl, sym, ◌∙◌, ap, subst, arith, length-drop}
+use Rattle.std.proofs.Common.{◌≡◌, ℕ, ◌+◌, ◌-◌, ◌*◌, ◌%◌, ◌≤◌, true, false, Option, Some, None, List, ◌++◌, map, length, take, drop, set, refl, sym, ◌∙◌, ap, subst, arith, IsTrue, length-drop}
 use Rattle.std.proofs.lemmas.List.{length-map, take-append-le, take_all}
 use Rattle.std.specs.List.{sum}
 use Rattle.fl_flash.specs.Flash.{FlashState, page_at}
 use Rattle.fl_flash.specs.Places.{extent}
-use Rattle.fl_model.specs.Record.{Plan, RowLayout, row_layout}
+use Rattle.fl_model.specs.Record.{Plan, RowLayout, row_layout, has_index}
 use Rattle.fl_model.specs.Ring as model
 use Rattle.fl_model.specs.Row.{Row, stored_row}
 use Rattle.fl_model.specs.Layout.{data_body, rows_body, bitmap_of}
 use Rattle.fl_model.specs.Table.{Table, DataRing, shape_of, pending_entries, lose}
-use Rattle.fl_model.proofs.Plain.{IsPlain, plain-facts, plain-lose}
+use Rattle.fl_table.proofs.Plain.{IsPlain, plain-facts, plain-lose}
+use Rattle.fl_table.proofs.Moved.{indexed-moved, keeps-found}
+use Rattle.fl_table.proofs.Indexing.{still-planned, plan-same, planned-none, room-left}
+use Rattle.fl_index.specs.declared.index.Index.{Index}
+use Rattle.fl_table.specs.Bitmaps.{ArePlanned, HaveRoom}
 use Rattle.fl_page.specs.Writer.{Gathers}
 use Rattle.fl_page.specs.WriterState.{WriterState}
 use Rattle.fl_ring.specs.Mounting.{shape_at}
@@ -27,13 +31,23 @@ use Rattle.fl_table.proofs.Sealings.{IsSealing}
 use Rattle.fl_table.proofs.States.{shape_in, state_of, state-oldest, HaveSize}
 
 pub planned-plain : (t : code.Table) (first : ℕ) (plan : Plan) → IsPlanned t first plan → IsPlain plan
-planned-plain t first plan h = record { no_index = rw h.index refl; no_var = rw h.var refl }
+planned-plain t first plan h = record { no_var = rw h.var refl }
 
 pub planned-shape : (t : code.Table) (first : ℕ) (plan : Plan) → IsPlanned t first plan → model.IsShape (shape_of plan DataRing)
 planned-shape t first plan h = record {
   blocks = omega (arith, h.blocks, t.some_blocks);
   pages = omega (arith, ap (λ g. g.block) h.geometry, t.served.block_least);
 }
+
+pub planned-few : (t : code.Table) (first : ℕ) (plan : Plan) → IsPlanned t first plan → IsTrue (has_index plan) → plan.data_blocks * plan.geometry.block + 6 ≤ 65536
+planned-few t first plan h some = by_index t.bitmaps refl h.index
+  where
+    by_index : (o : Option Index) → t.bitmaps ≡ o → ArePlanned o (first + plan.data_blocks) plan → plan.data_blocks * plan.geometry.block + 6 ≤ 65536
+    by_index None e planned = absurd (no (sym (planned-none (first + plan.data_blocks) plan planned) ∙ some))
+      where
+        no : false ≡ true → ⊥
+        no k = cc
+    by_index (Some index) e planned = let few = t.few_pages index e in rw (h.blocks, h.geometry) few
 
 pub planned-ring : (t : code.Table) (first : ℕ) (plan : Plan) → IsPlanned t first plan → shape_at t.place t.geometry ≡ shape_in first plan
 planned-ring t first plan h = rw (h.begins, h.geometry, h.blocks) refl
@@ -47,11 +61,14 @@ planned-same old new first plan h same = record {
   layout = h.layout ∙ sym same.layout;
   begins = ap (λ p. p.first_block) same.place ∙ h.begins;
   blocks = h.blocks ∙ sym (ap (λ p. p.blocks) same.place);
-  index = h.index;
+  index = still-planned old.bitmaps new.bitmaps (first + plan.data_blocks) plan h.index same.bitmaps;
   var = h.var;
   buckets = subst (HasBuckets plan) (sym same.buckets) h.buckets;
   error = h.error ∙ sym same.error;
 }
+
+pub plan-self : (t : code.Table) → IsSamePlan t t
+plan-self t = record { geometry = refl; layout = refl; place = refl; buckets = refl; error = refl; bitmaps = plan-same t.bitmaps }
 
 pub counts-room : (t : code.Table) (first : ℕ) (plan : Plan) → IsPlanned t first plan → length t.counts.items ≡ plan.data_blocks * plan.geometry.block
 counts-room t first plan h = sym t.counts.ok.0 ∙ (t.counted ∙ rw (h.blocks, h.geometry) refl)
@@ -84,9 +101,9 @@ writer-count t f first plan table s =
     s.memory.gathers.count ∙ (length-map (pending_entries table) stored_row ∙ pending-length plan table facts.kept.counted)
 
 -- the body that they make
-pub sealing-of : (t : code.Table) (f : FlashState) (first : ℕ) (plan : Plan) (table : Table) (w : WriterState) → Stands t f first plan table → 1 ≤ t.writer.count →
-    ((layout : RowLayout) (rows : List Row) → Gathers layout rows t.writer → w.body ≡ rows_body (length t.writer.body) layout table.rows.next t.bitmap rows) → IsSealing first plan table w.body
-sealing-of t f first plan table w s some body =
+pub sealing-of : (t : code.Table) (f : FlashState) (first : ℕ) (plan : Plan) (table : Table) (w : WriterState) → Stands t f first plan table → 1 ≤ t.writer.count → HaveRoom t.bitmaps →
+    ((layout : RowLayout) (rows : List Row) → Gathers layout rows t.writer → w.body ≡ rows_body (length t.writer.body) layout table.rows.next t.bitmap rows) → IsSealing (page_at f) first plan table w.body
+sealing-of t f first plan table w s some room body =
     let plain = planned-plain t first plan s.planned in
     let facts = plain-facts plan table plain s.facts in
     let count = writer-count t f first plan table s in
@@ -99,7 +116,9 @@ sealing-of t f first plan table w s some body =
         some = λ none. absurd (omega (arith, none, count, some));
         body_is = body (layout_of t.schema) (map stored_row (pending_entries table)) s.memory.gathers ∙ same (omega (arith, t.page, ap (λ g. g.page) s.planned.geometry)) (sym s.planned.layout) s.memory.bitmap;
         clean = s.clean;
+        room = room-left t.bitmaps f (first + plan.data_blocks) plan table s.planned.index s.bitmaps room;
       };
+      indexed = indexed-moved (page_at f) first plan (lose table) table (plain-lose plan table facts).index (keeps-found table facts.kept.counted) refl refl s.pages.index;
     }
   where
     same : length t.writer.body ≡ plan.geometry.page - 8 → layout_of t.schema ≡ row_layout plan → t.bitmap ≡ bitmap_of plan (pending_entries table) →

@@ -9,9 +9,11 @@ use Rattle.fl_model.specs.Ring as model
 use Rattle.fl_model.specs.Layout.{bitmap_of}
 use Rattle.fl_model.specs.Table.{Table, DataRing, shape_of, pending_entries, last_entry, after_seal, lose}
 use Rattle.fl_model.specs.Work.{Device, PartEnd, Whole, CutIn, FailedIn, PartProgress}
-use Rattle.fl_model.specs.Facts.{IsTable}
 use Rattle.fl_model.specs.Within.{seal_within, TablePerforms}
-use Rattle.fl_model.proofs.Plain.{IsPlain, IsPlainTable, facts-plain, sealed-torn}
+use Rattle.fl_model.proofs.Plain.{sealed-torn}
+use Rattle.fl_ring.specs.Ring.{OutsideStands}
+use Rattle.fl_table.proofs.Moved.{HoldsIndexed, indexed-moved, indexed-same, index-stands, keeps-lose}
+use Rattle.fl_table.proofs.Plain.{IsPlain, IsPlainTable, facts-plain}
 use Rattle.fl_ring.specs.Device.{SameDevice}
 use Rattle.fl_ring.specs.Operations.{change, seal_kinds}
 use Rattle.fl_ring.specs.Place.{next_of, oldest_of, StandsFor}
@@ -52,12 +54,13 @@ all-whole (FailedIn before) u new a = absurd (not_err Media a.0)
     not_err fault e = cc
 
 -- what a seal is told of its table
-pub record IsSealing (first : ℕ) (plan : Plan) (table : Table) (body : List ℕ) : Type 0 where
+pub record IsSealing (old : ℕ → List ℕ) (first : ℕ) (plan : Plan) (table : Table) (body : List ℕ) : Type 0 where
   pub plain : IsPlain plan
   pub shape : model.IsShape (shape_of plan DataRing)
   pub large : 64 ≤ plan.geometry.page
   pub facts : IsPlainTable plan table
   pub makes : MakesBody plan body table
+  pub indexed : HoldsIndexed old first plan table
 
 -- what it leaves where all of it was done; `counts` are those of the pages before it, by their places
 pub record IsSealed (first : ℕ) (plan : Plan) (table : Table) (rose : Bool) (device : Device) (ring : Ring) (new : FlashState) (counts : List ℕ) : Type 0 where
@@ -66,7 +69,7 @@ pub record IsSealed (first : ℕ) (plan : Plan) (table : Table) (rose : Bool) (d
   pub whole : now.end ≡ Whole
   pub counted : SameDevice new now.device
   pub power : new.is_on ≡ true
-  pub facts : IsTable plan (after_seal plan DataRing table)
+  pub facts : IsPlainTable plan (after_seal plan DataRing table)
   pub untorn : (after_seal plan DataRing table).rows.torn ≡ false
   pub pages : HoldsTable (page_at new) first plan (lose (after_seal plan DataRing table))
   pub next : next_of ring ≡ (after_seal plan DataRing table).rows.next
@@ -76,21 +79,25 @@ pub record IsSealed (first : ℕ) (plan : Plan) (table : Table) (rose : Bool) (d
   pub last : last_entry table ≡ last_entry (after_seal plan DataRing table)
   pub counts_are : (i count : ℕ) → slice_get (after_seal plan DataRing table).rows.counts i ≡ Some count →
       get_or (set counts (table.rows.next % (plan.data_blocks * plan.geometry.block)) table.pending) ((model.oldest (after_seal plan DataRing table).rows + i) % (plan.data_blocks * plan.geometry.block)) 0 ≡ count
-  pub idle : (after_seal plan DataRing table).waiting ≡ 0
 
-module _ (first : ℕ) (plan : Plan) (table : Table) (body : List ℕ) (rose : Bool) (device : Device) (new : FlashState) (is : IsSealing first plan table body) (sizes : HaveSize first plan (page_at new)) where
+module _ (first : ℕ) (plan : Plan) (table : Table) (body : List ℕ) (rose : Bool) (device : Device) (new : FlashState) (old : ℕ → List ℕ) (is : IsSealing old first plan table body) (sizes : HaveSize first plan (page_at new))
+    (outside : OutsideStands (shape_in first plan) old (page_at new)) where
+  -- what the index lists stands
+  still_indexed : (t : Table) → HoldsIndexed old first plan t → HoldsIndexed (page_at new) first plan t
+  still_indexed t h = indexed-same old (page_at new) first plan t (index-stands old (page_at new) first plan outside) h
+
   -- an operation of it failed
   pub seal-breaks : (fault : FlashFault) →
       Performed (shape_in first plan) (change (shape_in first plan) body) rose (seal_kinds (shape_in first plan) (state_of plan (lose table)) body) device (state_of plan (lose table)) (Err fault) new →
       Breaks first plan (seal_within plan DataRing table) table rose device fault new
   seal-breaks fault h =
-      let l = seal-lifts first plan body table rose device (Err fault) new is.plain is.shape is.facts is.makes h in
+      let l = seal-lifts old first plan body table rose device (Err fault) new is.shape is.facts is.makes is.indexed h in
       record {
         now = l.now;
         did = l.did;
         answer = fault-ends l.now.end fault new l.answer;
         counts = l.counts;
-        rests = plain-rests new first plan l.now.state is.plain sizes is.large l.facts l.on;
+        rests = plain-rests new first plan l.now.state is.plain sizes is.large l.facts l.on (still_indexed l.now.state l.more);
       }
 
   -- all were done
@@ -100,7 +107,7 @@ module _ (first : ℕ) (plan : Plan) (table : Table) (body : List ℕ) (rose : B
       ((i count : ℕ) → slice_get table.rows.counts i ≡ Some count → get_or counts ((model.oldest table.rows + i) % (plan.data_blocks * plan.geometry.block)) 0 ≡ count) →
       IsSealed first plan table rose device ring new counts
   seal-finishes u ring counts h stands room were =
-      let l = seal-lifts first plan body table rose device (Ok u) new is.plain is.shape is.facts is.makes h in
+      let l = seal-lifts old first plan body table rose device (Ok u) new is.shape is.facts is.makes is.indexed h in
       let all = all-whole l.now.end u new l.answer in
       let whole = seal-whole plan table rose device l.now l.did all.0 in
       let facts : IsPlainTable plan (after_seal plan DataRing table) = subst (λ (t : Table). IsPlainTable plan t) whole l.facts in
@@ -113,17 +120,17 @@ module _ (first : ℕ) (plan : Plan) (table : Table) (body : List ℕ) (rose : B
         whole = all.0;
         counted = l.counts;
         power = all.1;
-        facts = facts-plain plan (after_seal plan DataRing table) is.plain facts;
+        facts = facts;
         untorn = sealed-torn (shape_of plan DataRing) table.pending table.rows;
         pages = (plain-rests new first plan (after_seal plan DataRing table) is.plain sizes is.large facts
-            (subst (λ (t : Table). OnRing (shape_in first plan) (page_at new) (state_of plan (lose t))) whole l.on)).pages;
+            (subst (λ (t : Table). OnRing (shape_in first plan) (page_at new) (state_of plan (lose t))) whole l.on)
+            (still_indexed (after_seal plan DataRing table) (subst (λ (t : Table). HoldsIndexed old first plan t) whole l.more))).pages;
         next = stands.next ∙ ap (λ (s : RingState). s.next) left;
         oldest_is = stands.oldest ∙ (ap oldest left ∙ state-oldest plan (lose (after_seal plan DataRing table)));
         none = none;
         no_bits = sym (ap (bitmap_of plan) none ∙ no_values (plan.bits == 0));
         last = sym (last-sealed plan table is.shape is.facts.kept.counted some);
         counts_are = counts-sealed plan table counts is.shape is.facts.rows room were;
-        idle = rw is.plain.no_index refl;
       }
     where
       positive : (n : ℕ) → (n ≡ 0 → ⊥) → 0 < n

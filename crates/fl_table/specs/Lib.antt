@@ -1,4 +1,5 @@
 pub mod Pages
+pub mod Bitmaps
 pub mod Memory
 pub mod Refusal
 pub mod Standing

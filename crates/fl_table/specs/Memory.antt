@@ -1,11 +1,11 @@
 -- What clauses see of a table in memory.
-use Rattle.std.specs.Prelude.{◌≡◌, ℕ, ◌+◌, ◌*◌, ◌%◌, ◌^◌, ◌<◌, ◌≤◌, Bool, ◌||◌, Option, Some, None, ℤ, is_some, option_map, unwrap_or, map, length, slice_get, slice_index}
+use Rattle.std.specs.Prelude.{◌≡◌, ℕ, ◌+◌, ◌*◌, ◌%◌, ◌^◌, ◌<◌, ◌≤◌, Bool, false, ◌||◌, Option, Some, None, [], ℤ, is_some, option_map, unwrap_or, map, length, slice_get, slice_index}
 use Rattle.std.specs.Option.{ForSome}
 use Rattle.fl_bitmap.specs.Bucket.{AreBucketsOf, with_value}
 use Rattle.fl_bitmap.specs.declared.buckets.Buckets.{Buckets}
 use Rattle.fl_find.specs.Index.{IndexOf, error_in}
 use Rattle.fl_flash.specs.Flash.{FlashState, pages}
-use Rattle.fl_model.specs.Record.{Plan, row_layout, layout_len}
+use Rattle.fl_model.specs.Record.{Plan, RowLayout, row_layout, layout_len}
 use Rattle.fl_model.specs.Ring as rings
 use Rattle.fl_model.specs.Row.{stored_row}
 use Rattle.fl_model.specs.Spline.{voids_of}
@@ -19,6 +19,7 @@ use Rattle.fl_ring.specs.Place.{next_of, oldest_of}
 use Rattle.fl_ring.specs.Place as place
 use Rattle.fl_ring.specs.Ring.{Shape}
 use Rattle.fl_schema.specs.Schema.{layout_of}
+use Rattle.fl_table.specs.Bitmaps.{ArePlanned, AreSamePlan, LieOn}
 use Rattle.fl_table.specs.declared.table.Table.{Table}
 
 -- an operation failed since the last mount
@@ -65,7 +66,7 @@ pub record IsPlanned (t : Table) (first : ℕ) (plan : Plan) : Type 0 where
   pub layout : row_layout plan ≡ layout_of t.schema
   pub begins : t.place.first_block ≡ first
   pub blocks : plan.data_blocks ≡ t.place.blocks
-  pub index : plan.index_blocks ≡ 0
+  pub index : ArePlanned t.bitmaps (first + plan.data_blocks) plan
   pub var : plan.var_blocks ≡ 0
   pub buckets : HasBuckets plan t.buckets
   pub error : plan.error ≡ error_in t.index
@@ -77,6 +78,16 @@ pub record IsSamePlan (old new : Table) : Type 0 where
   pub place : new.place ≡ old.place
   pub buckets : new.buckets ≡ old.buckets
   pub error : error_in new.index ≡ error_in old.index
+  pub bitmaps : AreSamePlan old.bitmaps new.bitmaps
+
+-- nothing is in memory, as before the first mount
+pub record IsForgotten (t : Table) : Type 0 where
+  pub down : t.ring ≡ None
+  pub calm : t.stopped ≡ false
+  pub none : t.writer.count ≡ 0
+  pub empty : (layout : RowLayout) → Gathers layout [] t.writer
+  pub bits : t.bitmap ≡ 0
+  pub index : IndexOf (error_in t.index) [] t.index
 
 -- a flash on which the table lies
 pub record LiesOn (t : Table) (f : FlashState) : Type 0 where
@@ -84,6 +95,7 @@ pub record LiesOn (t : Table) (f : FlashState) : Type 0 where
   pub within : t.place.first_block + t.place.blocks ≤ f.blocks
   pub few : pages f < 2 ^ 32
   pub ring : ForSome t.ring (λ r. place.LiesOn r f)
+  pub bitmaps : LieOn t.bitmaps f
 
 -- a running table holds in memory what a table of the model has beside its pages
 pub record InMemory (t : Table) (plan : Plan) (table : model.Table) : Type 0 where
@@ -99,4 +111,3 @@ pub record InMemory (t : Table) (plan : Plan) (table : model.Table) : Type 0 whe
   pub voids : t.voids ≡ voids_of table
   pub index : IndexOf plan.error table.points t.index
   pub no_fill : table.fill ≡ 0
-  pub idle : table.waiting ≡ 0

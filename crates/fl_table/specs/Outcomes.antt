@@ -6,10 +6,10 @@ use Rattle.fl_flash.specs.declared.flash.FlashFault.TheVariants.{PowerLost, Medi
 use Rattle.fl_ring.specs.Device.{SameDevice}
 use Rattle.fl_model.specs.Record.{Record, Plan}
 use Rattle.fl_model.specs.Table as model
-use Rattle.fl_model.specs.Table.{RingName, DataRing, after_seal, after_seals, make_room_seals, refusal_of, put_seals, put_record, table_seals, flushed, lose}
+use Rattle.fl_model.specs.Table.{RingName, after_seals, refusal_of, put_seals, put_record, table_seals, flushed, lose}
 use Rattle.fl_model.specs.Spline.{voids_of}
 use Rattle.fl_model.specs.Work.{Kind, Device, PartEnd, Whole, CutIn, FailedIn, PartProgress}
-use Rattle.fl_model.specs.Within.{TablePerforms, seal_within, seals_within, TableMounted, TableStopped, TableUnread, TableMounts}
+use Rattle.fl_model.specs.Within.{TablePerforms, seals_within, TableMounted, TableStopped, TableUnread, TableMounts}
 use Rattle.fl_model.specs.Mount.{rings_of, ready}
 use Rattle.fl_table.specs.declared.table.Table.{Table}
 use Rattle.fl_table.specs.declared.faults.PutRefusal.{PutRefusal}
@@ -45,17 +45,11 @@ pub record Breaks (first : ℕ) (plan : Plan) (operations : List (RingName × Ki
   pub counts : SameDevice new now.device
   pub rests : Rests new first plan (lose now.state)
 
--- the seal of the pending rows
-abbrev pub SealEnds : ℕ → Plan → model.Table → Bool → Device → Result (Unit {0}) FlashFault → Table → FlashState → Type 0
-SealEnds first plan table rose device (Ok done) t new =
-    Finishes first plan (seal_within plan DataRing table) table (after_seal plan DataRing table) rose device t new
-SealEnds first plan table rose device (Err fault) t new = Breaks first plan (seal_within plan DataRing table) table rose device fault new
-
--- the seal of the pending rows where a page is full of them
-abbrev pub MakesRoom : ℕ → Plan → model.Table → Bool → Device → Result (Unit {0}) FlashFault → Table → FlashState → Type 0
-MakesRoom first plan table rose device (Ok done) t new =
-    Finishes first plan (seals_within plan (make_room_seals plan table) table) table (after_seals plan (make_room_seals plan table) table) rose device t new
-MakesRoom first plan table rose device (Err fault) t new = Breaks first plan (seals_within plan (make_room_seals plan table) table) table rose device fault new
+-- the seals of these rings, one after another
+abbrev pub SealsEnd : ℕ → Plan → List RingName → model.Table → Bool → Device → Result (Unit {0}) FlashFault → Table → FlashState → Type 0
+SealsEnd first plan rings table rose device (Ok done) t new =
+    Finishes first plan (seals_within plan rings table) table (after_seals plan rings table) rose device t new
+SealsEnd first plan rings table rose device (Err fault) t new = Breaks first plan (seals_within plan rings table) table rose device fault new
 
 -- a put of an accepted record, by the refusal that it answers
 abbrev pub PutEnds : ℕ → Plan → Record → model.Table → Bool → Device → Result (Unit {0}) PutRefusal → Table → FlashState → Type 0
@@ -84,27 +78,32 @@ abbrev pub mounted_of : model.Table → Mounted
 mounted_of table = record { rows = length table.entries; pages = length table.rows.counts; voids = voids_of table }
 
 -- A mount that ended well: the table is ready.
-pub record MountsWell (first : ℕ) (plan : Plan) (table : model.Table) (rose : Bool) (device : Device) (mounted : Mounted) (t : Table) (new : FlashState) : Type 0 where
+pub record MountsWell (first : ℕ) (plan : Plan) (rings : List RingName) (table : model.Table) (rose : Bool) (device : Device) (mounted : Mounted) (t : Table) (new : FlashState) : Type 0 where
   pub now : PartProgress model.Table
-  pub did : TableMounts plan rose (rings_of plan) device table (TableMounted now)
+  pub did : TableMounts plan rose rings device table (TableMounted now)
   pub counts : SameDevice new now.device
   pub power : new.is_on ≡ true
   pub stands : Stands t new first plan (ready plan now.state)
   pub answer : mounted ≡ mounted_of (ready plan now.state)
 
 -- It failed in an operation of a repair, or in a read: what was repaired until then stays.
-pub record MountsBadly (first : ℕ) (plan : Plan) (table : model.Table) (rose : Bool) (device : Device) (fault : FlashFault) (new : FlashState) : Type 0 where
+pub record MountsBadly (first : ℕ) (plan : Plan) (rings : List RingName) (table : model.Table) (rose : Bool) (device : Device) (fault : FlashFault) (new : FlashState) : Type 0 where
   pub now : PartProgress model.Table
-  pub did : (TableMounts plan rose (rings_of plan) device table (TableStopped now) × FaultEnds now.end fault new)
-      ⊎ (TableMounts plan rose (rings_of plan) device table (TableUnread now) × (fault ≡ Media))
+  pub did : (TableMounts plan rose rings device table (TableStopped now) × FaultEnds now.end fault new)
+      ⊎ (TableMounts plan rose rings device table (TableUnread now) × (fault ≡ Media))
   pub counts : SameDevice new now.device
   pub rests : Rests new first plan now.state
 
+-- the mount of these rings of a table, in order
+abbrev pub RingsEnd : ℕ → Plan → List RingName → model.Table → Bool → Device → Result Mounted MountFault → Table → FlashState → Type 0
+RingsEnd first plan rings table rose device (Ok mounted) t new = MountsWell first plan rings table rose device mounted t new
+RingsEnd first plan rings table rose device (Err (mount.Flash fault)) t new = MountsBadly first plan rings table rose device fault new
+RingsEnd first plan rings table rose device (Err (mount.Ring fault)) t new = ⊥
+RingsEnd first plan rings table rose device (Err (mount.BadPage bad)) t new = ⊥
+RingsEnd first plan rings table rose device (Err (mount.BadKeys page last key)) t new = ⊥
+RingsEnd first plan rings table rose device (Err (mount.BadIndex end next)) t new = ⊥
+RingsEnd first plan rings table rose device (Err (mount.BadBlob page next)) t new = ⊥
+
+-- .. and of all of them
 abbrev pub MountEnds : ℕ → Plan → model.Table → Bool → Device → Result Mounted MountFault → Table → FlashState → Type 0
-MountEnds first plan table rose device (Ok mounted) t new = MountsWell first plan table rose device mounted t new
-MountEnds first plan table rose device (Err (mount.Flash fault)) t new = MountsBadly first plan table rose device fault new
-MountEnds first plan table rose device (Err (mount.Ring fault)) t new = ⊥
-MountEnds first plan table rose device (Err (mount.BadPage bad)) t new = ⊥
-MountEnds first plan table rose device (Err (mount.BadKeys page last key)) t new = ⊥
-MountEnds first plan table rose device (Err (mount.BadIndex end next)) t new = ⊥
-MountEnds first plan table rose device (Err (mount.BadBlob page next)) t new = ⊥
+MountEnds first plan table rose device result t new = RingsEnd first plan (rings_of plan) table rose device result t new

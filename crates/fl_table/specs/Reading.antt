@@ -1,11 +1,19 @@
 -- What a mount reads in the kept pages, over any bytes.
-use Rattle.std.specs.Prelude.{◌≡◌, ◌⊎◌, ℕ, zero, suc, ◌+◌, ◌%◌, ◌<◌, Bool, true, nat_lt, ◌==◌, Option, Some, None, option_map, unwrap_or, List, [], ◌∷◌, ◌++◌, length, slice_index, if◌then◌else◌}
+use Rattle.std.specs.Prelude.{◌≡◌, ◌⊎◌, ℕ, zero, suc, ◌+◌, ◌-◌, ◌%◌, ◌<◌, ◌≤◌, Bool, true, nat_lt, ◌==◌, Option, Some, None, option_map, unwrap_or, List, [], ◌∷◌, ◌++◌, length, take, drop, slice_get, slice_index, if◌then◌else◌}
 use Rattle.fl_find.specs.Pages.{first_key, rows_on}
 use Rattle.fl_flash.specs.Flash.{FlashState, page_at}
 use Rattle.fl_mark.specs.Mark.{state_of_page}
-use Rattle.fl_mark.specs.declared.page_state.PageState.TheVariants.{Committed}
-use Rattle.fl_model.specs.Record.{RowLayout}
-use Rattle.fl_model.specs.Row.{Row}
+use Rattle.fl_mark.specs.declared.page_state.PageState.{PageState}
+use Rattle.fl_mark.specs.declared.page_state.PageState.TheVariants.{Blank, Torn, Committed, Void}
+use Rattle.fl_index.specs.declared.index.Index.{Index}
+use Rattle.fl_index.specs.Memory.{first_waiting, waiting_in, per_page}
+use Rattle.fl_index.specs.Standing.{Waits}
+use Rattle.fl_model.specs.Image.{rows_at}
+use Rattle.fl_model.specs.Layout.{bitmap_of}
+use Rattle.fl_model.specs.Record.{Plan, RowLayout}
+use Rattle.fl_model.specs.Ring.{oldest as model_oldest}
+use Rattle.fl_model.specs.Row.{Row, number_of}
+use Rattle.fl_model.specs.Table as model
 use Rattle.fl_page.specs.Page.{IsGoodPage, bad_page, rows_in}
 use Rattle.fl_ring.specs.Place.{shape_of}
 use Rattle.fl_ring.specs.Ring.{place}
@@ -85,3 +93,40 @@ points_after layout page number (suc n) = points_after layout page number n ++ p
 abbrev pub AreNoted : RowLayout → (ℕ → List ℕ) → ℕ → ℕ → List ℕ → Type 0
 AreNoted layout page number n counts =
     (i : ℕ) → i < n → slice_index counts ((number + i) % length counts) ≡ length (rows_on layout (page (number + i)))
+
+-- the bitmap in the header of a data page, and in a page by its bytes; a page that isn't committed has none
+abbrev pub page_bitmap : List ℕ → ℕ
+page_bitmap page = number_of (take 8 (drop 8 page))
+
+abbrev pub bitmap_where : PageState → ℕ → ℕ
+bitmap_where Committed bitmap = bitmap
+bitmap_where Blank bitmap = 0
+bitmap_where Torn bitmap = 0
+bitmap_where Void bitmap = 0
+
+abbrev pub bitmap_on : List ℕ → ℕ
+bitmap_on page = bitmap_where (state_of_page page) (page_bitmap page)
+
+-- no bitmap waits, and those of the pages from one of these on are to wait, which have room
+abbrev pub WaitFor : Option Index → ℕ → ℕ → Type 0
+WaitFor None oldest next = Unit {0}
+WaitFor (Some index) oldest next =
+    (waiting_in index ≡ 0) × (oldest ≤ first_waiting index) × (first_waiting index ≤ next) × (next ≤ first_waiting index + per_page index)
+
+-- the pages of a ring have the bitmaps of a table's rows
+abbrev pub HaveBitmaps : Plan → model.Table → (ℕ → List ℕ) → Type 0
+HaveBitmaps plan table page =
+    (n rows : ℕ) → slice_get table.rows.counts n ≡ Some rows → 0 < rows → bitmap_on (page (model_oldest table.rows + n)) ≡ bitmap_of plan (rows_at table n rows)
+
+-- the bitmaps of the pages before a number wait then
+abbrev pub GatherUpTo : Option Index → (ℕ → List ℕ) → ℕ → Option Index → Type 0
+GatherUpTo None page next new = new ≡ None
+GatherUpTo (Some old) page next None = ⊥
+GatherUpTo (Some old) page next (Some new) =
+    (plan : Plan) (table : model.Table) → Waits old plan table (first_waiting old) 0 → HaveBitmaps plan table page → Waits new plan table (first_waiting old) (next - first_waiting old)
+
+-- .. as many as there are from the first that waits on
+abbrev pub AreGathered : Option Index → ℕ → Option Index → Type 0
+AreGathered None next new = new ≡ None
+AreGathered (Some old) next None = ⊥
+AreGathered (Some old) next (Some new) = (first_waiting new ≡ first_waiting old) × (waiting_in new ≡ next - first_waiting old)

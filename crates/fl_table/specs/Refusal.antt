@@ -1,10 +1,11 @@
 -- Why a table in memory refuses a record.
-use Rattle.std.specs.Prelude.{◌≡◌, ℕ, Bool, false, not, nat_le, nat_lt, ◌==◌, ℤ, Option, Some, None, option_map, unwrap_or, Result, Ok, Err, List, length, if◌then◌else◌}
+use Rattle.std.specs.Prelude.{◌≡◌, ℕ, Bool, false, not, ◌||◌, nat_le, nat_lt, ◌==◌, ℤ, Option, Some, None, option_map, unwrap_or, Result, Ok, Err, List, length, if◌then◌else◌}
 use Rattle.fl_model.specs.Record.{first_misfit, greatest_key}
 use Rattle.fl_model.specs.Table.{spent_from}
 use Rattle.fl_ring.specs.Place.{next_of}
 use Rattle.fl_schema.specs.Schema.{layout_of}
 use Rattle.fl_table.specs.declared.table.Table.{Table}
+use Rattle.fl_table.specs.Bitmaps as bitmaps
 use Rattle.fl_table.specs.Memory.{is_running}
 use Rattle.fl_table.specs.declared.faults.PutRefusal.{PutRefusal}
 use Rattle.fl_table.specs.declared.faults.PutRefusal.TheVariants.{Key, Columns, Value, Blob, Spent, Stopped, Flash}
@@ -27,7 +28,8 @@ value_refused t key values =
     else option_map (λ column. Value column) (first_misfit 1 (layout_of t.schema).columns values)
 
 abbrev pub spent_refused : Table → Option PutRefusal
-spent_refused t = refused_if (unwrap_or (option_map (λ ring. nat_le spent_from (next_of ring)) t.ring) false) Spent
+spent_refused t =
+    refused_if (unwrap_or (option_map (λ ring. nat_le spent_from (next_of ring)) t.ring) false || nat_le spent_from (bitmaps.next_of t.bitmaps)) Spent
 
 -- the first refusal that applies to a record with these values, and with a blob or without one
 abbrev pub put_refusal : Table → ℕ → List ℤ → Bool → Option PutRefusal

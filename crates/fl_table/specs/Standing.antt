@@ -1,5 +1,5 @@
 -- A mounted table, and the state of the model for which it stands with its flash.
-use Rattle.std.specs.Prelude.{◌≡◌, ℕ, false}
+use Rattle.std.specs.Prelude.{◌≡◌, ℕ, ◌+◌, false}
 use Rattle.fl_find.specs.Standing.{HasPoints}
 use Rattle.fl_flash.specs.Flash.{FlashState, page_at}
 use Rattle.fl_model.specs.Record.{Plan}
@@ -7,6 +7,7 @@ use Rattle.fl_model.specs.Table as model
 use Rattle.fl_model.specs.Table.{lose, pending_entries, last_entry}
 use Rattle.fl_model.specs.Facts.{IsTable}
 use Rattle.fl_table.specs.declared.table.Table.{Table}
+use Rattle.fl_table.specs.Bitmaps.{Stand}
 use Rattle.fl_table.specs.Pages.{HoldsTable}
 use Rattle.fl_table.specs.Memory.{InMemory, IsPlanned}
 
@@ -19,5 +20,7 @@ pub record Stands (t : Table) (f : FlashState) (first : ℕ) (plan : Plan) (tabl
   -- pending rows are in memory alone
   pub pages : HoldsTable (page_at f) first plan (lose table)
   pub memory : InMemory t plan table
+  -- the index ring, and the bitmaps that wait
+  pub bitmaps : Stand t.bitmaps f (first + plan.data_blocks) plan table
   -- the index goes with the pages
   pub points : HasPoints table

@@ -1,6 +1,7 @@
 //! A table: its records in the pages of a ring, and those that wait in memory for their page.
 #![tactic(auto)]
 
+mod bitmaps;
 mod counts;
 mod faults;
 mod find;

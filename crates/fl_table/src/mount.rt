@@ -1,8 +1,9 @@
-// The mount of a table: its ring is mounted, and its pages are read.
-ghost use Rattle.std.specs.Prelude.{◌≡◌, ◌+◌, ◌-◌, ◌*◌, None, false, true, is_ok, length, [], IsTrue, IfOk, IfErr, OnOk, OnErr};
+// The mount of a table: its rings are mounted, and its pages are read.
+ghost use Rattle.std.specs.Prelude.{◌≡◌, ◌+◌, ◌-◌, ◌*◌, None, false, true, is_ok, length, [], ◌∷◌, IsTrue, IfOk, IfErr, OnOk, OnErr};
 ghost use Rattle.fl_flash.specs.Flash.{Goes, page_at};
 ghost use Rattle.fl_table.specs.Causes.{MountCausedBy};
 
+use crate::bitmaps::{first_to_wait, mount_bitmaps, restart};
 use crate::reading::read_pages;
 use crate::table::Table;
 use crate::{MountFault, Mounted};
@@ -11,26 +12,25 @@ use fl_ring::Ring;
 
 impl Table {
     ghost use Rattle.std.specs.Prelude.{ℕ, Bool};
-    ghost use Rattle.fl_model.specs.Record.{Plan, RowLayout};
+    ghost use Rattle.fl_model.specs.Mount.{index_end};
+    ghost use Rattle.fl_model.specs.Record.{Plan};
     ghost use Rattle.fl_model.specs.Table as model;
+    ghost use Rattle.fl_model.specs.Table.{DataRing};
+    ghost use Rattle.fl_ring.specs.Ring as rings;
+    ghost use Rattle.fl_ring.specs.Ring.{room};
+    ghost use Rattle.fl_table.specs.Bitmaps.{AreIdle, AreRunning, AreSameRing, StandForRing};
     ghost use Rattle.fl_model.specs.Work.{Device};
-    ghost use Rattle.fl_find.specs.Index.{error_in, IndexOf};
-    ghost use Rattle.fl_page.specs.Writer.{Gathers};
-    ghost use Rattle.fl_ring.specs.Ring.{OutsideStands, room};
     ghost use Rattle.fl_ring.specs.Step.{IsWatched};
-    ghost use Rattle.fl_table.specs.Memory.{is_running, is_stopped, ring_shape, IsPlanned, IsSamePlan, LiesOn};
+    ghost use Rattle.fl_table.specs.Memory.{is_running, is_stopped, ring_shape, IsForgotten, IsPlanned, IsSamePlan, LiesOn};
     ghost use Rattle.fl_table.specs.Pages.{Rests};
-    ghost use Rattle.fl_table.specs.Outcomes.{MountEnds};
-    ghost use Rattle.fl_table.specs.Mounting.{FewReads, FewRepairs, FindsPages, RefusesPages};
+    ghost use Rattle.fl_table.specs.Outcomes.{MountEnds, RingsEnd};
+    ghost use Rattle.fl_table.specs.Mounting.{FewReads, FewRepairs, FindsPages, FindsRows, OutsideStands, RefusesPages, RefusesRows, pages_in, rings_in};
 
     // As it was before its first mount.
     fn forget(&mut self)
         ensures same { IsSamePlan self.old self.new }
-        ensures down { (is_running self.new ≡ false) × (is_stopped self.new ≡ false) }
-        ensures none { self.new.writer.count ≡ 0 }
-        ensures empty { (layout : RowLayout) → Gathers layout [] self.new.writer }
-        ensures bits { self.new.bitmap ≡ 0 }
-        ensures index { IndexOf (error_in self.old.index) [] self.new.index }
+        ensures bitmaps { self.new.bitmaps ≡ self.old.bitmaps }
+        ensures forgotten { IsForgotten self.new }
     {
         self.ring = None;
         self.stopped = false;
@@ -41,7 +41,59 @@ impl Table {
         self.index.clear();
     }
 
-    /// Mounts the table: the ring is repaired, and each kept page is read once. After an error it isn't mounted.
+    /// Mounts the data ring, whose void pages follow the end of the index, and reads its pages.
+    fn mount_rows<F: Flash>(
+        &mut self,
+        end: u32,
+        flash: &mut F,
+        buf: &mut PageBuf,
+    ) -> Result<Mounted, MountFault>
+        requires forgotten { IsForgotten self.old }
+        requires running { AreRunning self.old.bitmaps }
+        requires idle { AreIdle self.old.bitmaps }
+        requires lies { LiesOn self.old (F.state flash.old) }
+        requires room { length buf.old.bytes ≡ (F.state flash.old).geometry.page }
+        ensures goes { Goes (F.state flash.old) (F.state flash.new) }
+        ensures same { IsSamePlan self.old self.new }
+        ensures still { AreSameRing self.old.bitmaps self.new.bitmaps }
+        ensures lies { LiesOn self.new (F.state flash.new) }
+        ensures room { length buf.new.bytes ≡ length buf.old.bytes }
+        ensures holds { buf.new.holds ≡ None }
+        ensures ends { (first : ℕ) → (plan : Plan) → (table : model.Table) → (rose : Bool) → (device : Device) → IsWatched (F.state flash.old) (F.state flash.new) rose device
+            → IsPlanned self.old first plan → Rests (F.state flash.old) first plan table → StandForRing self.old.bitmaps (F.state flash.old) (first + plan.data_blocks) plan table → end ≡ index_end plan table
+            → RingsEnd first plan (DataRing ∷ []) table rose device result self.new (F.state flash.new) }
+        ensures mounted { is_running self.new ≡ is_ok result }
+        ensures calm { is_stopped self.new ≡ false }
+        ensures found { IfOk result (λ mounted. IsTrue (F.state flash.old).media.tells → FindsRows self.old (F.state flash.old) end mounted self.new (F.state flash.new)) }
+        ensures refused { IfErr result (λ e. IsTrue (F.state flash.old).media.tells → RefusesRows self.old (F.state flash.old) end e (F.state flash.new)) }
+        ensures outside { IsTrue (F.state flash.old).media.tells → rings.OutsideStands (ring_shape self.old) (page_at (F.state flash.old)) (page_at (F.state flash.new)) }
+        ensures reads { IsTrue (F.state flash.old).media.tells → FewReads (4 * room (ring_shape self.old)) (F.state flash.old) (F.state flash.new) }
+        ensures repairs { FewRepairs 1 (F.state flash.old) (F.state flash.new) }
+        ensures cause { IfErr result (λ e. MountCausedBy (F.state flash.old) e (F.state flash.new)) }
+    {
+        let ring = Ring::mount(flash, self.place, end, buf)?;
+        let next = ring.next_number();
+        if end > next {
+            return Err(MountFault::BadIndex { end, next });
+        }
+        let first = first_to_wait(&self.bitmaps, end, ring.oldest(), next);
+        restart(&mut self.bitmaps, first);
+        let (mounted, last) = read_pages(
+            &self.schema,
+            &ring,
+            &mut self.counts,
+            &mut self.index,
+            &mut self.bitmaps,
+            flash,
+            buf,
+        )?;
+        self.last_key = last;
+        self.voids = mounted.voids;
+        self.ring = Some(ring);
+        Ok(mounted)
+    }
+
+    /// Mounts the table: its rings are repaired, and each kept page is read once. After an error it isn't mounted.
     /// The buffer holds no page afterwards.
     pub fn mount<F: Flash>(
         &mut self,
@@ -61,24 +113,13 @@ impl Table {
         ensures calm { is_stopped self.new ≡ false }
         ensures found { IfOk result (λ mounted. IsTrue (F.state flash.old).media.tells → FindsPages self.old (F.state flash.old) mounted self.new (F.state flash.new)) }
         ensures refused { IfErr result (λ e. IsTrue (F.state flash.old).media.tells → RefusesPages self.old (F.state flash.old) e (F.state flash.new)) }
-        ensures outside { IsTrue (F.state flash.old).media.tells → OutsideStands (ring_shape self.old) (page_at (F.state flash.old)) (page_at (F.state flash.new)) }
-        ensures reads { IsTrue (F.state flash.old).media.tells → FewReads (4 * room (ring_shape self.old)) (F.state flash.old) (F.state flash.new) }
-        ensures repairs { FewRepairs (F.state flash.old) (F.state flash.new) }
+        ensures outside { IsTrue (F.state flash.old).media.tells → OutsideStands self.old (page_at (F.state flash.old)) (page_at (F.state flash.new)) }
+        ensures reads { IsTrue (F.state flash.old).media.tells → FewReads (4 * pages_in self.old) (F.state flash.old) (F.state flash.new) }
+        ensures repairs { FewRepairs (rings_in self.old) (F.state flash.old) (F.state flash.new) }
         ensures cause { IfErr result (λ e. MountCausedBy (F.state flash.old) e (F.state flash.new)) }
     {
         self.forget();
-        let ring = Ring::mount(flash, self.place, 0, buf)?;
-        let (mounted, last) = read_pages(
-            &self.schema,
-            &ring,
-            &mut self.counts,
-            &mut self.index,
-            flash,
-            buf,
-        )?;
-        self.last_key = last;
-        self.voids = mounted.voids;
-        self.ring = Some(ring);
-        Ok(mounted)
+        let end = mount_bitmaps(&mut self.bitmaps, flash, buf)?;
+        self.mount_rows(end.unwrap_or(0), flash, buf)
     }
 }

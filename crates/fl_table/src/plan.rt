@@ -1,5 +1,6 @@
 // A table of a configuration.
-ghost use Rattle.std.specs.Prelude.{◌≡◌, ◌≤◌, ◌<◌, ◌⊎◌, ◌+◌, ◌^◌, None, Err, false, length, IfOk, IfErr, OnOk};
+ghost use Rattle.std.specs.Prelude.{◌≡◌, ◌≤◌, ◌<◌, ◌⊎◌, ◌+◌, ◌*◌, ◌^◌, None, Err, false, length, IfSome, IfOk, IfErr, OnOk};
+ghost use Rattle.std.specs.Option.{ForSome};
 ghost use Rattle.fl_flash.specs.Flash.{FlashState, pages};
 ghost use Rattle.fl_plan.specs.Limits.{IsWithinLimits};
 ghost use Rattle.fl_plan.specs.Plan.{IsConfigOf};
@@ -7,10 +8,13 @@ ghost use Rattle.fl_plan.specs.Refusal.{config_fault, Tells};
 ghost use Rattle.fl_model.specs.Record.{layout_len};
 ghost use Rattle.fl_schema.specs.Form.{layout_with};
 ghost use Rattle.fl_schema.specs.Schema.{layout_of, types_of};
+ghost use Rattle.fl_model.specs.Record.{Plan};
+ghost use Rattle.fl_table.specs.Bitmaps.{ArePlanned, AreIdle, LieOn, next_after};
 ghost use Rattle.fl_table.specs.Memory.{is_running, is_stopped, IsPlanned, LiesOn};
 
 use crate::table::Table;
 use fl_find::LearnedIndex;
+use fl_index::Index;
 use fl_page::PageWriter;
 use fl_plan::{ConfigRefusal, TableConfig};
 use fl_schema::Schema;
@@ -32,17 +36,34 @@ fn schema_of(config: &TableConfig) -> Schema<8>
     schema
 }
 
+/// The index of a configuration that isn't refused.
+fn bitmaps_of(alloc: Global, config: &TableConfig) -> Result<Option<Index>, fl_base::NoMemory>
+    requires fits { config_fault config.now ≡ None }
+    requires limits { IsWithinLimits config.now }
+    ensures planned { IfOk result (λ bitmaps. (plan : Plan) → IsConfigOf config.now plan → ArePlanned bitmaps (config.now.rows.first_block + plan.data_blocks) plan) }
+    ensures lie { IfOk result (λ bitmaps. (f : FlashState) → f.geometry ≡ config.now.geometry → IfSome config.now.index (λ place. place.first_block + place.blocks ≤ f.blocks) → pages f < 2 ^ 32 → LieOn bitmaps f) }
+    ensures idle { IfOk result (λ bitmaps. AreIdle bitmaps) }
+    ensures few { IfOk result (λ bitmaps. ForSome bitmaps (λ index. config.now.rows.blocks * config.now.geometry.block + 6 ≤ 65536)) }
+    ensures next { IfOk result (λ bitmaps. next_after bitmaps ≤ 1) }
+{
+    let (Some(place), Some(buckets)) = (config.index, config.buckets) else {
+        return Ok(None);
+    };
+    let index = Index::plan(alloc, config.geometry, place, buckets.bits)?;
+    Ok(Some(index))
+}
+
 impl Table {
     ghost use Rattle.fl_model.specs.Record.{Plan};
     ghost use Rattle.fl_plan.specs.declared.refusal.ConfigRefusal.TheVariants.{NoMemory};
 
-    /// The table of a configuration, in which there is a data ring alone. It isn't mounted.
+    /// The table of a configuration without variable data. It isn't mounted.
     pub fn plan(alloc: Global, config: &TableConfig) -> Result<Table, ConfigRefusal>
-        requires index { config.now.index ≡ None }
         requires var { config.now.var ≡ None }
         ensures fits { OnOk result (config_fault config.now ≡ None) }
         ensures planned { IfOk result (λ t. (plan : Plan) → IsConfigOf config.now plan → IsPlanned t config.now.rows.first_block plan) }
-        ensures lies { IfOk result (λ t. (f : FlashState) → f.geometry ≡ config.now.geometry → config.now.rows.first_block + config.now.rows.blocks ≤ f.blocks → pages f < 2 ^ 32 → LiesOn t f) }
+        ensures lies { IfOk result (λ t. (f : FlashState) → f.geometry ≡ config.now.geometry → config.now.rows.first_block + config.now.rows.blocks ≤ f.blocks
+            → IfSome config.now.index (λ place. place.first_block + place.blocks ≤ f.blocks) → pages f < 2 ^ 32 → LiesOn t f) }
         ensures fresh { IfOk result (λ t. (is_running t ≡ false) × (is_stopped t ≡ false)) }
         ensures refused { IfErr result (λ refusal. (refusal ≡ NoMemory) ⊎ Tells {A = Table} (Err refusal) (config_fault config.now)) }
     {
@@ -51,6 +72,7 @@ impl Table {
         let Ok(counts) = vec![in alloc; 0; pages] else {
             return Err(ConfigRefusal::NoMemory);
         };
+        let bitmaps = bitmaps_of(alloc, config)?;
         Ok(Table {
             schema: schema_of(config),
             geometry: config.geometry,
@@ -64,6 +86,7 @@ impl Table {
             counts,
             voids: 0,
             index: LearnedIndex::new(config.error),
+            bitmaps,
         })
     }
 }

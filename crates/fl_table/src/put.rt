@@ -23,18 +23,19 @@ impl Table {
     ghost use Rattle.fl_model.specs.Record.{Plan, layout_len, rows_per_page};
     ghost use Rattle.fl_model.specs.Row.{FitsRow};
     ghost use Rattle.fl_model.specs.Table as model;
-    ghost use Rattle.fl_model.specs.Table.{spent_from, with_record};
+    ghost use Rattle.fl_model.specs.Table.{make_room_seals, spent_from, with_record};
     ghost use Rattle.fl_model.specs.Work.{Device};
     ghost use Rattle.fl_ring.specs.Causes.{CausedBy};
-    ghost use Rattle.fl_ring.specs.Ring.{OutsideStands};
     ghost use Rattle.fl_ring.specs.Step.{IsWatched};
     ghost use Rattle.fl_schema.specs.Schema.{layout_of};
     ghost use Rattle.fl_flash.specs.Flash.{FlashState};
     ghost use Rattle.fl_table.specs.Causes.{PutCausedBy, FlushCausedBy, RefusedSame, put_breaks, flush_breaks};
-    ghost use Rattle.fl_table.specs.Memory.{is_running, is_stopped, ring_shape, next_in, pending_in, HasRoom, IsSamePlan, LiesOn};
+    ghost use Rattle.fl_table.specs.Memory.{is_running, is_stopped, next_in, pending_in, HasRoom, IsSamePlan, LiesOn};
     ghost use Rattle.fl_table.specs.Refusal.{put_refusal, RefusesAs};
     ghost use Rattle.fl_table.specs.Standing.{Stands};
-    ghost use Rattle.fl_table.specs.Outcomes.{MakesRoom, PutEnds, FlushEnds};
+    ghost use Rattle.fl_table.specs.Bitmaps.{next_of as index_next};
+    ghost use Rattle.fl_table.specs.Mounting.{OutsideStands, rings_in};
+    ghost use Rattle.fl_table.specs.Outcomes.{SealsEnd, PutEnds, FlushEnds};
     ghost use Rattle.fl_table.specs.Accepting.{IsAcceptedBy};
 
     /// Seals the pending rows where a page is full of them.
@@ -45,16 +46,17 @@ impl Table {
         ensures same { IsSamePlan self.old self.new }
         ensures lies { LiesOn self.new (F.state flash.new) }
         ensures ends { (first : ℕ) → (plan : Plan) → (table : model.Table) → (rose : Bool) → (device : Device) → IsWatched (F.state flash.old) (F.state flash.new) rose device
-            → Stands self.old (F.state flash.old) first plan table → MakesRoom first plan table rose device result self.new (F.state flash.new) }
+            → Stands self.old (F.state flash.old) first plan table → SealsEnd first plan (make_room_seals plan table) table rose device result self.new (F.state flash.new) }
         ensures room { OnOk result (HasRoom self.new) }
         ensures quiet { HasRoom self.old → (result ≡ Ok tt) × (self.new ≡ self.old) × (F.state flash.new ≡ F.state flash.old) }
         ensures running { OnOk result (is_running self.new ≡ true) }
         ensures next { OnOk result (next_in self.new ≤ next_in self.old + 1) }
+        ensures index_next { OnOk result (index_next self.new.bitmaps ≤ index_next self.old.bitmaps + 1) }
         ensures calm { OnOk result (is_stopped self.new ≡ is_stopped self.old) }
         ensures stopped { OnErr result ((is_running self.new ≡ false) × (is_stopped self.new ≡ true)) }
-        ensures outside { IsTrue (F.state flash.old).media.tells → OutsideStands (ring_shape self.old) (page_at (F.state flash.old)) (page_at (F.state flash.new)) }
+        ensures outside { IsTrue (F.state flash.old).media.tells → OutsideStands self.old (page_at (F.state flash.old)) (page_at (F.state flash.new)) }
         ensures reads { (F.state flash.new).work.reads ≡ (F.state flash.old).work.reads }
-        ensures media_reads { (F.state flash.new).media.reads ≤ (F.state flash.old).media.reads + 1 }
+        ensures media_reads { (F.state flash.new).media.reads ≤ (F.state flash.old).media.reads + rings_in self.old }
         ensures cause { IfErr result (λ e. CausedBy (F.state flash.old) e (F.state flash.new)) }
     {
         if !self.writer.is_full(&self.schema) {
@@ -68,8 +70,10 @@ impl Table {
         requires fits { FitsRow (layout_of self.old.schema) (record { key = key; values = values.now; blob = None }) }
         requires room { HasRoom self.old }
         requires left { next_in self.old ≤ spent_from }
+        requires index_left { index_next self.old.bitmaps ≤ spent_from }
         ensures same { IsSamePlan self.old self.new }
         ensures ring { self.new.ring ≡ self.old.ring }
+        ensures lies { (f : FlashState) → LiesOn self.old f → LiesOn self.new f }
         ensures stopped { is_stopped self.new ≡ is_stopped self.old }
         ensures stands { (f : FlashState) → (first : ℕ) → (plan : Plan) → (table : model.Table) → Stands self.old f first plan table → IsAcceptedBy plan table key values.now
             → Stands self.new f first plan (with_record plan (record { key = key; values = values.now; blob = None }) table table) }
@@ -101,8 +105,8 @@ impl Table {
         ensures running { is_running self.new ≡ (is_running self.old && not (put_breaks result)) }
         ensures quiet { put_refusal self.old key values.now (is_some blob.entry) ≡ None → HasRoom self.old → (result ≡ Ok tt) × (F.state flash.new ≡ F.state flash.old) }
         ensures reads { (F.state flash.new).work.reads ≡ (F.state flash.old).work.reads }
-        ensures media_reads { (F.state flash.new).media.reads ≤ (F.state flash.old).media.reads + 1 }
-        ensures outside { IsTrue (F.state flash.old).media.tells → OutsideStands (ring_shape self.old) (page_at (F.state flash.old)) (page_at (F.state flash.new)) }
+        ensures media_reads { (F.state flash.new).media.reads ≤ (F.state flash.old).media.reads + rings_in self.old }
+        ensures outside { IsTrue (F.state flash.old).media.tells → OutsideStands self.old (page_at (F.state flash.old)) (page_at (F.state flash.new)) }
         ensures cause { IfErr result (λ e. PutCausedBy (F.state flash.old) e (F.state flash.new)) }
     {
         if let Some(refusal) = self.refusal(key, values, blob.is_some()) {
@@ -127,8 +131,8 @@ impl Table {
         ensures refused { result ≡ Err FlushFault.Stopped → self.new ≡ self.old }
         ensures quiet { is_running self.old ≡ true → pending_in self.old ≡ 0 → (result ≡ Ok tt) × (self.new ≡ self.old) × (F.state flash.new ≡ F.state flash.old) }
         ensures reads { (F.state flash.new).work.reads ≡ (F.state flash.old).work.reads }
-        ensures media_reads { (F.state flash.new).media.reads ≤ (F.state flash.old).media.reads + 1 }
-        ensures outside { IsTrue (F.state flash.old).media.tells → OutsideStands (ring_shape self.old) (page_at (F.state flash.old)) (page_at (F.state flash.new)) }
+        ensures media_reads { (F.state flash.new).media.reads ≤ (F.state flash.old).media.reads + rings_in self.old }
+        ensures outside { IsTrue (F.state flash.old).media.tells → OutsideStands self.old (page_at (F.state flash.old)) (page_at (F.state flash.new)) }
         ensures cause { IfErr result (λ e. FlushCausedBy (F.state flash.old) e (F.state flash.new)) }
     {
         if !self.is_running() {

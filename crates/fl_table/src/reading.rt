@@ -11,21 +11,26 @@ ghost use Rattle.fl_page.specs.View.{page_of, layout_of_page, count_of, rows_of}
 ghost use Rattle.fl_schema.specs.Schema.{layout_of};
 ghost use Rattle.fl_spline.specs.Points.{IsFurther};
 ghost use Rattle.fl_table.specs.Causes.{IfFlash, IfPage, is_of_pages};
-ghost use Rattle.fl_table.specs.Reading.{last_in, keys_fault, IsRead, IsRefused, AreRead, AreRefused, last_after, rows_after, voids_after, points_after, AreNoted, pages_of};
+ghost use Rattle.fl_table.specs.Reading.{last_in, keys_fault, IsRead, IsRefused, AreRead, AreRefused, last_after, rows_after, voids_after, points_after, AreNoted, pages_of, page_bitmap, bitmap_on, WaitFor, GatherUpTo, AreGathered};
+ghost use Rattle.fl_table.specs.Bitmaps.{AreSamePlan, AreSameRing};
 
+use crate::bitmaps::note_bitmap;
 use crate::seal::note;
 use crate::{MountFault, Mounted};
+use fl_base::get_u64;
 use fl_find::LearnedIndex;
 use fl_flash::{Flash, PageBuf};
+use fl_index::Index;
 use fl_mark::{PageState, state_of};
 use fl_page::PageView;
 use fl_ring::Ring;
 use fl_schema::Schema;
 
-/// How many rows a page has, the first key of them, and the last key up to them.
+/// How many rows a page has, their bitmap, the first key of them, and the last key up to them.
 #[derive(Clone, Copy)]
 pub(crate) struct PageRows {
     rows: u32,
+    bitmap: u64,
     first: Option<u64>,
     last: Option<u64>,
 }
@@ -33,12 +38,14 @@ pub(crate) struct PageRows {
 /// The rows of a page, whose keys rise from the last one on.
 fn rows_of_view(
     view: PageView<'_, 8>,
+    bitmap: u64,
     number: u32,
     last: Option<u64>,
 ) -> Result<PageRows, MountFault>
     requires { count_of view < 65536 }
     ensures rows { IfOk result (λ page. (keys_fault number last (rows_of view.entry) ≡ None) × (page.rows ≡ count_of view.entry) × (page.last ≡ last_in last (rows_of view.entry))) }
     ensures first { IfOk result (λ page. page.first ≡ first_key (rows_of view.entry)) }
+    ensures bitmap { IfOk result (λ page. page.bitmap ≡ bitmap) }
     ensures fault { IfErr result (λ e. keys_fault number last (rows_of view.entry) ≡ Some e) }
 {
     let mut so_far = last;
@@ -57,9 +64,18 @@ fn rows_of_view(
     }
     Ok(PageRows {
         rows: view.rows() as u32,
+        bitmap,
         first: Some(view.row(0).key()),
         last: so_far,
     })
+}
+
+/// The bitmap in the header of a data page.
+fn bitmap_in(page: &[u8]) -> u64
+    requires { 24 ≤ length page.now }
+    ensures { result ≡ page_bitmap page.now }
+{
+    get_u64(page, 8)
 }
 
 /// The rows of the page with this number, by its bytes.
@@ -76,17 +92,19 @@ fn rows_in(
     ensures rows { IfOk result (λ page. (page.rows ≡ length (rows_on (layout_of schema.now) bytes.now)) × (page.rows < 65536)) }
     ensures last { IfOk result (λ page. page.last ≡ last_in last (rows_on (layout_of schema.now) bytes.now)) }
     ensures first { IfOk result (λ page. page.first ≡ first_key (rows_on (layout_of schema.now) bytes.now)) }
+    ensures bitmap { IfOk result (λ page. page.bitmap ≡ bitmap_on bytes.now) }
     ensures fault { IfErr result (λ e. IsRefused (layout_of schema.now) number bytes.now last e) }
 {
     let PageState::Committed = state_of(bytes) else {
         return Ok(PageRows {
             rows: 0,
+            bitmap: 0,
             first: None,
             last,
         });
     };
     match PageView::of(bytes, number, schema) {
-        Ok(view) => rows_of_view(view, number, last),
+        Ok(view) => rows_of_view(view, bitmap_in(bytes), number, last),
         Err(bad) => Err(MountFault::BadPage(bad)),
     }
 }
@@ -110,6 +128,7 @@ fn read_page<F: Flash>(
     ensures rows { IfOk result (λ page. IsTrue (F.state flash.old).media.tells → page.rows ≡ length (rows_on (layout_of schema.now) (page_at (F.state flash.old) at))) }
     ensures last { IfOk result (λ page. IsTrue (F.state flash.old).media.tells → page.last ≡ last_in last (rows_on (layout_of schema.now) (page_at (F.state flash.old) at))) }
     ensures first { IfOk result (λ page. IsTrue (F.state flash.old).media.tells → page.first ≡ first_key (rows_on (layout_of schema.now) (page_at (F.state flash.old) at))) }
+    ensures bitmap { IfOk result (λ page. IsTrue (F.state flash.old).media.tells → page.bitmap ≡ bitmap_on (page_at (F.state flash.old) at)) }
     ensures few { IfOk result (λ page. page.rows < 65536) }
     ensures fault { IfErr result (IfPage (λ e. IsTrue (F.state flash.old).media.tells → IsRefused (layout_of schema.now) number (page_at (F.state flash.old) at) last e)) }
     ensures fails { IfErr result (IfFlash (λ e. ReadFails (F.state flash.old) e (F.state flash.new))) }
@@ -134,13 +153,14 @@ fn add_page(index: &mut LearnedIndex<64, 64>, first: Option<u64>, number: u32)
     index.add_further(first_key, number);
 }
 
-/// Reads the kept pages of a ring, from the oldest on, notes how many rows each has, and adds those with rows to an
-/// index of no pages.
+/// Reads the kept pages of a ring, from the oldest on, notes how many rows each has, adds those with rows to an index of
+/// no pages, and notes the bitmaps that wait, from that of the page on that is to wait first.
 pub(crate) fn read_pages<F: Flash>(
     schema: &Schema<8>,
     ring: &Ring,
     counts: &mut [u16],
     index: &mut LearnedIndex<64, 64>,
+    bitmaps: &mut Option<Index>,
     flash: &mut F,
     buf: &mut PageBuf,
 ) -> Result<(Mounted, Option<u64>), MountFault>
@@ -149,6 +169,7 @@ pub(crate) fn read_pages<F: Flash>(
     requires room { length buf.old.bytes ≡ (F.state flash.old).geometry.page }
     requires none { buf.old.holds ≡ None }
     requires counts { length counts.old ≡ room (shape_of ring.now) }
+    requires bitmaps { WaitFor bitmaps.old (oldest_of ring.now) (next_of ring.now) }
     ensures reads { OnlyReads (F.state flash.old) (next_of ring.now - oldest_of ring.now) (F.state flash.new) }
     ensures room { length buf.new.bytes ≡ length buf.old.bytes }
     ensures none { buf.new.holds ≡ None }
@@ -156,6 +177,10 @@ pub(crate) fn read_pages<F: Flash>(
     ensures error { error_in index.new ≡ error_in index.old }
     ensures index { OnOk result (IsTrue (F.state flash.old).media.tells → (error : ℕ) → IndexOf error [] index.old →
         IndexOf error (points_after (layout_of schema.now) (pages_of ring.now (F.state flash.old)) (oldest_of ring.now) (next_of ring.now - oldest_of ring.now)) index.new) }
+    ensures same { AreSamePlan bitmaps.old bitmaps.new }
+    ensures still { AreSameRing bitmaps.old bitmaps.new }
+    ensures gathered { OnOk result (AreGathered bitmaps.old (next_of ring.now) bitmaps.new) }
+    ensures waits { OnOk result (IsTrue (F.state flash.old).media.tells → GatherUpTo bitmaps.old (pages_of ring.now (F.state flash.old)) (next_of ring.now) bitmaps.new) }
     ensures read { OnOk result (IsTrue (F.state flash.old).media.tells →
         AreRead (layout_of schema.now) (pages_of ring.now (F.state flash.old)) (oldest_of ring.now) (next_of ring.now - oldest_of ring.now)) }
     ensures noted { OnOk result (next_of ring.now - oldest_of ring.now ≤ length counts.old → IsTrue (F.state flash.old).media.tells →
@@ -185,6 +210,7 @@ pub(crate) fn read_pages<F: Flash>(
         let page = read_page(schema, flash, ring.place_of(number), number, last, buf)?;
         note(counts, number, page.rows);
         add_page(index, page.first, number);
+        note_bitmap(bitmaps, number, page.bitmap);
         last = page.last;
         mounted.rows += u64::from(page.rows);
         if page.rows == 0 {

@@ -11,6 +11,7 @@ const SPENT_FROM: u32 = 4_294_901_760;
 
 impl Table {
     ghost use Rattle.std.specs.Prelude.{not, length, ◌==◌};
+    ghost use Rattle.fl_table.specs.Bitmaps.{next_of as index_next};
     ghost use Rattle.fl_table.specs.Memory.{is_running};
     ghost use Rattle.fl_table.specs.Refusal.{key_refused, value_refused, spent_refused, put_refusal};
 
@@ -32,11 +33,21 @@ impl Table {
         Some(PutRefusal::Value { column })
     }
 
+    /// The number of the next index page. A table without an index answers 0.
+    fn next_index_page(&self) -> u32
+        ensures { result ≡ index_next self.now.bitmaps }
+    {
+        match &self.bitmaps {
+            Some(index) => index.next_number(),
+            None => 0,
+        }
+    }
+
     fn spent_refused(&self) -> Option<PutRefusal>
         ensures { result ≡ spent_refused self.now }
     {
-        let ring = self.ring.as_ref()?;
-        (ring.next_number() >= SPENT_FROM).then_some(PutRefusal::Spent)
+        let next = self.next_number().max(self.next_index_page());
+        (next >= SPENT_FROM).then_some(PutRefusal::Spent)
     }
 
     /// The first refusal of a record that applies, if one does.

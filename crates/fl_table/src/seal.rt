@@ -1,24 +1,28 @@
-// The seal of the pending rows.
-ghost use Rattle.std.specs.Prelude.{◌≡◌, ◌≤◌, ◌+◌, ◌-◌, ◌<◌, ◌%◌, ◌==◌, true, false, length, map, count_by, slice_index, slice_set, IsTrue, OnOk, OnErr, IfErr};
+// The seal of a table: a full list of bitmaps, and the pending rows.
+ghost use Rattle.std.specs.Prelude.{◌≡◌, ◌≤◌, ◌+◌, ◌-◌, ◌<◌, ◌%◌, ◌==◌, [], ◌∷◌, true, false, length, map, count_by, slice_index, slice_set, IsTrue, OnOk, OnErr, IfErr};
 ghost use Rattle.std.specs.List.{range_with_len};
 ghost use Rattle.fl_flash.specs.Flash.{Goes, page_at};
 ghost use Rattle.fl_ring.specs.Causes.{CausedBy};
 
+use crate::bitmaps::{make_room, note_bitmap};
 use crate::table::Table;
 use fl_flash::{Flash, FlashFault};
 
 impl Table {
     ghost use Rattle.std.specs.Prelude.{ℕ, Bool};
     ghost use Rattle.fl_model.specs.Record.{Plan};
+    ghost use Rattle.fl_model.specs.Table.{DataRing, table_seals};
     ghost use Rattle.fl_model.specs.Table as model;
     ghost use Rattle.fl_model.specs.Work.{Device};
-    ghost use Rattle.fl_ring.specs.Ring.{OutsideStands};
     ghost use Rattle.fl_ring.specs.Step.{IsWatched};
-    ghost use Rattle.fl_table.specs.Memory.{is_running, is_stopped, ring_shape, next_in, IsSamePlan, LiesOn};
+    ghost use Rattle.fl_table.specs.Memory.{is_running, is_stopped, next_in, IsSamePlan, LiesOn};
     ghost use Rattle.fl_table.specs.Standing.{Stands};
-    ghost use Rattle.fl_table.specs.Outcomes.{SealEnds};
+    ghost use Rattle.fl_table.specs.Bitmaps.{HaveRoom, bitmap_seals, next_of as index_next, rings_of};
+    ghost use Rattle.fl_table.specs.Mounting.{OutsideStands, rings_in};
+    ghost use Rattle.fl_table.specs.Outcomes.{SealsEnd};
 
-    /// Seals the pending rows as the next page. After an error the table is stopped.
+    /// Seals the table: the waiting bitmaps, where they fill an index page, and then the pending rows. After an error the
+    /// table is stopped.
     pub(crate) fn seal<F: Flash>(&mut self, flash: &mut F) -> Result<(), FlashFault>
         requires running { is_running self.old ≡ true }
         requires some { 1 ≤ self.old.writer.count }
@@ -27,13 +31,71 @@ impl Table {
         ensures same { IsSamePlan self.old self.new }
         ensures lies { LiesOn self.new (F.state flash.new) }
         ensures ends { (first : ℕ) → (plan : Plan) → (table : model.Table) → (rose : Bool) → (device : Device) → IsWatched (F.state flash.old) (F.state flash.new) rose device
-            → Stands self.old (F.state flash.old) first plan table → SealEnds first plan table rose device result self.new (F.state flash.new) }
+            → Stands self.old (F.state flash.old) first plan table → SealsEnd first plan (table_seals plan table) table rose device result self.new (F.state flash.new) }
         ensures empty { OnOk result (self.new.writer.count ≡ 0) }
         ensures running { OnOk result (is_running self.new ≡ true) }
         ensures next { OnOk result (next_in self.new ≡ next_in self.old + 1) }
+        ensures index_next { OnOk result (index_next self.new.bitmaps ≤ index_next self.old.bitmaps + 1) }
         ensures calm { OnOk result (is_stopped self.new ≡ is_stopped self.old) }
         ensures stopped { OnErr result ((is_running self.new ≡ false) × (is_stopped self.new ≡ true)) }
-        ensures outside { IsTrue (F.state flash.old).media.tells → OutsideStands (ring_shape self.old) (page_at (F.state flash.old)) (page_at (F.state flash.new)) }
+        ensures outside { IsTrue (F.state flash.old).media.tells → OutsideStands self.old (page_at (F.state flash.old)) (page_at (F.state flash.new)) }
+        ensures reads { (F.state flash.new).work.reads ≡ (F.state flash.old).work.reads }
+        ensures media_reads { (F.state flash.new).media.reads ≤ (F.state flash.old).media.reads + rings_in self.old }
+        ensures cause { IfErr result (λ e. CausedBy (F.state flash.old) e (F.state flash.new)) }
+    {
+        self.seal_bitmaps(flash)?;
+        self.seal_rows(flash)
+    }
+
+    /// Seals the waiting bitmaps where they fill an index page, so that one more has room.
+    fn seal_bitmaps<F: Flash>(&mut self, flash: &mut F) -> Result<(), FlashFault>
+        requires running { is_running self.old ≡ true }
+        requires some { 1 ≤ self.old.writer.count }
+        requires lies { LiesOn self.old (F.state flash.old) }
+        ensures goes { Goes (F.state flash.old) (F.state flash.new) }
+        ensures same { IsSamePlan self.old self.new }
+        ensures lies { LiesOn self.new (F.state flash.new) }
+        ensures ends { (first : ℕ) → (plan : Plan) → (table : model.Table) → (rose : Bool) → (device : Device) → IsWatched (F.state flash.old) (F.state flash.new) rose device
+            → Stands self.old (F.state flash.old) first plan table → SealsEnd first plan (bitmap_seals plan table) table rose device result self.new (F.state flash.new) }
+        ensures room { OnOk result (HaveRoom self.new.bitmaps) }
+        ensures some { self.new.writer.count ≡ self.old.writer.count }
+        ensures running { OnOk result (is_running self.new ≡ true) }
+        ensures next { OnOk result (next_in self.new ≡ next_in self.old) }
+        ensures index_next { OnOk result (index_next self.new.bitmaps ≤ index_next self.old.bitmaps + 1) }
+        ensures calm { OnOk result (is_stopped self.new ≡ is_stopped self.old) }
+        ensures stopped { OnErr result ((is_running self.new ≡ false) × (is_stopped self.new ≡ true)) }
+        ensures outside { IsTrue (F.state flash.old).media.tells → OutsideStands self.old (page_at (F.state flash.old)) (page_at (F.state flash.new)) }
+        ensures reads { (F.state flash.new).work.reads ≡ (F.state flash.old).work.reads }
+        ensures media_reads { (F.state flash.new).media.reads ≤ (F.state flash.old).media.reads + rings_of self.old.bitmaps }
+        ensures power { OnOk result ((F.state flash.old).is_on ≡ true → (F.state flash.new).is_on ≡ true) }
+        ensures cause { IfErr result (λ e. CausedBy (F.state flash.old) e (F.state flash.new)) }
+    {
+        if let Err(fault) = make_room(&mut self.bitmaps, flash) {
+            self.ring = None;
+            self.stopped = true;
+            return Err(fault);
+        }
+        Ok(())
+    }
+
+    /// Seals the pending rows as the next page, whose bitmap waits for the index then.
+    fn seal_rows<F: Flash>(&mut self, flash: &mut F) -> Result<(), FlashFault>
+        requires running { is_running self.old ≡ true }
+        requires some { 1 ≤ self.old.writer.count }
+        requires bitmaps { HaveRoom self.old.bitmaps }
+        requires lies { LiesOn self.old (F.state flash.old) }
+        ensures goes { Goes (F.state flash.old) (F.state flash.new) }
+        ensures same { IsSamePlan self.old self.new }
+        ensures lies { LiesOn self.new (F.state flash.new) }
+        ensures ends { (first : ℕ) → (plan : Plan) → (table : model.Table) → (rose : Bool) → (device : Device) → IsWatched (F.state flash.old) (F.state flash.new) rose device
+            → Stands self.old (F.state flash.old) first plan table → SealsEnd first plan (DataRing ∷ []) table rose device result self.new (F.state flash.new) }
+        ensures empty { OnOk result (self.new.writer.count ≡ 0) }
+        ensures running { OnOk result (is_running self.new ≡ true) }
+        ensures next { OnOk result (next_in self.new ≡ next_in self.old + 1) }
+        ensures index_next { OnOk result (index_next self.new.bitmaps ≡ index_next self.old.bitmaps) }
+        ensures calm { OnOk result (is_stopped self.new ≡ is_stopped self.old) }
+        ensures stopped { OnErr result ((is_running self.new ≡ false) × (is_stopped self.new ≡ true)) }
+        ensures outside { IsTrue (F.state flash.old).media.tells → OutsideStands self.old (page_at (F.state flash.old)) (page_at (F.state flash.new)) }
         ensures reads { (F.state flash.new).work.reads ≡ (F.state flash.old).work.reads }
         ensures media_reads { (F.state flash.new).media.reads ≤ (F.state flash.old).media.reads + 1 }
         ensures cause { IfErr result (λ e. CausedBy (F.state flash.old) e (F.state flash.new)) }
@@ -54,6 +116,7 @@ impl Table {
         note(&mut self.counts, number, self.writer.count());
         self.index.add_further(first_key, number);
         self.writer.clear();
+        note_bitmap(&mut self.bitmaps, number, self.bitmap);
         self.bitmap = 0;
         self.ring = Some(ring);
         Ok(())

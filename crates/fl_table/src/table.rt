@@ -1,5 +1,5 @@
 // A table: its records in the pages of a ring, and those that wait in memory for their page.
-ghost use Rattle.std.specs.Prelude.{◌≡◌, ◌+◌, ◌*◌, ◌<◌, ◌≤◌, ◌-◌, false, length, drop, replicate, vec_len};
+ghost use Rattle.std.specs.Prelude.{◌≡◌, ◌+◌, ◌*◌, ◌<◌, ◌≤◌, ◌-◌, true, false, is_some, length, drop, replicate, vec_len};
 ghost use Rattle.std.specs.Option.{ForSome};
 ghost use Rattle.fl_flash.specs.Places.{IsGeometry};
 ghost use Rattle.fl_model.specs.Record.{layout_len};
@@ -7,10 +7,12 @@ ghost use Rattle.fl_model.specs.Table.{spent_from};
 ghost use Rattle.fl_schema.specs.Schema.{layout_of, types_of};
 ghost use Rattle.fl_ring.specs.Mounting.{shape_at};
 ghost use Rattle.fl_ring.specs.Place.{next_of, shape_of};
+ghost use Rattle.fl_table.specs.Bitmaps.{AreRunning, EndAt, next_after};
 
 use fl_base::{Geometry, RingPlace};
 use fl_bitmap::Buckets;
 use fl_find::LearnedIndex;
+use fl_index::Index;
 use fl_page::PageWriter;
 use fl_ring::Ring;
 use fl_schema::Schema;
@@ -38,6 +40,8 @@ pub struct Table {
     pub(crate) voids: u32,
     /// Where the pages of keys are.
     pub(crate) index: LearnedIndex<64, 64>,
+    /// The bitmaps of sealed pages, where there is an index of them.
+    pub(crate) bitmaps: Option<Index>,
     ghost served: { IsGeometry geometry },
     ghost some_blocks: { 3 ≤ place.blocks },
     ghost few_blocks: { place.blocks ≤ 16384 },
@@ -53,4 +57,8 @@ pub struct Table {
     ghost counted: { vec_len counts ≡ place.blocks * geometry.block },
     ghost lies: { ForSome ring (λ r. shape_of r ≡ shape_at place geometry) },
     ghost left: { ForSome ring (λ r. 1 ≤ writer.count → next_of r ≤ spent_from) },
+    ghost few_pages: { ForSome bitmaps (λ index. place.blocks * geometry.block + 6 ≤ 65536) },
+    ghost running: { is_some ring ≡ true → AreRunning bitmaps },
+    ghost follow: { ForSome ring (λ r. EndAt bitmaps (next_of r)) },
+    ghost pages_left: { 1 ≤ writer.count → next_after bitmaps ≤ spent_from + 1 },
 }

@@ -1,11 +1,15 @@
 //! `flashts run IMAGE`: runs the script on standard input over the image, and writes its replies on standard output.
 #![tactic(auto)]
 
+ghost use Rattle.std.specs.Prelude.{◌≡◌, OnOk, OnErr};
+
 mod told;
 
-use fl_edge::{FileMedia, StandardInput, StandardOutput};
+use fl_base::SinkFailed;
+use fl_edge::{FileMedia, ReplyBuffer, StandardInput, StandardOutput};
 use fl_session::{Status, image_of, run};
 use std::alloc::Global;
+use std::cell::RefCell;
 use std::env::Env;
 use std::io;
 use std::os::unix::fs::FileExt;
@@ -40,8 +44,24 @@ where
     let Some(image) = image_of(words) else {
         return Status::Usage;
     };
+    let Ok(replies) = ReplyBuffer::new(rt.alloc(), io::writer(rt)) else {
+        return Status::NoMemory;
+    };
+    let replies = RefCell::new(replies);
     let mut media = FileMedia::open(rt, image);
-    let mut script = StandardInput::new(rt.reader());
-    let mut replies = StandardOutput::new(io::writer(rt));
-    run(rt.alloc(), words, &mut media, &mut script, &mut replies)
+    let mut script = StandardInput::new(rt.reader(), &replies);
+    let mut out = StandardOutput::new(&replies);
+    let status = run(rt.alloc(), words, &mut media, &mut script, &mut out);
+    status_behind(status, out.hand_out())
+}
+
+/// The status of a run whose last replies were handed out, or couldn't be.
+fn status_behind(status: Status, handed: Result<(), SinkFailed>) -> Status
+    ensures handed { OnOk handed (result ≡ status) }
+    ensures failed { OnErr handed (result ≡ Status.OutWrite) }
+{
+    match handed {
+        Ok(()) => status,
+        Err(_) => Status::OutWrite,
+    }
 }

@@ -13,3 +13,6 @@ pub mod Placed
 pub mod Mountings
 pub mod Stored
 pub mod Found
+pub mod Contents
+pub mod Grown
+pub mod Held

@@ -14,7 +14,7 @@ use Rattle.fl_model.specs.Table.{Table, RingName, VarRing, after_seals, place_se
 use Rattle.fl_model.specs.Work.{Device}
 use Rattle.fl_ring.specs.Step.{IsWatched}
 use Rattle.fl_var.specs.Memory.{next_in, waiting_in, room_in, IsSamePlan}
-use Rattle.fl_var.specs.Placing.{Seals, SealsPage, SealEnds, Breaks, EndsWith, Places, PlaceEnds, SealsWhere, RestEnds, where_placed, is_full_in, room_seals, pages_filled}
+use Rattle.fl_var.specs.Placing.{Seals, SealsPage, SealEnds, Breaks, EndsWith, Places, PlaceEnds, SealsWhere, RestEnds, where_placed, is_full_in, room_seals, pages_filled, pages_placed}
 use Rattle.fl_var.specs.Standing.{Stands, HasRing}
 use Rattle.fl_var.specs.declared.var_data.VarData.{VarData}
 use Rattle.fl_var.proofs.Joins.{seals-none, seals-join, breaks-join, breaks-front, watched-first, watched-then}
@@ -160,3 +160,9 @@ pub rest-some : (plan : Plan) (table : Table) (rose : Bool) (device : Device) (o
     SealEnds plan table rose device old old_f result v new → RestEnds plan table rose device old old_f result v new
 rest-some plan table rose device old old_f result v new some stands ends =
     subst (λ (b : Bool). SealsWhere b plan table rose device old old_f result v new) (sym (ne_eqb table.fill 0 (λ e. omega (arith, e, stands.fill, some)))) ends
+
+-- some page is sealed for a blob of some bytes
+pub placed-filled : (v : VarData) (len : ℕ) → 1 ≤ len → is_full_in v ≡ false → pages_placed v len ≡ pages_filled v len
+placed-filled v len some not_full =
+    ap (λ (b : Bool). cond b 0 (cond (is_full_in v) (1 + (len - 1) / room_in v) (pages_filled v len))) (ne_eqb len 0 (λ e. omega (arith, e, some)))
+    ∙ ap (λ (b : Bool). cond b (1 + (len - 1) / room_in v) (pages_filled v len)) not_full

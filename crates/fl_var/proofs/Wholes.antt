@@ -1,6 +1,7 @@
 -- Bytes that stand whole on pages one after another.
 use Rattle.std.proofs.Common.{◌≡◌, ℕ, zero, suc, ◌+◌, ◌-◌, ◌*◌, ◌/◌, ◌<◌, ◌≤◌, Bool, true, false, cond, ◌==◌, List, Result, Err, refl, sym, ◌∙◌, ap, subst, arith, inl, inr, ◌⊎◌}
-use Rattle.std.proofs.Math.Nat.{add-div_left, mul-le-mul_right}
+use Rattle.std.proofs.Math.Nat.{add-div_left, mod-lt, div-lt_iff_lt-mul}
+use Rattle.std.proofs.lemmas.Nat.{div-add-mod'}
 use Rattle.std.proofs.lemmas.Bool.{cases_lt, eqb-true}
 use Rattle.fl_flash.specs.Flash.{FlashState}
 use Rattle.fl_model.specs.Layout.{committed}
@@ -108,3 +109,19 @@ none-bad-any (fault.BadPage b) h = h
 -- a fault leaves the bytes
 pub steps-err : (result : Result Bool ReadFault) (e : ReadFault) (before chunk after : List ℕ) → result ≡ Err e → after ≡ before → Steps result before chunk after
 steps-err result e before chunk after is same = subst (λ (x : Result Bool ReadFault). Steps x before chunk after) (sym is) same
+
+-- bytes from inside a page on reach into few others
+pub pages-few : (left from room : ℕ) → from < room → (if left == 0 then 0 else (from + left - 1) / room) ≤ left / room + 1
+pages-few left from room inside = by_test (left == 0)
+  where
+    wide : 0 < room
+    wide = omega (arith, inside)
+
+    less : (from + left - 1) / room < left / room + 2
+    less =
+        let more : (left / room + 2) * room ≡ left / room * room + 2 * room = omega arith in
+        (div-lt_iff_lt-mul wide).1 (omega (arith, more, div-add-mod' left room, mod-lt left wide, inside))
+
+    by_test : (b : Bool) → cond b 0 ((from + left - 1) / room) ≤ left / room + 1
+    by_test true = omega arith
+    by_test false = omega (arith, less)

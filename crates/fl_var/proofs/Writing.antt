@@ -6,7 +6,7 @@ use Rattle.std.specs.Prelude.{option_map, is_some, IfErr}
 use Rattle.std.specs.Option.{ForSome}
 use Rattle.fl_base.specs.declared.types.Geometry.{Geometry}
 use Rattle.fl_base.specs.declared.types.RingPlace.{RingPlace}
-use Rattle.fl_flash.specs.Flash.{FlashState, Goes, page_at}
+use Rattle.fl_flash.specs.Flash.{FlashState, Goes, OffChangesNothing, page_at}
 use Rattle.fl_flash.specs.declared.flash.FlashFault.{FlashFault}
 use Rattle.fl_flash.specs.declared.flash.FlashFault.TheVariants.{PowerLost, Media}
 use Rattle.fl_model.specs.Record.{Plan}
@@ -44,6 +44,7 @@ pub record Writes (first : VarData) (first_f : FlashState) (len done : ℕ) (v :
   pub media_reads : f.media.reads ≤ first_f.media.reads + (next_in v - next_in first)
   pub quiet : next_in v ≡ next_in first → f ≡ first_f
   pub power : (f ≡ first_f) ⊎ (f.is_on ≡ true)
+  pub off : first_f.is_on ≡ false → next_in v ≡ next_in first
   pub seals : (plan : Plan) (table : Table) (rose : Bool) (device : Device) → IsWatched first_f f rose device → HasRing first first_f plan table → Seals plan (replicate (next_in v - next_in first) VarRing) table rose device first first_f v f
 
 -- a ring with another buffer lies where it lay
@@ -105,6 +106,7 @@ module _ (v w : VarData) (f : FlashState) (len n : ℕ) (ring : w.ring ≡ v.rin
         media_reads = omega arith;
         quiet = λ e. refl;
         power = inl refl;
+        off = λ down. next;
         seals = λ plan table rose device watched has.
             let none : next_in w - next_in v ≡ 0 = omega (arith, next) in
             subst (λ k. Seals plan (replicate k VarRing) table rose device v f w f) (sym none) (seals-none plan table rose device v w f ring same has watched);
@@ -115,7 +117,7 @@ module _ (first v mid w : VarData) (first_f f g : FlashState) (len done n : ℕ)
     (goes : Goes f g) (same : IsSamePlan v mid) (lies : LiesOn mid g) (mounted : is_mounted mid ≡ true) (next : next_in mid ≡ next_in v + 1) (empty : waiting_in mid ≡ [])
     (ends : (plan : Plan) (table : Table) (rose : Bool) (device : Device) → IsWatched f g rose device → HasRing v f plan table → SealsPage plan table rose device v f mid g)
     (outside : IsTrue f.media.tells → OutsideStands (var_shape v) (page_at f) (page_at g)) (reads : g.work.reads ≡ f.work.reads) (media_reads : g.media.reads ≤ f.media.reads + 1)
-    (ring : w.ring ≡ mid.ring) (refilled : IsSamePlan mid w) (power : g.is_on ≡ true) (some_len : ℕ) (len_is : some_len ≡ len - done) (counted : n ≡ min some_len (length mid.waiting.body - (8 + mid.waiting.fill))) (filled : w.waiting.fill ≡ mid.waiting.fill + n) where
+    (ring : w.ring ≡ mid.ring) (refilled : IsSamePlan mid w) (power : g.is_on ≡ true) (sealed_on : f.is_on ≡ false → ⊥) (some_len : ℕ) (len_is : some_len ≡ len - done) (counted : n ≡ min some_len (length mid.waiting.body - (8 + mid.waiting.fill))) (filled : w.waiting.fill ≡ mid.waiting.fill + n) where
   count_there : n ≡ min (len - done) (room_in mid - length (waiting_in mid))
   count_there = counted ∙ (ap (λ k. min k (length mid.waiting.body - (8 + mid.waiting.fill))) len_is ∙ ap (min (len - done)) (omega (arith, mid.page, waiting-length mid)))
 
@@ -148,6 +150,7 @@ module _ (first v mid w : VarData) (first_f f g : FlashState) (len done n : ℕ)
         media_reads = omega (arith, media_reads, is.media_reads, pages);
         quiet = λ e. absurd (omega (arith, e, at, is.later));
         power = inr power;
+        off = λ down. absurd (sealed_on (ap (λ (x : FlashState). x.is_on) (is.quiet (is.off down)) ∙ down));
         seals = λ plan table rose device watched has.
             let a = is.seals plan table rose device (watched-first first_f f g rose device watched goes) has in
             let b = ends plan (after_seals plan (replicate (next_in v - next_in first) VarRing) table) rose a.now.device (watched-then first_f f g rose device a.now.device watched is.goes a.power a.counts) a.has in
@@ -222,3 +225,26 @@ seal-power r next due body old new u (inr (inr b)) = absurd (not_err b.fails)
   where
     not_err : IsErr {T = Unit {0}} {E = FlashFault} (Ok u) → ⊥
     not_err e = cc
+
+-- nothing is sealed where the power is off
+pub ok-on : (f g : FlashState) (u : Unit {0}) → OffChangesNothing f (Ok u) g → f.is_on ≡ false → ⊥
+ok-on f g u off down = no (off down).0
+  where
+    no : ◌≡◌ {A = Result (Unit {0}) FlashFault} (Ok u) (Err PowerLost) → ⊥
+    no e = cc
+
+pub off-err : {T U : Type 0} (f g : FlashState) (x : Result T FlashFault) (y : Result U FlashFault) (e : FlashFault) → x ≡ Err e → y ≡ Err e → OffChangesNothing f x g → OffChangesNothing f y g
+off-err {T} {U} f g x y e x_is y_is off = λ down. let h = off down in (y_is ∙ ap (λ k. Err k) (same e (sym x_is ∙ h.0)), h.1)
+  where
+    same : (k : FlashFault) → ◌≡◌ {A = Result T FlashFault} (Err k) (Err PowerLost) → k ≡ PowerLost
+    same k q = cc
+
+-- a later seal failed
+pub writes-off : (first v : VarData) (first_f f g : FlashState) (len done : ℕ) (e : FlashFault) (result : Result (Unit {0}) FlashFault) → Writes first first_f len done v f → OffChangesNothing {T = Unit {0}} f (Err e) g → result ≡ Err e → OffChangesNothing first_f result g
+writes-off first v first_f f g len done e result is off result_is = λ down.
+    let same : f ≡ first_f = is.quiet (is.off down) in
+    off-err first_f g (Err e) result e refl result_is (subst (λ (x : FlashState). OffChangesNothing {T = Unit {0}} x (Err e) g) same off) down
+
+-- all was written, some of it in pages
+pub wrote-on : (first v : VarData) (first_f f : FlashState) (len done : ℕ) (is : Writes first first_f len done v f) → len ≤ done → 1 ≤ pages_filled first len → first_f.is_on ≡ false → ⊥
+wrote-on first v first_f f len done is all some down = omega (arith, writes-pages first v first_f f len done is all, is.off down, some)

@@ -7,11 +7,11 @@ ghost use Rattle.fl_ring.specs.Mounting.{search_reads, FailsAs};
 ghost use Rattle.fl_ring.specs.Repairing.{Beside};
 
 use crate::var_data::VarData;
-use fl_flash::{Flash, PageBuf};
+use fl_flash::{Flash, FlashFault, PageBuf};
 use fl_ring::{Ring, RingFault};
 
 impl VarData {
-    ghost use Rattle.std.specs.Prelude.{ℕ, Bool};
+    ghost use Rattle.std.specs.Prelude.{ℕ, Bool, Err};
     ghost use Rattle.fl_model.specs.Mount.{blob_end};
     ghost use Rattle.fl_model.specs.Record.{Plan};
     ghost use Rattle.fl_model.specs.Table as model;
@@ -43,6 +43,7 @@ impl VarData {
         ensures fault { IfErr result (λ e. FoundFault (F.state flash.old) (var_shape self.old) at_least e) }
         ensures fails { IfErr result (λ e. FailsAs (F.state flash.old) (var_shape self.old) at_least e (F.state flash.new)) }
         ensures beside { Beside (var_shape self.old) (search_reads (var_shape self.old) + (F.state flash.old).geometry.block) 1 1 (F.state flash.old) (F.state flash.new) }
+        ensures off { (F.state flash.old).is_on ≡ false → (result ≡ Err (RingFault.Flash FlashFault.PowerLost)) × (F.state flash.new ≡ F.state flash.old) }
         ensures cause { IfErr result (λ e. IfFlash (λ fault. CausedBy (F.state flash.old) fault (F.state flash.new)) e) }
     {
         self.ring = None;

@@ -1,5 +1,6 @@
 // A blob is opened for reading.
 ghost use Rattle.std.specs.Prelude.{◌≡◌, ◌+◌, ◌≤◌, ◌<◌, true, Some, length, IsTrue, IfOk, IfErr, IfSome};
+ghost use Rattle.fl_page.specs.Contents as contents;
 ghost use Rattle.fl_ring.specs.Looking.{OnlyReads};
 
 use crate::reader::BlobReader;
@@ -9,7 +10,7 @@ use fl_flash::{Flash, PageBuf};
 use fl_page::{BadPage, ReadFault};
 
 impl VarData {
-    ghost use Rattle.std.specs.Prelude.{ℕ, List, None};
+    ghost use Rattle.std.specs.Prelude.{ℕ, List, None, ◌/◌};
     ghost use Rattle.fl_model.specs.Table as model;
     ghost use Rattle.fl_model.specs.Table.{Entry};
     ghost use Rattle.fl_model.specs.Record.{Plan};
@@ -18,7 +19,7 @@ impl VarData {
     ghost use Rattle.fl_var.specs.Blobs.{IsGone, IsBadFirst};
     ghost use Rattle.fl_var.specs.Memory.{is_mounted, LiesOn, next_in, room_in, present, image_in, page_in};
     ghost use Rattle.fl_var.specs.Placing.{HoldsBytes};
-    ghost use Rattle.fl_var.specs.Reading.{data_of, buffer_of, count_left, Opens, Finds, IfUnread, IfBad};
+    ghost use Rattle.fl_var.specs.Reading.{data_of, buffer_of, count_left, pages_left, Opens, Finds, IfUnread, IfBad};
     ghost use Rattle.fl_var.specs.Standing.{Stands};
     ghost use Rattle.fl_page.specs.Header.{page_count};
 
@@ -34,6 +35,7 @@ impl VarData {
         requires room { length buf.old.bytes ≡ self.now.geometry.page }
         requires some { 1 ≤ at.length }
         ensures reads { OnlyReads (F.state flash.old) 1 (F.state flash.new) }
+        ensures counts { contents.OnlyReads (F.state flash.old) (F.state flash.new) }
         ensures lies { LiesOn self.now (F.state flash.new) }
         ensures room { length buf.new.bytes ≡ length buf.old.bytes }
         ensures gone { IsTrue (F.state flash.old).media.tells → IfOk result (λ used. used ≡ None → IsGone self.now (F.state flash.old) at) }
@@ -74,9 +76,11 @@ impl VarData {
         requires lies { LiesOn self.now (F.state flash.old) }
         requires room { length buf.now.bytes ≡ self.now.geometry.page }
         ensures reads { OnlyReads (F.state flash.old) 1 (F.state flash.new) }
+        ensures counts { contents.OnlyReads (F.state flash.old) (F.state flash.new) }
         ensures lies { LiesOn self.now (F.state flash.new) }
         ensures data { IfOk result (λ reader. IfSome reader (λ r. (data_of r ≡ self.now) × (count_left r ≡ at.length))) }
         ensures buffer { IfOk result (λ reader. IfSome reader (λ r. buffer_of r ≡ buf.entry.ghost_name)) }
+        ensures few { IfOk result (λ reader. IfSome reader (λ r. pages_left r ≤ at.length / room_in self.now + 1)) }
         ensures opens { IsTrue (F.state flash.old).media.tells → Opens self.now (F.state flash.old) at result }
         ensures finds { (plan : Plan) (table : model.Table) (entry : Entry) (bytes : List ℕ) → IsTrue (F.state flash.old).media.tells → Stands self.now (F.state flash.old) plan table
             → entry.kept.blob ≡ Some bytes → at ≡ record { page = entry.page; offset = entry.offset; length = length bytes }

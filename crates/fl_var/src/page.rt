@@ -4,6 +4,7 @@ ghost use Rattle.fl_mark.specs.Mark.{state_of_page};
 ghost use Rattle.fl_mark.specs.declared.page_state.PageState.TheVariants.{Committed};
 ghost use Rattle.fl_page.specs.Header.{page_number, page_count};
 ghost use Rattle.fl_page.specs.Page.{bad_page};
+ghost use Rattle.fl_page.specs.Contents as contents;
 ghost use Rattle.fl_ring.specs.Looking.{OnlyReads};
 ghost use Rattle.fl_var.specs.Blobs.{end_fault};
 ghost use Rattle.fl_var.specs.Content.{HasContent};
@@ -71,6 +72,7 @@ impl VarData {
         requires room { length buf.old.bytes ≡ self.now.geometry.page }
         requires within { number ≤ next_in self.now }
         ensures reads { OnlyReads (F.state flash.old) 1 (F.state flash.new) }
+        ensures counts { contents.OnlyReads (F.state flash.old) (F.state flash.new) }
         ensures lies { LiesOn self.now (F.state flash.new) }
         ensures room { length buf.new.bytes ≡ length buf.old.bytes }
         ensures good { IsTrue (F.state flash.old).media.tells → IfOk result (λ used. IfSome used (λ n. HasContent number (image_in self.now (F.state flash.old) number) × (n ≡ page_count (image_in self.now (F.state flash.old) number)))) }

@@ -1,6 +1,6 @@
 // Blobs are placed in the buffer, which is sealed page by page.
 ghost use Rattle.std.specs.Prelude.{◌≡◌, ◌+◌, ◌-◌, ◌<◌, ◌≤◌, true, false, length, is_ok, IsTrue, IfOk, IfErr, OnOk};
-ghost use Rattle.fl_flash.specs.Flash.{Goes, page_at};
+ghost use Rattle.fl_flash.specs.Flash.{Goes, OffChangesNothing, page_at};
 ghost use Rattle.fl_ring.specs.Causes.{CausedBy};
 
 use crate::var_data::VarData;
@@ -38,6 +38,7 @@ impl VarData {
         ensures outside { IsTrue (F.state flash.old).media.tells → OutsideStands (var_shape self.old) (page_at (F.state flash.old)) (page_at (F.state flash.new)) }
         ensures reads { (F.state flash.new).work.reads ≡ (F.state flash.old).work.reads }
         ensures media_reads { (F.state flash.new).media.reads ≤ (F.state flash.old).media.reads + 1 }
+        ensures off { OffChangesNothing (F.state flash.old) result (F.state flash.new) }
         ensures cause { IfErr result (λ e. CausedBy (F.state flash.old) e (F.state flash.new)) }
     {
         let Some(mut ring) = self.ring.take() else {
@@ -70,6 +71,7 @@ impl VarData {
         ensures outside { IsTrue (F.state flash.old).media.tells → OutsideStands (var_shape self.old) (page_at (F.state flash.old)) (page_at (F.state flash.new)) }
         ensures reads { (F.state flash.new).work.reads ≡ (F.state flash.old).work.reads }
         ensures media_reads { (F.state flash.new).media.reads ≤ (F.state flash.old).media.reads + 1 }
+        ensures off { is_full_in self.old ≡ true → OffChangesNothing (F.state flash.old) result (F.state flash.new) }
         ensures cause { IfErr result (λ e. CausedBy (F.state flash.old) e (F.state flash.new)) }
     {
         if !self.waiting.is_full() {
@@ -100,6 +102,7 @@ impl VarData {
         ensures outside { IsTrue (F.state flash.old).media.tells → OutsideStands (var_shape self.old) (page_at (F.state flash.old)) (page_at (F.state flash.new)) }
         ensures reads { (F.state flash.new).work.reads ≡ (F.state flash.old).work.reads }
         ensures media_reads { (F.state flash.new).media.reads ≤ (F.state flash.old).media.reads + pages_filled self.old (length bytes.now) }
+        ensures off { 1 ≤ pages_filled self.old (length bytes.now) → OffChangesNothing (F.state flash.old) result (F.state flash.new) }
         ensures cause { IfErr result (λ e. CausedBy (F.state flash.old) e (F.state flash.new)) }
     {
         let mut done = self.waiting.put(bytes);
@@ -124,13 +127,14 @@ impl VarData {
         ensures reference { IfOk result (λ at. at ≡ reference_in self.old (length bytes.now)) }
         ensures ends { (plan : Plan) → (table : model.Table) → (rose : Bool) → (device : Device) → IsWatched (F.state flash.old) (F.state flash.new) rose device
             → Stands self.old (F.state flash.old) plan table → PlaceEnds plan (length bytes.now) table rose device self.old (F.state flash.old) result self.new (F.state flash.new) }
-        ensures quiet { length (waiting_in self.old) + length bytes.now ≤ room_in self.old → IfOk result (λ at. F.state flash.new ≡ F.state flash.old) }
+        ensures quiet { length (waiting_in self.old) + length bytes.now ≤ room_in self.old → (result ≡ Ok (reference_in self.old (length bytes.now))) × (F.state flash.new ≡ F.state flash.old) }
         ensures waits { IfOk result (λ at. length (waiting_in self.old) + length bytes.now ≤ room_in self.old → waiting_in self.new ≡ waiting_in self.old ++ bytes.now) }
         ensures next { OnOk result (next_in self.new ≡ next_in self.old + pages_placed self.old (length bytes.now)) }
         ensures media_reads { (F.state flash.new).media.reads ≤ (F.state flash.old).media.reads + pages_placed self.old (length bytes.now) }
         ensures holds { IfOk result (λ at. Holds bytes.now self.old (F.state flash.old) at self.new (F.state flash.new)) }
         ensures outside { IsTrue (F.state flash.old).media.tells → OutsideStands (var_shape self.old) (page_at (F.state flash.old)) (page_at (F.state flash.new)) }
         ensures reads { (F.state flash.new).work.reads ≡ (F.state flash.old).work.reads }
+        ensures off { 1 ≤ pages_placed self.old (length bytes.now) → OffChangesNothing (F.state flash.old) result (F.state flash.new) }
         ensures cause { IfErr result (λ e. CausedBy (F.state flash.old) e (F.state flash.new)) }
     {
         if bytes.is_empty() {
@@ -167,6 +171,7 @@ impl VarData {
         ensures outside { IsTrue (F.state flash.old).media.tells → OutsideStands (var_shape self.old) (page_at (F.state flash.old)) (page_at (F.state flash.new)) }
         ensures reads { (F.state flash.new).work.reads ≡ (F.state flash.old).work.reads }
         ensures media_reads { (F.state flash.new).media.reads ≤ (F.state flash.old).media.reads + 1 }
+        ensures off { 1 ≤ length (waiting_in self.old) → OffChangesNothing (F.state flash.old) result (F.state flash.new) }
         ensures cause { IfErr result (λ e. CausedBy (F.state flash.old) e (F.state flash.new)) }
     {
         if self.waiting.content().is_empty() {

@@ -34,6 +34,7 @@ pub struct BlobReader<'s, 'b> {
 impl<'s, 'b> BlobReader<'s, 'b> {
     ghost use Rattle.std.specs.Prelude.{nat_lt, ◌++◌, IsTrue, IfOk, IfErr, OnOk};
     ghost use Rattle.fl_flash.specs.Flash.{FlashState};
+    ghost use Rattle.fl_page.specs.Contents as contents;
     ghost use Rattle.fl_ring.specs.Looking.{OnlyReads};
     ghost use Rattle.fl_var.specs.Blobs.{IsBadLater};
     ghost use Rattle.fl_var.specs.Memory.{LiesOn};
@@ -45,6 +46,7 @@ impl<'s, 'b> BlobReader<'s, 'b> {
         requires left { 1 ≤ count_left self.old }
         requires empty { self.old.begin ≡ self.old.end }
         ensures reads { OnlyReads (F.state flash.old) 1 (F.state flash.new) }
+        ensures counts { contents.OnlyReads (F.state flash.old) (F.state flash.new) }
         ensures data { data_of self.new ≡ data_of self.old }
         ensures buffer { buffer_of self.new ≡ buffer_of self.old }
         ensures lies { LiesOn (data_of self.new) (F.state flash.new) }
@@ -86,6 +88,7 @@ impl<'s, 'b> BlobReader<'s, 'b> {
         ensures ready { (f : FlashState) → Reads self.old f → Reads self.new f }
         ensures bytes { (f : FlashState) → Reads self.old f → bytes_left self.old f ≡ chunk_of self.new ++ bytes_left self.new f }
         ensures some { 1 ≤ length (chunk_of self.new) }
+        ensures chunk { count_left self.old ≡ length (chunk_of self.new) + count_left self.new }
         ensures whole { (f : FlashState) → IsWholeIn self.old f → IsWholeIn self.new f }
         ensures few { pages_left self.new ≤ pages_left self.old }
     {
@@ -96,15 +99,18 @@ impl<'s, 'b> BlobReader<'s, 'b> {
     }
 
     /// Takes the next chunk from the front of the bytes left. True where there is one, and false where no byte is left.
-    /// After a fault the bytes left are as they were.
+    /// After a fault the bytes left are as they were. Over any bytes each true leaves fewer bytes, by its chunk.
     pub fn step<F: Flash>(&mut self, flash: &mut F) -> Result<bool, ReadFault>
         requires lies { LiesOn (data_of self.old) (F.state flash.old) }
         ensures reads { OnlyReads (F.state flash.old) 1 (F.state flash.new) }
+        ensures counts { contents.OnlyReads (F.state flash.old) (F.state flash.new) }
         ensures data { data_of self.new ≡ data_of self.old }
         ensures buffer { buffer_of self.new ≡ buffer_of self.old }
         ensures lies { LiesOn (data_of self.new) (F.state flash.new) }
         ensures ready { Reads self.old (F.state flash.old) → Reads self.new (F.state flash.new) }
         ensures more { IfOk result (λ more. more ≡ nat_lt 0 (count_left self.old)) }
+        ensures some { IfOk result (λ more. more ≡ true → 1 ≤ length (chunk_of self.new)) }
+        ensures chunk { count_left self.old ≡ length (chunk_of self.new) + count_left self.new }
         ensures steps { Reads self.old (F.state flash.old) → Steps result (bytes_left self.old (F.state flash.old)) (chunk_of self.new) (bytes_left self.new (F.state flash.new)) }
         ensures whole { Reads self.old (F.state flash.old) → IsWholeIn self.old (F.state flash.old) → NoneBad result × IsWholeIn self.new (F.state flash.new) }
         ensures few { Reads self.old (F.state flash.old) → IsWholeIn self.old (F.state flash.old) → OnOk result ((F.state flash.new).work.reads + pages_left self.new ≤ (F.state flash.old).work.reads + pages_left self.old) }
@@ -120,6 +126,11 @@ impl<'s, 'b> BlobReader<'s, 'b> {
         self.take();
         Ok(true)
     }
+
+    /// Gives the buffer back.
+    pub fn close(self)
+        ensures size { length self.exit.1.0.now.bytes ≡ length self.entry.buf.now.bytes }
+    {}
 
     /// The bytes that the last step gave: none where it answered false or failed.
     pub fn chunk(&self) -> &[u8]

@@ -1,4 +1,8 @@
+use Rattle.std.proofs.Common.{◌≡◌, List, ℕ, ap, subst, ◌∙◌}
+use Rattle.fl_flash.specs.Flash.{page_at}
+use Rattle.fl_schema.specs.Schema.{layout_of}
 use Rattle.fl_ring.proofs.Exists.{lies_exists}
+use Rattle.fl_find.specs.Looking.{IsSound}
 use Rattle.fl_find.proofs.Looks.{looks-read, fresh-read}
 use Rattle.fl_find.proofs.first.read_first.Goals as goal
 
@@ -22,3 +26,8 @@ returns-in-Ok-clause-fresh g c = fresh-read _ _ _ _ _ _ c.read.ensures
 
 pub returns-in-Err-first_in-clause-fresh : goal.returns-in-Err-first_in-clause-fresh
 returns-in-Err-first_in-clause-fresh g c = fresh-read _ _ _ _ _ _ c.read.ensures
+
+pub returns-in-Ok-clause-sound : goal.returns-in-Ok-clause-sound
+returns-in-Ok-clause-sound g c = λ told.
+    let got : c.read.new.into.bytes ≡ page_at (g.F.Flash.state c.args.flash.now) c.place_of.result = rw c.in_default.is at c.read.ensures.bytes told in
+    subst (λ (page : List ℕ). IsSound (layout_of c.args.schema.now) c.args.number page) (c.bytes.ensures ∙ (got ∙ ap (page_at (g.F.Flash.state c.args.flash.now)) c.place_of.ensures.place)) c.in-Ok.ensures.sound

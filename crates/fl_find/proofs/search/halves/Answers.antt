@@ -36,7 +36,7 @@ pub returns-clause-page : goal.returns-clause-page
 returns-clause-page g c = λ told up.
     IfOk-weaker c.bisect.result _ _
     (λ page h. page-moved (first_on (layout_of c.args.schema.now) (shape_of c.args.ring.now) (g.F.Flash.state c.args.flash.now)) (oldest_of c.args.ring.now) c.oldest.result (next_of c.args.ring.now) c.next_number.result c.args.key page c.oldest.ensures c.next_number.ensures h)
-    (c.bisect.ensures.page (first_on (layout_of c.args.schema.now) (shape_of c.args.ring.now) (g.F.Flash.state c.args.flash.now)) (record { told = told; each = λ n kept. refl }) (ascends-moved (first_on (layout_of c.args.schema.now) (shape_of c.args.ring.now) (g.F.Flash.state c.args.flash.now)) (oldest_of c.args.ring.now) c.oldest.result (next_of c.args.ring.now) c.next_number.result c.oldest.ensures c.next_number.ensures up))
+    (c.bisect.ensures.page (first_on (layout_of c.args.schema.now) (shape_of c.args.ring.now) (g.F.Flash.state c.args.flash.now)) (record { told = told; each = λ n kept sound. refl }) (ascends-moved (first_on (layout_of c.args.schema.now) (shape_of c.args.ring.now) (g.F.Flash.state c.args.flash.now)) (oldest_of c.args.ring.now) c.oldest.result (next_of c.args.ring.now) c.next_number.result c.oldest.ensures c.next_number.ensures up))
 
 pub returns-clause-fails : goal.returns-clause-fails
 returns-clause-fails g c =
@@ -46,7 +46,7 @@ returns-clause-fails g c =
 
 pub returns-clause-starts : goal.returns-clause-starts
 returns-clause-starts g c = λ told.
-    c.bisect.ensures.starts (first_on (layout_of c.args.schema.now) (shape_of c.args.ring.now) (g.F.Flash.state c.args.flash.now)) (record { told = told; each = λ n kept. refl })
+    c.bisect.ensures.starts (first_on (layout_of c.args.schema.now) (shape_of c.args.ring.now) (g.F.Flash.state c.args.flash.now)) (record { told = told; each = λ n kept sound. refl })
 
 pub returns-clause-fresh : goal.returns-clause-fresh
 returns-clause-fresh g c = λ fresh.

@@ -8,6 +8,7 @@ use Rattle.fl_find.specs.Pages.{first_on, IsFresh}
 use Rattle.fl_find.specs.Looking.{OnlyLooks, LookFails}
 use Rattle.fl_find.proofs.Looks.{since-same}
 use Rattle.fl_find.proofs.Moves.{lies-looked, room-looked, holds-moved, if-some, page-moved}
+use Rattle.fl_find.proofs.Sound.{none-bad, none-searched}
 use Rattle.fl_find.proofs.search.page_downwards.Goals as goal
 
 pub returns-clause-looks : goal.returns-clause-looks
@@ -37,7 +38,7 @@ returns-clause-page g c = λ told.
     let some = c.if-end-oldest.false in
     IfOk-weaker c.near.result _ _
     (λ page h. page-moved (first_on (layout_of c.args.schema.now) (shape_of c.args.ring.now) (g.F.Flash.state c.args.flash.now)) (oldest_of c.args.ring.now) c.oldest-oldest.result c.args.end (c.args.end - 1 + 1) c.args.key page c.oldest-oldest.ensures (omega (arith, some)) h)
-    (c.near.ensures.page (first_on (layout_of c.args.schema.now) (shape_of c.args.ring.now) (g.F.Flash.state c.args.flash.now)) (record { told = told; each = λ n kept. refl }))
+    (c.near.ensures.page (first_on (layout_of c.args.schema.now) (shape_of c.args.ring.now) (g.F.Flash.state c.args.flash.now)) (record { told = told; each = λ n kept sound. refl }))
 
 pub returns-clause-holds : goal.returns-clause-holds
 returns-clause-holds g c =
@@ -59,3 +60,17 @@ returns-clause-fresh g c = λ fresh.
     let same : g.F.Flash.state c.flash-1.given.0 ≡ g.F.Flash.state c.near.new.keys.flash.now = search rules in
     let here : c.buf-1.given.0 ≡ c.near.new.keys.buf.now = search rules in
     subst (λ (f : FlashState). IsFresh f c.buf-1.given.0) (sym same) (subst (λ (b : BufferState). IsFresh (g.F.Flash.state c.near.new.keys.flash.now) b) (sym here) (since.fresh fresh))
+
+pub returns-then-end-oldest-clause-sound : goal.returns-then-end-oldest-clause-sound
+returns-then-end-oldest-clause-sound g c = λ page told is.
+    none-searched (layout_of c.args.schema.now) c.args.ring.now (g.F.Flash.state c.args.flash.now) (oldest_of c.args.ring.now) c.args.end c.args.key page
+    (let some = c.if-end-oldest.true in let oldest = c.oldest-oldest.ensures in omega (arith, some, oldest)) is
+
+pub returns-clause-sound : goal.returns-clause-sound
+returns-clause-sound g c = λ page told is.
+    let some = c.if-end-oldest.false in
+    none-bad (layout_of c.args.schema.now) c.args.ring.now (g.F.Flash.state c.args.flash.now) (oldest_of c.args.ring.now) c.args.end c.args.key c.near.result page told
+    (λ first tells. IfOk-weaker c.near.result _ _
+    (λ found h. page-moved first (oldest_of c.args.ring.now) c.oldest-oldest.result c.args.end (c.args.end - 1 + 1) c.args.key found c.oldest-oldest.ensures (omega (arith, some)) h)
+    (c.near.ensures.page first tells))
+    is

@@ -1,64 +1,34 @@
-use Rattle.std.proofs.Common.{◌≡◌, false, Err, sym}
+use Rattle.std.proofs.Common.{◌≡◌, false, List, ℕ, sym, subst}
 use Rattle.fl_model.specs.Record.{has_var}
 use Rattle.fl_page.specs.Contents.{contents_of}
-use Rattle.fl_page.specs.declared.fault.ReadFault.TheVariants.{Flash, BadPage}
-use Rattle.fl_session.specs.declared.listing.ListFault.TheVariants.{Sink, Read}
+use Rattle.fl_script.specs.Written.{Written}
 use Rattle.fl_table.proofs.SealAnswers.{planned-plain}
-use Rattle.fl_session.proofs.Following.{nexts-more, nexts-end, nexts-unread, nexts-failed}
-use Rattle.fl_session.proofs.Resumed.{is-standing, left-there, rose-read, nexts-by}
+use Rattle.fl_session.proofs.Following.{nexts-given, nexts-fault, reads-within}
+use Rattle.fl_session.proofs.Resumed.{is-standing, left-there, nexts-by}
 use Rattle.fl_session.proofs.cursors.next_rows.Goals as goal
 
-pub returns-in-Ok-true-clause-nexts : goal.returns-in-Ok-true-clause-nexts
-returns-in-Ok-true-clause-nexts g c = λ first plan t tells on stands.
+pub returns-in-Ok-clause-nexts : goal.returns-in-Ok-clause-nexts
+returns-in-Ok-clause-nexts g c = λ first plan t tells on stands plain.
     let none : has_var plan ≡ false = (planned-plain c.args.table.now first plan stands.planned).no_var in
     let reaches = g.met.F.Flash.reaches c.args.flash.now in
     let told = c.resume-cursor.ensures.told (contents_of (g.F.Flash.state c.args.flash.now)) (is-standing c.args.table.now (g.F.Flash.state c.args.flash.now) first plan t tells reaches c.requires.lies stands) in
     let are = left-there c.args.table.now (g.F.Flash.state c.args.flash.now) first plan t tells reaches c.requires.lies stands c.resume-cursor.result c.resume-cursor.ensures.table in
-    let given = rw c.in-Ok-true.field-0-test at (c.in-Ok-true.ensures.gives told) in
+    let limit = c.resume-cursor.ensures.limit (g.F.Flash.state c.args.flash.now) first plan t tells reaches c.requires.lies stands plain in
+    let most = (c.give_rows-given.ensures.reads told).most in
+    let within = reads-within plan t c.resume-cursor.result (contents_of (g.F.Flash.state c.args.flash.now)) _ _ c.resume-cursor.ensures.mark limit most in
     nexts-by c.resume-cursor.ensures.mark (sym c.park.ensures.mark)
-    (nexts-more plan t c.args.count c.resume-cursor.result c.give_rows-given.new.cursor (contents_of (g.F.Flash.state c.args.flash.now)) _ (g.K.Sink.written c.give_rows-given.new.out) _ _ _ _ none are given.0 given.1 given.2 c.write_reply.ensures.text)
+    (nexts-given plan t c.args.count c.resume-cursor.result c.give_rows-given.new.cursor (contents_of (g.F.Flash.state c.args.flash.now)) _ (g.K.Sink.written c.give_rows-given.new.out) _ (g.F.Flash.state c.args.flash.now) (g.F.Flash.state c.give_rows-given.new.flash) _ none are within
+    c.in-Ok.given (c.in-Ok.ensures.gives told) (subst (λ (l : List ℕ). Written (g.K.Sink.written c.give_rows-given.new.out) (g.K.Sink.written c.write_reply.new.out) c.write_reply.result l) c.ending.ensures c.write_reply.ensures.text))
 
-pub returns-in-Ok-false-clause-nexts : goal.returns-in-Ok-false-clause-nexts
-returns-in-Ok-false-clause-nexts g c = λ first plan t tells on stands.
+pub returns-in-Err-clause-nexts : goal.returns-in-Err-clause-nexts
+returns-in-Err-clause-nexts g c = λ first plan t tells on stands plain.
     let none : has_var plan ≡ false = (planned-plain c.args.table.now first plan stands.planned).no_var in
     let reaches = g.met.F.Flash.reaches c.args.flash.now in
     let told = c.resume-cursor.ensures.told (contents_of (g.F.Flash.state c.args.flash.now)) (is-standing c.args.table.now (g.F.Flash.state c.args.flash.now) first plan t tells reaches c.requires.lies stands) in
     let are = left-there c.args.table.now (g.F.Flash.state c.args.flash.now) first plan t tells reaches c.requires.lies stands c.resume-cursor.result c.resume-cursor.ensures.table in
-    let given = rw c.in-Ok-false.field-0-test at (c.in-Ok-false.ensures.gives told) in
+    let limit = c.resume-cursor.ensures.limit (g.F.Flash.state c.args.flash.now) first plan t tells reaches c.requires.lies stands plain in
+    let most = (c.give_rows-given.ensures.reads told).most in
+    let within = reads-within plan t c.resume-cursor.result (contents_of (g.F.Flash.state c.args.flash.now)) _ _ c.resume-cursor.ensures.mark limit most in
     nexts-by c.resume-cursor.ensures.mark (sym c.park.ensures.mark)
-    (nexts-end plan t c.args.count c.resume-cursor.result c.give_rows-given.new.cursor (contents_of (g.F.Flash.state c.args.flash.now)) _ (g.K.Sink.written c.give_rows-given.new.out) _ _ _ _ none are given.0 given.1 given.2 given.3 c.write_reply-in-Ok-false.ensures.text)
-
-pub returns-in-Err-Sink-clause-nexts : goal.returns-in-Err-Sink-clause-nexts
-returns-in-Err-Sink-clause-nexts g c = λ first plan t tells on stands.
-    let none : has_var plan ≡ false = (planned-plain c.args.table.now first plan stands.planned).no_var in
-    let reaches = g.met.F.Flash.reaches c.args.flash.now in
-    let told = c.resume-cursor.ensures.told (contents_of (g.F.Flash.state c.args.flash.now)) (is-standing c.args.table.now (g.F.Flash.state c.args.flash.now) first plan t tells reaches c.requires.lies stands) in
-    let are = left-there c.args.table.now (g.F.Flash.state c.args.flash.now) first plan t tells reaches c.requires.lies stands c.resume-cursor.result c.resume-cursor.ensures.table in
-    let sunk : c.in-Err-Sink.field-0 ≡ Sink c.in-Err-Sink.failed = rw c.in-Err-Sink.is at c.in-Err-Sink.field-0-is in
-    let given = rw (c.in-Err-Sink.is, sunk) at (c.give_rows-given.ensures.gives told) in
-    nexts-by c.resume-cursor.ensures.mark (sym c.park.ensures.mark)
-    (nexts-failed plan t c.args.count c.resume-cursor.result c.give_rows-given.new.cursor (contents_of (g.F.Flash.state c.args.flash.now)) _ (g.K.Sink.written c.give_rows-given.new.out) (g.K.Sink.written c.give_rows-given.new.out) _ _ (Err c.in-Err-Sink.failed) none are given c.in-Err-Sink.failed)
-
-pub returns-in-Err-Read-Flash-clause-nexts : goal.returns-in-Err-Read-Flash-clause-nexts
-returns-in-Err-Read-Flash-clause-nexts g c = λ first plan t tells on stands.
-    let none : has_var plan ≡ false = (planned-plain c.args.table.now first plan stands.planned).no_var in
-    let reaches = g.met.F.Flash.reaches c.args.flash.now in
-    let told = c.resume-cursor.ensures.told (contents_of (g.F.Flash.state c.args.flash.now)) (is-standing c.args.table.now (g.F.Flash.state c.args.flash.now) first plan t tells reaches c.requires.lies stands) in
-    let are = left-there c.args.table.now (g.F.Flash.state c.args.flash.now) first plan t tells reaches c.requires.lies stands c.resume-cursor.result c.resume-cursor.ensures.table in
-    let unread : c.in-Err-Read-Flash.field-0 ≡ Read c.in-Err-Read-Flash.field-0-0 = rw c.in-Err-Read-Flash.is at c.in-Err-Read-Flash.field-0-is in
-    let why : c.in-Err-Read-Flash.field-0-0 ≡ Flash c.in-Err-Read-Flash.field-0-0-0 = rw (c.in-Err-Read-Flash.is, unread) at c.in-Err-Read-Flash.field-0-0-is in
-    let given = rw (c.in-Err-Read-Flash.is, unread, why) at (c.give_rows-given.ensures.gives told) in
-    let rose = rose-read (g.F.Flash.state c.args.flash.now) _ c.in-Err-Read-Flash.field-0-0-0 on (rw (c.in-Err-Read-Flash.is, unread, why) at c.give_rows-given.ensures.unread) in
-    nexts-by c.resume-cursor.ensures.mark (sym c.park.ensures.mark)
-    (nexts-unread plan t c.args.count c.resume-cursor.result c.give_rows-given.new.cursor (contents_of (g.F.Flash.state c.args.flash.now)) _ (g.K.Sink.written c.give_rows-given.new.out) _ _ _ _ none are given.0 given.1 given.2 rose c.write_reply-in-Err-Read-Flash.ensures.text)
-
-pub returns-in-Err-Read-BadPage-clause-nexts : goal.returns-in-Err-Read-BadPage-clause-nexts
-returns-in-Err-Read-BadPage-clause-nexts g c = λ first plan t tells on stands.
-    let none : has_var plan ≡ false = (planned-plain c.args.table.now first plan stands.planned).no_var in
-    let reaches = g.met.F.Flash.reaches c.args.flash.now in
-    let told = c.resume-cursor.ensures.told (contents_of (g.F.Flash.state c.args.flash.now)) (is-standing c.args.table.now (g.F.Flash.state c.args.flash.now) first plan t tells reaches c.requires.lies stands) in
-    let are = left-there c.args.table.now (g.F.Flash.state c.args.flash.now) first plan t tells reaches c.requires.lies stands c.resume-cursor.result c.resume-cursor.ensures.table in
-    let unread : c.in-Err-Read-BadPage.field-0 ≡ Read c.in-Err-Read-BadPage.field-0-0 = rw c.in-Err-Read-BadPage.is at c.in-Err-Read-BadPage.field-0-is in
-    let why : c.in-Err-Read-BadPage.field-0-0 ≡ BadPage c.in-Err-Read-BadPage.bad = rw (c.in-Err-Read-BadPage.is, unread) at c.in-Err-Read-BadPage.field-0-0-is in
-    nexts-by c.resume-cursor.ensures.mark (sym c.park.ensures.mark)
-    (absurd (rw (c.in-Err-Read-BadPage.is, unread, why) at (c.give_rows-given.ensures.gives told)))
+    (nexts-fault plan t c.args.count c.resume-cursor.result c.give_rows-given.new.cursor (contents_of (g.F.Flash.state c.args.flash.now)) _ (g.K.Sink.written c.give_rows-given.new.out) _ (g.F.Flash.state c.args.flash.now) (g.F.Flash.state c.give_rows-given.new.flash) _ none are within
+    c.in-Err.fault (c.in-Err.ensures.gives told) on c.in-Err.ensures.unread c.write_fault.ensures.says)

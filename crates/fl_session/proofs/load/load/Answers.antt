@@ -2,7 +2,7 @@ use Rattle.std.proofs.Common.{◌≡◌, ◌+◌, not, ◌&&◌, refl, ap, sym, 
 use Rattle.std.specs.Prelude.{unwrap_or}
 use Rattle.fl_model.specs.Record.{RowLayout}
 use Rattle.fl_session.specs.Load.{StandsBefore, load_key, random_of}
-use Rattle.fl_session.proofs.Going.{goes-same, goes-on}
+use Rattle.fl_session.proofs.Going.{goes-same, goes-on, same-plan, same-on}
 use Rattle.fl_session.proofs.Loading.{LoadedSoFar, loaded-none, loaded-more, ends-next, ends-done, load-finished, load-stopped, rose-front, rose-back, rose-risen}
 use Rattle.fl_session.proofs.Working.{has_risen}
 use Rattle.fl_session.proofs.LoadLines.{unbroken}
@@ -16,23 +16,25 @@ loop-loaded-init g c = record {
   lies = c.requires.lies;
   running = refl;
   goes = goes-same _;
+  unread = refl;
   makes = c.new-records.ensures.stands;
   step_is = c.new-records.ensures.step;
-  so_far = λ config name cost old rose h risen. loaded-none config name cost old _ _ rose _ _ _ _ c.new-records.ensures.random h;
+  same = same-plan c.args.table.now;
+  so_far = λ config entries at entry asked notes old rose h here is named risen. loaded-none config entries at entry asked notes old _ _ rose _ _ _ _ c.new-records.ensures.random h here is;
 }
 
 pub returns-then-is_err-clause-answers : goal.returns-then-is_err-clause-answers
-returns-then-is_err-clause-answers g c = λ config name cost old h.
+returns-then-is_err-clause-answers g c = λ config entries at entry asked notes old h here is named.
     let f = g.F.Flash.state c.args.flash.now in
     let m = g.F.Flash.state c.loop-loaded.flash in
     let n = g.F.Flash.state c.put-outcome.new.flash in
     let i = c.loop-loaded.invariant in
     let p = c.put-outcome.ensures in
-    let so_far = i.so_far config name cost old (has_risen f n) h (λ r. rose-risen f n (rose-front f.media.faults m.media.faults n.media.faults p.goes.faults r)) in
+    let so_far = i.so_far config entries at entry asked notes old (has_risen f n) h here is named (λ r. rose-risen f n (rose-front f.media.faults m.media.faults n.media.faults p.goes.faults r)) in
     let key = c.next-record.ensures.key ∙ ap (λ s. load_key (unwrap_or c.last_key.result 0) s (random_of c.loop-loaded.records)) i.step_is in
-    let ends = ends-next config name cost old _ _ m n (has_risen f n) _ _ _ _ _ so_far c.loop-loaded-test.true p.goes p.same c.put-outcome.result _ _ c.last_key.result
+    let ends = ends-next config entries at entry asked notes old _ _ m n (has_risen f n) _ _ _ _ _ here named so_far c.loop-loaded-test.true p.goes p.same p.outside c.put-outcome.result _ _ c.last_key.result
     (λ r. rose-risen f n (rose-back f.media.faults m.media.faults n.media.faults i.goes.faults r)) c.last_key.ensures.stands key (c.as_slice.ensures.value ∙ c.next-record.ensures.values _ _ _ i.makes) p.ends in
-    load-stopped config name cost old _ _ m n (has_risen f n) _ _ _ _ _ so_far c.loop-loaded-test.true p.goes p.same _ f c.put-outcome.result h refl (sym c.is_err.ensures.value ∙ c.if-is_err.true) ends p.refused
+    load-stopped config entries at entry asked notes old _ _ m n (has_risen f n) _ _ _ _ _ here named so_far c.loop-loaded-test.true p.goes p.same p.outside f c.put-outcome.result h refl (sym c.is_err.ensures.value ∙ c.if-is_err.true) ends p.refused
 
 pub loop-loaded-preserved : goal.loop-loaded-preserved
 loop-loaded-preserved g c =
@@ -46,15 +48,17 @@ loop-loaded-preserved g c =
       lies = p.lies;
       running = p.running ∙ (ap (λ b. is_running c.loop-loaded.table && not b) (unbroken c.put-outcome.result (sym c.is_err.ensures.value ∙ c.if-is_err.false)) ∙ (and-true (is_running c.loop-loaded.table) ∙ i.running));
       goes = goes-on _ _ _ i.goes p.goes;
+      unread = p.reads ∙ i.unread;
       makes = subst (λ (l : RowLayout). StandsBefore l.columns c.args.seed (c.loop-loaded.loaded + 1 + 1) c.next-record.new.self) (sym p.same.layout) (c.next-record.ensures.stands _ _ _ i.makes);
       step_is = c.next-record.ensures.step ∙ i.step_is;
-      so_far = λ config name cost old rose h risen.
-          let so_far = i.so_far config name cost old rose h (λ r. risen (rose-front f.media.faults m.media.faults n.media.faults p.goes.faults r)) in
-          let ends = ends-next config name cost old _ _ m n rose _ _ _ _ _ so_far c.loop-loaded-test.true p.goes p.same c.put-outcome.result _ _ c.last_key.result
+      same = same-on _ _ _ i.same p.same;
+      so_far = λ config entries at entry asked notes old rose h here is named risen.
+          let so_far = i.so_far config entries at entry asked notes old rose h here is named (λ r. risen (rose-front f.media.faults m.media.faults n.media.faults p.goes.faults r)) in
+          let ends = ends-next config entries at entry asked notes old _ _ m n rose _ _ _ _ _ here named so_far c.loop-loaded-test.true p.goes p.same p.outside c.put-outcome.result _ _ c.last_key.result
           (λ r. risen (rose-back f.media.faults m.media.faults n.media.faults i.goes.faults r)) c.last_key.ensures.stands key (c.as_slice.ensures.value ∙ c.next-record.ensures.values _ _ _ i.makes) p.ends in
-          let done = ends-done config name cost old _ _ m n rose _ _ _ _ _ so_far c.loop-loaded-test.true p.goes p.same c.put-outcome.result (sym c.is_err.ensures.value ∙ c.if-is_err.false) ends in
-          subst (λ s. LoadedSoFar config name cost old c.put-outcome.new.self n rose c.args.count c.args.step c.args.seed (c.loop-loaded.loaded + 1) s) (sym c.next-record.ensures.random)
-          (loaded-more config name cost old _ _ m n rose _ _ _ _ _ so_far c.loop-loaded-test.true p.goes p.same done);
+          let done = ends-done config entries at entry asked notes old _ _ m n rose _ _ _ _ _ here named so_far c.loop-loaded-test.true p.goes p.same p.outside c.put-outcome.result (sym c.is_err.ensures.value ∙ c.if-is_err.false) ends in
+          subst (λ s. LoadedSoFar config entries at entry asked notes old c.put-outcome.new.self n rose c.args.count c.args.step c.args.seed (c.loop-loaded.loaded + 1) s) (sym c.next-record.ensures.random)
+          (loaded-more config entries at entry asked notes old _ _ m n rose _ _ _ _ _ here named so_far c.loop-loaded-test.true p.goes p.same p.outside done);
     }
 
 pub returns-then-is_err-clause-running : goal.returns-then-is_err-clause-running
@@ -64,8 +68,8 @@ pub returns-clause-running : goal.returns-clause-running
 returns-clause-running g c = c.loop-loaded.invariant.running ∙ sym (and-true (is_running c.args.table.now))
 
 pub returns-clause-answers : goal.returns-clause-answers
-returns-clause-answers g c = λ config name cost old h.
+returns-clause-answers g c = λ config entries at entry asked notes old h here is named.
     let f = g.F.Flash.state c.args.flash.now in
     let m = g.F.Flash.state c.loop-loaded.flash in
     let all : c.loop-loaded.loaded ≡ c.args.count = omega arith in
-    load-finished config name cost old _ _ f m _ _ _ _ _ h all (c.loop-loaded.invariant.so_far config name cost old (has_risen f m) h (λ r. rose-risen f m r))
+    load-finished config entries at entry asked notes old _ f m _ _ _ _ _ h here named all (c.loop-loaded.invariant.so_far config entries at entry asked notes old (has_risen f m) h here is named (λ r. rose-risen f m r))

@@ -5,7 +5,9 @@ use Rattle.fl_ring.specs.Looking.{OnlyReads}
 use Rattle.fl_ring.specs.Place.{next_of, oldest_of}
 use Rattle.fl_schema.specs.Schema.{layout_of}
 use Rattle.fl_find.specs.Index.{IndexOf}
-use Rattle.fl_table.specs.Reading.{pages_of, points_after, IsRefused, AreRefused, AreNoted}
+use Rattle.fl_table.specs.Reading.{pages_of, points_after, IsRefused, AreRefused, AreNoted, bitmap_on}
+use Rattle.fl_table.proofs.Gathering.{gathers-none, gather-first, gather-room, gathers-more, gather-more}
+use Rattle.fl_table.proofs.Indexing.{plan-then, ring-then}
 use Rattle.fl_ring.proofs.Exists.{page_exists}
 use Rattle.fl_ring.proofs.Readings.{more_reads, told_still, same_page}
 use Rattle.fl_table.proofs.PagesRead.{if-page, read-more, last-more, rows-more, voids-more, noted-more, points-more, refused-at, is-void, not-void, voids_few}
@@ -78,6 +80,11 @@ loop-number-preserved g c =
       room = c.in_ok-page.ensures.room ∙ inv.room;
       none = c.in_ok-page.ensures.none;
       counts = counts_len;
+      same = plan-then c.args.bitmaps.now c.loop-number.bitmaps c.note_bitmap.new.bitmaps inv.same c.note_bitmap.ensures.same;
+      still = ring-then c.args.bitmaps.now c.loop-number.bitmaps c.note_bitmap.new.bitmaps inv.still c.note_bitmap.ensures.still;
+      gathered = gathers-more c.args.bitmaps.now c.loop-number.bitmaps c.note_bitmap.new.bitmaps (oldest_of ring) (next_of ring) number page.bitmap c.requires.bitmaps inv.gathered c.note_bitmap.ensures.noted;
+      waits = λ told. gather-more c.args.bitmaps.now c.loop-number.bitmaps c.note_bitmap.new.bitmaps (oldest_of ring) (next_of ring) number page.bitmap pages c.requires.bitmaps inv.gathered c.note_bitmap.ensures.noted
+          (c.in_ok-page.ensures.bitmap (told_still old flash n inv.reads told) ∙ ap bitmap_on same) (inv.waits told);
       error = c.add_page.ensures.error ∙ inv.error;
       index = λ told error empty. points-more layout pages first n number m here more bytes same c.loop-number.last page.first error c.loop-number.index c.add_page.new.index (inv.last told) (inv.read told)
           (c.in_ok-page.ensures.read (told_still old flash n inv.reads told)) (c.in_ok-page.ensures.first (told_still old flash n inv.reads told)) (inv.index told error empty) c.add_page.ensures.points;
@@ -92,3 +99,7 @@ loop-number-preserved g c =
       rows_few = omega (arith, rows_is, inv.rows_few, c.in_ok-page.ensures.few, more);
       voids_few = omega (arith, voids_few page.rows c.loop-number.mounted.voids c.if-page-eq0.mounted.voids voids_is, inv.voids_few, more);
     }
+
+pub note_bitmap-requires-clause-room : goal.note_bitmap-requires-clause-room
+note_bitmap-requires-clause-room g c = λ end.
+    gather-room c.args.bitmaps.now c.loop-number.bitmaps (oldest_of c.args.ring.now) (next_of c.args.ring.now) c.loop-number.number c.requires.bitmaps (search (rules, arith)) c.loop-number.invariant.same c.loop-number.invariant.gathered end

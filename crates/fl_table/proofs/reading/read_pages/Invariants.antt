@@ -3,7 +3,8 @@ use Rattle.fl_find.specs.Index.{error_in, IndexOf}
 use Rattle.fl_ring.specs.Looking.{OnlyReads}
 use Rattle.fl_ring.specs.Place.{oldest_of, next_of}
 use Rattle.fl_schema.specs.Schema.{layout_of}
-use Rattle.fl_table.specs.Reading.{AreRead, AreNoted, last_after, rows_after, voids_after, points_after, pages_of}
+use Rattle.fl_table.specs.Reading.{AreRead, AreNoted, last_after, rows_after, voids_after, points_after, pages_of, GatherUpTo, AreGathered}
+use Rattle.fl_table.specs.Bitmaps.{AreSamePlan, AreSameRing}
 use Rattle.fl_table.proofs.reading.read_pages.Given as goal
 
 abbrev pub invariant-loop-number : goal.invariant-loop-number
@@ -13,6 +14,10 @@ invariant-loop-number g l = record {
   room : length l.buf.bytes ≡ length l.initial.buf.bytes;
   none : l.buf.holds ≡ None;
   counts : length l.counts ≡ length l.initial.counts;
+  same : AreSamePlan l.initial.bitmaps l.bitmaps;
+  still : AreSameRing l.initial.bitmaps l.bitmaps;
+  gathered : AreGathered l.initial.bitmaps l.number l.bitmaps;
+  waits : IsTrue (g.F.Flash.state l.initial.flash).media.tells → GatherUpTo l.initial.bitmaps (pages_of l.ring (g.F.Flash.state l.initial.flash)) l.number l.bitmaps;
   error : error_in l.index ≡ error_in l.initial.index;
   index : IsTrue (g.F.Flash.state l.initial.flash).media.tells → (error : ℕ) → IndexOf error [] l.initial.index → IndexOf error (points_after (layout_of l.schema) (pages_of l.ring (g.F.Flash.state l.initial.flash)) (oldest_of l.ring) (l.number - oldest_of l.ring)) l.index;
   read : IsTrue (g.F.Flash.state l.initial.flash).media.tells → AreRead (layout_of l.schema) (pages_of l.ring (g.F.Flash.state l.initial.flash)) (oldest_of l.ring) (l.number - oldest_of l.ring);

@@ -30,12 +30,12 @@ returns-clause-left c = λ f first plan t tells reaches lies stands.
     ∙ ap (map stored_row) (begins-selected range span t (subst (Ascends None) (standing-rows c.args.table.now (contents_of f) h) (standing-ascends c.args.table.now (contents_of f) h))))))
 
 pub returns-clause-limit : goal.returns-clause-limit
-returns-clause-limit c = λ f first plan t tells reaches lies stands.
-    c.resume.ensures.limit f first plan t tells reaches lies stands
+returns-clause-limit c = λ f first plan t tells reaches lies stands plain.
+    c.resume.ensures.limit f first plan t tells reaches lies stands plain
     (subst (λ (top : Option ℕ). IsBounded top c.args.range.high) (sym c.last_wanted-top.ensures.exact) (bounded-min c.args.range.high (last_key_in c.args.table.now)))
 
 pub returns-clause-least : goal.returns-clause-least
-returns-clause-least c = λ f first plan t tells reaches lies stands.
+returns-clause-least c = λ f first plan t tells reaches lies stands plain.
     let h : IsStanding c.args.table.now (contents_of f) = record { flash = f; same = refl; tells = tells; reaches = reaches; lies = lies; first = first; plan = plan; table = t; stands = stands } in
     let asked : asked_of c.resume.result ≡ query.begin c.args.range c.args.span t =
     ap asked_by c.resume.ensures.mark ∙ ap (λ (top : Option ℕ). record { range = c.args.range; span = c.args.span; after = None; top = top }) (c.last_wanted-top.ensures.stands f first plan t stands) in
@@ -43,4 +43,4 @@ returns-clause-least c = λ f first plan t tells reaches lies stands.
     subst (λ (a : query.Cursor). IsBegun a c.args.table.now (place_of c.resume.result)) (sym (ap asked_by c.resume.ensures.mark) ∙ asked) c.resume.ensures.begun in
     subst (λ (a : query.Cursor). least_reads plan t c.args.range c.args.span ≤ least_from (table_of c.resume.result) (contents_of f) a (place_of c.resume.result)) (sym asked)
     (subst (λ (tb : Table). least_reads plan t c.args.range c.args.span ≤ least_from tb (contents_of f) (query.begin c.args.range c.args.span t) (place_of c.resume.result)) (sym c.resume.ensures.table)
-    (begun-least c.args.table.now (contents_of f) h c.args.range c.args.span (place_of c.resume.result) begun))
+    (begun-least c.args.table.now (contents_of f) h c.args.range c.args.span (place_of c.resume.result) plain begun))

@@ -24,6 +24,6 @@ returns-clause-told c = λ contents standing. record {
 }
 
 pub returns-clause-limit : goal.returns-clause-limit
-returns-clause-limit c = λ f first plan t tells reaches lies stands bounded.
+returns-clause-limit c = λ f first plan t tells reaches lies stands plain bounded.
     let h : IsStanding c.args.table.now (contents_of f) = record { flash = f; same = refl; tells = tells; reaches = reaches; lies = lies; first = first; plan = plan; table = t; stands = stands } in
-    begun-limit c.args.table.now (contents_of f) h (asked_by c.args.mark) c.args.rows_buf.now.bytes c.first_place.result bounded c.first_place.ensures.begun
+    begun-limit c.args.table.now (contents_of f) h (asked_by c.args.mark) c.args.rows_buf.now.bytes c.first_place.result plain bounded c.first_place.ensures.begun

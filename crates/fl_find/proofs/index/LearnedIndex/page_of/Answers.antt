@@ -1,7 +1,15 @@
-use Rattle.std.proofs.Common.{◌≡◌, true, false, sym, ◌∙◌}
+use Rattle.std.proofs.Common.{◌≡◌, ℕ, true, false, sym, ap, subst, ◌∙◌, arith}
+use Rattle.std.specs.Prelude.{OnOk, unwrap_or}
+use Rattle.std.proofs.lemmas.Result.{IfOk-weaker}
+use Rattle.fl_ring.specs.Place.{shape_of, oldest_of, next_of}
+use Rattle.fl_search.specs.Search.{IsPageOf}
 use Rattle.fl_spline.proofs.Segments.{segment-covered}
 use Rattle.fl_spline.specs.Spline.{kept}
 use Rattle.fl_schema.specs.Schema.{layout_of}
+use Rattle.fl_find.specs.Pages.{first_on}
+use Rattle.fl_find.specs.Looking.{NoneIsBad}
+use Rattle.fl_find.specs.Index.{window_end}
+use Rattle.fl_find.proofs.Moves.{if-some}
 use Rattle.fl_find.proofs.Modelled.{near-found, near-limit, far-found, far-limit, ascend-ring}
 use Rattle.fl_find.proofs.Indexed.{index-covered, index-end}
 use Rattle.fl_find.proofs.index.LearnedIndex.page_of.Goals as goal
@@ -45,3 +53,16 @@ pub returns-in-None-clause-reads : goal.returns-in-None-clause-reads
 returns-in-None-clause-reads g c = λ plan table holds points index pending.
     far-limit (layout_of c.args.schema.now) c.args.ring.now (g.F.Flash.state c.args.flash.now) plan table holds g.row.KNOTS c.args.key _ _ (index-covered c.args.self.now plan.error c.args.key table.points false index c.in-None.ensures.segment) pending
     (c.page_by_halves.ensures.limit holds.tells)
+
+pub returns-in-Some-clause-sound : goal.returns-in-Some-clause-sound
+returns-in-Some-clause-sound g c = λ page covered told is.
+    let end : c.end_of_window-end.result ≡ window_end c.args.self.now (next_of c.args.ring.now) c.args.key = c.end_of_window-end.ensures ∙ ap (λ (n : ℕ). window_end c.args.self.now n c.args.key) c.next_number.ensures in
+    subst (λ (e : ℕ). IsPageOf (first_on (layout_of c.args.schema.now) (shape_of c.args.ring.now) (g.F.Flash.state c.args.flash.now)) (oldest_of c.args.ring.now) e c.args.key page →
+    OnOk c.page_downwards.result (NoneIsBad (layout_of c.args.schema.now) c.args.ring.now (g.F.Flash.state c.args.flash.now) (unwrap_or page (oldest_of c.args.ring.now)) e))
+    end (c.page_downwards.ensures.sound page told) is
+
+pub returns-in-Some-clause-within : goal.returns-in-Some-clause-within
+returns-in-Some-clause-within g c =
+    let is = c.end_of_window-end.ensures in
+    let next = c.next_number.ensures in
+    IfOk-weaker c.page_downwards.result _ _ (λ page h. if-some _ _ page (λ n k. let before = k.1 in (k.0, omega (arith, before, is, next))) h) c.page_downwards.ensures.within

@@ -10,7 +10,7 @@ use Rattle.fl_index.specs.Page.{header_bytes}
 use Rattle.fl_index.proofs.Gathering.{written-back, headed-length}
 use Rattle.fl_index.proofs.State.{shape_in, HaveSize}
 use Rattle.fl_index.proofs.Sealings.{planned-ring, lies-size, seal-ready, seal-breaks, seal-finishes}
-use Rattle.fl_index.proofs.SealAnswers.{sealing-of, some-room, number-of}
+use Rattle.fl_index.proofs.SealAnswers.{sealing-of, some-room, number-of, seal-on}
 use Rattle.fl_index.proofs.index.Index.seal.Goals as goal
 
 pub nonzero_rem-at : goal.nonzero_rem-at
@@ -81,3 +81,6 @@ returns-clause-outside g c = λ told.
     let t = c.args.self.now in
     let has : t.ring ≡ Some c.in-Some.ring = sym c.take.ensures.value ∙ c.in-Some.is in
     subst (λ (r : Shape). OutsideStands r (page_at (g.F.Flash.state c.args.flash.now)) (page_at (g.F.Flash.state c.seal.new.flash))) (t.lies c.in-Some.ring has) (c.seal.ensures.outside told)
+
+pub returns-clause-power : goal.returns-clause-power
+returns-clause-power g c = λ on. seal-on _ _ _ _ _ _ _ c.in_ok-seal.ensures.calls

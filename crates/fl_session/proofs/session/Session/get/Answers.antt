@@ -1,25 +1,33 @@
-use Rattle.std.proofs.Common.{◌≡◌, ◌-◌, ◌^◌, ◌<◌, rules, sym, ◌∙◌, ap, arith}
+use Rattle.std.proofs.Common.{◌≡◌, ◌-◌, ◌^◌, ◌<◌, Some, rules, refl, ap, arith}
+use Rattle.std.specs.List.{slice_get}
 use Rattle.fl_flash.specs.declared.flash.Work.{Work}
-use Rattle.fl_page.specs.Contents.{Contents}
 use Rattle.fl_session.proofs.Costing.{has-read}
 use Rattle.fl_session.proofs.Getting.{get-executes, get-refused, goes-reads}
+use Rattle.fl_session.proofs.Owning.{reached-here, reached-within}
+use Rattle.fl_session.proofs.Sound.{sound-read}
 use Rattle.fl_session.proofs.session.Session.get.Goals as goal
 
-pub returns-in-Some-clause-step : goal.returns-in-Some-clause-step
-returns-in-Some-clause-step g c = λ config old h. get-refused _ config old _ _ _ _ _ c.args.name c.args.key c.in-Some.refusal _ _ _ h c.in-Some.ensures c.write_reply.ensures.text
+pub returns-in-Err-clause-step : goal.returns-in-Err-clause-step
+returns-in-Err-clause-step g c = λ config old h. get-refused _ config old _ _ _ _ c.args.name c.args.key c.in-Err.refusal _ _ _ h c.in-Err.ensures c.write_reply.ensures.text
+
+pub index-requires : goal.index-requires
+index-requires g c = reached-within c.args.self.now.tables.entries.items _ _ _ c.in-Ok.at c.args.self.now.tables.entries.ok.0 c.in-Ok.ensures
+
+pub look_up-reply-requires-clause-running : goal.look_up-reply-requires-clause-running
+look_up-reply-requires-clause-running g c =
+    let here : slice_get c.args.self.now.tables.entries.items c.in-Ok.at ≡ Some c.index.result.now = reached-here c.args.self.now.tables.entries.items _ _ c.in-Ok.at c.index.result.now c.in-Ok.ensures c.index.ensures in
+    c.requires.sound.running c.in-Ok.ensures.mounted_is c.in-Ok.at c.index.result.now here
+
+pub look_up-reply-requires-clause-lies : goal.look_up-reply-requires-clause-lies
+look_up-reply-requires-clause-lies g c =
+    let here : slice_get c.args.self.now.tables.entries.items c.in-Ok.at ≡ Some c.index.result.now = reached-here c.args.self.now.tables.entries.items _ _ c.in-Ok.at c.index.result.now c.in-Ok.ensures c.index.ensures in
+    c.requires.sound.lie c.in-Ok.at c.index.result.now here
 
 pub returns-clause-goes : goal.returns-clause-goes
 returns-clause-goes g c = goes-reads _ _ c.look_up-reply.ensures.counts
 
 pub returns-clause-sound : goal.returns-clause-sound
-returns-clause-sound g c = record {
-  lies = c.look_up-reply.ensures.lies;
-  room = (
-    c.look_up-reply.ensures.room ∙ (c.requires.sound.room.0 ∙ ap (λ (x : Contents). x.geometry.page) (sym c.look_up-reply.ensures.counts.contents)),
-    c.requires.sound.room.1 ∙ ap (λ (x : Contents). x.geometry.page) (sym c.look_up-reply.ensures.counts.contents),
-  );
-  running = c.requires.sound.running;
-}
+returns-clause-sound g c = sound-read c.args.self.now.tables.entries.items _ _ _ _ _ _ _ (goes-reads _ _ c.look_up-reply.ensures.counts) c.look_up-reply.ensures.room refl c.requires.sound.cursors c.requires.sound
 
 pub returns-clause-step : goal.returns-clause-step
 returns-clause-step g c = λ config old h.
@@ -28,5 +36,6 @@ returns-clause-step g c = λ config old h.
     let small : c.args.self.now.flash.work.reads < 2 ^ 64 = omega (arith, fits, before) in
     let after : c.work.result.reads ≡ c.look_up-reply.new.flash.work.reads = ap (λ (w : Work). w.reads) c.work.ensures in
     let reads : c.saturating_sub-reads.result ≡ c.look_up-reply.new.flash.work.reads - c.args.self.now.flash.work.reads = omega (arith, c.saturating_sub-reads.ensures, before, after) in
-    get-executes _ config old _ _ c.args.name _ _ _ _ _ c.args.key _ c.look_up-reply.result _ _ _ h c.in_default.ensures c.look_up-reply.ensures.counts
+    let here : slice_get c.args.self.now.tables.entries.items c.in-Ok.at ≡ Some c.index.result.now = reached-here c.args.self.now.tables.entries.items _ _ c.in-Ok.at c.index.result.now c.in-Ok.ensures c.index.ensures in
+    get-executes _ config old _ c.in-Ok.at c.index.result.now c.args.name _ _ _ _ _ c.args.key _ c.look_up-reply.result _ _ _ h c.in-Ok.ensures here c.look_up-reply.ensures.counts
     (has-read _ _ c.look_up-reply.ensures.counts _ small reads) reads c.lookup_limit-limit.ensures.stands c.look_up-reply.ensures.looks c.write_reply-2.ensures.text

@@ -1,9 +1,28 @@
+use Rattle.std.proofs.Common.{◌≡◌, Some}
+use Rattle.std.specs.List.{slice_get}
 use Rattle.fl_session.proofs.LoadLines.{load-executes, load-refused}
+use Rattle.fl_session.proofs.Owning.{reached-here, reached-within}
+use Rattle.fl_session.proofs.Sound.{sound-with, runs-after}
 use Rattle.fl_session.proofs.session.Session.load.Goals as goal
 
-pub returns-in-Some-clause-step : goal.returns-in-Some-clause-step
-returns-in-Some-clause-step g c = λ config old h. load-refused _ config old _ _ _ _ _ c.args.name c.args.count c.args.step c.args.seed c.in-Some.refusal _ _ _ h c.in-Some.ensures c.write_reply.ensures.text
+pub returns-in-Err-clause-step : goal.returns-in-Err-clause-step
+returns-in-Err-clause-step g c = λ config old h. load-refused _ config old _ _ _ _ c.args.name c.args.count c.args.step c.args.seed c.in-Err.refusal _ _ _ h c.in-Err.ensures c.write_reply.ensures.text
+
+pub index_mut-requires : goal.index_mut-requires
+index_mut-requires g c = reached-within c.args.self.now.tables.entries.items _ _ _ c.in-Ok.at c.args.self.now.tables.entries.ok.0 c.in-Ok.ensures
+
+pub load-loaded-requires-clause-lies : goal.load-loaded-requires-clause-lies
+load-loaded-requires-clause-lies g c =
+    let here : slice_get c.args.self.now.tables.entries.items c.in-Ok.at ≡ Some c.index_mut.result.now = reached-here c.args.self.now.tables.entries.items _ _ c.in-Ok.at c.index_mut.result.now c.in-Ok.ensures c.index_mut.ensures.value in
+    c.requires.sound.lie c.in-Ok.at c.index_mut.result.now here
+
+pub returns-clause-sound : goal.returns-clause-sound
+returns-clause-sound g c =
+    let here : slice_get c.args.self.now.tables.entries.items c.in-Ok.at ≡ Some c.index_mut.result.now = reached-here c.args.self.now.tables.entries.items _ _ c.in-Ok.at c.index_mut.result.now c.in-Ok.ensures c.index_mut.ensures.value in
+    sound-with c.args.self.now.tables.entries.items c.in-Ok.at c.index_mut.result.now _ _ _ _ _ _ _ here c.load-loaded.ensures.goes c.load-loaded.ensures.lies c.in-Ok.ensures.mounted_is
+    (runs-after _ _ _ _ (c.requires.sound.running c.in-Ok.ensures.mounted_is c.in-Ok.at c.index_mut.result.now here) c.load-loaded.ensures.running c.put_breaks.ensures) c.requires.sound
 
 pub returns-clause-step : goal.returns-clause-step
 returns-clause-step g c = λ config old h.
-    load-executes _ config old _ _ _ c.args.name _ _ _ _ _ c.args.count c.args.step c.args.seed _ _ _ _ _ h c.in_default.ensures c.load-loaded.ensures.answers c.put_breaks.ensures c.write.ensures.text
+    let here : slice_get c.args.self.now.tables.entries.items c.in-Ok.at ≡ Some c.index_mut.result.now = reached-here c.args.self.now.tables.entries.items _ _ c.in-Ok.at c.index_mut.result.now c.in-Ok.ensures c.index_mut.ensures.value in
+    load-executes _ config old _ c.in-Ok.at c.index_mut.result.now _ c.args.name _ _ _ _ _ c.args.count c.args.step c.args.seed _ _ _ _ _ h c.in-Ok.ensures here c.load-loaded.ensures.reads c.load-loaded.ensures.answers c.put_breaks.ensures c.write.ensures.text

@@ -1,10 +1,28 @@
+use Rattle.std.proofs.Common.{◌≡◌, true, IsTrue, refl, sym, ap, subst, arith}
+use Rattle.fl_flash.specs.Flash.{FlashState}
+use Rattle.fl_session.specs.Tables.{LieOn}
 use Rattle.fl_session.proofs.Calls.{mount-call, already-call}
+use Rattle.fl_session.proofs.Going.{goes-set}
+use Rattle.fl_session.proofs.Sound.{lie-on}
 use Rattle.fl_session.proofs.session.Session.mount.Goals as goal
 
+pub mount-outcome-requires-clause-lie : goal.mount-outcome-requires-clause-lie
+mount-outcome-requires-clause-lie g c =
+    subst (λ (x : FlashState). LieOn c.args.self.now.tables.entries.items x) (sym c.power_on.ensures) (lie-on c.args.self.now.tables.entries.items _ _ (goes-set _ true _) c.requires.sound.lie)
+
 pub returns-then-self-clause-step : goal.returns-then-self-clause-step
-returns-then-self-clause-step g c = λ config old h. already-call config old _ _ _ _ _ _ h c.if-self.true
+returns-then-self-clause-step g c = λ config old h. already-call config old _ _ _ _ _ h c.if-self.true
 
 pub returns-clause-step : goal.returns-clause-step
 returns-clause-step g c = λ config old h.
-    mount-call config old _ _ _ _ _ _ _ _ _ c.mount-outcome.result _ h c.if-self.false c.power_on.ensures c.mount-outcome.ensures.goes c.mount-outcome.ensures.same
+    mount-call config old _ _ _ _ _ _ _ _ c.mount-outcome.result _ h c.if-self.false c.power_on.ensures c.mount-outcome.ensures.goes
     c.mount-outcome.ensures.ends c.is_ok-self.ensures.value c.mount_reply.ensures
+
+pub returns-then-self-clause-reads : goal.returns-then-self-clause-reads
+returns-then-self-clause-reads g c = λ tells. rw c.if-self.true refl
+
+pub returns-clause-reads : goal.returns-clause-reads
+returns-clause-reads g c = λ tells.
+    let few = c.mount-outcome.ensures.reads (subst (λ (x : FlashState). IsTrue x.media.tells) (sym c.power_on.ensures) tells) in
+    let same : c.power_on.new.self.work.reads ≡ c.args.self.now.flash.work.reads = ap (λ (x : FlashState). x.work.reads) c.power_on.ensures in
+    rw c.if-self.false (omega (arith, few, same))

@@ -1,19 +1,47 @@
-use Rattle.std.proofs.Common.{◌≡◌, ◌-◌, ◌^◌, ◌<◌, rules, refl, ap, arith}
+use Rattle.std.proofs.Common.{◌≡◌, ◌-◌, ◌^◌, ◌<◌, rules, Some, refl, ap, subst, arith}
+use Rattle.std.specs.Prelude.{IfSome, Option, option_map, unwrap_or, length}
+use Rattle.std.specs.List.{slice_get}
 use Rattle.fl_flash.specs.declared.flash.Work.{Work}
+use Rattle.fl_session.specs.declared.notes.TableCursor.{TableCursor}
 use Rattle.fl_session.proofs.Costing.{has-read}
 use Rattle.fl_session.proofs.CursorMoves.{next-executes, next-off, next-none}
+use Rattle.fl_session.proofs.Getting.{goes-reads}
+use Rattle.fl_session.proofs.Sound.{sound-read, cursors-set}
+use Rattle.fl_session.proofs.TablesChanged.{item-there}
 use Rattle.fl_session.proofs.session.Session.next.Goals as goal
 
 pub returns-then-not-self-clause-step : goal.returns-then-not-self-clause-step
-returns-then-not-self-clause-step g c = λ config old h. next-off _ config old _ _ _ _ c.args.cursor c.args.count _ _ _ _ c.if-not-self.true h c.write_reply.ensures.text
+returns-then-not-self-clause-step g c = λ config old h. next-off _ config old _ _ _ c.args.cursor c.args.count _ _ _ _ c.if-not-self.true h c.write_reply.ensures.text
 
 pub returns-in_default-clause-step : goal.returns-in_default-clause-step
-returns-in_default-clause-step g c = λ config old h. next-none _ config old _ _ _ _ c.args.cursor c.args.count _ _ _ _ c.if-not-self.false c.in_default.ensures h c.write_reply-in_default.ensures.text
+returns-in_default-clause-step g c = λ config old h. next-none _ config old _ _ _ c.args.cursor c.args.count _ _ _ _ c.if-not-self.false c.in_default.ensures h c.write_reply-in_default.ensures.text
+
+pub next_rows-written-requires-clause-running : goal.next_rows-written-requires-clause-running
+next_rows-written-requires-clause-running g c =
+    let here : slice_get c.args.self.now.tables.entries.items c.in-Some.open.table ≡ Some c.index.result.now =
+    item-there c.args.self.now.tables.entries.items _ c.in-Some.open.table c.index.result.now refl (c.requires.sound.cursors c.args.cursor c.in-Some.open c.in-Some.ensures) c.index.ensures in
+    c.requires.sound.running c.if-not-self.false c.in-Some.open.table c.index.result.now here
+
+pub next_rows-written-requires-clause-lies : goal.next_rows-written-requires-clause-lies
+next_rows-written-requires-clause-lies g c =
+    let here : slice_get c.args.self.now.tables.entries.items c.in-Some.open.table ≡ Some c.index.result.now =
+    item-there c.args.self.now.tables.entries.items _ c.in-Some.open.table c.index.result.now refl (c.requires.sound.cursors c.args.cursor c.in-Some.open c.in-Some.ensures) c.index.ensures in
+    c.requires.sound.lie c.in-Some.open.table c.index.result.now here
+
+pub returns-clause-sound : goal.returns-clause-sound
+returns-clause-sound g c =
+    rw c.set_cursor.ensures (sound-read c.args.self.now.tables.entries.items _ _ _ _ _ _ _ (goes-reads _ _ c.next_rows-written.ensures.counts) c.next_rows-written.ensures.rows c.next_rows-written.ensures.index
+    (cursors-set c.args.self.now.tables.entries.items c.args.self.now.notes.cursors c.args.cursor (Some (record c.in-Some.open { mark = c.next_rows-written.new.mark })) c.requires.sound.cursors
+    (λ x e. let is : c.in-Some.open.table ≡ x.table = ap (λ (o : Option TableCursor). unwrap_or (option_map (λ y. y.table) o) 0) e in subst (λ n. n < length c.args.self.now.tables.entries.items) is (c.requires.sound.cursors c.args.cursor c.in-Some.open c.in-Some.ensures)))
+    c.requires.sound)
 
 pub returns-clause-step : goal.returns-clause-step
 returns-clause-step g c = λ config old h.
     let before : c.work-before.result.reads ≡ c.args.self.now.flash.work.reads = ap (λ (w : Work). w.reads) c.work-before.ensures in
     let fits : c.work-before.result.reads < 2 ^ 64 = search rules in
     let small : c.args.self.now.flash.work.reads < 2 ^ 64 = omega (arith, fits, before) in
-    rw c.set_cursor.ensures (next-executes _ config old _ _ _ _ _ (c.next_rows-written.new.flash.work.reads - c.args.self.now.flash.work.reads) c.args.cursor c.args.count _ c.in-Some.mark c.next_rows-written.new.mark _ _ _ h c.if-not-self.false
-    c.in-Some.ensures c.next_rows-written.ensures.counts (has-read _ _ c.next_rows-written.ensures.counts _ small refl) c.next_rows-written.ensures.nexts)
+    let here : slice_get c.args.self.now.tables.entries.items c.in-Some.open.table ≡ Some c.index.result.now =
+    item-there c.args.self.now.tables.entries.items _ c.in-Some.open.table c.index.result.now refl (c.requires.sound.cursors c.args.cursor c.in-Some.open c.in-Some.ensures) c.index.ensures in
+    let fits_after : IfSome c.in-Some.open.mark.after (λ after. after < 2 ^ 64) = search rules in
+    rw c.set_cursor.ensures (next-executes _ config old _ c.index.result.now _ _ _ (c.next_rows-written.new.flash.work.reads - c.args.self.now.flash.work.reads) c.args.cursor c.args.count _ c.in-Some.open c.next_rows-written.new.mark _ _ _ h c.if-not-self.false
+    c.in-Some.ensures here fits_after c.next_rows-written.ensures.counts (has-read _ _ c.next_rows-written.ensures.counts _ small refl) refl c.next_rows-written.ensures.nexts)

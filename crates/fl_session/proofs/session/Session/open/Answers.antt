@@ -1,9 +1,33 @@
+use Rattle.std.proofs.Common.{◌≡◌, ◌<◌, Some, Option, length, refl, ap, subst}
+use Rattle.std.specs.List.{slice_get}
+use Rattle.std.specs.Prelude.{option_map, unwrap_or}
+use Rattle.fl_session.specs.declared.notes.TableCursor.{TableCursor}
 use Rattle.fl_session.proofs.CursorsOf.{open-call, open-refused}
+use Rattle.fl_session.proofs.Going.{goes-same}
+use Rattle.fl_session.proofs.Owning.{reached-here, reached-within}
+use Rattle.fl_session.proofs.Sound.{sound-read, cursors-set}
 use Rattle.fl_session.proofs.session.Session.open.Goals as goal
 
-pub returns-in-Some-clause-step : goal.returns-in-Some-clause-step
-returns-in-Some-clause-step g c = λ config old h. open-refused config old _ _ _ _ _ c.args.name c.args.cursor c.args.range c.args.span c.in-Some.refusal _ h c.in-Some.ensures
+pub returns-in-Err-clause-step : goal.returns-in-Err-clause-step
+returns-in-Err-clause-step g c = λ config old h. open-refused config old _ _ _ _ c.args.name c.args.cursor c.args.range c.args.span c.in-Err.refusal _ h c.in-Err.ensures
+
+pub index-requires : goal.index-requires
+index-requires g c = reached-within c.args.self.now.tables.entries.items _ _ _ c.in-Ok.at c.args.self.now.tables.entries.ok.0 c.in-Ok.ensures
+
+pub open_cursor-mark-requires : goal.open_cursor-mark-requires
+open_cursor-mark-requires g c =
+    let here : slice_get c.args.self.now.tables.entries.items c.in-Ok.at ≡ Some c.index.result.now = reached-here c.args.self.now.tables.entries.items _ _ c.in-Ok.at c.index.result.now c.in-Ok.ensures c.index.ensures in
+    c.requires.sound.running c.in-Ok.ensures.mounted_is c.in-Ok.at c.index.result.now here
+
+pub returns-clause-sound : goal.returns-clause-sound
+returns-clause-sound g c =
+    let within : c.in-Ok.at < length c.args.self.now.tables.entries.items = reached-within c.args.self.now.tables.entries.items _ _ _ c.in-Ok.at refl c.in-Ok.ensures in
+    rw c.set_cursor.ensures (sound-read c.args.self.now.tables.entries.items _ _ _ _ _ _ _ (goes-same _) c.open_cursor-mark.ensures.rows c.open_cursor-mark.ensures.index
+    (cursors-set c.args.self.now.tables.entries.items c.args.self.now.notes.cursors c.args.cursor (Some (record { table = c.in-Ok.at; mark = c.open_cursor-mark.result })) c.requires.sound.cursors
+    (λ x e. let is : c.in-Ok.at ≡ x.table = ap (λ (o : Option TableCursor). unwrap_or (option_map (λ y. y.table) o) 0) e in subst (λ n. n < length c.args.self.now.tables.entries.items) is within))
+    c.requires.sound)
 
 pub returns-clause-step : goal.returns-clause-step
 returns-clause-step g c = λ config old h.
-    rw c.set_cursor.ensures (open-call config old _ _ c.args.name _ _ _ _ c.args.cursor c.args.range c.args.span c.open_cursor-mark.result h c.in_default.ensures c.open_cursor-mark.ensures.begins)
+    let here : slice_get c.args.self.now.tables.entries.items c.in-Ok.at ≡ Some c.index.result.now = reached-here c.args.self.now.tables.entries.items _ _ c.in-Ok.at c.index.result.now c.in-Ok.ensures c.index.ensures in
+    rw c.set_cursor.ensures (open-call config old _ c.in-Ok.at c.index.result.now c.args.name _ _ _ _ c.args.cursor c.args.range c.args.span c.open_cursor-mark.result h c.in-Ok.ensures here c.open_cursor-mark.ensures.begins)

@@ -1,11 +1,30 @@
+use Rattle.std.proofs.Common.{◌≡◌, Some}
+use Rattle.std.specs.List.{slice_get}
 use Rattle.fl_session.proofs.Calls.{put-call}
+use Rattle.fl_session.proofs.Owning.{reached-here, reached-within}
 use Rattle.fl_session.proofs.Refusing.{put-refused_so}
+use Rattle.fl_session.proofs.Sound.{sound-with, runs-after}
 use Rattle.fl_session.proofs.session.Session.put.Goals as goal
 
-pub returns-in-Some-clause-step : goal.returns-in-Some-clause-step
-returns-in-Some-clause-step g c = λ config old h. put-refused_so config old _ _ _ _ _ c.args.name c.args.key c.args.values.now _ c.in-Some.refusal _ h c.in-Some.ensures
+pub returns-in-Err-clause-step : goal.returns-in-Err-clause-step
+returns-in-Err-clause-step g c = λ config old h. put-refused_so config old _ _ _ _ c.args.name c.args.key c.args.values.now _ c.in-Err.refusal _ h c.in-Err.ensures
+
+pub index_mut-requires : goal.index_mut-requires
+index_mut-requires g c = reached-within c.args.self.now.tables.entries.items _ _ _ c.in-Ok.at c.args.self.now.tables.entries.ok.0 c.in-Ok.ensures
+
+pub put-outcome-requires : goal.put-outcome-requires
+put-outcome-requires g c =
+    let here : slice_get c.args.self.now.tables.entries.items c.in-Ok.at ≡ Some c.index_mut.result.now = reached-here c.args.self.now.tables.entries.items _ _ c.in-Ok.at c.index_mut.result.now c.in-Ok.ensures c.index_mut.ensures.value in
+    record { lies = c.requires.sound.lie c.in-Ok.at c.index_mut.result.now here }
+
+pub returns-clause-sound : goal.returns-clause-sound
+returns-clause-sound g c =
+    let here : slice_get c.args.self.now.tables.entries.items c.in-Ok.at ≡ Some c.index_mut.result.now = reached-here c.args.self.now.tables.entries.items _ _ c.in-Ok.at c.index_mut.result.now c.in-Ok.ensures c.index_mut.ensures.value in
+    sound-with c.args.self.now.tables.entries.items c.in-Ok.at c.index_mut.result.now _ _ _ _ _ _ _ here c.put-outcome.ensures.goes c.put-outcome.ensures.lies c.in-Ok.ensures.mounted_is
+    (runs-after _ _ _ _ (c.requires.sound.running c.in-Ok.ensures.mounted_is c.in-Ok.at c.index_mut.result.now here) c.put-outcome.ensures.running c.put_breaks.ensures) c.requires.sound
 
 pub returns-clause-step : goal.returns-clause-step
 returns-clause-step g c = λ config old h.
-    put-call config old _ _ _ c.args.name _ _ _ _ c.args.key c.args.values.now _ c.put-outcome.result c.put_breaks.result _ h c.in_default.ensures c.put-outcome.ensures.goes c.put-outcome.ensures.same
-    c.put-outcome.ensures.ends c.put-outcome.ensures.refused c.put_breaks.ensures c.put_reply.ensures
+    let here : slice_get c.args.self.now.tables.entries.items c.in-Ok.at ≡ Some c.index_mut.result.now = reached-here c.args.self.now.tables.entries.items _ _ c.in-Ok.at c.index_mut.result.now c.in-Ok.ensures c.index_mut.ensures.value in
+    put-call config old _ c.in-Ok.at c.index_mut.result.now _ c.args.name _ _ _ _ c.args.key c.args.values.now _ c.put-outcome.result c.put_breaks.result _ h c.in-Ok.ensures here c.put-outcome.ensures.goes c.put-outcome.ensures.same
+    c.put-outcome.ensures.outside c.put-outcome.ensures.ends c.put-outcome.ensures.refused c.put_breaks.ensures c.put_reply.ensures

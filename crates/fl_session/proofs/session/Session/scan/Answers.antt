@@ -1,30 +1,42 @@
-use Rattle.std.proofs.Common.{◌≡◌, ◌-◌, ◌^◌, ◌<◌, rules, sym, ◌∙◌, ap, arith}
-use Rattle.fl_base.specs.declared.types.Geometry.{Geometry}
+use Rattle.std.proofs.Common.{◌≡◌, ◌-◌, ◌^◌, ◌<◌, Some, rules, ap, arith}
+use Rattle.std.specs.List.{slice_get}
 use Rattle.fl_flash.specs.declared.flash.Work.{Work}
-use Rattle.fl_table.proofs.StillStands.{lies-still}
 use Rattle.fl_session.proofs.Costing.{has-read}
+use Rattle.fl_session.proofs.Getting.{goes-reads}
+use Rattle.fl_session.proofs.Owning.{reached-here, reached-within}
 use Rattle.fl_session.proofs.Scanning.{scan-executes, scan-refused}
+use Rattle.fl_session.proofs.Sound.{sound-read}
 use Rattle.fl_session.proofs.session.Session.scan.Goals as goal
 
-pub returns-in-Some-clause-step : goal.returns-in-Some-clause-step
-returns-in-Some-clause-step g c = λ config old h. scan-refused _ config old _ _ _ _ _ c.args.name c.args.wanted.range c.args.wanted.span c.in-Some.refusal _ _ _ h c.in-Some.ensures c.write_reply.ensures.text
+pub returns-in-Err-clause-step : goal.returns-in-Err-clause-step
+returns-in-Err-clause-step g c = λ config old h. scan-refused _ config old _ _ _ _ c.args.name c.args.range c.args.span c.in-Err.refusal _ _ _ h c.in-Err.ensures c.write_reply.ensures.text
+
+pub index-requires : goal.index-requires
+index-requires g c = reached-within c.args.self.now.tables.entries.items _ _ _ c.in-Ok.at c.args.self.now.tables.entries.ok.0 c.in-Ok.ensures
+
+pub list_rows-written-requires-clause-running : goal.list_rows-written-requires-clause-running
+list_rows-written-requires-clause-running g c =
+    let here : slice_get c.args.self.now.tables.entries.items c.in-Ok.at ≡ Some c.index.result.now = reached-here c.args.self.now.tables.entries.items _ _ c.in-Ok.at c.index.result.now c.in-Ok.ensures c.index.ensures in
+    c.requires.sound.running c.in-Ok.ensures.mounted_is c.in-Ok.at c.index.result.now here
+
+pub list_rows-written-requires-clause-lies : goal.list_rows-written-requires-clause-lies
+list_rows-written-requires-clause-lies g c =
+    let here : slice_get c.args.self.now.tables.entries.items c.in-Ok.at ≡ Some c.index.result.now = reached-here c.args.self.now.tables.entries.items _ _ c.in-Ok.at c.index.result.now c.in-Ok.ensures c.index.ensures in
+    c.requires.sound.lie c.in-Ok.at c.index.result.now here
+
+pub returns-clause-goes : goal.returns-clause-goes
+returns-clause-goes g c = goes-reads _ _ c.list_rows-written.ensures.counts
 
 pub returns-clause-sound : goal.returns-clause-sound
-returns-clause-sound g c = record {
-  lies = lies-still _ _ _ _ c.scan-written.ensures.reads c.requires.sound.lies;
-  room = (
-    c.scan-written.ensures.room ∙ (c.requires.sound.room.0 ∙ ap (λ (x : Geometry). x.page) (sym c.scan-written.ensures.reads.goes.geometry)),
-    c.requires.sound.room.1 ∙ ap (λ (x : Geometry). x.page) (sym c.scan-written.ensures.reads.goes.geometry),
-  );
-  running = c.requires.sound.running;
-}
+returns-clause-sound g c = sound-read c.args.self.now.tables.entries.items _ _ _ _ _ _ _ (goes-reads _ _ c.list_rows-written.ensures.counts) c.list_rows-written.ensures.rows c.list_rows-written.ensures.index c.requires.sound.cursors c.requires.sound
 
 pub returns-clause-step : goal.returns-clause-step
 returns-clause-step g c = λ config old h.
     let before : c.work-before.result.reads ≡ c.args.self.now.flash.work.reads = ap (λ (w : Work). w.reads) c.work-before.ensures in
     let fits : c.work-before.result.reads < 2 ^ 64 = search rules in
     let small : c.args.self.now.flash.work.reads < 2 ^ 64 = omega (arith, fits, before) in
-    let after : c.work.result.reads ≡ c.scan-written.new.flash.work.reads = ap (λ (w : Work). w.reads) c.work.ensures in
-    let reads : c.saturating_sub-reads.result ≡ c.scan-written.new.flash.work.reads - c.args.self.now.flash.work.reads = omega (arith, c.saturating_sub-reads.ensures, before, after) in
-    scan-executes _ config old _ _ c.args.name _ _ _ _ _ _ c.args.wanted.range c.args.wanted.span _ _ _ h c.in_default.ensures c.scan-written.ensures.reads
-    (has-read _ _ c.scan-written.ensures.counts _ small reads) c.scan-written.ensures.scans
+    let after : c.work.result.reads ≡ c.list_rows-written.new.flash.work.reads = ap (λ (w : Work). w.reads) c.work.ensures in
+    let reads : c.saturating_sub-reads.result ≡ c.list_rows-written.new.flash.work.reads - c.args.self.now.flash.work.reads = omega (arith, c.saturating_sub-reads.ensures, before, after) in
+    let here : slice_get c.args.self.now.tables.entries.items c.in-Ok.at ≡ Some c.index.result.now = reached-here c.args.self.now.tables.entries.items _ _ c.in-Ok.at c.index.result.now c.in-Ok.ensures c.index.ensures in
+    scan-executes _ config old _ c.in-Ok.at c.index.result.now c.args.name _ _ _ _ _ c.args.range c.args.span _ _ _ h c.in-Ok.ensures here c.list_rows-written.ensures.counts
+    (has-read _ _ c.list_rows-written.ensures.counts _ small reads) reads c.list_rows-written.ensures.scans

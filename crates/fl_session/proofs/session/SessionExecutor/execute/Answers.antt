@@ -1,8 +1,12 @@
-use Rattle.std.proofs.Common.{sym, arith}
+use Rattle.std.proofs.Common.{FitsSigned, rules, sym, arith}
+use Rattle.std.proofs.lemmas.Int.{to_z-of_z}
+use Rattle.std.specs.Int.{w64}
 use Rattle.fl_base.specs.declared.stream.SinkFailed.{SinkFailed}
 use Rattle.fl_session.proofs.Going.{goes-same}
 use Rattle.fl_session.proofs.StepsOf.{default-view, executes-nothing}
 use Rattle.fl_session.proofs.Answering.{executes-answered}
+use Rattle.fl_session.proofs.Operations.{select-by}
+use Rattle.fl_session.proofs.MountReads.{executes-mounted}
 use Rattle.fl_session.proofs.session.SessionExecutor.execute.Goals as goal
 use Rattle.fl_session.proofs.session.SessionExecutor.execute.Goals.{in-Mount, in-Off, in-Cut, in-Put, in-Flush, in-Stat, in-Open, in-Close, in-Cost}
 
@@ -14,20 +18,20 @@ returns-in_default g c = record {
   step = λ config old h.
       executes-nothing SinkFailed config old _ _ _ _ (default-view c.args.command.now c.args.room.now c.requires.runnable c.in_default.not-Mount c.in_default.not-Off (λ n kind e. c.in_default.not-Cut n kind e)
       (λ name key values blob e. c.in_default.not-Put name key values blob e) (λ name e. c.in_default.not-Flush name e) (λ name e. c.in_default.not-Stat name e) (λ name key e. c.in_default.not-Get name key e) (λ name range span e. c.in_default.not-Scan name range span e)
-      (λ name count step seed e. c.in_default.not-Load name count step seed e) (λ cursor name range span e. c.in_default.not-Open cursor name range span e) (λ cursor e. c.in_default.not-Close cursor e) (λ cursor count e. c.in_default.not-Next cursor count e) c.in_default.not-Cost) h;
+      (λ name count step seed e. c.in_default.not-Load name count step seed e) (λ cursor name range span e. c.in_default.not-Open cursor name range span e) (λ cursor e. c.in_default.not-Close cursor e) (λ cursor count e. c.in_default.not-Next cursor count e) c.in_default.not-Cost (λ name range column op value e. c.in_default.not-Select name range column op value e) (λ name range columns e. c.in_default.not-Project name range columns e) (λ name range column width e. c.in_default.not-Agg name range column width e)) h;
 }
 
 pub returns-clause-step : goal.returns-clause-step
 returns-clause-step g c = λ config old h. elim c.match-command.branch [
-  | in-Mount w ↦ rw (w.self-is, w.in-Mount.is) (executes-answered SinkFailed config old _ _ _ _ _ _ _ c.write_reply.result (w.mount-reply.ensures.step config old h) (λ moment none. tt) (λ moment none. tt) (rw w.reply-is at c.write_reply.ensures.text))
-  | in-Off w ↦ rw (w.self-is, w.in-Off.is) (executes-answered SinkFailed config old _ _ _ _ _ _ _ c.write_reply.result (w.off-reply.ensures.step config old h) (λ moment none. none) (λ moment none. tt) (rw w.reply-is at c.write_reply.ensures.text))
-  | in-Cut w ↦ rw (w.self-is, w.in-Cut.is) (executes-answered SinkFailed config old _ _ _ _ _ _ _ c.write_reply.result (w.cut-reply.ensures.step config old h) (λ moment none. none) (λ moment none. tt) (rw w.reply-is at c.write_reply.ensures.text))
-  | in-Put w ↦ rw (w.self-is, w.in-Put.is, sym w.as_slice.ensures.value, sym w.blob_in.ensures) (executes-answered SinkFailed config old _ _ _ _ _ _ _ c.write_reply.result (w.put-reply.ensures.step config old h) (λ moment none. none) (λ moment none. tt) (rw w.reply-is at c.write_reply.ensures.text))
-  | in-Flush w ↦ rw (w.self-is, w.in-Flush.is) (executes-answered SinkFailed config old _ _ _ _ _ _ _ c.write_reply.result (w.flush-reply.ensures.step config old h) (λ moment none. none) (λ moment none. tt) (rw w.reply-is at c.write_reply.ensures.text))
-  | in-Stat w ↦ rw (w.self-is, w.in-Stat.is) (executes-answered SinkFailed config old _ _ _ _ _ _ _ c.write_reply.result (w.stat-reply.ensures config old h) (λ moment none. none) (λ moment none. tt) (rw w.reply-is at c.write_reply.ensures.text))
-  | in-Open w ↦ rw (w.self-is, w.in-Open.is) (executes-answered SinkFailed config old _ _ _ _ _ _ _ c.write_reply.result (w.open-reply.ensures.step config old h) (λ moment none. none) (λ moment none. tt) (rw w.reply-is at c.write_reply.ensures.text))
-  | in-Close w ↦ rw (w.self-is, w.in-Close.is) (executes-answered SinkFailed config old _ _ _ _ _ _ _ c.write_reply.result (w.close-reply.ensures.step config old h) (λ moment none. none) (λ moment none. tt) (rw w.reply-is at c.write_reply.ensures.text))
-  | in-Cost w ↦ rw (w.self-is, w.in-Cost.is) (executes-answered SinkFailed config old _ _ _ _ _ _ _ c.write_reply.result (w.cost-reply.ensures config old h) (λ moment none. none) (λ moment none. tt) (rw w.reply-is at c.write_reply.ensures.text))
+  | in-Mount w ↦ rw (w.self-is, w.in-Mount.is) (executes-mounted config old _ _ _ _ _ h SinkFailed _ _ _ _ c.write_reply.result (w.mount-reply.ensures.step config old h) (w.mount-reply.ensures.reads h.medium.told) (rw w.reply-is at c.write_reply.ensures.text))
+  | in-Off w ↦ rw (w.self-is, w.in-Off.is) (executes-answered SinkFailed config old _ _ _ _ _ _ _ c.write_reply.result (w.off-reply.ensures.step config old h) (λ moment none. (none, omega (arith, w.off-reply.ensures.reads))) (λ moment none. tt) (rw w.reply-is at c.write_reply.ensures.text))
+  | in-Cut w ↦ rw (w.self-is, w.in-Cut.is) (executes-answered SinkFailed config old _ _ _ _ _ _ _ c.write_reply.result (w.cut-reply.ensures.step config old h) (λ moment none. (none, omega (arith, w.cut-reply.ensures.reads))) (λ moment none. tt) (rw w.reply-is at c.write_reply.ensures.text))
+  | in-Put w ↦ rw (w.self-is, w.in-Put.is, sym w.as_slice.ensures.value, sym w.blob_in.ensures) (executes-answered SinkFailed config old _ _ _ _ _ _ _ c.write_reply.result (w.put-reply.ensures.step config old h) (λ moment none. (none, omega (arith, w.put-reply.ensures.reads))) (λ moment none. tt) (rw w.reply-is at c.write_reply.ensures.text))
+  | in-Flush w ↦ rw (w.self-is, w.in-Flush.is) (executes-answered SinkFailed config old _ _ _ _ _ _ _ c.write_reply.result (w.flush-reply.ensures.step config old h) (λ moment none. (none, omega (arith, w.flush-reply.ensures.reads))) (λ moment none. tt) (rw w.reply-is at c.write_reply.ensures.text))
+  | in-Stat w ↦ rw (w.self-is, w.in-Stat.is) (executes-answered SinkFailed config old _ _ _ _ _ _ _ c.write_reply.result (w.stat-reply.ensures config old h) (λ moment none. (none, omega arith)) (λ moment none. tt) (rw w.reply-is at c.write_reply.ensures.text))
+  | in-Open w ↦ rw (w.self-is, w.in-Open.is) (executes-answered SinkFailed config old _ _ _ _ _ _ _ c.write_reply.result (w.open-reply.ensures.step config old h) (λ moment none. (none, omega (arith, w.open-reply.ensures.reads))) (λ moment none. tt) (rw w.reply-is at c.write_reply.ensures.text))
+  | in-Close w ↦ rw (w.self-is, w.in-Close.is) (executes-answered SinkFailed config old _ _ _ _ _ _ _ c.write_reply.result (w.close-reply.ensures.step config old h) (λ moment none. (none, omega (arith, w.close-reply.ensures.reads))) (λ moment none. tt) (rw w.reply-is at c.write_reply.ensures.text))
+  | in-Cost w ↦ rw (w.self-is, w.in-Cost.is) (executes-answered SinkFailed config old _ _ _ _ _ _ _ c.write_reply.result (w.cost-reply.ensures config old h) (λ moment none. (none, omega arith)) (λ moment none. tt) (rw w.reply-is at c.write_reply.ensures.text))
 ]
 
 pub returns-clause-sound : goal.returns-clause-sound
@@ -55,3 +59,17 @@ returns-clause-goes g c = elim c.match-command.branch [
   | in-Close w ↦ rw w.self-is (w.close-reply.ensures.goes)
   | in-Cost w ↦ rw w.self-is (goes-same _)
 ]
+
+pub returns-in-Select-clause-step : goal.returns-in-Select-clause-step
+returns-in-Select-clause-step g c = λ config old h.
+    let fits : FitsSigned w64 c.in-Select.value = search rules in
+    rw c.in-Select.is (select-by (to_z-of_z w64 c.in-Select.value fits) (c.select.ensures.step config old h))
+
+pub returns-in-Project-clause-step : goal.returns-in-Project-clause-step
+returns-in-Project-clause-step g c = λ config old h. rw c.in-Project.is (c.project.ensures.step config old h)
+
+pub returns-in-Agg-clause-step : goal.returns-in-Agg-clause-step
+returns-in-Agg-clause-step g c = λ config old h. rw c.in-Agg.is (c.aggregate.ensures.step config old h)
+
+pub returns-in-Load-clause-step : goal.returns-in-Load-clause-step
+returns-in-Load-clause-step g c = λ config old h. rw c.in-Load.is (c.load.ensures.step config old h)

@@ -23,7 +23,7 @@ invariant_of-self-clause-blank_rest c =
 pub returns-clause-stands : goal.returns-clause-stands
 returns-clause-stands c = λ f first plan table stands ok.
     let t = c.args.self.now in
-    let a = added t f first plan table c.args.key c.args.values.now stands ok in
+    let a = added t f first plan table c.args.key c.args.values.now stands c.requires.index_left ok in
     let memory = stands.memory in
     let row : Row = record { key = c.args.key; values = c.args.values.now; blob = None } in
     let bits : c.with_value-self.result ≡ bitmap_with t.buckets t.bitmap (get_or c.args.values.now 0 (pos 0)) = search (rules, to_z-of_z) in
@@ -55,7 +55,7 @@ returns-clause-stands c = λ f first plan table stands ok.
         voids = memory.voids;
         index = memory.index;
         no_fill = memory.no_fill;
-        idle = memory.idle;
       };
+      bitmaps = a.bitmaps;
       points = points-added plan (record { key = c.args.key; values = c.args.values.now; blob = None }) table (omega (arith, stands.facts.counted)) stands.points;
     }

@@ -1,9 +1,7 @@
-use Rattle.std.proofs.Common.{◌≡◌, ◌∷◌, [], arith}
+use Rattle.std.proofs.Common.{◌≡◌, arith}
 use Rattle.std.proofs.lemmas.Result.{err_from_is_err_and}
-use Rattle.fl_model.specs.Table.{DataRing, table_seals}
-use Rattle.fl_model.proofs.Puts.{plain-table_seals}
-use Rattle.fl_table.proofs.SealAnswers.{planned-plain, writer-count}
-use Rattle.fl_table.proofs.Putting.{flush-finishes, flush-breaks, flush-idle}
+use Rattle.fl_table.proofs.SealAnswers.{writer-count}
+use Rattle.fl_table.proofs.Putting.{flush-idle}
 use Rattle.fl_table.proofs.table.Table.flush.Goals as goal
 
 pub returns-then-count-eq0-clause-ends : goal.returns-then-count-eq0-clause-ends
@@ -16,19 +14,8 @@ returns-then-count-eq0-clause-ends g c = λ first plan table rose device watched
 
 pub returns-in_err-seal-clause-ends : goal.returns-in_err-seal-clause-ends
 returns-in_err-seal-clause-ends g c = λ first plan table rose device watched stands.
-    let t = c.args.self.now in
-    let f = g.F.Flash.state c.args.flash.now in
-    let count : t.writer.count ≡ table.pending = writer-count t f first plan table stands in
-    let some : table.pending ≡ 0 → ⊥ = λ e. c.if-count-eq0.false (omega (arith, count, e, c.count.ensures)) in
-    let rings : table_seals plan table ≡ DataRing ∷ [] = plain-table_seals plan table (planned-plain t first plan stands.planned) stands.memory.no_fill some in
     let p = err_from_is_err_and c.from_residual.result c.from_residual.ensures.1 in
-    rw (p.1, p.2) (flush-breaks first plan table rose device c.in_err-seal.field-0.0 (g.F.Flash.state c.seal.new.flash) rings (c.in_err-seal.ensures.ends first plan table rose device watched stands))
+    rw (p.1, p.2) (c.in_err-seal.ensures.ends first plan table rose device watched stands)
 
 pub returns-clause-ends : goal.returns-clause-ends
-returns-clause-ends g c = λ first plan table rose device watched stands.
-    let t = c.args.self.now in
-    let f = g.F.Flash.state c.args.flash.now in
-    let count : t.writer.count ≡ table.pending = writer-count t f first plan table stands in
-    let some : table.pending ≡ 0 → ⊥ = λ e. c.if-count-eq0.false (omega (arith, count, e, c.count.ensures)) in
-    let rings : table_seals plan table ≡ DataRing ∷ [] = plain-table_seals plan table (planned-plain t first plan stands.planned) stands.memory.no_fill some in
-    flush-finishes first plan table rose device c.seal.new.self (g.F.Flash.state c.seal.new.flash) rings (c.in_ok-seal.ensures.ends first plan table rose device watched stands)
+returns-clause-ends g c = λ first plan table rose device watched stands. c.in_ok-seal.ensures.ends first plan table rose device watched stands

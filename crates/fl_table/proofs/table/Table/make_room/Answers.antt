@@ -1,12 +1,12 @@
-use Rattle.std.proofs.Common.{rules, ◌≡◌, ◌+◌, ◌<◌, ◌≤◌, [], ◌∷◌, length, arith, sym, ◌∙◌, refl}
+use Rattle.std.proofs.Common.{rules, ◌≡◌, ◌+◌, ◌<◌, ◌≤◌, List, [], length, arith, sym, ◌∙◌, refl, subst}
 use Rattle.std.proofs.lemmas.Bool.{ltb-true, ltb-false}
 use Rattle.fl_model.specs.Record.{layout_len}
-use Rattle.fl_model.specs.Table.{DataRing, make_room_seals}
+use Rattle.fl_model.specs.Table.{RingName, make_room_seals}
 use Rattle.fl_model.specs.Work.{Whole}
-use Rattle.fl_model.proofs.Puts.{plain-table_seals, full-room_seals, room-room_seals}
+use Rattle.fl_model.proofs.Puts.{full-room_seals, room-room_seals}
 use Rattle.fl_schema.specs.Schema.{layout_of}
-use Rattle.fl_table.proofs.SealAnswers.{planned-plain}
-use Rattle.fl_table.proofs.Putting.{has-room, is-full, some-full, room-ends}
+use Rattle.fl_table.specs.Outcomes.{SealsEnd}
+use Rattle.fl_table.proofs.Putting.{has-room, is-full}
 use Rattle.fl_table.proofs.table.Table.make_room.Goals as goal
 
 pub returns-then-not-is_full-clause-ends : goal.returns-then-not-is_full-clause-ends
@@ -50,8 +50,8 @@ returns-then-not-is_full-clause-ends g c = λ first plan table rose device watch
           voids = memory.voids;
           index = memory.index;
           no_fill = memory.no_fill;
-          idle = memory.idle;
         };
+        bitmaps = stands.bitmaps;
         points = stands.points;
       };
     })
@@ -62,7 +62,5 @@ returns-clause-ends g c = λ first plan table rose device watched stands.
     let f = g.F.Flash.state c.args.flash.now in
     let lt : length t.writer.body < t.writer.end + layout_len (layout_of t.schema) = ltb-true (length t.writer.body) (t.writer.end + layout_len (layout_of t.schema)) (sym c.is_full.ensures.room ∙ c.if-not-is_full.false) in
     let full = is-full t f first plan table stands lt in
-    let some : table.pending ≡ 0 → ⊥ = some-full t f first plan table stands lt in
-    let rings : make_room_seals plan table ≡ DataRing ∷ [] =
-    full-room_seals plan table full ∙ plain-table_seals plan table (planned-plain t first plan stands.planned) stands.memory.no_fill some in
-    room-ends first plan table rose device c.seal.result c.seal.new.self (g.F.Flash.state c.seal.new.flash) rings (c.seal.ensures.ends first plan table rose device watched (search rules))
+    subst (λ (rings : List RingName). SealsEnd first plan rings table rose device c.seal.result c.seal.new.self (g.F.Flash.state c.seal.new.flash)) (sym (full-room_seals plan table full))
+    (c.seal.ensures.ends first plan table rose device watched (search rules))

@@ -1,162 +1,96 @@
-use Rattle.std.proofs.Common.{◌-◌, ◌≤◌, ℕ, List, [], Ok, Err, length, arith, refl, sym, ◌∙◌, ap, subst, IsTrue}
-use Rattle.std.proofs.lemmas.Result.{err_from_is_err_and}
-use Rattle.fl_find.specs.Index.{IndexOf}
+use Rattle.std.proofs.Common.{◌≡◌, ◌+◌, ℕ, Option, IsTrue, sym, ◌∙◌, ap, subst, inr}
+use Rattle.std.proofs.lemmas.Result.{err_from_is_err_and, IfErr-weaker, IfOk-weaker}
+use Rattle.fl_flash.specs.Flash.{page_at}
+use Rattle.std.specs.Option.{unwrap_or}
+use Rattle.fl_index.specs.declared.index.Index.{Index}
+use Rattle.fl_base.specs.declared.types.Geometry.{Geometry}
+use Rattle.fl_base.specs.declared.types.RingPlace.{RingPlace}
 use Rattle.fl_ring.specs.Mounting.{shape_at}
-use Rattle.fl_ring.specs.Place.{next_of, oldest_of}
-use Rattle.fl_schema.specs.Schema.{layout_of}
-use Rattle.fl_table.specs.Reading.{AreNoted, pages_of}
-use Rattle.fl_table.specs.declared.counts.Mounted.{Mounted}
-use Rattle.fl_table.proofs.MountCalls.{same-shape, watched-front, risen-later, outside-stands, refuses-ring, refuses-page, finds-pages, ring-cause, pages-cause}
-use Rattle.fl_table.proofs.MountEnded.{mounting-of, ring-fails, ring-ends, ring-mounts, reads-end, same_device, started-stands, mount-answer}
-use Rattle.fl_table.proofs.MountReads.{few-first, few-all}
-use Rattle.fl_table.proofs.SealAnswers.{planned-same, planned-ring, lies-size, written-back}
+use Rattle.fl_ring.specs.Ring.{Shape}
+use Rattle.fl_table.specs.Bitmaps.{AreSamePlan, IsOutside, StandOutside}
+use Rattle.fl_table.specs.Mounting.{FindsBitmaps}
+use Rattle.fl_table.proofs.Following.{watched-front, watched-then}
+use Rattle.fl_table.proofs.MountJoined.{mount-fails, mount-then, still-found, finds-as, refuses-by, stand-outside}
+use Rattle.fl_table.proofs.SealAnswers.{planned-same}
 use Rattle.fl_table.proofs.table.Table.mount.Goals as goal
 
-pub returns-in_err-ring-clause-ends : goal.returns-in_err-ring-clause-ends
-returns-in_err-ring-clause-ends g c = λ first plan table rose device watched planned rests.
+pub returns-in_err-end-clause-ends : goal.returns-in_err-end-clause-ends
+returns-in_err-end-clause-ends g c = λ first plan table rose device watched planned rests.
     let t = c.args.self.now in
     let old = g.F.Flash.state c.args.flash.now in
-    let new = g.F.Flash.state c.mount.new.flash in
-    let lies = c.requires.lies in
-    let ensures = c.in_err-ring.ensures in
-    let goes = ensures.beside.goes in
-    let is = mounting-of t old first plan table planned lies (g.met.F.Flash.reaches c.args.flash.now) rests in
-    let sizes = lies-size t new first plan planned (goes.geometry ∙ lies.geometry) (omega (arith, goes.blocks, lies.within)) (g.met.F.Flash.reaches c.mount.new.flash) in
-    let at = same-shape t c.forget.new.self old c.forget.ensures.same lies.geometry ∙ planned-ring t first plan planned in
+    let new = g.F.Flash.state c.mount_bitmaps.new.flash in
     let p = err_from_is_err_and c.from_residual.result c.from_residual.ensures.1 in
-    rw (p.1, p.2) (ring-fails first plan table rose device old is c.in_err-ring.field-0.0 _ new sizes
-    (ring-ends first plan table rose device old is (shape_at c.forget.new.self.place old.geometry) at new (Err c.in_err-ring.field-0.0) ensures.ends watched))
-
-pub returns-in_err-mounted-clause-ends : goal.returns-in_err-mounted-clause-ends
-returns-in_err-mounted-clause-ends g c = λ first plan table rose device watched planned rests.
-    let t = c.args.self.now in
-    let t1 = c.forget.new.self in
-    let old = g.F.Flash.state c.args.flash.now in
-    let mid = g.F.Flash.state c.mount.new.flash in
-    let new = g.F.Flash.state c.read_pages.new.flash in
-    let ring = c.in_ok-ring.ring in
-    let lies = c.requires.lies in
-    let first_goes = c.in_ok-ring.ensures.beside.goes in
-    let reads = c.in_err-mounted.ensures.reads in
-    let goes = reads.goes in
-    let is = mounting-of t old first plan table planned lies (g.met.F.Flash.reaches c.args.flash.now) rests in
-    let sizes = lies-size t new first plan planned (goes.geometry ∙ (first_goes.geometry ∙ lies.geometry)) (omega (arith, goes.blocks, first_goes.blocks, lies.within)) (g.met.F.Flash.reaches c.read_pages.new.flash) in
-    let at = same-shape t t1 old c.forget.ensures.same lies.geometry ∙ planned-ring t first plan planned in
-    let l = ring-mounts first plan table rose device old is ring mid
-    (ring-ends first plan table rose device old is (shape_at t1.place old.geometry) at mid (Ok ring) c.in_ok-ring.ensures.ends (watched-front old mid new rose device watched goes)) in
-    let p = err_from_is_err_and c.from_residual-in_err-mounted.result c.from_residual-in_err-mounted.ensures.1 in
-    rw (p.1, p.2) (reads-end first plan table rose device old is ring mid new (next_of ring - oldest_of ring) l reads sizes t1 _ c.in_err-mounted.field-0.0
-    (planned-same t t1 first plan planned c.forget.ensures.same) (c.in_ok-ring.ensures.shape ∙ at) (risen-later old mid new rose device watched first_goes) c.in_err-mounted.ensures.only c.in_err-mounted.ensures.fails (subst IsTrue (sym first_goes.tells) watched.told) c.in_err-mounted.ensures.fault)
-
-pub returns-in_err-mounted-clause-refused : goal.returns-in_err-mounted-clause-refused
-returns-in_err-mounted-clause-refused g c =
-    let t = c.args.self.now in
-    let t1 = c.forget.new.self in
-    let old = g.F.Flash.state c.args.flash.now in
-    let mid = g.F.Flash.state c.mount.new.flash in
-    let new = g.F.Flash.state c.read_pages.new.flash in
-    let ring = c.in_ok-ring.ring in
-    let first_goes = c.in_ok-ring.ensures.beside.goes in
-    let p = err_from_is_err_and c.from_residual-in_err-mounted.result c.from_residual-in_err-mounted.ensures.1 in
-    rw (p.1, p.2) (λ told. refuses-page t t1 old mid new (next_of ring - oldest_of ring) c.forget.ensures.same c.requires.lies.geometry c.in_err-mounted.ensures.reads ring c.in_ok-ring.ensures.found refl c.in_err-mounted.field-0.0
-    c.in_err-mounted.ensures.only (subst IsTrue (sym first_goes.tells) told) c.in_err-mounted.ensures.fails c.in_err-mounted.ensures.fault)
-
-pub returns-in_err-mounted-clause-outside : goal.returns-in_err-mounted-clause-outside
-returns-in_err-mounted-clause-outside g c = λ told.
-    let t = c.args.self.now in
-    let t1 = c.forget.new.self in
-    let old = g.F.Flash.state c.args.flash.now in
-    let mid = g.F.Flash.state c.mount.new.flash in
-    let new = g.F.Flash.state c.read_pages.new.flash in
-    outside-stands t t1 old mid new _ c.forget.ensures.same c.requires.lies.geometry c.in_err-mounted.ensures.reads (c.in_ok-ring.ensures.beside.outside told)
-
-pub returns-clause-outside : goal.returns-clause-outside
-returns-clause-outside g c = λ told.
-    let t = c.args.self.now in
-    let t1 = c.forget.new.self in
-    let old = g.F.Flash.state c.args.flash.now in
-    let mid = g.F.Flash.state c.mount.new.flash in
-    let new = g.F.Flash.state c.read_pages.new.flash in
-    outside-stands t t1 old mid new _ c.forget.ensures.same c.requires.lies.geometry c.in_ok-mounted.ensures.reads (c.in_ok-ring.ensures.beside.outside told)
-
-pub returns-clause-found : goal.returns-clause-found
-returns-clause-found g c = λ told.
-    let t = c.args.self.now in
-    let t1 = c.forget.new.self in
-    let old = g.F.Flash.state c.args.flash.now in
-    let mid = g.F.Flash.state c.mount.new.flash in
-    let new = g.F.Flash.state c.read_pages.new.flash in
-    let ring = c.in_ok-ring.ring in
-    let ensures = c.in_ok-mounted.ensures in
-    let still = subst IsTrue (sym c.in_ok-ring.ensures.beside.goes.tells) told in
-    finds-pages t t1 old mid new (next_of ring - oldest_of ring) c.forget.ensures.same c.requires.lies.geometry ensures.reads ring c.in_ok-ring.ensures.found refl c.in_ok-mounted.mounted _ refl
-    (ensures.read still) (ensures.mounted still) (ensures.last still)
+    rw (p.1, p.2) (mount-fails t old new first plan table rose device planned rests watched c.forget.new.self.bitmaps c.mount_bitmaps.new.bitmaps c.in_err-end.field-0.0 _ (sym c.forget.ensures.bitmaps) (c.in_err-end.ensures.outside watched.told)
+    (c.in_err-end.ensures.ends (first + plan.data_blocks) plan table rose device))
 
 pub returns-clause-ends : goal.returns-clause-ends
 returns-clause-ends g c = λ first plan table rose device watched planned rests.
     let t = c.args.self.now in
-    let t1 = c.forget.new.self in
     let old = g.F.Flash.state c.args.flash.now in
-    let mid = g.F.Flash.state c.mount.new.flash in
-    let new = g.F.Flash.state c.read_pages.new.flash in
-    let ring = c.in_ok-ring.ring in
-    let lies = c.requires.lies in
-    let first_goes = c.in_ok-ring.ensures.beside.goes in
-    let ensures = c.in_ok-mounted.ensures in
-    let reads = ensures.reads in
-    let goes = reads.goes in
-    let still = subst IsTrue (sym first_goes.tells) watched.told in
-    let is = mounting-of t old first plan table planned lies (g.met.F.Flash.reaches c.args.flash.now) rests in
-    let sizes = lies-size t new first plan planned (goes.geometry ∙ (first_goes.geometry ∙ lies.geometry)) (omega (arith, goes.blocks, first_goes.blocks, lies.within)) (g.met.F.Flash.reaches c.read_pages.new.flash) in
-    let at = same-shape t t1 old c.forget.ensures.same lies.geometry ∙ planned-ring t first plan planned in
-    let l = ring-mounts first plan table rose device old is ring mid
-    (ring-ends first plan table rose device old is (shape_at t1.place old.geometry) at mid (Ok ring) c.in_ok-ring.ensures.ends (watched-front old mid new rose device watched goes)) in
-    let here = c.in_ok-ring.ensures.shape ∙ at in
-    let planned1 = planned-same t t1 first plan planned c.forget.ensures.same in
-    let n = next_of ring - oldest_of ring in
-    let back = written-back t1.counts.items c.read_pages.new.counts t1.counts.len (ensures.counts ∙ ap length c.deref_mut.ensures.value) t1.counts.ok.0 in
-    record {
-      now = l.now;
-      did = l.did;
-      counts = same_device first plan table rose device old is ring mid new n l reads sizes;
-      power = reads.power ∙ l.power;
-      stands = started-stands first plan table rose device old is ring mid new n l reads sizes _
-          (record { geometry = planned1.geometry; layout = planned1.layout; begins = planned1.begins; blocks = planned1.blocks; index = planned1.index; var = planned1.var; buckets = planned1.buckets; error = planned1.error ∙ sym ensures.error }) here refl
-          c.forget.ensures.empty c.forget.ensures.bits (ensures.last still)
-          (λ fits. subst (λ (cs : List ℕ). AreNoted (layout_of t1.schema) (pages_of ring mid) (oldest_of ring) (next_of ring - oldest_of ring) cs) (sym back)
-          (ensures.noted (subst (λ k. next_of ring - oldest_of ring ≤ k) (ap length back ∙ ensures.counts) fits) still))
-          (ensures.index still plan.error (subst (λ e. IndexOf e [] t1.index) (sym planned.error) c.forget.ensures.index))
-          (ap (λ (m : Mounted). m.voids) (ensures.mounted still));
-      answer = mount-answer first plan table rose device old is ring mid new n l reads sizes t1 c.in_ok-mounted.mounted planned1 here (ensures.mounted still);
-    }
+    let mid = g.F.Flash.state c.mount_bitmaps.new.flash in
+    let new = g.F.Flash.state c.mount_rows.new.flash in
+    let goes = c.in_ok-end.ensures.goes in
+    mount-then t old mid first plan table rose device planned rests (watched-front old mid new rose device watched c.mount_rows.ensures.goes) c.forget.new.self.bitmaps c.mount_bitmaps.new.bitmaps c.in_ok-end.end c.mount_rows.result c.mount_rows.new.self new (sym c.forget.ensures.bitmaps)
+    (c.in_ok-end.ensures.outside watched.told) (c.in_ok-end.ensures.ends (first + plan.data_blocks) plan table rose device)
+    (λ x later on counts at_rest stands end. c.mount_rows.ensures.ends first plan x rose later (watched-then old mid new rose device later watched goes on counts) (planned-same t _ first plan planned (record {
+      geometry = c.forget.ensures.same.geometry;
+      layout = c.forget.ensures.same.layout;
+      place = c.forget.ensures.same.place;
+      buckets = c.forget.ensures.same.buckets;
+      error = c.forget.ensures.same.error;
+      bitmaps = subst (λ (o : Option Index). AreSamePlan o c.mount_bitmaps.new.bitmaps) c.forget.ensures.bitmaps c.in_ok-end.ensures.same;
+    })) at_rest stands (c.unwrap_or.ensures ∙ end))
 
-pub returns-in_err-ring-clause-refused : goal.returns-in_err-ring-clause-refused
-returns-in_err-ring-clause-refused g c =
-    let p = err_from_is_err_and c.from_residual.result c.from_residual.ensures.1 in
-    rw (p.1, p.2) (λ told. refuses-ring c.args.self.now c.forget.new.self (g.F.Flash.state c.args.flash.now) (g.F.Flash.state c.mount.new.flash) c.in_err-ring.field-0.0 c.forget.ensures.same c.requires.lies.geometry
-    c.in_err-ring.ensures.fault c.in_err-ring.ensures.fails)
+pub returns-clause-found : goal.returns-clause-found
+returns-clause-found g c =
+    let t = c.args.self.now in
+    let old = g.F.Flash.state c.args.flash.now in
+    let mid = g.F.Flash.state c.mount_bitmaps.new.flash in
+    let new = g.F.Flash.state c.mount_rows.new.flash in
+    let end = c.in_ok-end.end in
+    let now = c.mount_rows.new.self in
+    IfOk-weaker c.mount_rows.result _ _ (λ mounted h told. record {
+      end = end;
+      indexed = mid;
+      bitmaps = still-found t.bitmaps c.mount_bitmaps.new.bitmaps now.bitmaps old mid end (subst (λ (o : Option Index). FindsBitmaps o old end c.mount_bitmaps.new.bitmaps mid) c.forget.ensures.bitmaps (c.in_ok-end.ensures.found told))
+          c.mount_rows.ensures.same.bitmaps c.mount_rows.ensures.still;
+      rows = finds-as t _ mid c.unwrap_or.result (unwrap_or end 0) mounted now new (h (subst IsTrue (sym c.in_ok-end.ensures.goes.tells) told)) (record {
+        geometry = c.forget.ensures.same.geometry;
+        layout = c.forget.ensures.same.layout;
+        place = c.forget.ensures.same.place;
+        buckets = c.forget.ensures.same.buckets;
+        error = c.forget.ensures.same.error;
+        bitmaps = subst (λ (o : Option Index). AreSamePlan o c.mount_bitmaps.new.bitmaps) c.forget.ensures.bitmaps c.in_ok-end.ensures.same;
+      }) c.unwrap_or.ensures;
+    }) c.mount_rows.ensures.found
 
-pub returns-in_err-ring-clause-reads : goal.returns-in_err-ring-clause-reads
-returns-in_err-ring-clause-reads g c = λ told.
-    few-first c.args.self.now c.forget.new.self (g.F.Flash.state c.args.flash.now) (g.F.Flash.state c.mount.new.flash) c.forget.ensures.same c.requires.lies.geometry c.in_err-ring.ensures.beside
+pub returns-clause-refused : goal.returns-clause-refused
+returns-clause-refused g c =
+    let t = c.args.self.now in
+    let old = g.F.Flash.state c.args.flash.now in
+    let mid = g.F.Flash.state c.mount_bitmaps.new.flash in
+    let new = g.F.Flash.state c.mount_rows.new.flash in
+    let end = c.in_ok-end.end in
+    IfErr-weaker c.mount_rows.result _ _ (λ e h told. inr (
+      end,
+      mid,
+      record { now = c.mount_bitmaps.new.bitmaps; bitmaps = subst (λ (o : Option Index). FindsBitmaps o old end c.mount_bitmaps.new.bitmaps mid) c.forget.ensures.bitmaps (c.in_ok-end.ensures.found told) },
+      refuses-by t _ mid c.unwrap_or.result (unwrap_or end 0) e new (h (subst IsTrue (sym c.in_ok-end.ensures.goes.tells) told)) (record {
+        geometry = c.forget.ensures.same.geometry;
+        layout = c.forget.ensures.same.layout;
+        place = c.forget.ensures.same.place;
+        buckets = c.forget.ensures.same.buckets;
+        error = c.forget.ensures.same.error;
+        bitmaps = subst (λ (o : Option Index). AreSamePlan o c.mount_bitmaps.new.bitmaps) c.forget.ensures.bitmaps c.in_ok-end.ensures.same;
+      }) c.unwrap_or.ensures,
+    )) c.mount_rows.ensures.refused
 
-pub returns-in_err-mounted-clause-reads : goal.returns-in_err-mounted-clause-reads
-returns-in_err-mounted-clause-reads g c = λ told.
-    few-all c.args.self.now c.forget.new.self (g.F.Flash.state c.args.flash.now) (g.F.Flash.state c.mount.new.flash) c.forget.ensures.same c.requires.lies.geometry c.in_ok-ring.ensures.beside
-    c.in_ok-ring.ring (next_of c.in_ok-ring.ring - oldest_of c.in_ok-ring.ring) (g.F.Flash.state c.read_pages.new.flash) refl c.in_ok-ring.ensures.found c.in_err-mounted.ensures.reads told
-
-pub returns-clause-reads : goal.returns-clause-reads
-returns-clause-reads g c = λ told.
-    few-all c.args.self.now c.forget.new.self (g.F.Flash.state c.args.flash.now) (g.F.Flash.state c.mount.new.flash) c.forget.ensures.same c.requires.lies.geometry c.in_ok-ring.ensures.beside
-    c.in_ok-ring.ring (next_of c.in_ok-ring.ring - oldest_of c.in_ok-ring.ring) (g.F.Flash.state c.read_pages.new.flash) refl c.in_ok-ring.ensures.found c.in_ok-mounted.ensures.reads told
-
-pub returns-in_err-ring-clause-cause : goal.returns-in_err-ring-clause-cause
-returns-in_err-ring-clause-cause g c =
-    let p = err_from_is_err_and c.from_residual.result c.from_residual.ensures.1 in
-    rw (p.1, p.2) (ring-cause (g.F.Flash.state c.args.flash.now) (g.F.Flash.state c.mount.new.flash) c.in_err-ring.field-0.0 c.in_err-ring.ensures.cause)
-
-pub returns-in_err-mounted-clause-cause : goal.returns-in_err-mounted-clause-cause
-returns-in_err-mounted-clause-cause g c =
-    let p = err_from_is_err_and c.from_residual-in_err-mounted.result c.from_residual-in_err-mounted.ensures.1 in
-    rw (p.1, p.2) (pages-cause (g.F.Flash.state c.args.flash.now) (g.F.Flash.state c.mount.new.flash) (g.F.Flash.state c.read_pages.new.flash) c.in_ok-ring.ensures.beside.goes c.in_ok-ring.ensures.power
-    c.in_err-mounted.field-0.0 c.in_err-mounted.ensures.only c.in_err-mounted.ensures.fails)
+pub returns-clause-outside : goal.returns-clause-outside
+returns-clause-outside g c = λ told page out index.
+    let t = c.args.self.now in
+    let old = g.F.Flash.state c.args.flash.now in
+    let mid = g.F.Flash.state c.mount_bitmaps.new.flash in
+    let first = stand-outside t.bitmaps (page_at old) (page_at mid) page (subst (λ (o : Option Index). StandOutside o (page_at old) (page_at mid)) c.forget.ensures.bitmaps (c.in_ok-end.ensures.outside told)) index in
+    let shape : shape_at c.forget.new.self.place c.forget.new.self.geometry ≡ shape_at t.place t.geometry =
+    ap (λ (p : RingPlace). shape_at p c.forget.new.self.geometry) c.forget.ensures.same.place ∙ ap (λ (x : Geometry). shape_at t.place x) c.forget.ensures.same.geometry in
+    c.mount_rows.ensures.outside (subst IsTrue (sym c.in_ok-end.ensures.goes.tells) told) page (subst (λ (r : Shape). IsOutside r page) (sym shape) out) ∙ first

@@ -33,3 +33,6 @@ loop-low-preserved c = record {
   at_least = λ f first plan table stands. above-middle (map stored_row (pending_entries table)) _ c.args.key (row_of c.pending_row.result) (pending-rise plan table stands.facts)
       (c.pending_row.ensures.stands f first plan table stands) (omega (arith, c.if-key.false, c.key.ensures));
 }
+
+pub returns-clause-at_least : goal.returns-clause-at_least
+returns-clause-at_least c = λ f first plan table stands i row from e. c.loop-low.invariant.at_least f first plan table stands i row (omega (arith, c.loop-low-test.false, c.loop-low.invariant.order, from)) e

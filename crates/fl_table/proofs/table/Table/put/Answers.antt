@@ -34,3 +34,6 @@ returns-clause-ends g c = λ first plan table rose device watched stands.
     put-ends t f first plan table c.args.key c.args.values.now bytes rose device stands
     (ap (put_refusal t c.args.key c.args.values.now) (sym has) ∙ (sym c.refusal.ensures ∙ c.in_default.is)) c.make_room.new.self c.add.new.self new
     (c.in_ok-make_room.ensures.ends first plan table rose device watched stands) c.in_ok-make_room.ensures.room (c.add.ensures.stands new first plan)
+
+pub returns-clause-lies : goal.returns-clause-lies
+returns-clause-lies g c = c.add.ensures.lies (g.F.Flash.state c.make_room.new.flash) c.in_ok-make_room.ensures.lies

@@ -1,164 +1,37 @@
-use Rattle.std.proofs.Common.{◌≡◌, ◌+◌, ◌*◌, ◌%◌, length, ℕ, List, Some, Ok, Err, arith, sym, ◌∙◌, ap, subst, refl, set, get_or, map, option_map, length-set}
-use Rattle.fl_flash.specs.Flash.{page_at}
-use Rattle.fl_model.specs.Layout.{rows_body}
-use Rattle.fl_model.specs.Ring as rings
-use Rattle.fl_model.specs.Row.{stored_row}
-use Rattle.fl_model.specs.Table as model
-use Rattle.fl_model.specs.Table.{DataRing, after_seal, lose}
-use Rattle.fl_page.specs.Writer.{Gathers}
-use Rattle.fl_ring.specs.Operations.{change, seal_kinds}
-use Rattle.fl_ring.specs.Place.{shape_of, StandsFor}
-use Rattle.fl_ring.specs.Ring.{Shape, OutsideStands}
-use Rattle.fl_ring.specs.Sealing.{Performed, Seals}
-use Rattle.fl_schema.specs.Schema.{layout_of, row_of}
-use Rattle.fl_table.proofs.States.{shape_in, state_of, HaveSize}
-use Rattle.fl_table.proofs.Writers.{rest-finish, rest-clear, gathers-none, few-rows, some-room}
-use Rattle.fl_table.proofs.Pointed.{first-key, index-sealed, points-sealed}
-use Rattle.fl_table.proofs.SealAnswers.{planned-ring, planned-shape, lies-size, sealing-of, seal-ready, writer-count, ring-next, counts-room, note-same, written-back}
-use Rattle.fl_table.proofs.VoidPages.{voids-told}
-use Rattle.fl_table.proofs.Sealings.{IsSealing, seal-breaks, seal-finishes}
+use Rattle.std.proofs.Common.{◌≡◌, ◌∷◌, [], ◌++◌, List, Err, arith, sym, subst}
+use Rattle.std.proofs.lemmas.Result.{err_from_is_err_and, IfErr-weaker}
+use Rattle.fl_model.specs.Table.{RingName, DataRing, after_seals}
+use Rattle.fl_table.specs.Bitmaps.{bitmap_seals}
+use Rattle.fl_table.specs.Outcomes.{SealsEnd}
+use Rattle.fl_table.proofs.Following.{cause-later, seals-stop, seals-then, watched-front, watched-then}
+use Rattle.fl_table.proofs.Plain.{plain-table_seals}
+use Rattle.fl_table.proofs.SealAnswers.{writer-count}
 use Rattle.fl_table.proofs.table.Table.seal.Goals as goal
 
-pub invariant_of-self-clause-blank_rest : goal.invariant_of-self-clause-blank_rest
-invariant_of-self-clause-blank_rest g c =
+pub returns-in_err-seal_bitmaps-clause-ends : goal.returns-in_err-seal_bitmaps-clause-ends
+returns-in_err-seal_bitmaps-clause-ends g c = λ first plan table rose device watched stands.
     let t = c.args.self.now in
-    rest-finish t.writer c.finish.new.self c.next_number-number.result t.bitmap c.finish.ensures.exact c.finish.ensures.size (omega (arith, t.rows_end)) t.blank_rest
-
-pub note-requires-clause-some : goal.note-requires-clause-some
-note-requires-clause-some g c =
-    let t = c.args.self.now in
-    omega (arith, c.deref_mut.ensures.len, t.counted, some-room t.place.blocks t.geometry.block t.some_blocks t.served.block_least)
-
-pub voids_among-gone-requires : goal.voids_among-gone-requires
-voids_among-gone-requires g c =
-    let t = c.args.self.now in
-    omega (arith, c.deref.ensures.len, t.counted, some-room t.place.blocks t.geometry.block t.some_blocks t.served.block_least)
-
-pub invariant_of-self-2-clause-room_for_row : goal.invariant_of-self-2-clause-room_for_row
-invariant_of-self-2-clause-room_for_row g c = c.args.self.now.room_for_row
-
-pub note-requires-clause-few : goal.note-requires-clause-few
-note-requires-clause-few g c =
-    let t = c.args.self.now in
-    let count : c.count.result ≡ t.writer.count = c.count.ensures ∙ ap (λ w. w.count) c.finish.ensures.exact in
-    omega (arith, count, few-rows t.writer.count _ t.writer.end (length t.writer.body) t.rows_end t.rows_room t.some_row (omega (arith, t.page, t.served.page_greatest)))
-
-pub invariant_of-self-2-clause-blank_rest : goal.invariant_of-self-2-clause-blank_rest
-invariant_of-self-2-clause-blank_rest g c =
-    let t = c.args.self.now in
-    let end : c.finish.new.self.end ≡ t.writer.end = ap (λ w. w.end) c.finish.ensures.exact in
-    rest-clear c.finish.new.self c.clear.new.self c.clear.ensures.exact (omega (arith, end, t.rows_end)) (omega (arith, end, t.rows_room, c.finish.ensures.size))
-    (rest-finish t.writer c.finish.new.self c.next_number-number.result t.bitmap c.finish.ensures.exact c.finish.ensures.size (omega (arith, t.rows_end)) t.blank_rest)
-
-pub returns-in-Err-clause-ends : goal.returns-in-Err-clause-ends
-returns-in-Err-clause-ends g c = λ first plan table rose device watched stands.
-    let t = c.args.self.now in
-    let old = g.F.Flash.state c.args.flash.now in
-    let new = g.F.Flash.state c.seal.new.flash in
-    let ring = c.in-Some.ring in
-    let has : t.ring ≡ Some ring = sym c.take.ensures.value ∙ c.in-Some.is in
-    let shape : shape_of ring ≡ shape_in first plan = t.lies ring has ∙ planned-ring t first plan stands.planned in
-    let lies = c.requires.lies in
-    let goes = c.seal.ensures.goes in
-    let sizes : HaveSize first plan (page_at old) = lies-size t old first plan stands.planned lies.geometry lies.within (g.met.F.Flash.reaches c.args.flash.now) in
-    let sizes_now : HaveSize first plan (page_at new) = lies-size t new first plan stands.planned (goes.geometry ∙ lies.geometry) (omega (arith, goes.blocks, lies.within)) (g.met.F.Flash.reaches c.seal.new.flash) in
-    let number : c.next_number-number.result ≡ table.rows.next = c.next_number-number.ensures ∙ ring-next t old first plan table ring stands has in
-    let is : IsSealing first plan table c.finish.new.self.body =
-    sealing-of t old first plan table c.finish.new.self stands c.requires.some (λ layout rows gathers. c.finish.ensures.body layout rows gathers ∙ ap (λ n. rows_body (length t.writer.body) layout n t.bitmap rows) number) in
-    let s = state_of plan (lose table) in
-    let body = c.finish.new.self.body in
-    let seals : Seals s body rose device ring (Err c.in-Err.fault) c.seal.new.self new =
-    subst (λ (b : List ℕ). Seals s b rose device ring (Err c.in-Err.fault) c.seal.new.self new) c.body.ensures
-    (c.in-Err.ensures.seals s rose device (seal-ready t old first plan table ring stands has shape sizes) watched) in
-    seal-breaks first plan table body rose device new is sizes_now c.in-Err.fault
-    (subst (λ (r : Shape). Performed r (change r body) rose (seal_kinds r s body) device s (Err c.in-Err.fault) new) shape seals.performed)
+    let f = g.F.Flash.state c.args.flash.now in
+    let new = g.F.Flash.state c.seal_bitmaps.new.flash in
+    let some : table.pending ≡ 0 → ⊥ = λ none. absurd (omega (arith, none, writer-count t f first plan table stands, c.requires.some)) in
+    let p = err_from_is_err_and c.from_residual.result c.from_residual.ensures.1 in
+    rw (p.1, p.2) (subst (λ (rings : List RingName). SealsEnd first plan rings table rose device (Err c.in_err-seal_bitmaps.field-0.0) c.seal_bitmaps.new.self new) (sym (plain-table_seals plan table stands.memory.no_fill some))
+    (seals-stop first plan (bitmap_seals plan table) (DataRing ∷ []) table rose device c.in_err-seal_bitmaps.field-0.0 new (c.in_err-seal_bitmaps.ensures.ends first plan table rose device watched stands)))
 
 pub returns-clause-ends : goal.returns-clause-ends
 returns-clause-ends g c = λ first plan table rose device watched stands.
     let t = c.args.self.now in
-    let old = g.F.Flash.state c.args.flash.now in
-    let new = g.F.Flash.state c.seal.new.flash in
-    let ring = c.in-Some.ring in
-    let after = c.seal.new.self in
-    let has : t.ring ≡ Some ring = sym c.take.ensures.value ∙ c.in-Some.is in
-    let shape : shape_of ring ≡ shape_in first plan = t.lies ring has ∙ planned-ring t first plan stands.planned in
-    let lies = c.requires.lies in
-    let goes = c.seal.ensures.goes in
-    let sizes : HaveSize first plan (page_at old) = lies-size t old first plan stands.planned lies.geometry lies.within (g.met.F.Flash.reaches c.args.flash.now) in
-    let sizes_now : HaveSize first plan (page_at new) = lies-size t new first plan stands.planned (goes.geometry ∙ lies.geometry) (omega (arith, goes.blocks, lies.within)) (g.met.F.Flash.reaches c.seal.new.flash) in
-    let number : c.next_number-number.result ≡ table.rows.next = c.next_number-number.ensures ∙ ring-next t old first plan table ring stands has in
-    let is : IsSealing first plan table c.finish.new.self.body =
-    sealing-of t old first plan table c.finish.new.self stands c.requires.some (λ layout rows gathers. c.finish.ensures.body layout rows gathers ∙ ap (λ n. rows_body (length t.writer.body) layout n t.bitmap rows) number) in
-    let s = state_of plan (lose table) in
-    let body = c.finish.new.self.body in
-    let u = c.in_default-seal.field-0 in
-    let seals : Seals s body rose device ring (Ok u) after new =
-    subst (λ (b : List ℕ). Seals s b rose device ring (Ok u) after new) c.body.ensures
-    (c.in_default-seal.ensures.seals s rose device (seal-ready t old first plan table ring stands has shape sizes) watched) in
-    let both : (h : Performed (shape_in first plan) (change (shape_in first plan) body) rose (seal_kinds (shape_in first plan) s body) device s (Ok u) new) × StandsFor after h.now.state =
-    subst (λ (r : Shape). (h : Performed r (change r body) rose (seal_kinds r s body) device s (Ok u) new) × StandsFor after h.now.state) shape (seals.performed, seals.stands) in
-    let count : c.count.result ≡ table.pending = c.count.ensures ∙ (ap (λ w. w.count) c.finish.ensures.exact ∙ writer-count t old first plan table stands) in
-    let room : length t.counts.items ≡ plan.data_blocks * plan.geometry.block = counts-room t first plan stands.planned in
-    let end : c.finish.new.self.end ≡ t.writer.end = ap (λ w. w.end) c.finish.ensures.exact in
-    let rest = rest-clear c.finish.new.self c.clear.new.self c.clear.ensures.exact (omega (arith, end, t.rows_end)) (omega (arith, end, t.rows_room, c.finish.ensures.size))
-    (rest-finish t.writer c.finish.new.self c.next_number-number.result t.bitmap c.finish.ensures.exact c.finish.ensures.size (omega (arith, t.rows_end)) t.blank_rest) in
-    let noted : c.note.new.counts ≡ set t.counts.items (table.rows.next % (plan.data_blocks * plan.geometry.block)) table.pending =
-    c.note.ensures ∙ note-same c.deref_mut.result.now t.counts.items c.next_number-number.result table.rows.next c.count.result table.pending (plan.data_blocks * plan.geometry.block) c.deref_mut.ensures.value number count room in
-    let size : length c.note.new.counts ≡ length t.counts.items = ap length noted ∙ length-set t.counts.items (table.rows.next % (plan.data_blocks * plan.geometry.block)) table.pending in
-    let back = written-back t.counts.items c.note.new.counts t.counts.len size t.counts.ok.0 in
-    let sealed = seal-finishes first plan table body rose device new is sizes_now u after t.counts.items both.0 both.1 room stands.memory.counts in
-    let memory = stands.memory in
-    let first_key : model.first_pending table ≡ Some c.key-first_key.result =
-    first-key table (row_of c.row.result) (c.row.ensures.row (map stored_row (model.pending_entries table)) memory.gathers) ∙ ap (λ k. Some k) (sym c.key-first_key.ensures) in
-    record {
-      now = sealed.now;
-      did = sealed.did;
-      whole = sealed.whole;
-      counts = sealed.counted;
-      power = sealed.power;
-      stands = record {
-        planned = record {
-          geometry = stands.planned.geometry;
-          layout = stands.planned.layout;
-          begins = stands.planned.begins;
-          blocks = stands.planned.blocks;
-          index = stands.planned.index;
-          var = stands.planned.var;
-          buckets = stands.planned.buckets;
-          error = stands.planned.error ∙ sym c.add_further.ensures.error;
-        };
-        facts = sealed.facts;
-        whole = sealed.untorn;
-        clean = refl;
-        pages = sealed.pages;
-        memory = record {
-          ring = after;
-          ring_is = refl;
-          next = sealed.next;
-          oldest = sealed.oldest_is;
-          gathers = subst (λ (es : List model.Entry). Gathers (layout_of t.schema) (map stored_row es) c.clear.new.self) (sym sealed.none)
-              (gathers-none (layout_of t.schema) c.clear.new.self (ap (λ w. w.count) c.clear.ensures.exact) (ap (λ w. w.end) c.clear.ensures.exact) rest);
-          bitmap = sealed.no_bits;
-          last = memory.last ∙ ap (option_map (λ (entry : model.Entry). entry.kept.key)) sealed.last;
-          counts = λ i count e. ap (λ (cs : List ℕ). get_or cs ((rings.oldest (after_seal plan DataRing table).rows + i) % (plan.data_blocks * plan.geometry.block)) 0) (back ∙ noted) ∙ sealed.counts_are i count e;
-          voids = voids-told t old first plan table stands ring c.deref.result.now c.oldest-oldest.result c.oldest.result c.voids_among-gone.result c.saturating_sub-self.result has c.oldest-oldest.ensures
-              (c.oldest.ensures ∙ sealed.oldest_is) (planned-shape t first plan stands.planned) (omega (arith, c.requires.some, writer-count t old first plan table stands)) c.deref.ensures.value c.voids_among-gone.ensures c.saturating_sub-self.ensures;
-          index = index-sealed plan table t.index c.add_further.new.self c.key-first_key.result c.next_number-number.result stands.facts stands.points memory.index first_key number c.add_further.ensures.points;
-          no_fill = memory.no_fill;
-          idle = sealed.idle;
-        };
-        points = points-sealed plan table stands.facts (planned-shape t first plan stands.planned) stands.points (omega (arith, c.requires.some, writer-count t old first plan table stands));
-      };
-    }
+    let f = g.F.Flash.state c.args.flash.now in
+    let mid = g.F.Flash.state c.seal_bitmaps.new.flash in
+    let new = g.F.Flash.state c.seal_rows.new.flash in
+    let some : table.pending ≡ 0 → ⊥ = λ none. absurd (omega (arith, none, writer-count t f first plan table stands, c.requires.some)) in
+    let goes = c.in_ok-seal_bitmaps.ensures.goes in
+    let h = c.in_ok-seal_bitmaps.ensures.ends first plan table rose device (watched-front f mid new rose device watched c.seal_rows.ensures.goes) stands in
+    subst (λ (rings : List RingName). SealsEnd first plan rings table rose device c.seal_rows.result c.seal_rows.new.self new) (sym (plain-table_seals plan table stands.memory.no_fill some))
+    (seals-then first plan (bitmap_seals plan table) (DataRing ∷ []) table rose device c.seal_bitmaps.new.self mid c.seal_rows.result c.seal_rows.new.self new h
+    (c.seal_rows.ensures.ends first plan (after_seals plan (bitmap_seals plan table) table) rose h.now.device (watched-then f mid new rose device h.now.device watched goes h.power h.counts) h.stands))
 
-pub returns-in-Err-clause-outside : goal.returns-in-Err-clause-outside
-returns-in-Err-clause-outside g c = λ told.
-    let t = c.args.self.now in
-    let has : t.ring ≡ Some c.in-Some.ring = sym c.take.ensures.value ∙ c.in-Some.is in
-    subst (λ (r : Shape). OutsideStands r (page_at (g.F.Flash.state c.args.flash.now)) (page_at (g.F.Flash.state c.seal.new.flash))) (t.lies c.in-Some.ring has) (c.seal.ensures.outside told)
-
-pub returns-clause-outside : goal.returns-clause-outside
-returns-clause-outside g c = λ told.
-    let t = c.args.self.now in
-    let has : t.ring ≡ Some c.in-Some.ring = sym c.take.ensures.value ∙ c.in-Some.is in
-    subst (λ (r : Shape). OutsideStands r (page_at (g.F.Flash.state c.args.flash.now)) (page_at (g.F.Flash.state c.seal.new.flash))) (t.lies c.in-Some.ring has) (c.seal.ensures.outside told)
+pub returns-clause-cause : goal.returns-clause-cause
+returns-clause-cause g c =
+    IfErr-weaker c.seal_rows.result _ _
+    (λ e. cause-later (g.F.Flash.state c.args.flash.now) (g.F.Flash.state c.seal_bitmaps.new.flash) (g.F.Flash.state c.seal_rows.new.flash) c.in_ok-seal_bitmaps.ensures.goes c.in_ok-seal_bitmaps.ensures.power e) c.seal_rows.ensures.cause

@@ -75,3 +75,16 @@ returns-clause-few g c = λ reads whole.
     let wide : 0 < room_in c.args.self.now.var.now = omega (arith, v.served.page_least) in
     let pages = whole-pages (image_in v f) (next_in v) (room_in v) r.page r.end r.left is done c.requires.left wide in
     pages-turned r.left r.end (room_in v) _ _ c.requires.left pages c.find_content.ensures.reads.reads
+
+pub returns-clause-most : goal.returns-clause-most
+returns-clause-most g c = λ reads whole.
+    let r = c.args.self.now in
+    let v = r.var.now in
+    let f = g.F.Flash.state c.args.flash.now in
+    let done : page_count (image_in c.args.self.now.var.now (g.F.Flash.state c.args.flash.now) c.args.self.now.page) ≡ c.args.self.now.end =
+    sym (reads.used (omega (arith, c.requires.left))) ∙ search rules in
+    let is = whole (omega (arith, c.requires.left)) in
+    let wide : 0 < room_in c.args.self.now.var.now = omega (arith, v.served.page_least) in
+    let pages = whole-pages (image_in v f) (next_in v) (room_in v) r.page r.end r.left is done c.requires.left wide in
+    let k = pages-turned r.left r.end (room_in v) _ _ c.requires.left pages c.find_content.ensures.reads.reads in
+    omega (arith, k)

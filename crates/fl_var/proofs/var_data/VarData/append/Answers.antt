@@ -1,13 +1,15 @@
-use Rattle.std.proofs.Common.{rules, ◌≡◌, ◌+◌, ◌-◌, ◌<◌, ◌≤◌, ◌==◌, ◌/◌, ℕ, Bool, true, false, cond, List, Ok, Err, Result, ◌++◌, length, refl, sym, ◌∙◌, ap, subst, arith}
+use Rattle.std.proofs.Common.{rules, ◌≡◌, ◌+◌, ◌-◌, ◌<◌, ◌≤◌, ◌==◌, ◌/◌, ℕ, Bool, true, false, cond, inl, inr, List, Ok, Err, Result, ◌++◌, length, refl, sym, ◌∙◌, ap, subst, arith}
 use Rattle.std.proofs.lemmas.Result.{err_from_is_err_and}
 use Rattle.fl_flash.specs.declared.flash.FlashFault.{FlashFault}
 use Rattle.fl_var.specs.Memory.{next_in, waiting_in, room_in}
-use Rattle.fl_var.specs.Placing.{is_full_in, pages_filled}
+use Rattle.fl_var.specs.Placing.{is_full_in, pages_filled, pages_placed}
 use Rattle.fl_var.specs.declared.var_data.VarData.{VarData}
 use Rattle.fl_var.proofs.Growing.{holds, holds-none, waits-none}
 use Rattle.fl_var.proofs.Joins.{watched-first}
-use Rattle.fl_var.proofs.Placed.{place-none, place-err, place-breaks_room, place-breaks, place-ends, watched-second, room-for}
-use Rattle.fl_var.proofs.Writing.{cause-err}
+use Rattle.std.proofs.lemmas.Bool.{cases_Bool}
+use Rattle.fl_flash.specs.Flash.{FlashState, OffChangesNothing}
+use Rattle.fl_var.proofs.Placed.{placed-filled, place-none, place-err, place-breaks_room, place-breaks, place-ends, watched-second, room-for}
+use Rattle.fl_var.proofs.Writing.{cause-err, off-err, ok-on}
 use Rattle.fl_var.proofs.var_data.VarData.append.Goals as goal
 
 pub returns-then-is_empty-clause-ends : goal.returns-then-is_empty-clause-ends
@@ -75,7 +77,7 @@ returns-clause-quiet g c = λ room.
     let left = room-for v (length c.args.bytes.now) some room in
     let still = c.in_ok-make_room.ensures.quiet left.0 in
     let none : pages_filled c.make_room.new.self (length c.args.bytes.now) ≡ 0 = ap (λ (x : VarData). pages_filled x (length c.args.bytes.now)) still.1 ∙ left.1 in
-    (c.in_ok-write.ensures.quiet none).1 ∙ still.2
+    (search rules, (c.in_ok-write.ensures.quiet none).1 ∙ still.2)
 
 pub returns-then-is_empty-clause-waits : goal.returns-then-is_empty-clause-waits
 returns-then-is_empty-clause-waits g c = λ room.
@@ -98,10 +100,69 @@ returns-clause-waits g c = λ room.
 
 pub returns-clause-holds : goal.returns-clause-holds
 returns-clause-holds g c =
+    let some : 1 ≤ length c.args.bytes.now = search rules in
     let e = c.in_ok-make_room.ensures in
     let w = c.in_ok-write.ensures in
     let page : c.next_number.result ≡ next_in c.make_room.new.self = c.next_number.ensures in
     let offset : length c.content.result.now ≡ length (waiting_in c.make_room.new.self) = ap length c.content.ensures.content in
     let at = ap (λ n. record { page = n; offset = length c.content.result.now; length = length c.args.bytes.now }) page ∙ ap (λ n. record { page = next_in c.make_room.new.self; offset = n; length = length c.args.bytes.now }) offset in
     holds c.args.self.now c.make_room.new.self c.write.new.self (g.F.Flash.state c.args.flash.now) (g.F.Flash.state c.make_room.new.flash) (g.F.Flash.state c.write.new.flash) c.args.bytes.now _ at
-    e.goes w.goes e.ends w.ends e.stays w.goes_on
+    e.goes w.goes some e.same e.next e.fill e.room w.next w.fill e.ends w.ends e.stays w.goes_on
+
+pub returns-in_err-write-clause-quiet : goal.returns-in_err-write-clause-quiet
+returns-in_err-write-clause-quiet g c = λ room.
+    let v = c.args.self.now in
+    let some : 1 ≤ length c.args.bytes.now = search rules in
+    let left = room-for v (length c.args.bytes.now) some room in
+    let still = c.in_ok-make_room.ensures.quiet left.0 in
+    let none : pages_filled c.make_room.new.self (length c.args.bytes.now) ≡ 0 = ap (λ (x : VarData). pages_filled x (length c.args.bytes.now)) still.1 ∙ left.1 in
+    absurd (not_ok c.in_err-write.field-0.0 _ refl (c.in_err-write.ensures.quiet none).0)
+  where
+    not_ok : (e : FlashFault) (x : Result (Unit {0}) FlashFault) → x ≡ Err e → x ≡ Ok tt → ⊥
+    not_ok e x is k = cc
+
+pub returns-then-is_empty-clause-off : goal.returns-then-is_empty-clause-off
+returns-then-is_empty-clause-off g c = λ some.
+    let none : length c.args.bytes.now ≡ 0 = search rules in
+    absurd (omega (arith, some, ap (pages_placed c.args.self.now) none))
+
+pub returns-in_err-make_room-clause-off : goal.returns-in_err-make_room-clause-off
+returns-in_err-make_room-clause-off g c = λ some.
+    let p = err_from_is_err_and c.from_residual.result c.from_residual.ensures.1 in
+    elim (cases_Bool (is_full_in c.args.self.now)) [
+      | inl full ↦ off-err (g.F.Flash.state c.args.flash.now) (g.F.Flash.state c.make_room.new.flash) _ c.from_residual.result c.in_err-make_room.field-0.0 refl (p.1 ∙ ap (λ (x : FlashFault). Err x) p.2) (c.in_err-make_room.ensures.off full)
+      | inr not_full ↦ absurd (not_ok c.in_err-make_room.field-0.0 _ refl (c.in_err-make_room.ensures.quiet not_full).0)
+    ]
+  where
+    not_ok : (e : FlashFault) (x : Result (Unit {0}) FlashFault) → x ≡ Err e → x ≡ Ok tt → ⊥
+    not_ok e x is k = cc
+
+pub returns-in_err-write-clause-off : goal.returns-in_err-write-clause-off
+returns-in_err-write-clause-off g c = λ some down.
+    let v = c.args.self.now in
+    let more : 1 ≤ length c.args.bytes.now = search rules in
+    let e = c.in_ok-make_room.ensures in
+    let p = err_from_is_err_and c.from_residual-in_err-write.result c.from_residual-in_err-write.ensures.1 in
+    elim (cases_Bool (is_full_in c.args.self.now)) [
+      | inl full ↦ absurd (ok-on _ _ _ (e.off full) down)
+      | inr not_full ↦
+          let still = e.quiet not_full in
+          let pages : 1 ≤ pages_filled c.make_room.new.self (length c.args.bytes.now) =
+          omega (arith, some, placed-filled v (length c.args.bytes.now) more not_full, ap (λ (x : VarData). pages_filled x (length c.args.bytes.now)) still.1) in
+          off-err (g.F.Flash.state c.args.flash.now) (g.F.Flash.state c.write.new.flash) _ c.from_residual-in_err-write.result c.in_err-write.field-0.0 refl (p.1 ∙ ap (λ (x : FlashFault). Err x) p.2)
+          (subst (λ (x : FlashState). OffChangesNothing {T = Unit {0}} x (Err c.in_err-write.field-0.0) (g.F.Flash.state c.write.new.flash)) still.2 (c.in_err-write.ensures.off pages)) down
+    ]
+
+pub returns-clause-off : goal.returns-clause-off
+returns-clause-off g c = λ some down.
+    let v = c.args.self.now in
+    let more : 1 ≤ length c.args.bytes.now = search rules in
+    let e = c.in_ok-make_room.ensures in
+    elim (cases_Bool (is_full_in c.args.self.now)) [
+      | inl full ↦ absurd (ok-on _ _ _ (e.off full) down)
+      | inr not_full ↦
+          let still = e.quiet not_full in
+          let pages : 1 ≤ pages_filled c.make_room.new.self (length c.args.bytes.now) =
+          omega (arith, some, placed-filled v (length c.args.bytes.now) more not_full, ap (λ (x : VarData). pages_filled x (length c.args.bytes.now)) still.1) in
+          absurd (ok-on _ _ _ (c.in_ok-write.ensures.off pages) (ap (λ (x : FlashState). x.is_on) still.2 ∙ down))
+    ]

@@ -1,6 +1,7 @@
 use Rattle.std.proofs.Common.{rules, ◌≡◌, ◌+◌, ◌-◌, ◌^◌, ◌<◌, ◌≤◌, ℕ, List, length, sym, ◌∙◌, ap, subst, arith}
 use Rattle.fl_var.specs.Memory.{next_in, waiting_in}
 use Rattle.fl_var.proofs.PageImages.{next-state, next-count, next-has, next-bad, waiting-length}
+use Rattle.fl_page.proofs.Reading.{OnlyReads-read}
 use Rattle.fl_var.proofs.var_data.VarData.find_content.Goals as goal
 
 pub returns-then-len-eq0-clause-bad : goal.returns-then-len-eq0-clause-bad
@@ -22,3 +23,12 @@ returns-then-number-next_number-clause-good g c = λ told.
     let same : length c.content-len.result.now ≡ length (waiting_in c.args.self.now) = search rules in
     let some : 1 ≤ length (waiting_in c.args.self.now) = search rules in
     (next-has v f c.args.number small is some, same ∙ sym (next-count v f c.args.number small is))
+
+pub returns-in-Err-clause-counts : goal.returns-in-Err-clause-counts
+returns-in-Err-clause-counts g c = OnlyReads-read _ _ _ _ _ _ c.read.ensures
+
+pub returns-in-Ok-clause-counts : goal.returns-in-Ok-clause-counts
+returns-in-Ok-clause-counts g c = OnlyReads-read _ _ _ _ _ _ c.read.ensures
+
+pub returns-in-Err-used_in-clause-counts : goal.returns-in-Err-used_in-clause-counts
+returns-in-Err-used_in-clause-counts g c = OnlyReads-read _ _ _ _ _ _ c.read.ensures

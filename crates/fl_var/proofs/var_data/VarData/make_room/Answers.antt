@@ -1,4 +1,7 @@
-use Rattle.std.proofs.Common.{rules, ◌≡◌, ◌+◌, ◌==◌, ℕ, Bool, true, false, List, length, refl, sym, ◌∙◌, ap, subst, arith}
+use Rattle.std.proofs.Common.{rules, ◌≡◌, ◌+◌, ◌==◌, ℕ, Bool, true, false, cond, Result, Ok, Err, List, [], length, refl, sym, ◌∙◌, ap, subst, arith}
+use Rattle.std.specs.Prelude.{OnOk}
+use Rattle.fl_flash.specs.declared.flash.FlashFault.{FlashFault}
+use Rattle.fl_var.specs.Memory.{next_in, waiting_in}
 use Rattle.fl_var.specs.Placing.{is_full_in}
 use Rattle.fl_var.proofs.Growing.{room-same, room-goes}
 use Rattle.fl_var.proofs.Placed.{full-same, room-sealed, room-left}
@@ -38,3 +41,27 @@ returns-clause-stays g c =
     let e : is_full_in c.args.self.now ≡ true = sym (full-same v) ∙ search rules in
     let s = c.seal.ensures in
     room-goes v (g.F.Flash.state c.args.flash.now) (is_full_in v) c.seal.result c.seal.new.self (g.F.Flash.state c.seal.new.flash) e s.next s.empty s.ends
+
+pub returns-clause-next : goal.returns-clause-next
+returns-clause-next g c =
+    let v = c.args.self.now in
+    let e : is_full_in c.args.self.now ≡ true = sym (full-same v) ∙ search rules in
+    subst (λ (b : Bool). OnOk c.seal.result (next_in c.seal.new.self ≡ cond b (next_in c.args.self.now + 1) (next_in c.args.self.now))) (sym e) c.seal.ensures.next
+
+pub returns-clause-fill : goal.returns-clause-fill
+returns-clause-fill g c =
+    let v = c.args.self.now in
+    let e : is_full_in c.args.self.now ≡ true = sym (full-same v) ∙ search rules in
+    subst (λ (b : Bool). OnOk c.seal.result (length (waiting_in c.seal.new.self) ≡ cond b 0 (length (waiting_in c.args.self.now)))) (sym e) (none c.seal.result (waiting_in c.seal.new.self) c.seal.ensures.empty)
+  where
+    none : (x : Result (Unit {0}) FlashFault) (xs : List ℕ) → OnOk x (xs ≡ []) → OnOk x (length xs ≡ 0)
+    none (Ok u) xs k = ap length k
+    none (Err fault) xs k = tt
+
+pub returns-then-not-is_full-clause-off : goal.returns-then-not-is_full-clause-off
+returns-then-not-is_full-clause-off g c = λ full.
+    let e : is_full_in c.args.self.now ≡ false = sym (full-same c.args.self.now) ∙ search rules in
+    absurd (differ (sym e ∙ full))
+  where
+    differ : false ≡ true → ⊥
+    differ k = cc

@@ -3,7 +3,9 @@ use Rattle.std.proofs.lemmas.Result.{err_from_is_err_and}
 use Rattle.fl_page.specs.declared.fault.ReadFault.{ReadFault}
 use Rattle.fl_var.specs.Blobs.{IsGone}
 use Rattle.fl_var.proofs.Found.{found-none, found-some, found-err}
+use Rattle.fl_var.specs.Memory.{room_in}
 use Rattle.fl_var.proofs.Sealings.{pages-size}
+use Rattle.fl_var.proofs.Wholes.{pages-few}
 use Rattle.fl_var.proofs.var_data.VarData.open_blob.Goals as goal
 
 pub returns-in_err-used-clause-finds : goal.returns-in_err-used-clause-finds
@@ -36,3 +38,8 @@ returns-clause-finds g c = λ plan table entry bytes told stands blob_is at_is h
     let not_gone : IsGone c.args.self.now (g.F.Flash.state c.args.flash.now) c.args.at → ⊥ = search rules in
     let h = found-some v f plan table stands sizes c.args.at entry bytes blob_is at_is some holds not_gone in
     (h.0, h.1, λ left. h.2)
+
+pub returns-clause-few : goal.returns-clause-few
+returns-clause-few g c =
+    let inside : c.args.at.offset < room_in c.args.self.now = search rules in
+    pages-few c.args.at.length c.args.at.offset (room_in c.args.self.now) inside

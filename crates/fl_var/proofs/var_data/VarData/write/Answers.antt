@@ -4,7 +4,7 @@ use Rattle.std.proofs.lemmas.Result.{err_from_is_err_and}
 use Rattle.fl_flash.specs.declared.flash.FlashFault.{FlashFault}
 use Rattle.fl_var.specs.Memory.{next_in, waiting_in, room_in}
 use Rattle.fl_var.proofs.Growing.{wrote-first, wrote-more, wrote-still, wrote-all}
-use Rattle.fl_var.proofs.Writing.{writes-first, writes-next, writes-fail, writes-fill, writes-quiet, writes-end, cause-err}
+use Rattle.fl_var.proofs.Writing.{writes-first, writes-next, writes-fail, writes-fill, writes-quiet, writes-end, writes-off, wrote-on, ok-on, cause-err}
 use Rattle.fl_var.proofs.var_data.VarData.write.Goals as goal
 
 pub loop-done-init : goal.loop-done-init
@@ -39,7 +39,7 @@ loop-done-preserved g c =
     let rest : length (take (length c.args.bytes.now - c.loop-done.done) (drop c.loop-done.done c.args.bytes.now)) ≡ length c.args.bytes.now - c.loop-done.done = search (rules, places) in
     let e = c.in_ok-seal.ensures in (
       writes-next c.args.self.now c.loop-done.self c.seal.new.self _ (g.F.Flash.state c.args.flash.now) (g.F.Flash.state c.loop-done.flash) (g.F.Flash.state c.seal.new.flash) (length c.args.bytes.now) c.loop-done.done
-          c.put-done-in-loop-done.result c.loop-done.invariant.0 less e.goes e.same e.lies e.mounted e.next e.empty e.ends e.outside e.reads e.media_reads refl (record { geometry = refl; place = refl }) e.power
+          c.put-done-in-loop-done.result c.loop-done.invariant.0 less e.goes e.same e.lies e.mounted e.next e.empty e.ends e.outside e.reads e.media_reads refl (record { geometry = refl; place = refl }) e.power (ok-on _ _ _ e.off)
           (length (take (length c.args.bytes.now - c.loop-done.done) (drop c.loop-done.done c.args.bytes.now))) rest c.put-done-in-loop-done.ensures.count c.put-done-in-loop-done.ensures.fill,
       refl,
       c.requires.few,
@@ -72,3 +72,14 @@ pub returns-clause-goes_on : goal.returns-clause-goes_on
 returns-clause-goes_on g c =
     let all : length c.args.bytes.now ≤ c.loop-done.done = search rules in
     wrote-all c.args.self.now c.loop-done.self (g.F.Flash.state c.args.flash.now) (g.F.Flash.state c.loop-done.flash) c.args.bytes.now c.loop-done.done c.loop-done.invariant.0 c.loop-done.invariant.4 all
+
+pub returns-in_err-seal-clause-off : goal.returns-in_err-seal-clause-off
+returns-in_err-seal-clause-off g c = λ some.
+    let p = err_from_is_err_and c.from_residual.result c.from_residual.ensures.1 in
+    writes-off c.args.self.now c.loop-done.self (g.F.Flash.state c.args.flash.now) (g.F.Flash.state c.loop-done.flash) (g.F.Flash.state c.seal.new.flash) (length c.args.bytes.now) c.loop-done.done c.in_err-seal.field-0.0 c.from_residual.result
+    c.loop-done.invariant.0 c.in_err-seal.ensures.off (p.1 ∙ ap (λ (e : FlashFault). Err e) p.2)
+
+pub returns-clause-off : goal.returns-clause-off
+returns-clause-off g c = λ some down.
+    let all : length c.args.bytes.now ≤ c.loop-done.done = search rules in
+    absurd (wrote-on c.args.self.now c.loop-done.self (g.F.Flash.state c.args.flash.now) (g.F.Flash.state c.loop-done.flash) (length c.args.bytes.now) c.loop-done.done c.loop-done.invariant.0 all some down)

@@ -1,6 +1,0 @@
-use Rattle.std.proofs.Common.{◌≡◌}
-use Rattle.fl_edge.proofs.standard.StandardInputSource.read.Given as goal
-
--- no fault is counted yet
-abbrev pub invariant-loop : goal.invariant-loop
-invariant-loop g l = l.self.faults ≡ l.initial.self.faults

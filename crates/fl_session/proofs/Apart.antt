@@ -1,0 +1,180 @@
+-- A table whose rings stand beside the one that a call changes.
+use Rattle.std.proofs.Common.{◌≡◌, ℕ, zero, suc, ◌+◌, ◌*◌, ◌%◌, ◌<◌, ◌≤◌, ◌⊎◌, Bool, true, false, inl, inr, Option, None, Some, IfSome, List, [], ◌∷◌, take, refl, sym, ◌∙◌, ap, subst, arith}
+use Rattle.std.specs.Prelude.{MatchBool}
+use Rattle.std.proofs.Math.Path.{fun_ext}
+use Rattle.std.proofs.Math.Nat.{mod-lt, mul-le-mul_right, add-mul}
+use Rattle.std.proofs.lemmas.Bool.{cases_order, ltb-true}
+use Rattle.std.proofs.lemmas.List.Sums.{sum_by-cons}
+use Rattle.std.specs.List.{slice_get}
+use Rattle.fl_base.specs.declared.types.Geometry.{Geometry}
+use Rattle.fl_flash.specs.Flash.{FlashState, page_at}
+use Rattle.fl_index.specs.declared.index.Index.{Index}
+use Rattle.fl_index.specs.Memory as memory
+use Rattle.fl_index.proofs.Sealings.{planned-ring as index-ring}
+use Rattle.fl_index.proofs.State.{shape_in as index_shape}
+use Rattle.fl_model.specs.Facts.{is_some_ring}
+use Rattle.fl_model.specs.Image.{IsRingImage, HoldsRows, HoldsBitmaps}
+use Rattle.fl_model.specs.Record.{Plan, blocks_of, has_index}
+use Rattle.fl_model.specs.Ring.{Ring, IsShape}
+use Rattle.fl_model.specs.Table as model
+use Rattle.fl_model.specs.Table.{DataRing, IndexRing, shape_of, lose}
+use Rattle.fl_ring.specs.Ring.{Shape, room}
+use Rattle.fl_table.specs.Bitmaps.{ArePlanned, IsOutside, Stand}
+use Rattle.fl_table.specs.Memory.{IsPlanned}
+use Rattle.fl_table.specs.Mounting.{OutsideStands}
+use Rattle.fl_table.specs.Pages.{HoldsTable, Rests, bytes_in, place_in}
+use Rattle.fl_table.specs.Standing.{Stands}
+use Rattle.fl_table.specs.declared.table.Table.{Table}
+use Rattle.fl_table.proofs.Indexing.{planned-some, stand-moved}
+use Rattle.fl_table.proofs.Moved.{keeps-same}
+use Rattle.fl_table.proofs.Plain.{IsPlain, IsPlainTable, plain-facts, plain-lose}
+use Rattle.fl_table.proofs.SealAnswers.{planned-plain, planned-shape, planned-ring}
+use Rattle.fl_table.proofs.States.{shape_in}
+use Rattle.fl_session.specs.Tables.{first_of, EntryStands}
+use Rattle.fl_session.specs.declared.tables.Entry.{Entry}
+
+-- the blocks of a table end before those of a later one begin
+pub blocks-apart : (plans : List Plan) (i j : ℕ) (plan : Plan) → slice_get plans i ≡ Some plan → i < j → first_of plans i + blocks_of plan ≤ first_of plans j
+blocks-apart [] i j plan e lt = absurd (none e)
+  where
+    none : None ≡ Some plan → ⊥
+    none k = cc
+blocks-apart (p ∷ ps) i zero plan e lt = absurd (omega (arith, lt))
+blocks-apart (p ∷ ps) zero (suc j) plan e lt =
+    let same : p ≡ plan = cc in
+    omega (arith, sum_by-cons blocks_of p (take j ps), ap blocks_of same)
+blocks-apart (p ∷ ps) (suc i) (suc j) plan e lt =
+    let k = blocks-apart ps i j plan e (omega (arith, lt)) in
+    omega (arith, k, sum_by-cons blocks_of p (take i ps), sum_by-cons blocks_of p (take j ps))
+
+-- a flash page outside the blocks of a table
+abbrev IsBeside : ℕ → Plan → ℕ → Type 0
+IsBeside first plan page = (page < first * plan.geometry.block) ⊎ ((first + blocks_of plan) * plan.geometry.block ≤ page)
+
+-- a ring in some of these blocks
+outside-ring : (first at blocks : ℕ) (plan : Plan) (r : Shape) (page : ℕ) → r.first ≡ at * plan.geometry.block → room r ≡ blocks * plan.geometry.block → first ≤ at → at + blocks ≤ first + blocks_of plan → IsBeside first plan page → IsOutside r page
+outside-ring first at blocks plan r page begins size from upto (inl before) =
+    let k : first * plan.geometry.block ≤ at * plan.geometry.block = mul-le-mul_right plan.geometry.block from in
+    inl (omega (arith, before, begins, k))
+outside-ring first at blocks plan r page begins size from upto (inr behind) =
+    let k : (at + blocks) * plan.geometry.block ≤ (first + blocks_of plan) * plan.geometry.block = mul-le-mul_right plan.geometry.block upto in
+    inr (omega (arith, behind, begins, size, k, add-mul at blocks plan.geometry.block))
+
+-- what a call of a table leaves of the pages outside its blocks
+beside-stands : (t : Table) (first : ℕ) (plan : Plan) (old new : ℕ → List ℕ) → IsPlanned t first plan → OutsideStands t old new → (page : ℕ) → IsBeside first plan page → new page ≡ old page
+beside-stands t first plan old new planned outside page beside =
+    outside page (subst (λ r. IsOutside r page) (sym (planned-ring t first plan planned)) (outside-ring first first plan.data_blocks plan (shape_in first plan) page refl refl (omega arith) (omega arith) beside)) (by-index t.bitmaps planned.index)
+  where
+    by-index : (bitmaps : Option Index) → ArePlanned bitmaps (first + plan.data_blocks) plan → IfSome bitmaps (λ index. IsOutside (memory.ring_shape index) page)
+    by-index None p = tt
+    by-index (Some index) p =
+        subst (λ r. IsOutside r page) (sym (index-ring index (first + plan.data_blocks) plan p)) (outside-ring first (first + plan.data_blocks) plan.index_blocks plan (index_shape (first + plan.data_blocks) plan) page refl refl (omega arith) (omega arith) beside)
+
+-- tables whose blocks stand one after the other
+abbrev AreApart : ℕ → Plan → ℕ → Plan → Type 0
+AreApart first plan other own = (first + blocks_of plan ≤ other) ⊎ (other + blocks_of own ≤ first)
+
+-- the pages of a ring in the blocks of a table are outside those of the other
+beside-place : (first at blocks n other : ℕ) (plan own : Plan) → own.geometry.block ≡ plan.geometry.block → 0 < blocks * plan.geometry.block → first ≤ at → at + blocks ≤ first + blocks_of plan → AreApart first plan other own →
+    IsBeside other own (at * plan.geometry.block + n % (blocks * plan.geometry.block))
+beside-place first at blocks n other plan own block some from upto apart =
+    subst (λ b. (at * plan.geometry.block + n % (blocks * plan.geometry.block) < other * b) ⊎ ((other + blocks_of own) * b ≤ at * plan.geometry.block + n % (blocks * plan.geometry.block))) (sym block) (by-side apart)
+  where
+    small : n % (blocks * plan.geometry.block) < blocks * plan.geometry.block
+    small = mod-lt n some
+
+    by-side : AreApart first plan other own → (at * plan.geometry.block + n % (blocks * plan.geometry.block) < other * plan.geometry.block) ⊎ ((other + blocks_of own) * plan.geometry.block ≤ at * plan.geometry.block + n % (blocks * plan.geometry.block))
+    by-side (inl before) =
+        let k : (at + blocks) * plan.geometry.block ≤ other * plan.geometry.block = mul-le-mul_right plan.geometry.block (omega (arith, upto, before)) in
+        inl (omega (arith, small, k, add-mul at blocks plan.geometry.block))
+    by-side (inr behind) =
+        let k : (other + blocks_of own) * plan.geometry.block ≤ at * plan.geometry.block = mul-le-mul_right plan.geometry.block (omega (arith, behind, from)) in
+        inr (omega (arith, k))
+
+some-pages : (b p : ℕ) → 0 < b → 2 ≤ p → 0 < b * p
+some-pages b p x y = let k : 1 * p ≤ b * p = mul-le-mul_right p x in omega (arith, k, y)
+
+-- the pages of these rings stand
+module _ (f g : FlashState) (first : ℕ) (plan : Plan) (same-rows : (n : ℕ) → page_at g (place_in first plan DataRing n) ≡ page_at f (place_in first plan DataRing n))
+    (same-index : has_index plan ≡ true → (n : ℕ) → page_at g (place_in first plan IndexRing n) ≡ page_at f (place_in first plan IndexRing n)) where
+  holds-apart : (table : model.Table) → IsPlainTable plan table → HoldsTable (page_at f) first plan table → HoldsTable (page_at g) first plan table
+  holds-apart table facts h =
+      record {
+        rows = subst (λ (at : ℕ → List ℕ). IsRingImage (shape_of plan DataRing) table.rows at (HoldsRows plan table)) (sym (fun_ext (λ n. same-rows n))) h.rows;
+        index = by-index table.index facts.index.has h.index;
+        var = rw facts.var tt;
+        blobs = rw facts.var tt;
+      }
+    where
+      by-index : (o : Option Ring) → is_some_ring o ≡ has_index plan → IfSome o (λ ring. IsRingImage (shape_of plan IndexRing) ring (bytes_in (page_at f) first plan IndexRing) (HoldsBitmaps plan table ring)) →
+          IfSome o (λ ring. IsRingImage (shape_of plan IndexRing) ring (bytes_in (page_at g) first plan IndexRing) (HoldsBitmaps plan table ring))
+      by-index None has i = tt
+      by-index (Some ring) has i = subst (λ (at : ℕ → List ℕ). IsRingImage (shape_of plan IndexRing) ring at (HoldsBitmaps plan table ring)) (sym (fun_ext (λ n. same-index (sym has) n))) i
+
+  stands-apart : (t : Table) (table : model.Table) → Stands t f first plan table → Stands t g first plan table
+  stands-apart t table h =
+      let plain = planned-plain t first plan h.planned in
+      let facts = plain-facts plan table plain h.facts in
+      record {
+        planned = h.planned;
+        facts = h.facts;
+        whole = h.whole;
+        clean = h.clean;
+        pages = holds-apart (lose table) (plain-lose plan table facts) h.pages;
+        memory = h.memory;
+        bitmaps = by-bitmaps t.bitmaps h.planned.index facts h.bitmaps;
+        points = h.points;
+      }
+    where
+      by-bitmaps : (bitmaps : Option Index) → ArePlanned bitmaps (first + plan.data_blocks) plan → IsPlainTable plan table → Stand bitmaps f (first + plan.data_blocks) plan table → Stand bitmaps g (first + plan.data_blocks) plan table
+      by-bitmaps None p facts s = s
+      by-bitmaps (Some index) p facts s =
+          stand-moved (Some index) f g first plan table table (keeps-same table table refl refl refl) refl refl refl refl facts facts (same-index (planned-some index (first + plan.data_blocks) plan p)) s
+
+  rests-apart : (table : model.Table) → IsPlain plan → Rests f first plan table → Rests g first plan table
+  rests-apart table plain h = record { settled = h.settled; pages = holds-apart table (plain-facts plan table plain h.settled.facts) h.pages }
+
+-- .. where all pages do
+pub stands-pages : (f g : FlashState) → page_at g ≡ page_at f → (t : Table) (first : ℕ) (plan : Plan) (table : model.Table) → Stands t f first plan table → Stands t g first plan table
+stands-pages f g same t first plan table h =
+    stands-apart f g first plan (λ n. ap (λ (at : ℕ → List ℕ). at (place_in first plan DataRing n)) same) (λ has n. ap (λ (at : ℕ → List ℕ). at (place_in first plan IndexRing n)) same) t table h
+
+-- it stands as before
+entry-apart : (entry changed : Entry) (f g : FlashState) (mounted : Bool) (first other : ℕ) (plan own : Plan) (table : model.Table) → AreApart first plan other own → plan.geometry ≡ own.geometry → IsPlanned changed.table other own →
+    OutsideStands changed.table (page_at f) (page_at g) → g.geometry ≡ f.geometry → EntryStands entry f mounted first plan table → EntryStands entry g mounted first plan table
+entry-apart entry changed f g mounted first other plan own table apart same-geometry planned outside same h =
+    record { named = h.named; geometry = h.geometry ∙ sym same; planned = h.planned; on_flash = by-mounted mounted h.on_flash }
+  where
+    block : own.geometry.block ≡ plan.geometry.block
+    block = ap (λ (x : Geometry). x.block) (sym same-geometry)
+
+    shape : IsShape (shape_of plan DataRing)
+    shape = planned-shape entry.table first plan h.planned
+
+    same-page : (at blocks n : ℕ) → 0 < blocks → first ≤ at → at + blocks ≤ first + blocks_of plan →
+        page_at g (at * plan.geometry.block + n % (blocks * plan.geometry.block)) ≡ page_at f (at * plan.geometry.block + n % (blocks * plan.geometry.block))
+    same-page at blocks n some from upto =
+        beside-stands changed.table other own (page_at f) (page_at g) planned outside (at * plan.geometry.block + n % (blocks * plan.geometry.block))
+        (beside-place first at blocks n other plan own block (some-pages blocks plan.geometry.block some shape.pages) from upto apart)
+
+    same-rows : (n : ℕ) → page_at g (place_in first plan DataRing n) ≡ page_at f (place_in first plan DataRing n)
+    same-rows n = same-page first plan.data_blocks n (omega (arith, shape.blocks)) (omega arith) (omega arith)
+
+    same-index : has_index plan ≡ true → (n : ℕ) → page_at g (place_in first plan IndexRing n) ≡ page_at f (place_in first plan IndexRing n)
+    same-index has n = same-page (first + plan.data_blocks) plan.index_blocks n (ltb-true 0 plan.index_blocks has) (omega arith) (omega arith)
+
+    by-mounted : (m : Bool) → MatchBool m (Stands entry.table f first plan table) (Rests f first plan table) → MatchBool m (Stands entry.table g first plan table) (Rests g first plan table)
+    by-mounted true s = stands-apart f g first plan same-rows same-index entry.table table s
+    by-mounted false s = rests-apart f g first plan same-rows same-index table (planned-plain entry.table first plan h.planned) s
+
+-- a table at another place than the one that was changed
+pub other-stands : (plans : List Plan) (i at : ℕ) (plan own : Plan) (entry changed : Entry) (f g : FlashState) (mounted before : Bool) (table was : model.Table) →
+    slice_get plans i ≡ Some plan → slice_get plans at ≡ Some own → (at ≡ i → ⊥) → EntryStands changed f before (first_of plans at) own was → OutsideStands changed.table (page_at f) (page_at g) → g.geometry ≡ f.geometry →
+    EntryStands entry f mounted (first_of plans i) plan table → EntryStands entry g mounted (first_of plans i) plan table
+other-stands plans i at plan own entry changed f g mounted before table was e k other c outside same h =
+    entry-apart entry changed f g mounted (first_of plans i) (first_of plans at) plan own table (by-order (cases_order i at)) (h.geometry ∙ sym c.geometry) c.planned outside same h
+  where
+    by-order : (i ≡ at) ⊎ ((i < at) ⊎ (at < i)) → AreApart (first_of plans i) plan (first_of plans at) own
+    by-order (inl is) = absurd (other (sym is))
+    by-order (inr (inl before)) = inl (blocks-apart plans i at plan e before)
+    by-order (inr (inr behind)) = inr (blocks-apart plans at i own k behind)

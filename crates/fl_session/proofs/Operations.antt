@@ -1,0 +1,112 @@
+-- The commands of a session that list what an operator makes of a range.
+use Rattle.std.proofs.Common.{◌≡◌, ℕ, ◌<◌, ◌≤◌, Bool, true, false, nat_lt, IsTrue, length, arith, Option, Some, None, Result, ℤ, List, [], ◌∷◌, refl, sym, ◌∙◌, ap, subst}
+use Rattle.std.proofs.lemmas.Bool.Decides.{nat_tests}
+use Rattle.std.specs.Prelude.{MatchOption}
+use Rattle.std.specs.List.{slice_get}
+use Rattle.fl_base.specs.declared.types.KeyRange.{KeyRange}
+use Rattle.fl_base.specs.declared.types.Op.{Op}
+use Rattle.fl_flash.specs.Flash.{FlashState}
+use Rattle.fl_model.specs.Record.{Config, Plan, RowLayout}
+use Rattle.fl_model.specs.Table as model
+use Rattle.fl_page.specs.Contents.{OnlyReads}
+use Rattle.fl_words.specs.Command as words
+use Rattle.fl_words.specs.Command.{Command}
+use Rattle.fl_words.specs.Reply as reply
+use Rattle.fl_words.specs.Reply.{Reply, text}
+use Rattle.fl_machine.specs.Machine.{Machine}
+use Rattle.fl_machine.specs.Step.{Moment, Step, Located, WithTable, WithColumns, Counts, Says, no_column}
+use Rattle.fl_script.specs.ReplyView.{reply_text}
+use Rattle.fl_script.specs.Written.{Written}
+use Rattle.fl_script.specs.declared.reply.Reply as code
+use Rattle.fl_table.specs.Look.{layout_in}
+use Rattle.fl_table.specs.Memory.{IsPlanned}
+use Rattle.fl_table.specs.Standing.{Stands}
+use Rattle.fl_table.specs.declared.table.Table.{Table}
+use Rattle.fl_session.specs.Answer.{Refusal, IsReached}
+use Rattle.fl_session.specs.Asked.{lacked_column}
+use Rattle.fl_session.specs.Cost.{HasRead, CountsReads, ReadsAsStated}
+use Rattle.fl_session.specs.Execute.{Executes}
+use Rattle.fl_session.specs.Lines.{Counted}
+use Rattle.fl_session.specs.Standing.{SessionStands}
+use Rattle.fl_session.specs.Tables.{first_of}
+use Rattle.fl_session.specs.declared.tables.Entry.{Entry}
+use Rattle.fl_session.specs.declared.notes.Notes.{Notes}
+use Rattle.fl_session.proofs.Answering.{executes-answered, answers-saying, saying, says, table-step}
+use Rattle.fl_session.proofs.Costing.{read-none}
+use Rattle.fl_session.proofs.Executing.{executes-by}
+use Rattle.fl_session.proofs.Getting.{session-read}
+use Rattle.fl_session.proofs.Owning.{own-of}
+use Rattle.fl_session.proofs.Refusing.{answers-refused}
+
+-- one column that is there, and one that isn't
+pub has-column : (t : Table) (first : ℕ) (plan : Plan) (column : ℕ) → column ≤ length (layout_in t).columns → IsPlanned t first plan → no_column plan (column ∷ []) ≡ None
+has-column t first plan column le h =
+    let columns = ap (λ (l : RowLayout). length l.columns) h.layout in
+    let is : nat_lt (length plan.columns) column ≡ false = grind (arith, nat_tests, columns, le) in
+    rw is refl
+
+pub lacks-column : (t : Table) (first : ℕ) (plan : Plan) (column : ℕ) → length (layout_in t).columns < column → IsPlanned t first plan → no_column plan (column ∷ []) ≡ Some column
+lacks-column t first plan column lt h =
+    let columns = ap (λ (l : RowLayout). length l.columns) h.layout in
+    let is : nat_lt (length plan.columns) column ≡ true = grind (arith, nat_tests, columns, lt) in
+    rw is refl
+
+-- the session still stands
+session-still : (config : Config) (entries : List Entry) (notes : Notes) (f g : FlashState) (m : Machine) → OnlyReads f g → SessionStands config entries f true notes m → SessionStands config entries g true notes m
+session-still config entries notes f g m only h =
+    let read = session-read f g only config entries notes notes.cost m h in
+    subst (λ cost. SessionStands config entries g true notes (record m { cost = cost })) (sym h.cost_is) read
+
+-- the first column that isn't there
+pub lacked-column : (t : Table) (first : ℕ) (plan : Plan) (columns : List ℕ) (lacked : Option ℕ) → lacked ≡ lacked_column (layout_in t) columns → IsPlanned t first plan → no_column plan columns ≡ lacked
+lacked-column t first plan columns lacked is h = ap (λ (l : RowLayout). lacked_column l columns) h.layout ∙ sym is
+
+module _ (E : Type 0) (config : Config) (old : Machine) (entries : List Entry) (asked : List ℕ) (notes : Notes) (f : FlashState) (mounted : Bool) (command : List ℕ → Command) (columns : List ℕ) (lines : Located → List Reply)
+    (told told_now : Option (List ℕ)) (result : Result (Unit {0}) E)
+    (steps : (at : List ℕ) (moment : Moment) → moment.command ≡ command at → WithTable config old moment at (WithColumns old moment columns (λ place. Counts old moment (lines place) old)) → Step config old moment) where
+  -- it is executed
+  pub operator-executes : (at : ℕ) (entry : Entry) (g : FlashState) (reads : ℕ) → ((moment : Moment) → HasRead f moment.reads g → CountsReads f moment g (command asked)) → ((moment : Moment) → ReadsAsStated config old moment g result (command asked)) →
+      SessionStands config entries f mounted notes old → IsReached entries mounted asked at → slice_get entries at ≡ Some entry → OnlyReads f g → HasRead f reads g →
+      ((first : ℕ) (plan : Plan) → IsPlanned entry.table first plan → no_column plan columns ≡ None) →
+      ((first : ℕ) (plan : Plan) (table : model.Table) → IsTrue f.media.tells → f.is_on ≡ true → Stands entry.table f first plan table → Counted (lines (record { place = at; plan = plan; table = table })) told told_now f.media.faults g.media.faults result) →
+      Executes config old (command asked) (SessionStands config entries g mounted notes) f g told told_now result
+  operator-executes at entry g reads counts stated h r there only counted within lists =
+      let h' = subst (λ m. SessionStands config entries f m notes old) r.mounted_is h in
+      let own = own-of config old entries f notes asked at entry h' there r.named in
+      let first = first_of config.plans at in
+      let s = lists first own.plan own.table h'.medium.told (h'.power refl) own.stands.on_flash in
+      let place : Located = record { place = at; plan = own.plan; table = own.table } in
+      let moment : Moment = record { command = command asked; rose = s.rose; reads = reads; last = None; replies = s.replies; after = old } in
+      let here = subst (λ (none : Option ℕ). MatchOption none (Counts old moment (lines place) old) (λ column. Says moment (reply.NoColumn column ∷ []) old)) (sym (within first own.plan own.stands.planned)) (refl, refl, s.lists) in
+      let step = steps asked moment refl (table-step config old moment asked (WithColumns old moment columns (λ place. Counts old moment (lines place) old)) place h'.is_mounted own.found here) in
+      subst (λ m. Executes config old (command asked) (SessionStands config entries g m notes) f g told told_now result) (sym r.mounted_is)
+      (executes-by E config old (command asked) (SessionStands config entries g true notes) f g told told_now result moment refl step (session-still config entries notes f g old only h') (counts moment counted) (stated moment) s.risen s.wrote)
+
+  -- it asks for a column that isn't there
+  pub operator-no_column : (at : ℕ) (entry : Entry) → ((moment : Moment) → HasRead f moment.reads f → CountsReads f moment f (command asked)) → ((moment : Moment) → ReadsAsStated config old moment f result (command asked)) →
+      SessionStands config entries f mounted notes old → IsReached entries mounted asked at → slice_get entries at ≡ Some entry → (column : ℕ) → ((first : ℕ) (plan : Plan) → IsPlanned entry.table first plan → no_column plan columns ≡ Some column) →
+      Written told told_now result (text (reply.NoColumn column)) →
+      Executes config old (command asked) (SessionStands config entries f mounted notes) f f told told_now result
+  operator-no_column at entry counts stated h r there column lacks wrote =
+      let h' = subst (λ m. SessionStands config entries f m notes old) r.mounted_is h in
+      let own = own-of config old entries f notes asked at entry h' there r.named in
+      let place : Located = record { place = at; plan = own.plan; table = own.table } in
+      let moment = saying (command asked) (reply.NoColumn column ∷ []) old in
+      let here = subst (λ (some : Option ℕ). MatchOption some (Counts old moment (lines place) old) (λ column. Says moment (reply.NoColumn column ∷ []) old)) (sym (lacks (first_of config.plans at) own.plan own.stands.planned)) (says (command asked) (reply.NoColumn column ∷ []) old) in
+      let step = steps asked moment refl (table-step config old moment asked (WithColumns old moment columns (λ place. Counts old moment (lines place) old)) place h'.is_mounted own.found here) in
+      subst (λ m. Executes config old (command asked) (SessionStands config entries f m notes) f f told told_now result) (sym r.mounted_is)
+      (executes-answered E config old (command asked) (SessionStands config entries f true notes) f f (text (reply.NoColumn column)) told told_now result
+      (answers-saying config old (command asked) (reply.NoColumn column) old (SessionStands config entries f true notes) f.media.faults f.media.faults step h') (λ moment none. counts moment (read-none f moment.reads none)) (λ moment none. stated moment) wrote)
+
+  -- it isn't executed
+  pub operator-refused : ((moment : Moment) → HasRead f moment.reads f → CountsReads f moment f (command asked)) → ((moment : Moment) → ReadsAsStated config old moment f result (command asked)) →
+      SessionStands config entries f mounted notes old → (said : code.Reply) → Refusal entries mounted asked said → Written told told_now result (reply_text said) →
+      Executes config old (command asked) (SessionStands config entries f mounted notes) f f told told_now result
+  operator-refused counts stated h said r wrote =
+      executes-answered E config old (command asked) (SessionStands config entries f mounted notes) f f (reply_text said) told told_now result
+      (answers-refused config old entries notes f mounted (command asked) asked (λ moment. WithColumns old moment columns (λ place. Counts old moment (lines place) old)) said f.media.faults h r (λ moment is w. steps asked moment is w)) (λ moment none. counts moment (read-none f moment.reads none)) (λ moment none. stated moment) wrote
+
+-- the same value by another name
+pub select-by : {E : Type 0} {config : Config} {old : Machine} {name : List ℕ} {range : KeyRange} {column : ℕ} {op : Op} {v w : ℤ} {stands : Machine → Type 0} {f g : FlashState} {told now : Option (List ℕ)} {result : Result (Unit {0}) E} → v ≡ w →
+    Executes config old (words.Select name range column op v) stands f g told now result → Executes config old (words.Select name range column op w) stands f g told now result
+select-by {E} {config} {old} {name} {range} {column} {op} {v} {w} {stands} {f} {g} {told} {now} {result} same h = subst (λ x. Executes config old (words.Select name range column op x) stands f g told now result) same h

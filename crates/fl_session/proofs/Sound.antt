@@ -1,0 +1,129 @@
+-- What holds of a session always.
+use Rattle.std.proofs.Common.{◌≡◌, ℕ, ◌+◌, ◌*◌, ◌^◌, ◌<◌, ◌≤◌, ◌⊎◌, inl, inr, Bool, true, false, not, ◌&&◌, Option, Some, List, length, set, sym, ◌∙◌, ap, subst, arith}
+use Rattle.std.specs.List.{slice_get}
+use Rattle.std.proofs.Math.Dec.{eqb}
+use Rattle.std.proofs.lemmas.Bool.Decides.{eqb_tells}
+use Rattle.std.proofs.lemmas.Bool.{false≢true, cases_lt}
+use Rattle.std.proofs.lemmas.List.{length-set}
+use Rattle.fl_base.specs.declared.types.Geometry.{Geometry}
+use Rattle.fl_flash.specs.Flash.{FlashState, Goes, pages}
+use Rattle.fl_flash.specs.declared.armed.Armed.{Armed}
+use Rattle.fl_ring.proofs.Exists.{lies_still}
+use Rattle.fl_table.specs.Memory.{LiesOn, is_running}
+use Rattle.fl_table.specs.declared.table.Table.{Table}
+use Rattle.fl_table.proofs.Indexing.{lies-goes}
+use Rattle.fl_session.specs.Standing.{HasRooms, IsSound}
+use Rattle.fl_session.specs.Tables.{entries_with, LieOn, AreRunning}
+use Rattle.fl_session.specs.declared.buffers.Buffers.{Buffers}
+use Rattle.fl_session.specs.declared.notes.Notes.{Notes}
+use Rattle.fl_session.specs.declared.notes.TableCursor.{TableCursor}
+use Rattle.fl_session.specs.declared.tables.Entry.{Entry}
+use Rattle.fl_session.proofs.Going.{goes-set}
+use Rattle.fl_session.proofs.TablesChanged.{set-there, set-here, set-elsewhere, some-is}
+
+-- a table lies on a flash after a call of another table
+pub lies-on : (t : Table) (f g : FlashState) → Goes f g → LiesOn t f → LiesOn t g
+lies-on t f g goes lies = record {
+  geometry = goes.geometry ∙ lies.geometry;
+  within = omega (arith, lies.within, goes.blocks);
+  few = subst (λ k. k < 2 ^ 32) (sym same) lies.few;
+  ring = λ ring is. lies_still ring f g (lies.ring ring is) goes;
+  bitmaps = lies-goes t.bitmaps f g goes lies.bitmaps;
+}
+  where
+    same : pages g ≡ pages f
+    same = ap (λ k. k * g.geometry.block) goes.blocks ∙ ap (λ (x : Geometry). f.blocks * x.block) goes.geometry
+
+pub lie-on : (entries : List Entry) (f g : FlashState) → Goes f g → LieOn entries f → LieOn entries g
+lie-on entries f g goes lie i entry e = lies-on entry.table f g goes (lie i entry e)
+
+-- one of the tables was changed
+pub lie-with : (entries : List Entry) (at : ℕ) (entry : Entry) (u : Table) (f g : FlashState) → slice_get entries at ≡ Some entry → Goes f g → LieOn entries f → LiesOn u g → LieOn (entries_with entries at entry u) g
+lie-with entries at entry u f g here goes lie own i e k = by-place (eqb_tells at i)
+  where
+    by-place : ((eqb at i ≡ true) × (at ≡ i)) ⊎ ((eqb at i ≡ false) × (at ≡ i → ⊥)) → LiesOn e.table g
+    by-place (inl is) =
+        let there = set-there entries at entry (record { name = entry.name; table = u }) here in
+        let e_is = some-is (slice_get (entries_with entries at entry u) at) (record { name = entry.name; table = u }) e there (subst (λ j. slice_get (entries_with entries at entry u) j ≡ Some e) (sym is.1) k) in
+        subst (λ (x : Entry). LiesOn x.table g) e_is own
+    by-place (inr other) = lie-on entries f g goes lie i e (sym (set-elsewhere entries at i (record { name = entry.name; table = u }) other.1) ∙ k)
+
+pub running-with : (entries : List Entry) (at : ℕ) (entry : Entry) (u : Table) → slice_get entries at ≡ Some entry → AreRunning entries → is_running u ≡ true → AreRunning (entries_with entries at entry u)
+running-with entries at entry u here running own i e k = by-place (eqb_tells at i)
+  where
+    by-place : ((eqb at i ≡ true) × (at ≡ i)) ⊎ ((eqb at i ≡ false) × (at ≡ i → ⊥)) → is_running e.table ≡ true
+    by-place (inl is) =
+        let there = set-there entries at entry (record { name = entry.name; table = u }) here in
+        let e_is = some-is (slice_get (entries_with entries at entry u) at) (record { name = entry.name; table = u }) e there (subst (λ j. slice_get (entries_with entries at entry u) j ≡ Some e) (sym is.1) k) in
+        subst (λ (x : Entry). is_running x.table ≡ true) e_is own
+    by-place (inr other) = running i e (sym (set-elsewhere entries at i (record { name = entry.name; table = u }) other.1) ∙ k)
+
+-- .. and one more of the first tables
+pub running-more : (entries : List Entry) (at : ℕ) (entry : Entry) (u : Table) → slice_get entries at ≡ Some entry → ((i : ℕ) (e : Entry) → i < at → slice_get entries i ≡ Some e → is_running e.table ≡ true) → is_running u ≡ true →
+    (i : ℕ) (e : Entry) → i < at + 1 → slice_get (entries_with entries at entry u) i ≡ Some e → is_running e.table ≡ true
+running-more entries at entry u here running own i e lt k = by-order (cases_lt i at)
+  where
+    by-order : (i < at) ⊎ (at ≤ i) → is_running e.table ≡ true
+    by-order (inl before) = running i e before (sym (set-elsewhere entries at i (record { name = entry.name; table = u }) (λ is. absurd (omega (arith, before, is)))) ∙ k)
+    by-order (inr ge) =
+        let same : at ≡ i = omega (arith, lt, ge) in
+        let e_is = set-here entries at (record { name = entry.name; table = u }) e (subst (λ j. slice_get (entries_with entries at entry u) j ≡ Some e) (sym same) k) in
+        subst (λ (x : Entry). is_running x.table ≡ true) e_is own
+
+-- a session after a call of one of its tables
+pub sound-with : (entries : List Entry) (at : ℕ) (entry : Entry) (u : Table) (f g : FlashState) (buf : Buffers) (mounted now : Bool) (notes : Notes) → slice_get entries at ≡ Some entry → Goes f g → LiesOn u g → mounted ≡ true → (now ≡ true → is_running u ≡ true) →
+    IsSound entries f buf mounted notes → IsSound (entries_with entries at entry u) g buf now notes
+sound-with entries at entry u f g buf mounted now notes here goes own on running s = record {
+  lie = lie-with entries at entry u f g here goes s.lie own;
+  room = subst (λ (x : Geometry). HasRooms buf x.page) (sym goes.geometry) s.room;
+  running = λ is. running-with entries at entry u here (s.running on) (running is);
+  cursors = λ i c e. subst (λ n. c.table < n) (sym (length-set entries at (record { name = entry.name; table = u }))) (s.cursors i c e);
+}
+
+-- whether it runs after the call
+pub runs-after : (old new breaks said : Bool) → old ≡ true → new ≡ (old && not breaks) → said ≡ breaks → not said ≡ true → new ≡ true
+runs-after old new breaks said o e s n = e ∙ (ap (λ b. b && not breaks) o ∙ (ap not (sym s) ∙ n))
+
+-- .. and after reads, with other buffers
+pub sound-read : (entries : List Entry) (f g : FlashState) (buf buf' : Buffers) (mounted : Bool) (notes notes' : Notes) → Goes f g → length buf'.rows.bytes ≡ length buf.rows.bytes → length buf'.index.bytes ≡ length buf.index.bytes →
+    ((i : ℕ) (c : TableCursor) → slice_get notes'.cursors i ≡ Some (Some c) → c.table < length entries) → IsSound entries f buf mounted notes → IsSound entries g buf' mounted notes'
+sound-read entries f g buf buf' mounted notes notes' goes rows index cursors s = record {
+  lie = lie-on entries f g goes s.lie;
+  room = subst (λ (x : Geometry). HasRooms buf' x.page) (sym goes.geometry) (rows ∙ s.room.0, index ∙ s.room.1);
+  running = s.running;
+  cursors = cursors;
+}
+
+pub sound-roomed : (entries : List Entry) (f g : FlashState) (buf buf' : Buffers) (mounted : Bool) (notes : Notes) → Goes f g → HasRooms buf' f.geometry.page → IsSound entries f buf mounted notes → IsSound entries g buf' mounted notes
+sound-roomed entries f g buf buf' mounted notes goes room s = record {
+  lie = lie-on entries f g goes s.lie;
+  room = subst (λ (x : Geometry). HasRooms buf' x.page) (sym goes.geometry) room;
+  running = s.running;
+  cursors = s.cursors;
+}
+
+-- the cursors that are open, with one that was set
+pub cursors-set : (entries : List Entry) (cursors : List (Option TableCursor)) (n : ℕ) (mark : Option TableCursor) → ((i : ℕ) (c : TableCursor) → slice_get cursors i ≡ Some (Some c) → c.table < length entries) →
+    ((c : TableCursor) → mark ≡ Some c → c.table < length entries) → (i : ℕ) (c : TableCursor) → slice_get (set cursors n mark) i ≡ Some (Some c) → c.table < length entries
+cursors-set entries cursors n mark within own i c e = by-place (eqb_tells n i)
+  where
+    by-place : ((eqb n i ≡ true) × (n ≡ i)) ⊎ ((eqb n i ≡ false) × (n ≡ i → ⊥)) → c.table < length entries
+    by-place (inl is) = own c (set-here cursors n mark (Some c) (subst (λ j. slice_get (set cursors n mark) j ≡ Some (Some c)) (sym is.1) e))
+    by-place (inr other) = within i c (sym (set-elsewhere cursors n i mark other.1) ∙ e)
+
+pub sound-off : (entries : List Entry) (f g : FlashState) (buf buf' : Buffers) (mounted : Bool) (notes : Notes) → g ≡ record f { is_on = false } → length buf'.rows.bytes ≡ length buf.rows.bytes → length buf'.index.bytes ≡ length buf.index.bytes →
+    IsSound entries f buf mounted notes → IsSound entries g buf' false notes
+sound-off entries f g buf buf' mounted notes is rows index s = rw is (record {
+  lie = lie-on entries f (record f { is_on = false }) (goes-set f false f.armed) s.lie;
+  room = (rows ∙ s.room.0, index ∙ s.room.1);
+  running = λ on. absurd (false≢true on);
+  cursors = s.cursors;
+})
+
+pub sound-cut : (entries : List Entry) (f g : FlashState) (buf : Buffers) (armed : Option Armed) (mounted : Bool) (notes : Notes) → g ≡ record f { armed = armed } → IsSound entries f buf mounted notes → IsSound entries g buf mounted notes
+sound-cut entries f g buf armed mounted notes is s = rw is (record {
+  lie = lie-on entries f (record f { armed = armed }) (goes-set f f.is_on armed) s.lie;
+  room = s.room;
+  running = s.running;
+  cursors = s.cursors;
+})

@@ -1,0 +1,48 @@
+use Rattle.std.proofs.Common.{◌≡◌, ◌<◌, ◌^◌, None, List, length, map, sym, ◌∙◌, ap, subst, arith}
+use Rattle.std.proofs.lemmas.List.{length-map}
+use Rattle.fl_cursor.specs.Cursor.{present_of, left_of, IsReady, IsTold}
+use Rattle.fl_cursor.specs.declared.cursor.Cursor.{Cursor}
+use Rattle.fl_machine.specs.Step.{group_reply}
+use Rattle.fl_model.specs.Operators.{Group, aggregate}
+use Rattle.fl_model.specs.Query.{selected}
+use Rattle.fl_model.specs.Row.{Row, stored_row}
+use Rattle.fl_ops.specs.Columns.{records_of, record_of}
+use Rattle.fl_ops.specs.Groups.{groups_left}
+use Rattle.fl_page.specs.Contents.{contents_of}
+use Rattle.fl_session.specs.Lines.{Counted}
+use Rattle.fl_session.proofs.Grouping.{grouped-records, groups-fewer}
+use Rattle.fl_session.proofs.CursorMoves.{lies-read}
+use Rattle.fl_session.proofs.Operating.{few-asked}
+use Rattle.fl_session.proofs.Resumed.{is-standing}
+use Rattle.fl_session.proofs.operators.aggregate.Goals as goal
+
+pub list_groups-requires : goal.list_groups-requires
+list_groups-requires g c = record {
+  ready = subst (λ (k : Cursor). IsReady k (contents_of (g.F.Flash.state c.args.flash.now))) (sym c.new-groups.ensures.rows) (c.begin-cursor.ensures.ready (g.F.Flash.state c.args.flash.now) c.requires.lies c.requires.room.0 c.requires.room.1);
+}
+
+pub returns-clause-lies : goal.returns-clause-lies
+returns-clause-lies g c = lies-read _ _ _ c.list_groups.ensures.reads_only c.requires.lies
+
+pub returns-clause-counted : goal.returns-clause-counted
+returns-clause-counted g c = λ first plan t tells on stands.
+    let reaches = g.met.F.Flash.reaches c.args.flash.now in
+    let cursor : c.new-groups.result.rows ≡ c.begin-cursor.result = c.new-groups.ensures.rows in
+    let told = subst (λ (k : Cursor). IsTold k (contents_of (g.F.Flash.state c.args.flash.now))) (sym cursor)
+    (c.begin-cursor.ensures.told (contents_of (g.F.Flash.state c.args.flash.now)) (is-standing c.args.table.now (g.F.Flash.state c.args.flash.now) first plan t tells reaches c.requires.lies stands)) in
+    let left : left_of c.new-groups.result.rows (contents_of (g.F.Flash.state c.args.flash.now)) ≡ map stored_row (selected c.args.range None t.entries) =
+    ap (λ (k : Cursor). left_of k (contents_of (g.F.Flash.state c.args.flash.now))) cursor
+    ∙ c.begin-cursor.ensures.left (g.F.Flash.state c.args.flash.now) first plan t tells reaches c.requires.lies stands in
+    let groups : groups_left c.new-groups.result (present_of c.new-groups.result.rows) (left_of c.new-groups.result.rows (contents_of (g.F.Flash.state c.args.flash.now))) ≡ aggregate c.args.column c.args.width (records_of (map stored_row (selected c.args.range None t.entries))) =
+    c.new-groups.ensures.groups (present_of c.new-groups.result.rows) (left_of c.new-groups.result.rows (contents_of (g.F.Flash.state c.args.flash.now)))
+    ∙ ap (λ (rows : List Row). aggregate c.args.column c.args.width (records_of rows)) left in
+    let few : length (groups_left c.new-groups.result (present_of c.new-groups.result.rows) (left_of c.new-groups.result.rows (contents_of (g.F.Flash.state c.args.flash.now)))) < 2 ^ 63 =
+    omega (
+      arith,
+      ap (λ (gs : List Group). length gs) groups,
+      groups-fewer c.args.column c.args.width (records_of (map stored_row (selected c.args.range None t.entries))),
+      length-map (map stored_row (selected c.args.range None t.entries)) record_of,
+      few-asked c.args.table.now (g.F.Flash.state c.args.flash.now) first plan t c.args.range stands,
+    ) in
+    subst (λ (gs : List Group). Counted (map group_reply gs) (g.K.Sink.written c.args.out.now) (g.K.Sink.written c.list_groups.new.out) (g.F.Flash.state c.args.flash.now).media.faults (g.F.Flash.state c.list_groups.new.flash).media.faults c.list_groups.result)
+    (groups ∙ grouped-records c.args.column c.args.width (selected c.args.range None t.entries)) (c.list_groups.ensures.counted told few on)

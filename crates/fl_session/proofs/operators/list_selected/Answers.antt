@@ -1,0 +1,24 @@
+use Rattle.std.proofs.Common.{◌^◌, ◌<◌, length, map, filter, arith}
+use Rattle.std.proofs.lemmas.List.{length-map}
+use Rattle.fl_cursor.specs.Cursor.{left_of}
+use Rattle.fl_ops.specs.Columns.{row_passes}
+use Rattle.fl_ops.specs.Select.{input_of, comparison_of}
+use Rattle.fl_page.specs.Contents.{contents_of}
+use Rattle.fl_session.specs.Rows.{row_reply}
+use Rattle.fl_session.proofs.Operating.{first-same, second-same}
+use Rattle.fl_session.proofs.Few.{length-filter}
+use Rattle.fl_session.proofs.operators.list_selected.Goals as goal
+
+pub returns-clause-rows_name : goal.returns-clause-rows_name
+returns-clause-rows_name g c = first-same c.answer_lines.ensures.names
+
+pub returns-clause-index_name : goal.returns-clause-index_name
+returns-clause-index_name g c = second-same c.answer_lines.ensures.names
+
+pub returns-clause-counted : goal.returns-clause-counted
+returns-clause-counted g c = λ told few on.
+    let left = left_of (input_of c.args.rows.now) (contents_of (g.F.Flash.state c.args.flash.now)) in
+    let passes = row_passes (comparison_of c.args.rows.now) in
+    let many : length (map row_reply (filter (row_passes (comparison_of c.args.rows.now)) (left_of (input_of c.args.rows.now) (contents_of (g.F.Flash.state c.args.flash.now))))) < 2 ^ 63 =
+    omega (arith, few, length-filter passes left, length-map (filter (row_passes (comparison_of c.args.rows.now)) (left_of (input_of c.args.rows.now) (contents_of (g.F.Flash.state c.args.flash.now)))) row_reply) in
+    c.answer_lines.ensures.counted told many on

@@ -1,0 +1,44 @@
+use Rattle.std.proofs.Common.{◌≡◌, ◌<◌, ◌^◌, ℕ, ℤ, None, List, length, map, slice_index, sym, ◌∙◌, ap, subst, arith}
+use Rattle.fl_cursor.specs.Cursor.{table_of, left_of, IsTold}
+use Rattle.fl_cursor.specs.declared.cursor.Cursor.{Cursor}
+use Rattle.fl_model.specs.Operators.{project}
+use Rattle.fl_model.specs.Query.{selected}
+use Rattle.fl_model.specs.Row.{Row, stored_row}
+use Rattle.fl_ops.specs.Columns.{HasColumn, records_of}
+use Rattle.fl_ops.specs.Project.{columns_of}
+use Rattle.fl_page.specs.Contents.{contents_of}
+use Rattle.fl_table.specs.Look.{layout_in}
+use Rattle.fl_table.specs.declared.table.Table.{Table}
+use Rattle.fl_words.specs.Reply as words
+use Rattle.fl_session.specs.Lines.{Counted}
+use Rattle.fl_session.proofs.Fields.{lacks-none}
+use Rattle.fl_session.proofs.CursorMoves.{lies-read}
+use Rattle.fl_session.proofs.Operating.{few-asked, projected-fields}
+use Rattle.fl_session.proofs.Resumed.{is-standing}
+use Rattle.fl_session.proofs.operators.project.Goals as goal
+
+pub new-rows-requires : goal.new-rows-requires
+new-rows-requires g c = λ i lt.
+    let same : c.as_slice.result.now ≡ c.args.columns.now = c.as_slice.ensures.value ∙ c.places_of-places.ensures in
+    let there : i < length c.args.columns.now = omega (arith, lt, ap (λ (cs : List ℕ). length cs) same) in
+    subst (λ (cs : List ℕ). HasColumn (layout_in (table_of c.begin-cursor.result)) (slice_index cs i)) (sym same)
+    (subst (λ (t : Table). HasColumn (layout_in t) (slice_index c.args.columns.now i)) (sym c.begin-cursor.ensures.table) (lacks-none (layout_in c.args.table.now) c.args.columns.now i c.requires.columns there))
+
+pub returns-clause-lies : goal.returns-clause-lies
+returns-clause-lies g c = lies-read _ _ _ c.list_projected.ensures.reads_only c.requires.lies
+
+pub returns-clause-counted : goal.returns-clause-counted
+returns-clause-counted g c = λ first plan t tells on stands.
+    let reaches = g.met.F.Flash.reaches c.args.flash.now in
+    let cursor : c.new-rows.result.rows ≡ c.begin-cursor.result = c.new-rows.ensures.rows in
+    let told = subst (λ (k : Cursor). IsTold k (contents_of (g.F.Flash.state c.args.flash.now))) (sym cursor)
+    (c.begin-cursor.ensures.told (contents_of (g.F.Flash.state c.args.flash.now)) (is-standing c.args.table.now (g.F.Flash.state c.args.flash.now) first plan t tells reaches c.requires.lies stands)) in
+    let left : left_of c.new-rows.result.rows (contents_of (g.F.Flash.state c.args.flash.now)) ≡ map stored_row (selected c.args.range None t.entries) =
+    ap (λ (k : Cursor). left_of k (contents_of (g.F.Flash.state c.args.flash.now))) cursor
+    ∙ c.begin-cursor.ensures.left (g.F.Flash.state c.args.flash.now) first plan t tells reaches c.requires.lies stands in
+    let few : length (left_of c.new-rows.result.rows (contents_of (g.F.Flash.state c.args.flash.now))) < 2 ^ 63 =
+    omega (arith, ap (λ (xs : List Row). length xs) left, few-asked c.args.table.now (g.F.Flash.state c.args.flash.now) first plan t c.args.range stands) in
+    let columns : columns_of c.new-rows.result ≡ c.args.columns.now = c.new-rows.ensures.columns ∙ (c.as_slice.ensures.value ∙ c.places_of-places.ensures) in
+    subst (λ (rows : List (List ℤ)). Counted (map words.Fields rows) (g.K.Sink.written c.args.out.now) (g.K.Sink.written c.list_projected.new.out) (g.F.Flash.state c.args.flash.now).media.faults (g.F.Flash.state c.list_projected.new.flash).media.faults c.list_projected.result)
+    (ap (λ (cs : List ℕ). project cs (records_of (left_of c.new-rows.result.rows (contents_of (g.F.Flash.state c.args.flash.now))))) columns
+    ∙ (ap (λ (rows : List Row). project c.args.columns.now (records_of rows)) left ∙ projected-fields c.args.columns.now (selected c.args.range None t.entries))) (c.list_projected.ensures.counted told few on)

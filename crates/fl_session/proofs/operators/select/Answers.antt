@@ -1,0 +1,54 @@
+use Rattle.std.proofs.Common.{rules, ℤ, ◌≡◌, ◌<◌, ◌^◌, None, List, length, map, filter, refl, sym, ◌∙◌, ap, subst, arith}
+use Rattle.std.proofs.lemmas.Int.{to_z-of_z}
+use Rattle.std.specs.Int.{w64}
+use Rattle.std.specs.Prelude.{FitsSigned}
+use Rattle.fl_cursor.specs.Cursor.{table_of, IsReady, IsTold, IsStanding, left_of}
+use Rattle.fl_cursor.specs.declared.cursor.Cursor.{Cursor}
+use Rattle.fl_model.specs.Query.{selected}
+use Rattle.fl_model.specs.Row.{Row, stored_row}
+use Rattle.fl_ops.specs.Columns.{row_passes, Comparison}
+use Rattle.fl_ops.specs.Select.{comparison_of}
+use Rattle.fl_page.specs.Contents.{contents_of}
+use Rattle.fl_table.specs.Look.{layout_in}
+use Rattle.fl_table.specs.declared.table.Table.{Table}
+use Rattle.fl_table.proofs.SealAnswers.{planned-plain}
+use Rattle.fl_words.specs.Reply.{Reply}
+use Rattle.fl_session.specs.Lines.{Counted}
+use Rattle.fl_session.specs.Rows.{row_reply}
+use Rattle.fl_session.proofs.Operating.{few-asked, selected-lines}
+use Rattle.fl_session.proofs.CursorMoves.{lies-read}
+use Rattle.fl_session.proofs.operators.select.Goals as goal
+
+pub list_selected-requires : goal.list_selected-requires
+list_selected-requires g c =
+    let cursor : c.new-rows.result.rows ≡ c.begin-cursor.result = c.new-rows.ensures.rows in
+    record {
+      ready = subst (λ (k : Cursor). IsReady k (contents_of (g.F.Flash.state c.args.flash.now))) (sym cursor) (c.begin-cursor.ensures.ready (g.F.Flash.state c.args.flash.now) c.requires.lies c.requires.room.0 c.requires.room.1);
+      columns = c.columns.ensures.exact ∙ ap (λ (t : Table). length (layout_in t).columns) (sym (ap table_of cursor ∙ c.begin-cursor.ensures.table));
+      few = c.columns.ensures.few;
+    }
+
+pub returns-clause-lies : goal.returns-clause-lies
+returns-clause-lies g c = lies-read _ _ _ c.list_selected.ensures.reads_only c.requires.lies
+
+pub returns-clause-counted : goal.returns-clause-counted
+returns-clause-counted g c = λ first plan t tells on stands.
+    let held = contents_of (g.F.Flash.state c.args.flash.now) in
+    let cursor : c.new-rows.result.rows ≡ c.begin-cursor.result = c.new-rows.ensures.rows in
+    let reaches = g.met.F.Flash.reaches c.args.flash.now in
+    let standing : IsStanding c.args.table.now (contents_of (g.F.Flash.state c.args.flash.now)) =
+    record { flash = g.F.Flash.state c.args.flash.now; same = refl; tells = tells; reaches = g.met.F.Flash.reaches c.args.flash.now; lies = c.requires.lies; first = first; plan = plan; table = t; stands = stands } in
+    let told = subst (λ (k : Cursor). IsTold k (contents_of (g.F.Flash.state c.args.flash.now))) (sym cursor) (c.begin-cursor.ensures.told held standing) in
+    let left : left_of c.new-rows.result.rows (contents_of (g.F.Flash.state c.args.flash.now)) ≡ map stored_row (selected c.args.range None t.entries) =
+    ap (λ (k : Cursor). left_of k (contents_of (g.F.Flash.state c.args.flash.now))) cursor
+    ∙ c.begin-cursor.ensures.left (g.F.Flash.state c.args.flash.now) first plan t tells (g.met.F.Flash.reaches c.args.flash.now) c.requires.lies stands in
+    let few : length (left_of c.new-rows.result.rows (contents_of (g.F.Flash.state c.args.flash.now))) < 2 ^ 63 =
+    omega (arith, ap (λ (xs : List Row). length xs) left, few-asked c.args.table.now (g.F.Flash.state c.args.flash.now) first plan t c.args.range stands) in
+    let fits : FitsSigned w64 c.args.comparison.value = search rules in
+    let asked : comparison_of c.new-rows.result ≡ record { column = c.args.comparison.column; op = c.args.comparison.op; value = c.args.comparison.value } =
+    (c.new-rows.ensures.comparison ∙ ap (λ (v : ℤ). record { column = c.args.comparison.column; op = c.args.comparison.op; value = v }) (to_z-of_z w64 c.args.comparison.value fits)) in
+    let lines = ap (λ (k : Comparison). map row_reply (filter (row_passes k) (left_of c.new-rows.result.rows (contents_of (g.F.Flash.state c.args.flash.now))))) asked
+    ∙ (ap (λ (xs : List Row). map row_reply (filter (row_passes (record { column = c.args.comparison.column; op = c.args.comparison.op; value = c.args.comparison.value })) xs)) left
+    ∙ selected-lines plan (record { column = c.args.comparison.column; op = c.args.comparison.op; value = c.args.comparison.value }) (selected c.args.range None t.entries) (planned-plain c.args.table.now first plan stands.planned).no_var) in
+    subst (λ (l : List Reply). Counted l (g.K.Sink.written c.args.out.now) (g.K.Sink.written c.list_selected.new.out) (g.F.Flash.state c.args.flash.now).media.faults (g.F.Flash.state c.list_selected.new.flash).media.faults c.list_selected.result) lines
+    (c.list_selected.ensures.counted told few on)

@@ -1,0 +1,18 @@
+use Rattle.std.proofs.Common.{◌≡◌, ◌≤◌}
+use Rattle.fl_page.specs.Contents.{Contents, contents_of, OnlyReads}
+use Rattle.fl_session.proofs.LinesListed.{Fronted}
+use Rattle.fl_session.proofs.reply_lines.list_lines.Given as goal
+
+abbrev pub invariant-loop-count : goal.invariant-loop-count
+invariant-loop-count g l =
+    let L = g.L.ReplyLines in
+    let contents = contents_of (g.F.Flash.state l.fn.flash) in
+    record {
+      reads_only : OnlyReads (g.F.Flash.state l.fn.flash) (g.F.Flash.state l.flash);
+      names : L.names l.lines ≡ L.names l.fn.lines;
+      ready : (contents : Contents) → L.ready l.fn.lines l.fn.columns contents → L.ready l.lines l.fn.columns contents;
+      later : g.K.Sink.faults l.fn.out ≤ g.K.Sink.faults l.out;
+      told : L.told l.fn.lines contents → L.told l.lines contents;
+      front : L.told l.fn.lines contents →
+          Fronted (L.lines l.fn.lines contents) (L.lines l.lines contents) (g.K.Sink.written l.fn.out) (g.K.Sink.written l.out) (g.F.Flash.state l.fn.flash).media.faults l.count;
+    }

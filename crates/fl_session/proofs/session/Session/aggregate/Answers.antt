@@ -1,0 +1,63 @@
+use Rattle.std.proofs.Common.{◌≡◌, ◌^◌, ◌<◌, ◌≤◌, length, Some, rules, refl, ap, map, [], ◌∷◌, arith}
+use Rattle.std.specs.List.{slice_get}
+use Rattle.fl_flash.specs.declared.flash.Work.{Work}
+use Rattle.fl_model.specs.Operators as operators
+use Rattle.fl_table.specs.Look.{layout_in}
+use Rattle.fl_words.specs.Command as words
+use Rattle.fl_machine.specs.Step.{group_reply, records_of}
+use Rattle.fl_session.proofs.Answering.{step-is}
+use Rattle.fl_session.proofs.Costing.{has-read}
+use Rattle.fl_session.proofs.Getting.{goes-reads}
+use Rattle.fl_session.proofs.Owning.{reached-here, reached-within}
+use Rattle.fl_session.proofs.Sound.{sound-roomed}
+use Rattle.fl_session.proofs.Operations.{operator-executes, operator-no_column, operator-refused, has-column, lacks-column}
+use Rattle.fl_session.proofs.session.Session.aggregate.Goals as goal
+
+pub returns-in-Err-clause-step : goal.returns-in-Err-clause-step
+returns-in-Err-clause-step g c = λ config old h.
+    operator-refused _ config old _ c.args.name _ _ _
+    (λ name. words.Agg name c.args.range c.args.column c.args.width) (c.args.column ∷ [])
+    (λ at. map group_reply (operators.aggregate c.args.column c.args.width (records_of c.args.range at))) _ _ _
+    (λ at moment is w. step-is config old moment (words.Agg at c.args.range c.args.column c.args.width) is w)
+    (λ moment read. read) (λ moment. tt) h c.in-Err.refusal c.in-Err.ensures c.write_reply.ensures.text
+
+pub returns-then-columns-column-clause-step : goal.returns-then-columns-column-clause-step
+returns-then-columns-column-clause-step g c = λ config old h.
+    let beyond : length (layout_in c.index.result.now.table).columns < c.args.column = search rules in
+    let here : slice_get c.args.self.now.tables.entries.items c.in-Ok.at ≡ Some c.index.result.now = reached-here c.args.self.now.tables.entries.items _ _ c.in-Ok.at c.index.result.now c.in-Ok.ensures c.index.ensures in
+    operator-no_column _ config old _ c.args.name _ _ _
+    (λ name. words.Agg name c.args.range c.args.column c.args.width) (c.args.column ∷ [])
+    (λ at. map group_reply (operators.aggregate c.args.column c.args.width (records_of c.args.range at))) _ _ _
+    (λ at moment is w. step-is config old moment (words.Agg at c.args.range c.args.column c.args.width) is w)
+    c.in-Ok.at c.index.result.now (λ moment read. read) (λ moment. tt) h c.in-Ok.ensures here c.args.column (λ first plan planned. lacks-column c.index.result.now.table first plan _ beyond planned) c.write_reply-then-columns-column.ensures.text
+
+pub returns-clause-step : goal.returns-clause-step
+returns-clause-step g c = λ config old h.
+    let before : c.work-before.result.reads ≡ c.args.self.now.flash.work.reads = ap (λ (w : Work). w.reads) c.work-before.ensures in
+    let fits : c.work-before.result.reads < 2 ^ 64 = search rules in
+    let small : c.args.self.now.flash.work.reads < 2 ^ 64 = omega (arith, fits, before) in
+    let within : c.args.column ≤ length (layout_in c.index.result.now.table).columns = search rules in
+    let here : slice_get c.args.self.now.tables.entries.items c.in-Ok.at ≡ Some c.index.result.now = reached-here c.args.self.now.tables.entries.items _ _ c.in-Ok.at c.index.result.now c.in-Ok.ensures c.index.ensures in
+    operator-executes _ config old _ c.args.name _ _ _
+    (λ name. words.Agg name c.args.range c.args.column c.args.width) (c.args.column ∷ [])
+    (λ at. map group_reply (operators.aggregate c.args.column c.args.width (records_of c.args.range at))) _ _ _
+    (λ at moment is w. step-is config old moment (words.Agg at c.args.range c.args.column c.args.width) is w)
+    c.in-Ok.at c.index.result.now _ _ (λ moment read. read) (λ moment. tt) h c.in-Ok.ensures here c.aggregate.ensures.reads_only (has-read _ _ c.aggregate.ensures.reads_only _ small refl)
+    (λ first plan planned. has-column c.index.result.now.table first plan _ within planned)
+    (λ first plan table tells on stands. c.aggregate.ensures.counted first plan table tells on stands)
+
+pub index-requires : goal.index-requires
+index-requires g c = reached-within c.args.self.now.tables.entries.items _ _ _ c.in-Ok.at c.args.self.now.tables.entries.ok.0 c.in-Ok.ensures
+
+pub aggregate-requires-clause-running : goal.aggregate-requires-clause-running
+aggregate-requires-clause-running g c =
+    let here : slice_get c.args.self.now.tables.entries.items c.in-Ok.at ≡ Some c.index.result.now = reached-here c.args.self.now.tables.entries.items _ _ c.in-Ok.at c.index.result.now c.in-Ok.ensures c.index.ensures in
+    c.requires.sound.running c.in-Ok.ensures.mounted_is c.in-Ok.at c.index.result.now here
+
+pub aggregate-requires-clause-lies : goal.aggregate-requires-clause-lies
+aggregate-requires-clause-lies g c =
+    let here : slice_get c.args.self.now.tables.entries.items c.in-Ok.at ≡ Some c.index.result.now = reached-here c.args.self.now.tables.entries.items _ _ c.in-Ok.at c.index.result.now c.in-Ok.ensures c.index.ensures in
+    c.requires.sound.lie c.in-Ok.at c.index.result.now here
+
+pub returns-clause-sound : goal.returns-clause-sound
+returns-clause-sound g c = sound-roomed c.args.self.now.tables.entries.items _ _ _ _ _ _ (goes-reads _ _ c.aggregate.ensures.reads_only) c.aggregate.ensures.room c.requires.sound

@@ -1,0 +1,144 @@
+-- The bitmaps that a mount notes as it reads the pages.
+use Rattle.std.proofs.Common.{◌≡◌, ℕ, ◌+◌, ◌-◌, ◌/◌, ◌%◌, ◌^◌, ◌<◌, ◌≤◌, ◌==◌, Bool, true, false, IsTrue, List, Option, Some, None, IfSome, refl, sym, ◌∙◌, ap, subst, arith, ◌⊎◌, inl, inr}
+use Rattle.std.proofs.lemmas.Bool.{cases_lt, eqb-true}
+use Rattle.std.proofs.Math.Nat.{mod-lt, mod-eq_of_lt}
+use Rattle.std.specs.List.{slice_get}
+use Rattle.fl_base.specs.declared.types.Geometry.{Geometry}
+use Rattle.fl_index.specs.declared.index.Index.{Index}
+use Rattle.fl_index.specs.Memory as memory
+use Rattle.fl_index.specs.Memory.{waiting_in, first_waiting, per_page, IsSameRing}
+use Rattle.fl_index.specs.Standing.{Waits}
+use Rattle.fl_model.specs.Image.{rows_at}
+use Rattle.fl_model.specs.Layout.{bitmap_of}
+use Rattle.fl_model.specs.Record.{Plan}
+use Rattle.fl_model.specs.Ring.{oldest}
+use Rattle.fl_model.specs.Table.{Table, Entry}
+use Rattle.fl_bitmap.specs.Widths.{is_bits}
+use Rattle.fl_index.proofs.Bytes.{number_of-low}
+use Rattle.fl_index.proofs.Gathering.{bitmap-small}
+use Rattle.fl_mark.specs.Mark.{state_of_page}
+use Rattle.fl_mark.specs.declared.page_state.PageState.{PageState}
+use Rattle.fl_mark.specs.declared.page_state.PageState.TheVariants.{Committed}
+use Rattle.fl_model.specs.Layout.{committed, data_body}
+use Rattle.fl_model.specs.Row.{le, number_of}
+use Rattle.fl_ring.proofs.Found.{committed_state}
+use Rattle.fl_table.specs.Bitmaps.{AreSamePlan, AreSameRing, AreIdle, AreWaiting, EndAt, HaveRoom, AreNoted, first_to_wait}
+use Rattle.fl_table.specs.Reading.{WaitFor, HaveBitmaps, GatherUpTo, AreGathered, bitmap_on, bitmap_where, page_bitmap}
+use Rattle.fl_table.proofs.States.{committed-end}
+
+-- at first none waits
+pub gathers-none : (bitmaps : Option Index) (low high number : ℕ) → number ≡ low → WaitFor bitmaps low high → AreGathered bitmaps number bitmaps
+gathers-none None low high number e h = refl
+gathers-none (Some index) low high number e h = (refl, omega (arith, h.0, h.1, e))
+
+pub gather-first : (bitmaps : Option Index) (low high number : ℕ) (page : ℕ → List ℕ) → number ≡ low → WaitFor bitmaps low high → GatherUpTo bitmaps page number bitmaps
+gather-first None low high number page e h = refl
+gather-first (Some index) low high number page e h = λ plan table waits bitmaps. subst (λ k. Waits index plan table (first_waiting index) k) (omega (arith, h.1, e)) waits
+
+-- there is room for the next
+pub gather-room : (old now : Option Index) (low high number : ℕ) → WaitFor old low high → number < high → AreSamePlan old now → AreGathered old number now → EndAt now number → HaveRoom now
+gather-room None now low high number h lt same g end = λ index e. absurd (none index (sym g ∙ e))
+  where
+    none : (index : Index) → ◌≡◌ {A = Option Index} None (Some index) → ⊥
+    none index e = cc
+gather-room (Some old) None low high number h lt same g end = absurd g
+gather-room (Some old) (Some now) low high number h lt same g end = λ index e.
+    let per : per_page now ≡ per_page old = ap (λ (x : Geometry). (x.page - 24) / (now.bits / 8)) same.geometry ∙ ap (λ n. (old.geometry.page - 24) / (n / 8)) same.bits in
+    let room : waiting_in now < per_page now = omega (arith, g.0, g.1, h.3, lt, end now refl, per) in
+    subst (λ (o : Option Index). IfSome o (λ x. waiting_in x < per_page x)) e room
+
+-- one page more
+pub gathers-more : (old now later : Option Index) (low high number bitmap : ℕ) → WaitFor old low high → AreGathered old number now → AreNoted now number bitmap later → AreGathered old (number + 1) later
+gathers-more None now later low high number bitmap h g noted = subst (λ (o : Option Index). AreNoted o number bitmap later → later ≡ None) (sym g) (λ n. n) noted
+gathers-more (Some old) None later low high number bitmap h g noted = absurd g
+gathers-more (Some old) (Some now) None low high number bitmap h g noted = absurd noted
+gathers-more (Some old) (Some now) (Some later) low high number bitmap h g noted = by_order (cases_lt number (first_waiting old))
+  where
+    by_order : (number < first_waiting old) ⊎ (first_waiting old ≤ number) → (first_waiting later ≡ first_waiting old) × (waiting_in later ≡ number + 1 - first_waiting old)
+    by_order (inl before) =
+        let same = noted.1 (λ e. omega (arith, e, g.0, g.1, before)) in
+        (ap first_waiting same ∙ g.0, ap waiting_in same ∙ omega (arith, g.1, before))
+    by_order (inr from) =
+        let n = noted.0 (omega (arith, g.0, g.1, from)) in
+        (n.first ∙ g.0, omega (arith, n.one, g.1, from))
+
+pub gather-more : (old now later : Option Index) (low high number bitmap : ℕ) (page : ℕ → List ℕ) → WaitFor old low high → AreGathered old number now → AreNoted now number bitmap later → bitmap ≡ bitmap_on (page number) →
+    GatherUpTo old page number now → GatherUpTo old page (number + 1) later
+gather-more None now later low high number bitmap page h g noted is k = subst (λ (o : Option Index). AreNoted o number bitmap later → later ≡ None) (sym g) (λ n. n) noted
+gather-more (Some old) None later low high number bitmap page h g noted is k = absurd g
+gather-more (Some old) (Some now) None low high number bitmap page h g noted is k = absurd noted
+gather-more (Some old) (Some now) (Some later) low high number bitmap page h g noted is k = λ plan table waits bitmaps. by_order plan table (k plan table waits bitmaps) bitmaps (cases_lt number (first_waiting old))
+  where
+    by_order : (plan : Plan) (table : Table) → Waits now plan table (first_waiting old) (number - first_waiting old) → HaveBitmaps plan table page → (number < first_waiting old) ⊎ (first_waiting old ≤ number) →
+        Waits later plan table (first_waiting old) (number + 1 - first_waiting old)
+    by_order plan table w bitmaps (inl before) =
+        let same = noted.1 (λ e. omega (arith, e, g.0, g.1, before)) in
+        subst (λ n. Waits later plan table (first_waiting old) n) (omega (arith, before)) (subst (λ (x : Index). Waits x plan table (first_waiting old) (number - first_waiting old)) (sym same) w)
+    by_order plan table w bitmaps (inr from) =
+        let n = noted.0 (omega (arith, g.0, g.1, from)) in
+        subst (λ m. Waits later plan table (first_waiting old) m) (omega (arith, from))
+        (n.waits plan table (first_waiting old) (number - first_waiting old) w (λ i e. by_page i (omega (arith, e, from)) (slice_get table.rows.counts i) refl))
+      where
+        by_page : (i : ℕ) → number ≡ oldest table.rows + i → (c : Option ℕ) → slice_get table.rows.counts i ≡ c → IfSome c (λ rows. 0 < rows → bitmap ≡ bitmap_of plan (rows_at table i rows))
+        by_page i at None e = tt
+        by_page i at (Some rows) e = λ some. is ∙ (ap (λ (m : ℕ). bitmap_on (page m)) at ∙ bitmaps i rows e some)
+
+-- they end where the pages do
+pub gathers-end : (old now : Option Index) (low high : ℕ) → WaitFor old low high → AreGathered old high now → EndAt now high
+gathers-end None now low high h g = λ index e. absurd (none index (sym g ∙ e))
+  where
+    none : (index : Index) → ◌≡◌ {A = Option Index} None (Some index) → ⊥
+    none index e = cc
+gathers-end (Some old) None low high h g = absurd g
+gathers-end (Some old) (Some now) low high h g = λ index e.
+    let end : first_waiting now + waiting_in now ≡ high = omega (arith, g.0, g.1, h.2) in
+    subst (λ (o : Option Index). IfSome o (λ x. first_waiting x + waiting_in x ≡ high)) e end
+
+-- the pages of a mount from the first that waits on
+pub wait-for : (was now : Option Index) (end low high first : ℕ) → first ≡ first_to_wait was end low high → end ≤ high → low ≤ high → AreSamePlan was now → AreIdle now → EndAt now first → WaitFor now low high
+wait-for was None end low high first is below le same idle at = tt
+wait-for None (Some now) end low high first is below le same idle at = absurd same
+wait-for (Some was) (Some now) end low high first is below le same idle at =
+    let per : per_page now ≡ per_page was = ap (λ (x : Geometry). (x.page - 24) / (now.bits / 8)) same.geometry ∙ ap (λ n. (was.geometry.page - 24) / (n / 8)) same.bits in
+    let here = at now refl in
+    (idle, omega (arith, is, here, idle, below, le), omega (arith, is, here, idle), omega (arith, is, here, idle, per))
+
+pub gather-waits : (old now : Option Index) (page : ℕ → List ℕ) (high first : ℕ) (plan : Plan) (table : Table) → AreIdle old → EndAt old first → AreWaiting old plan table first 0 → HaveBitmaps plan table page → GatherUpTo old page high now →
+    AreWaiting now plan table first (high - first)
+gather-waits None now page high first plan table idle at waits bitmaps h = subst (λ (o : Option Index). AreWaiting o plan table first (high - first)) (sym h) tt
+gather-waits (Some old) None page high first plan table idle at waits bitmaps h = absurd h
+gather-waits (Some old) (Some now) page high first plan table idle at waits bitmaps h =
+    let here : first_waiting old ≡ first = omega (arith, at old refl, idle) in
+    subst (λ k. Waits now plan table k (high - k)) here (h plan table (subst (λ k. Waits old plan table k 0) (sym here) waits) bitmaps)
+
+-- the bitmap in the header of a data page is that of its rows
+bits_small : (bits b : ℕ) → IsTrue (is_bits bits) → b % 256 ^ (bits / 8) ≡ b → b % 256 ^ 8 ≡ b
+bits_small bits b is small = by_width (bits == 8) refl
+  where
+    room : (w : ℕ) → bits / 8 ≡ w → 0 < 256 ^ w → 256 ^ w ≤ 256 ^ 8 → b % 256 ^ 8 ≡ b
+    room w e some le =
+        let lt : b < 256 ^ w = subst (λ n. n < 256 ^ w) (ap (λ n. b % 256 ^ n) (sym e) ∙ small) (mod-lt b some) in
+        mod-eq_of_lt (omega (arith, lt, le))
+
+    no : false ≡ true → ⊥
+    no e = cc
+
+    by_width : (t : Bool) → (bits == 8) ≡ t → b % 256 ^ 8 ≡ b
+    by_width true e = let k : bits ≡ 8 = eqb-true bits 8 e in room 1 (ap (λ n. n / 8) k) (omega arith) (omega arith)
+    by_width false e = by_next (bits == 16) refl
+      where
+        by_next : (t : Bool) → (bits == 16) ≡ t → b % 256 ^ 8 ≡ b
+        by_next true k = let m : bits ≡ 16 = eqb-true bits 16 k in room 2 (ap (λ n. n / 8) m) (omega arith) (omega arith)
+        by_next false k = by_last (bits == 64) refl
+          where
+            by_last : (t : Bool) → (bits == 64) ≡ t → b % 256 ^ 8 ≡ b
+            by_last true m = let o : bits ≡ 64 = eqb-true bits 64 m in room 8 (ap (λ n. n / 8) o) (omega arith) (omega arith)
+            by_last false m = absurd (no (sym (rw (e, k, m) refl) ∙ is))
+
+pub page-bitmap : (plan : Plan) (number : ℕ) (entries : List Entry) (page : List ℕ) → IsTrue (is_bits plan.bits) → page ≡ committed (data_body plan number entries) → bitmap_on page ≡ bitmap_of plan entries
+page-bitmap plan number entries page is e =
+    let body = data_body plan number entries in
+    let state : state_of_page page ≡ Committed = ap state_of_page (e ∙ committed-end (data_body plan number entries)) ∙ committed_state (data_body plan number entries) in
+    let bytes : page_bitmap page ≡ number_of (le 8 (bitmap_of plan entries)) = ap page_bitmap e ∙ refl in
+    ap (λ (s : PageState). bitmap_where s (page_bitmap page)) state
+    ∙ (bytes ∙ (number_of-low 8 (bitmap_of plan entries) ∙ bits_small plan.bits (bitmap_of plan entries) is (bitmap-small plan entries is)))

@@ -1,0 +1,431 @@
+-- How a seal of the waiting bitmaps ends for their table.
+use Rattle.std.proofs.Common.{◌≡◌, ℕ, suc, ◌+◌, ◌-◌, ◌*◌, ◌%◌, ◌<◌, ◌≤◌, Bool, true, false, cond, ◌&&◌, ◌==◌, Option, Some, None, IfSome, option_map, OnOk, Result, Ok, Err, List, [], ◌∷◌, ◌++◌, length, take, drop, refl, sym, ◌∙◌, ap, subst, arith, ◌⊎◌, inl, inr, length-append}
+use Rattle.std.proofs.Math.Path.{fun_ext}
+use Rattle.std.proofs.Math.Nat.{mod-lt, mul-le-mul_right, add-mul}
+use Rattle.std.specs.List.{AllByRecursion, sum}
+use Rattle.fl_base.specs.declared.types.CutKind.{CutKind}
+use Rattle.fl_flash.specs.Flash.{FlashState, page_at}
+use Rattle.fl_flash.specs.declared.flash.FlashFault.{FlashFault}
+use Rattle.fl_index.specs.declared.index.Index.{Index}
+use Rattle.fl_index.specs.Memory as memory
+use Rattle.fl_index.specs.Outcomes as outcomes
+use Rattle.fl_index.specs.Standing as standing
+use Rattle.fl_index.specs.Standing.{HasIndex}
+use Rattle.fl_index.proofs.Sealings.{planned-ring}
+use Rattle.fl_model.specs.Facts.{IsTable, is_some_ring, counts_in}
+use Rattle.fl_model.specs.Image.{IsRingImage, HoldsRows, HoldsBitmaps}
+use Rattle.fl_model.specs.Mount.{index_end}
+use Rattle.fl_model.specs.Record.{Plan, has_index, entries_per_page}
+use Rattle.fl_model.specs.Ring as model
+use Rattle.fl_model.specs.Ring.{oldest}
+use Rattle.fl_model.specs.Table.{Table, Entry, RingName, DataRing, IndexRing, VarRing, shape_of, full_pages, is_dirty, seal_buffer, after_seal, after_seals, lose, spent_from}
+use Rattle.fl_model.specs.Work.{Kind, Body, Mark, VoidMark, Erase, Ending, AsBefore, AsAfter, Either, Leaves, Device, PartEnd, Whole, CutIn, FailedIn, PartProgress, PartFirst, PartPerforms, cut_now, counted, is_erase}
+use Rattle.fl_model.specs.Within.{seal_within, seals_within, effect_within, all_done, TablePerforms}
+use Rattle.fl_model.proofs.Kept.{AreKept}
+use Rattle.fl_model.proofs.Plain.{sealed-next, sealed-torn}
+use Rattle.fl_ring.specs.Ring.{Shape, OutsideStands, room}
+use Rattle.fl_model.specs.Layout.{committed, data_body}
+use Rattle.fl_ring.specs.Device.{SameDevice}
+use Rattle.fl_ring.specs.Step.{IsWatched}
+use Rattle.fl_table.specs.Bitmaps.{ArePlanned, Stand, StandOutside, IsRoomMade, RoomMade, MakesRoomOf, bitmap_seals, next_after}
+use Rattle.fl_table.specs.Outcomes.{Finishes, Breaks, FaultEnds}
+use Rattle.fl_table.specs.Pages.{HoldsTable, bytes_in, place_in}
+use Rattle.fl_table.specs.Standing.{Stands}
+use Rattle.fl_table.specs.declared.table.Table as code
+use Rattle.fl_table.proofs.Holding.{lost-twice}
+use Rattle.fl_table.proofs.SealAnswers.{planned-plain, planned-shape}
+use Rattle.fl_table.proofs.Plain.{IsPlain, IsPlainTable, IsIndexed, plain-facts, facts-plain, plain-lose}
+use Rattle.fl_table.proofs.Indexing.{planned-some, planned-none, index-next}
+use Rattle.fl_table.proofs.Moved.{HoldsIndexed, indexed-moved, keeps-lose}
+
+-- What is left of a list of operations, of which one may have failed, is what some of the first ones make.
+pub record IsFront {O S : Type 0} (change : O → S → S) (operations : List O) (s left : S) : Type 0 where
+  pub front : List O
+  pub others : List O
+  pub split : operations ≡ front ++ others
+  pub state : left ≡ all_done change front s
+
+leaves : {S : Type 0} (e : Ending) (before after left : S) → Leaves e before after left → (left ≡ before) ⊎ (left ≡ after)
+leaves AsBefore before after left h = inl h
+leaves AsAfter before after left h = inr h
+leaves Either before after left h = h
+
+pub front-left : {O S : Type 0} (kind : O → Kind) (change : O → S → S) (rose : Bool) (operations : List O) (device : Device) (s : S) (now : PartProgress S) → PartPerforms kind change rose operations device s now →
+    IsFront change operations s now.state
+front-left kind change rose [] device s now h = record { front = []; others = []; split = refl; state = h.2 }
+front-left {O} {S} kind change rose (operation ∷ operations) device s now h =
+    by_cut (cut_now device) h (λ g. front-left kind change rose operations (counted (kind operation) device) (change operation s) now g)
+  where
+    either : (now.state ≡ s) ⊎ (now.state ≡ change operation s) → IsFront change (operation ∷ operations) s now.state
+    either (inl e) = record { front = []; others = operation ∷ operations; split = refl; state = e }
+    either (inr e) = record { front = operation ∷ []; others = operations; split = refl; state = e }
+
+    later : IsFront change operations (change operation s) now.state → IsFront change (operation ∷ operations) s now.state
+    later f = record { front = operation ∷ f.front; others = f.others; split = ap (λ (os : List O). operation ∷ os) f.split; state = f.state }
+
+    by_cut : (cut : Option CutKind) →
+        PartFirst rose cut (kind operation) device s (change operation s) now (PartPerforms kind change rose operations (counted (kind operation) device) (change operation s) now) →
+        (PartPerforms kind change rose operations (counted (kind operation) device) (change operation s) now → IsFront change operations (change operation s) now.state) → IsFront change (operation ∷ operations) s now.state
+    by_cut (Some c) h go = either (leaves _ s (change operation s) now.state h.2)
+    by_cut None (inl h) go = either (leaves Either s (change operation s) now.state h.3)
+    by_cut None (inr h) go = later (go h)
+
+-- operations of an index ring alone
+abbrev pub IsOfIndex : RingName → Type 0
+IsOfIndex IndexRing = Unit {0}
+IsOfIndex DataRing = ⊥
+IsOfIndex VarRing = ⊥
+
+abbrev pub AreOfIndex : List (RingName × Kind) → Type 0
+AreOfIndex operations = AllByRecursion (λ operation. IsOfIndex operation.0) operations
+
+front_of : (front others : List (RingName × Kind)) → AreOfIndex (front ++ others) → AreOfIndex front
+front_of [] others h = tt
+front_of (o ∷ front) others h = (h.0, front_of front others h.1)
+
+-- They leave all else of the table.
+pub record IsBeside (table new : Table) : Type 0 where
+  pub entries : new.entries ≡ table.entries
+  pub rows : new.rows ≡ table.rows
+  pub var : new.var ≡ table.var
+  pub pending : new.pending ≡ table.pending
+  pub fill : new.fill ≡ table.fill
+  pub points : new.points ≡ table.points
+
+pub beside-done : (plan : Plan) (table t : Table) (front : List (RingName × Kind)) → AreOfIndex front → IsBeside table t → IsBeside table (all_done (effect_within plan) front t)
+beside-done plan table t [] h b = b
+beside-done plan table t ((IndexRing, Body) ∷ front) h b = beside-done plan table (effect_within plan (IndexRing, Body) t) front h.1 (record { entries = b.entries; rows = b.rows; var = b.var; pending = b.pending; fill = b.fill; points = b.points })
+beside-done plan table t ((IndexRing, Mark) ∷ front) h b = beside-done plan table (effect_within plan (IndexRing, Mark) t) front h.1 (record { entries = b.entries; rows = b.rows; var = b.var; pending = b.pending; fill = b.fill; points = b.points })
+beside-done plan table t ((IndexRing, VoidMark) ∷ front) h b = beside-done plan table (effect_within plan (IndexRing, VoidMark) t) front h.1 (record { entries = b.entries; rows = b.rows; var = b.var; pending = b.pending; fill = b.fill; points = b.points })
+beside-done plan table t ((IndexRing, Erase) ∷ front) h b = beside-done plan table (effect_within plan (IndexRing, Erase) t) front h.1 (record { entries = b.entries; rows = b.rows; var = b.var; pending = b.pending; fill = b.fill; points = b.points })
+beside-done plan table t ((DataRing, kind) ∷ front) h b = absurd h.0
+beside-done plan table t ((VarRing, kind) ∷ front) h b = absurd h.0
+
+-- each raises the number of the index ring by one at most
+abbrev pub IsNumberedTo : ℕ → Option model.Ring → Type 0
+IsNumberedTo n ring = IfSome ring (λ r. r.next + (cond r.torn 1 0) ≤ n)
+
+up_to : (m n : ℕ) (o : Option model.Ring) → m ≤ n → IsNumberedTo m o → IsNumberedTo n o
+up_to m n None le h = tt
+up_to m n (Some r) le h = omega (arith, le, h)
+
+begun_number : (n : ℕ) (o : Option model.Ring) → IsNumberedTo n o → IsNumberedTo (n + 1) (option_map model.begun o)
+begun_number n None h = tt
+begun_number n (Some r) h = omega (arith, h)
+
+sealed_number : (n : ℕ) (shape : model.Shape) (count : ℕ) (o : Option model.Ring) → IsNumberedTo n o → IsNumberedTo (n + 1) (option_map (model.sealed shape count) o)
+sealed_number n shape count None h = tt
+sealed_number n shape count (Some r) h = rw (sealed-torn shape count r, sealed-next shape count r) (omega (arith, h))
+
+pub erased-number : (n : ℕ) (o : Option model.Ring) → IsNumberedTo n o → IsNumberedTo n (option_map model.erased o)
+erased-number n None h = tt
+erased-number n (Some r) h = h
+
+pub number-done : (plan : Plan) (n : ℕ) (t : Table) (front : List (RingName × Kind)) → AreOfIndex front → IsNumberedTo n t.index → IsNumberedTo (n + length front) (all_done (effect_within plan) front t).index
+number-done plan n t [] h k = up_to n (n + 0) t.index (omega arith) k
+number-done plan n t ((IndexRing, kind) ∷ front) h k =
+    up_to (n + 1 + length front) (n + suc (length front)) (all_done (effect_within plan) front (effect_within plan (IndexRing, kind) t)).index (omega arith)
+    (number-done plan (n + 1) (effect_within plan (IndexRing, kind) t) front h.1 (one kind))
+  where
+    one : (kind : Kind) → IsNumberedTo (n + 1) (effect_within plan (IndexRing, kind) t).index
+    one Body = begun_number n t.index k
+    one Mark = sealed_number n (shape_of plan IndexRing) (entries_per_page plan) t.index k
+    one VoidMark = sealed_number n (shape_of plan IndexRing) 0 t.index k
+    one Erase = up_to n (n + 1) (option_map model.erased t.index) (omega arith) (erased-number n t.index k)
+number-done plan n t ((DataRing, kind) ∷ front) h k = absurd h.0
+number-done plan n t ((VarRing, kind) ∷ front) h k = absurd h.0
+
+-- the operations of a seal are of the index ring, and at most three
+pub seal-of_index : (plan : Plan) (table : Table) → AreOfIndex (seal_within plan IndexRing table)
+seal-of_index plan table = (tt, (tt, erase (is_dirty IndexRing (seal_buffer plan IndexRing table))))
+  where
+    erase : (b : Bool) → AreOfIndex (cond b ((IndexRing, Erase) ∷ []) [])
+    erase true = (tt, tt)
+    erase false = tt
+
+-- the facts of a table whose index has these
+pub indexed-of : (plan : Plan) (table : Table) (ring : model.Ring) → has_index plan ≡ true → HasIndex plan table ring → ring.next + (cond ring.torn 1 0) ≤ 4294967292 → ((table.pending ≡ 0 → ⊥) → ring.next ≤ spent_from + 64) →
+    (oldest table.rows < index_end plan table → 0 < length table.rows.counts → table.rows.next + (cond table.rows.torn 1 0) ≤ spent_from + 1) → IsIndexed plan table
+indexed-of plan table ring some h number pending listed = record {
+  has = ap is_some_ring h.ring_is ∙ sym some;
+  ring = subst (λ (o : Option model.Ring). IfSome o (model.IsRing (shape_of plan IndexRing))) (sym h.ring_is) h.is_ring;
+  counts = subst (λ (o : Option model.Ring). AllByRecursion (λ count. (count ≡ 0) ⊎ (count ≡ entries_per_page plan)) (counts_in o)) (sym h.ring_is) h.counts;
+  first_each = h.first_each ∙ ap (λ (o : Option model.Ring). full_pages (counts_in o)) (sym h.ring_is);
+  firsts = h.firsts;
+  waiting = λ t. h.waiting;
+  listed = h.listed;
+  number = subst (λ (o : Option model.Ring). IfSome o (λ r. r.next + (cond r.torn 1 0) ≤ 4294967292)) (sym h.ring_is) number;
+  number_pending = λ p. subst (λ (o : Option model.Ring). IfSome o (λ r. r.next ≤ spent_from + 64)) (sym h.ring_is) (pending p);
+  number_listed = listed;
+}
+
+-- the facts of a table beside whose index nothing changed
+pub beside-facts : (plan : Plan) (table new : Table) → IsBeside table new → IsPlainTable plan table → IsIndexed plan new → IsPlainTable plan new
+beside-facts plan table new b h index = record {
+  rows = subst (model.IsRing (shape_of plan DataRing)) (sym b.rows) h.rows;
+  kept = subst (λ (es : List Entry). AreKept plan es new.rows.counts new.pending) (sym b.entries)
+      (subst (λ (r : model.Ring). AreKept plan table.entries r.counts new.pending) (sym b.rows) (subst (λ n. AreKept plan table.entries table.rows.counts n) (sym b.pending) h.kept));
+  few_pending = omega (arith, b.pending, h.few_pending);
+  index = index;
+  var = b.var ∙ h.var;
+  fill = omega (arith, b.fill, h.fill);
+  number = subst (λ (r : model.Ring). r.next + (cond r.torn 1 0) ≤ 4294967292) (sym b.rows) h.number;
+  number_pending = λ p. subst (λ (r : model.Ring). r.next ≤ spent_from) (sym b.rows) (h.number_pending (λ e. p (b.pending ∙ e)));
+}
+
+-- the pages of the data ring lie before the index ring
+pub rows-stand : (old new : ℕ → List ℕ) (first : ℕ) (plan : Plan) (r : Shape) → 0 < plan.data_blocks * plan.geometry.block → r.first ≡ (first + plan.data_blocks) * plan.geometry.block → OutsideStands r old new → (n : ℕ) → bytes_in new first plan DataRing n ≡ bytes_in old first plan DataRing n
+rows-stand old new first plan r some at stands n =
+    let small = mod-lt n some in
+    stands (place_in first plan DataRing n) (inl (omega (arith, at, small, add-mul first plan.data_blocks plan.geometry.block)))
+
+pub rows-same : (old new : ℕ → List ℕ) (first : ℕ) (plan : Plan) (table : Table) → ((n : ℕ) → bytes_in new first plan DataRing n ≡ bytes_in old first plan DataRing n) →
+    IsRingImage (shape_of plan DataRing) table.rows (bytes_in old first plan DataRing) (HoldsRows plan table) → IsRingImage (shape_of plan DataRing) table.rows (bytes_in new first plan DataRing) (HoldsRows plan table)
+rows-same old new first plan table same h = subst (λ (at : ℕ → List ℕ). IsRingImage (shape_of plan DataRing) table.rows at (HoldsRows plan table)) (sym (fun_ext (λ n. same n))) h
+
+-- the pages of the index ring
+pub holds-indexed : (page : ℕ → List ℕ) (first : ℕ) (plan : Plan) (table : Table) (ring : model.Ring) → table.index ≡ Some ring → standing.HoldsIndex page (first + plan.data_blocks) plan table ring → HoldsIndexed page first plan table
+holds-indexed page first plan table ring is h = subst (λ (o : Option model.Ring). IfSome o (λ r. IsRingImage (shape_of plan IndexRing) r (bytes_in page first plan IndexRing) (HoldsBitmaps plan table r))) (sym is) h
+
+-- what is lost of both
+lose-beside : (table new : Table) → IsBeside table new → IsBeside (lose table) (lose new)
+lose-beside table new b = record {
+  entries = ap (λ (es : List Entry). take (length es - new.pending) es) b.entries ∙ ap (λ n. take (length table.entries - n) table.entries) b.pending;
+  rows = b.rows;
+  var = b.var;
+  pending = refl;
+  fill = refl;
+  points = refl;
+}
+
+-- the rows are the same
+rows-beside : (plan : Plan) (table new : Table) (at : ℕ → List ℕ) → IsBeside table new → IsRingImage (shape_of plan DataRing) table.rows at (HoldsRows plan table) → IsRingImage (shape_of plan DataRing) new.rows at (HoldsRows plan new)
+rows-beside plan table new at b h =
+    subst (λ (es : List Entry). IsRingImage (shape_of plan DataRing) new.rows at (λ i count page. page ≡ committed (data_body plan (oldest new.rows + i) (take count (drop (sum (take i new.rows.counts)) es))))) (sym b.entries)
+    (subst (λ (r : model.Ring). IsRingImage (shape_of plan DataRing) r at (λ i count page. page ≡ committed (data_body plan (oldest r + i) (take count (drop (sum (take i r.counts)) table.entries))))) (sym b.rows) h)
+
+-- its pages on a flash
+pub holds-beside : (old new : ℕ → List ℕ) (first : ℕ) (plan : Plan) (table after : Table) → IsBeside table after → table.var ≡ None → ((n : ℕ) → bytes_in new first plan DataRing n ≡ bytes_in old first plan DataRing n) →
+    IsRingImage (shape_of plan DataRing) table.rows (bytes_in old first plan DataRing) (HoldsRows plan table) → HoldsIndexed new first plan after → HoldsTable new first plan after
+holds-beside old new first plan table after b none same rows indexed =
+    let no_var : after.var ≡ None = b.var ∙ none in
+    record {
+      rows = rows-beside plan table after (bytes_in new first plan DataRing) b (rows-same old new first plan table same rows);
+      index = indexed;
+      var = rw no_var tt;
+      blobs = rw no_var tt;
+    }
+
+append-nil : {X : Type 0} (xs : List X) → xs ++ [] ≡ xs
+append-nil [] = refl
+append-nil (x ∷ xs) = ap (λ ys. x ∷ ys) (append-nil xs)
+
+-- These seals of the index ring were done, and the table stands beside them.
+pub record IsMade (t : code.Table) (first : ℕ) (plan : Plan) (rings : List RingName) (table : Table) (rose : Bool) (device : Device) (left : Option Index) (new : FlashState) : Type 0 where
+  pub now : PartProgress Table
+  pub did : TablePerforms plan rose (seals_within plan rings table) device table now
+  pub whole : now.end ≡ Whole
+  pub counts : SameDevice new now.device
+  pub power : new.is_on ≡ true
+  pub beside : IsBeside table (after_seals plan rings table)
+  pub facts : IsTable plan (after_seals plan rings table)
+  pub pages : HoldsTable (page_at new) first plan (lose (after_seals plan rings table))
+  pub bitmaps : Stand left new (first + plan.data_blocks) plan (after_seals plan rings table)
+
+-- what a seal of the waiting bitmaps is told of its table
+module _ (t : code.Table) (f new : FlashState) (first : ℕ) (plan : Plan) (table : Table) (rose : Bool) (device : Device) (index : Index) (some : t.bitmaps ≡ Some index) (stands : Stands t f first plan table) (pending : table.pending ≡ 0 → ⊥)
+    (left : memory.next_in index + (cond (memory.waiting_in index == memory.per_page index) 1 0) ≤ spent_from + 1) (outside : OutsideStands (memory.ring_shape index) (page_at f) (page_at new)) where
+  planned : memory.IsPlanned index (first + plan.data_blocks) plan
+  planned = subst (λ (o : Option Index). ArePlanned o (first + plan.data_blocks) plan) some stands.planned.index
+
+  plain : IsPlain plan
+  plain = planned-plain t first plan stands.planned
+
+  facts : IsPlainTable plan table
+  facts = plain-facts plan table plain stands.facts
+
+  has : has_index plan ≡ true
+  has = planned-some index (first + plan.data_blocks) plan planned
+
+  same_rows : (n : ℕ) → bytes_in (page_at new) first plan DataRing n ≡ bytes_in (page_at f) first plan DataRing n
+  same_rows =
+      let shape = planned-shape t first plan stands.planned in
+      rows-stand (page_at f) (page_at new) first plan (memory.ring_shape index)
+      (let k : 3 * plan.geometry.block ≤ plan.data_blocks * plan.geometry.block = mul-le-mul_right plan.geometry.block shape.blocks in omega (arith, k, shape.pages))
+      (ap (λ (r : Shape). r.first) (planned-ring index (first + plan.data_blocks) plan planned)) outside
+
+  in_model : standing.Stands index f (first + plan.data_blocks) plan table
+  in_model = subst (λ (o : Option Index). Stand o f (first + plan.data_blocks) plan table) some stands.bitmaps
+
+  -- where all was done
+  after-facts : (ring : model.Ring) (after : Table) → IsBeside table after → HasIndex plan after ring → ring.next + (cond ring.torn 1 0) ≤ spent_from + 64 → IsPlainTable plan after
+  after-facts ring after beside h number =
+      beside-facts plan table after beside facts (indexed-of plan after ring has h (omega (arith, number)) (λ p. omega (arith, number))
+      (λ lt more. subst (λ (r : model.Ring). r.next + (cond r.torn 1 0) ≤ spent_from + 1) (sym beside.rows)
+      (subst (λ b. table.rows.next + (cond b 1 0) ≤ spent_from + 1) (sym stands.whole) (let few = facts.number_pending pending in omega (arith, few)))))
+
+  -- the operations are of the index ring, and at most three
+  are_of_index : AreOfIndex (seals_within plan (outcomes.index_seals plan table) table)
+  are_of_index = by_full (table.waiting == entries_per_page plan)
+    where
+      by_full : (b : Bool) → AreOfIndex (seals_within plan (cond b (IndexRing ∷ []) []) table)
+      by_full true = subst AreOfIndex (sym (append-nil (seal_within plan IndexRing table))) (seal-of_index plan table)
+      by_full false = tt
+
+  few_operations : length (seals_within plan (outcomes.index_seals plan table) table) ≤ 3
+  few_operations = by_full (table.waiting == entries_per_page plan)
+    where
+      seal_few : (b : Bool) → length {A = RingName × Kind} ((IndexRing, Body) ∷ (IndexRing, Mark) ∷ (cond b ((IndexRing, Erase) ∷ []) [])) ≤ 3
+      seal_few true = omega arith
+      seal_few false = omega arith
+
+      by_full : (b : Bool) → length (seals_within plan (cond b (IndexRing ∷ []) []) table) ≤ 3
+      by_full true = let k = seal_few (is_dirty IndexRing (seal_buffer plan IndexRing table)) in omega (arith, ap length (append-nil (seal_within plan IndexRing table)), k)
+      by_full false = omega arith
+
+  at_first : in_model.in_ring.ring.next + (cond in_model.in_ring.ring.torn 1 0) ≤ memory.next_in index
+  at_first =
+      let here = index-next index f (first + plan.data_blocks) plan table in_model in
+      let torn : ◌≡◌ {A = ℕ} (cond in_model.in_ring.ring.torn 1 0) 0 = ap (λ b. cond b 1 0) in_model.in_ring.whole in
+      omega (arith, here, torn)
+
+  low : memory.next_in index ≤ spent_from + 1
+  low = omega (arith, left)
+
+  -- an operation failed
+  pub index-breaks : (fault : FlashFault) → outcomes.Breaks (first + plan.data_blocks) plan (seals_within plan (outcomes.index_seals plan table) table) table rose device fault new →
+      Breaks first plan (seals_within plan (outcomes.index_seals plan table) table) table rose device fault new
+  index-breaks fault h =
+      let operations = seals_within plan (outcomes.index_seals plan table) table in
+      let left_is = front-left (λ (o : RingName × Kind). o.1) (effect_within plan) rose operations device table h.now h.did in
+      let of_front = front_of left_is.front left_is.others (subst AreOfIndex left_is.split are_of_index) in
+      let beside : IsBeside table h.now.state = subst (λ (x : Table). IsBeside table x) (sym left_is.state) (beside-done plan table table left_is.front of_front (record { entries = refl; rows = refl; var = refl; pending = refl; fill = refl; points = refl })) in
+      let numbered = number-done plan (memory.next_in index) table left_is.front of_front (subst (λ (o : Option model.Ring). IsNumberedTo (memory.next_in index) o) (sym in_model.in_ring.facts.ring_is) at_first) in
+      let few : length left_is.front ≤ 3 = omega (arith, ap length left_is.split, length-append left_is.front left_is.others, few_operations) in
+      let number : h.rests.ring.next + (cond h.rests.ring.torn 1 0) ≤ memory.next_in index + length left_is.front =
+      subst (λ (o : Option model.Ring). IsNumberedTo (memory.next_in index + length left_is.front) o) (sym (ap (λ (x : Table). x.index) left_is.state) ∙ h.rests.facts.ring_is) numbered in
+      let lost : IsPlainTable plan (lose h.now.state) =
+      beside-facts plan (lose table) (lose h.now.state) (lose-beside table h.now.state beside) (plain-lose plan table facts)
+      (indexed-of plan (lose h.now.state) h.rests.ring has h.rests.facts (omega (arith, number, few, low)) (λ p. absurd (p refl))
+      (λ lt more. subst (λ (r : model.Ring). r.next + (cond r.torn 1 0) ≤ spent_from + 1) (sym beside.rows)
+      (subst (λ b. table.rows.next + (cond b 1 0) ≤ spent_from + 1) (sym stands.whole) (let few = facts.number_pending pending in omega (arith, few))))) in
+      record {
+        now = h.now;
+        did = h.did;
+        answer = fault_ends h.now.end h.answer;
+        counts = h.counts;
+        rests = record {
+          settled = record { facts = facts-plain plan (lose h.now.state) plain lost; lost = lost-twice h.now.state };
+          pages = holds-beside (page_at f) (page_at new) first plan (lose table) (lose h.now.state) (lose-beside table h.now.state beside) facts.var same_rows stands.pages.rows
+              (holds-indexed (page_at new) first plan (lose h.now.state) h.rests.ring h.rests.facts.ring_is h.rests.pages);
+        };
+      }
+    where
+      fault_ends : (e : PartEnd Table) → outcomes.FaultEnds e fault new → FaultEnds e fault new
+      fault_ends Whole a = absurd a
+      fault_ends (CutIn before) a = a
+      fault_ends (FailedIn before) a = a
+
+  -- all were done
+  pub index-finishes : (now : Index) → IsRoomMade index now → (h : outcomes.Finishes (first + plan.data_blocks) plan (seals_within plan (outcomes.index_seals plan table) table) table (after_seals plan (outcomes.index_seals plan table) table) rose device now new) →
+      IsMade t first plan (outcomes.index_seals plan table) table rose device (Some now) new
+  index-finishes now made h =
+      let after = after_seals plan (outcomes.index_seals plan table) table in
+      let s = h.stands in
+      let ring = s.in_ring.ring in
+      let beside : IsBeside table after = by_full (table.waiting == entries_per_page plan) in
+      let here = index-next now new (first + plan.data_blocks) plan after s in
+      let torn : ◌≡◌ {A = ℕ} (cond ring.torn 1 0) 0 = ap (λ b. cond b 1 0) s.in_ring.whole in
+      let up : memory.next_in now ≤ spent_from + 1 = omega (arith, made.number, up_by (memory.waiting_in index == memory.per_page index) left) in
+      let known = after-facts ring after beside s.in_ring.facts (omega (arith, here, torn, up)) in
+      record {
+        now = h.now;
+        did = h.did;
+        whole = h.whole;
+        counts = h.counts;
+        power = h.power;
+        beside = beside;
+        facts = facts-plain plan after plain known;
+        pages = holds-beside (page_at f) (page_at new) first plan (lose table) (lose after) (lose-beside table after beside) facts.var same_rows stands.pages.rows
+            (indexed-moved (page_at new) first plan after (lose after) known.index (keeps-lose after known.kept.counted) refl refl (holds-indexed (page_at new) first plan after ring s.in_ring.facts.ring_is s.in_ring.pages));
+        bitmaps = s;
+      }
+    where
+      by_full : (b : Bool) → IsBeside table (after_seals plan (cond b (IndexRing ∷ []) []) table)
+      by_full true = record { entries = refl; rows = refl; var = refl; pending = refl; fill = refl; points = refl }
+      by_full false = record { entries = refl; rows = refl; var = refl; pending = refl; fill = refl; points = refl }
+
+      up_by : (b : Bool) → memory.next_in index + (cond b 1 0) ≤ spent_from + 1 → cond b (memory.next_in index + 1) (memory.next_in index) ≤ spent_from + 1
+      up_by true le = le
+      up_by false le = omega (arith, le)
+
+-- how a call ends that makes room for one bitmap more
+abbrev pub MadeEnds : code.Table → ℕ → Plan → List RingName → Table → Bool → Device → Result (Unit {0}) FlashFault → Option Index → FlashState → Type 0
+MadeEnds t first plan rings table rose device (Ok done) now new = IsMade t first plan rings table rose device now new
+MadeEnds t first plan rings table rose device (Err fault) now new = Breaks first plan (seals_within plan rings table) table rose device fault new
+
+pub bitmaps-end : (t : code.Table) (f new : FlashState) (first : ℕ) (plan : Plan) (table : Table) (rose : Bool) (device : Device) (bitmaps : Option Index) (result : Result (Unit {0}) FlashFault) (now : Option Index) → t.bitmaps ≡ bitmaps → Stands t f first plan table →
+    (table.pending ≡ 0 → ⊥) → IsWatched f new rose device → next_after bitmaps ≤ spent_from + 1 → StandOutside bitmaps (page_at f) (page_at new) → OnOk result (RoomMade bitmaps now) → MakesRoomOf bitmaps f (first + plan.data_blocks) plan table rose device result now new →
+    MadeEnds t first plan (bitmap_seals plan table) table rose device result now new
+bitmaps-end t f new first plan table rose device None result now is stands pending watched left outside made ends =
+    subst (λ (rings : List RingName). MadeEnds t first plan rings table rose device result now new) (sym none) (rw (ends.0, ends.1, ends.2) (record {
+      now = record { end = Whole; device = device; state = table };
+      did = (refl, refl, refl);
+      whole = refl;
+      counts = watched.counts;
+      power = watched.on;
+      beside = record { entries = refl; rows = refl; var = refl; pending = refl; fill = refl; points = refl };
+      facts = stands.facts;
+      pages = stands.pages;
+      bitmaps = subst (λ (o : Option Index). Stand o f (first + plan.data_blocks) plan table) is stands.bitmaps;
+    }))
+  where
+    none : bitmap_seals plan table ≡ []
+    none = ap (λ b. cond (b && (table.waiting == entries_per_page plan)) (IndexRing ∷ []) [])
+        (planned-none (first + plan.data_blocks) plan (subst (λ (o : Option Index). ArePlanned o (first + plan.data_blocks) plan) is stands.planned.index))
+bitmaps-end t f new first plan table rose device (Some index) result None is stands pending watched left outside made ends = absurd ends
+bitmaps-end t f new first plan table rose device (Some index) result (Some now) is stands pending watched left outside made ends =
+    subst (λ (rings : List RingName). MadeEnds t first plan rings table rose device result (Some now) new) (sym same) (by_result result made (ends watched s))
+  where
+    s : standing.Stands index f (first + plan.data_blocks) plan table
+    s = subst (λ (o : Option Index). Stand o f (first + plan.data_blocks) plan table) is stands.bitmaps
+
+    same : bitmap_seals plan table ≡ outcomes.index_seals plan table
+    same = ap (λ b. cond (b && (table.waiting == entries_per_page plan)) (IndexRing ∷ []) [])
+        (planned-some index (first + plan.data_blocks) plan (subst (λ (o : Option Index). ArePlanned o (first + plan.data_blocks) plan) is stands.planned.index))
+
+    by_result : (result : Result (Unit {0}) FlashFault) → OnOk result (IsRoomMade index now) → outcomes.MakesRoom (first + plan.data_blocks) plan table rose device result now new → MadeEnds t first plan (outcomes.index_seals plan table) table rose device result (Some now) new
+    by_result (Ok u) made h = index-finishes t f new first plan table rose device index is stands pending left outside now made h
+    by_result (Err fault) made h = index-breaks t f new first plan table rose device index is stands pending left outside fault h
+
+-- a table with another index
+abbrev pub with_index : Table → Option model.Ring → ℕ → List ℕ → Table
+with_index table index waiting firsts = record table { index = index; waiting = waiting; firsts = firsts }
+
+beside-is : (table new : Table) → IsBeside table new → new ≡ with_index table new.index new.waiting new.firsts
+beside-is table new b =
+    ap (λ (es : List Entry). record new { entries = es }) b.entries
+    ∙ (ap (λ (r : model.Ring). record new { entries = table.entries; rows = r }) b.rows
+    ∙ (ap (λ (v : Option model.Ring). record new { entries = table.entries; rows = table.rows; var = v }) b.var
+    ∙ (ap (λ (n : ℕ). record new { entries = table.entries; rows = table.rows; var = table.var; pending = n }) b.pending
+    ∙ (ap (λ (n : ℕ). record new { entries = table.entries; rows = table.rows; var = table.var; pending = table.pending; fill = n }) b.fill
+    ∙ ap (λ (ps : List (ℕ × ℕ)). record new { entries = table.entries; rows = table.rows; var = table.var; pending = table.pending; fill = table.fill; points = ps }) b.points))))
+
+-- the table in memory stands where it stands with any index
+pub made-finishes : (t t' : code.Table) (new : FlashState) (first : ℕ) (plan : Plan) (rings : List RingName) (table : Table) (rose : Bool) (device : Device) (left : Option Index) → IsMade t first plan rings table rose device left new →
+    ((index : Option model.Ring) (waiting : ℕ) (firsts : List ℕ) → IsTable plan (with_index table index waiting firsts) → HoldsTable (page_at new) first plan (lose (with_index table index waiting firsts)) →
+    Stand left new (first + plan.data_blocks) plan (with_index table index waiting firsts) → Stands t' new first plan (with_index table index waiting firsts)) →
+    Finishes first plan (seals_within plan rings table) table (after_seals plan rings table) rose device t' new
+made-finishes t t' new first plan rings table rose device left h stands =
+    let after = after_seals plan rings table in
+    let is = beside-is table after h.beside in
+    record {
+      now = h.now;
+      did = h.did;
+      whole = h.whole;
+      counts = h.counts;
+      power = h.power;
+      stands = subst (λ (x : Table). Stands t' new first plan x) (sym is)
+          (stands after.index after.waiting after.firsts (subst (IsTable plan) is h.facts) (subst (λ (x : Table). HoldsTable (page_at new) first plan (lose x)) is h.pages)
+          (subst (λ (x : Table). Stand left new (first + plan.data_blocks) plan x) is h.bitmaps));
+    }

@@ -1,0 +1,324 @@
+-- The index of a table, where it has one.
+use Rattle.std.proofs.Common.{◌≡◌, ℕ, ◌+◌, ◌-◌, ◌*◌, ◌^◌, ◌<◌, ◌≤◌, Bool, true, false, cond, nat_lt, nat_le, ◌==◌, is_some, option_map, unwrap_or, Option, Some, None, IfSome, List, [], ◌∷◌, ◌++◌, length, take, drop, refl, sym, ◌∙◌, ap, subst, arith, ◌⊎◌, inl, inr, IsTrue, length-append, length-drop}
+use Rattle.std.proofs.lemmas.Bool.{lt-ltb, ne_eqb}
+use Rattle.std.proofs.lemmas.List.{take_all}
+use Rattle.std.proofs.lemmas.List.Sums.{sum_by-take-drop}
+use Rattle.std.specs.List.{slice_get, sum}
+use Rattle.std.specs.Option.{ForSome}
+use Rattle.fl_base.specs.declared.types.RingPlace.{RingPlace}
+use Rattle.fl_flash.specs.Flash.{FlashState, Goes, page_at, pages}
+use Rattle.fl_index.specs.declared.index.Index.{Index}
+use Rattle.fl_index.specs.Memory as memory
+use Rattle.fl_index.specs.Memory.{waiting_in, first_waiting, per_page}
+use Rattle.fl_index.specs.Standing.{Stands, StandsForRing, Waits}
+use Rattle.fl_index.proofs.Memories as memories
+use Rattle.fl_index.proofs.Sealings.{planned-page}
+use Rattle.fl_model.specs.Image.{rows_at}
+use Rattle.fl_model.specs.Layout.{bitmap_of}
+use Rattle.fl_model.specs.Record.{Plan, has_index, entries_per_page}
+use Rattle.fl_model.specs.Ring as model
+use Rattle.fl_model.specs.Ring.{oldest}
+use Rattle.fl_model.specs.Table.{Table, Entry, DataRing, IndexRing, shape_of, pending_entries, seal_buffer, after_seal, spent_from}
+use Rattle.fl_model.proofs.Lists.{slice_get-drop, slice_get-push, slice_get-short}
+use Rattle.fl_model.proofs.Plain.{sealed-next}
+use Rattle.fl_model.specs.Facts.{is_some_ring}
+use Rattle.fl_ring.specs.Place.{next_of}
+use Rattle.fl_ring.specs.declared.ring.Ring.{Ring}
+use Rattle.fl_table.specs.Bitmaps as numbers
+use Rattle.fl_table.specs.Bitmaps.{ArePlanned, AreSamePlan, AreSameRing, AreRunning, AreBroken, EndAt, RoomMade, LieOn, Stand, HaveRoom, AreNoted}
+use Rattle.fl_table.specs.Pages.{bytes_in}
+use Rattle.fl_table.proofs.Moved.{KeepsPages, keeps-same, keeps-sealed, keeps-then, has-index, ring-moved, waits-moved, take-front, rows-drop}
+use Rattle.fl_table.proofs.Plain.{IsPlainTable, IsIndexed}
+use Rattle.fl_table.proofs.Sealed.{full_long}
+
+-- nothing is there
+pub none-there : {X : Type 0} (o : Option X) (x : X) → o ≡ None → o ≡ Some x → ⊥
+none-there None x e k = no k
+  where
+    no : {X : Type 0} {x : X} → ◌≡◌ {A = Option X} None (Some x) → ⊥
+    no k = cc
+none-there (Some y) x e k = cc
+
+pub none-is : {X : Type 0} (o : Option X) → o ≡ None → is_some o ≡ true → ⊥
+none-is None e k = cc
+none-is (Some y) e k = cc
+
+-- as planned
+pub still-planned : (old new : Option Index) (first : ℕ) (plan : Plan) → ArePlanned old first plan → AreSamePlan old new → ArePlanned new first plan
+still-planned None None first plan h same = h
+still-planned None (Some new) first plan h same = absurd same
+still-planned (Some old) None first plan h same = absurd same
+still-planned (Some old) (Some new) first plan h same = memories.planned-same old new first plan h same
+
+pub plan-same : (bitmaps : Option Index) → AreSamePlan bitmaps bitmaps
+plan-same None = tt
+plan-same (Some index) = record { geometry = refl; place = refl; bits = refl }
+
+pub plan-then : (a b c : Option Index) → AreSamePlan a b → AreSamePlan b c → AreSamePlan a c
+plan-then None None None h k = tt
+plan-then None None (Some z) h k = absurd k
+plan-then None (Some y) c h k = absurd h
+plan-then (Some x) None c h k = absurd h
+plan-then (Some x) (Some y) None h k = absurd k
+plan-then (Some x) (Some y) (Some z) h k = record { geometry = k.geometry ∙ h.geometry; place = k.place ∙ h.place; bits = k.bits ∙ h.bits }
+
+pub ring-then : (a b c : Option Index) → AreSameRing a b → AreSameRing b c → AreSameRing a c
+ring-then None None None h k = tt
+ring-then None None (Some z) h k = absurd k
+ring-then None (Some y) c h k = absurd h
+ring-then (Some x) None c h k = absurd h
+ring-then (Some x) (Some y) None h k = absurd k
+ring-then (Some x) (Some y) (Some z) h k = record { ring = k.ring ∙ h.ring; firsts = k.firsts ∙ h.firsts }
+
+pub planned-some : (index : Index) (first : ℕ) (plan : Plan) → ArePlanned (Some index) first plan → has_index plan ≡ true
+planned-some index first plan h = lt-ltb 0 plan.index_blocks (omega (arith, h.blocks, index.some_blocks))
+
+pub planned-none : (first : ℕ) (plan : Plan) → ArePlanned None first plan → has_index plan ≡ false
+planned-none first plan h = rw h refl
+
+-- it lies where it lay
+pub lies-goes : (bitmaps : Option Index) (f g : FlashState) → Goes f g → LieOn bitmaps f → LieOn bitmaps g
+lies-goes None f g goes h = tt
+lies-goes (Some index) f g goes h = record {
+  geometry = goes.geometry ∙ h.geometry;
+  within = omega (arith, h.within, goes.blocks);
+  few = subst (λ k. k < 2 ^ 32) (sym same) h.few;
+  ring = λ ring is.
+      let r = h.ring ring is in
+      record {
+        page = ap (λ x. x.page) goes.geometry ∙ r.page;
+        block = ap (λ x. x.block) goes.geometry ∙ r.block;
+        within = omega (arith, r.within, goes.blocks);
+      };
+}
+  where
+    same : pages g ≡ pages f
+    same = ap (λ k. k * g.geometry.block) goes.blocks ∙ ap (λ x. f.blocks * x.block) goes.geometry
+
+pub few-goes : (f g : FlashState) → Goes f g → pages f < 2 ^ 32 → pages g < 2 ^ 32
+few-goes f g goes h = subst (λ k. k < 2 ^ 32) (sym same) h
+  where
+    same : pages g ≡ pages f
+    same = ap (λ k. k * g.geometry.block) goes.blocks ∙ ap (λ x. f.blocks * x.block) goes.geometry
+
+-- what stays where the ring does
+pub still-lies : (old new : Option Index) (f : FlashState) → AreSamePlan old new → AreSameRing old new → LieOn old f → LieOn new f
+still-lies None None f same still h = tt
+still-lies None (Some new) f same still h = absurd same
+still-lies (Some old) None f same still h = absurd same
+still-lies (Some old) (Some new) f same still h = record {
+  geometry = h.geometry ∙ sym same.geometry;
+  within = omega (arith, h.within, ap (λ (p : RingPlace). p.first_block) same.place, ap (λ (p : RingPlace). p.blocks) same.place);
+  few = h.few;
+  ring = λ ring is. h.ring ring (sym still.ring ∙ is);
+}
+
+pub still-running : (old new : Option Index) → AreSameRing old new → AreRunning old → AreRunning new
+still-running None None same h = λ index e. absurd (none index e)
+  where
+    none : (index : Index) → ◌≡◌ {A = Option Index} None (Some index) → ⊥
+    none index e = cc
+still-running None (Some new) same h = absurd same
+still-running (Some old) None same h = absurd same
+still-running (Some old) (Some new) same h = λ index e.
+    subst (λ (o : Option Index). IfSome o (λ x. memory.is_running x ≡ true)) e (ap (λ (o : Option Ring). is_some o) same.ring ∙ h old refl)
+
+pub still-next : (old new : Option Index) → AreSameRing old new → numbers.next_of new ≡ numbers.next_of old
+still-next None None same = refl
+still-next None (Some new) same = absurd same
+still-next (Some old) None same = absurd same
+still-next (Some old) (Some new) same = ap (λ (o : Option Ring). unwrap_or (option_map (λ ring. next_of ring) o) 0) same.ring
+
+pub still-few : (n : ℕ) (old new : Option Index) → AreSamePlan old new → ForSome old (λ index. n ≤ 65536) → ForSome new (λ index. n ≤ 65536)
+still-few n None None same h = h
+still-few n None (Some new) same h = absurd same
+still-few n (Some old) None same h = absurd same
+still-few n (Some old) (Some new) same h = λ index e. h old refl
+
+-- where room was made
+pub made-running : (old new : Option Index) → RoomMade old new → AreRunning new
+made-running None new made = λ index e. absurd (none index (sym made ∙ e))
+  where
+    none : (index : Index) → ◌≡◌ {A = Option Index} None (Some index) → ⊥
+    none index e = cc
+made-running (Some old) None made = absurd made
+made-running (Some old) (Some new) made = λ index e. subst (λ (o : Option Index). IfSome o (λ x. memory.is_running x ≡ true)) e made.running
+
+pub made-end : (old new : Option Index) (n : ℕ) → RoomMade old new → EndAt old n → EndAt new n
+made-end None new n made h = λ index e. absurd (none index (sym made ∙ e))
+  where
+    none : (index : Index) → ◌≡◌ {A = Option Index} None (Some index) → ⊥
+    none index e = cc
+made-end (Some old) None n made h = absurd made
+made-end (Some old) (Some new) n made h = λ index e. subst (λ (o : Option Index). IfSome o (λ x. first_waiting x + waiting_in x ≡ n)) e (made.same ∙ h old refl)
+
+pub made-after : (old new : Option Index) → RoomMade old new → numbers.next_after new ≤ numbers.next_after old
+made-after None new made = let e : numbers.next_after new ≡ 0 = ap numbers.next_after made in omega (arith, e)
+made-after (Some old) None made = absurd made
+made-after (Some old) (Some new) made =
+    let room : (waiting_in new == per_page new) ≡ false = ne_eqb (waiting_in new) (per_page new) (λ e. omega (arith, e, made.room)) in
+    let last : memory.next_in new + (cond (waiting_in new == per_page new) 1 0) ≡ memory.next_in new + 0 = ap (λ b. memory.next_in new + (cond b 1 0)) room in
+    let up : memory.next_in new ≤ memory.next_in old + (cond (waiting_in old == per_page old) 1 0) = by_full (waiting_in old == per_page old) made.number in
+    omega (arith, last, up)
+  where
+    by_full : (b : Bool) → memory.next_in new ≡ cond b (memory.next_in old + 1) (memory.next_in old) → memory.next_in new ≤ memory.next_in old + (cond b 1 0)
+    by_full true e = omega (arith, e)
+    by_full false e = omega (arith, e)
+
+-- an index that isn't running has no number
+pub broken-after : (bitmaps : Option Index) → AreBroken bitmaps → numbers.next_after bitmaps ≤ 1
+broken-after None h = omega arith
+broken-after (Some index) h =
+    let none : memory.next_in index ≡ 0 = by_ring index.ring (h index refl) in
+    by_full (waiting_in index == per_page index) none
+  where
+    by_ring : (o : Option Ring) → is_some o ≡ false → unwrap_or (option_map (λ ring. next_of ring) o) 0 ≡ 0
+    by_ring None e = refl
+    by_ring (Some ring) e = cc
+
+    by_full : (b : Bool) → memory.next_in index ≡ 0 → memory.next_in index + (cond b 1 0) ≤ 1
+    by_full true e = omega (arith, e)
+    by_full false e = omega (arith, e)
+
+-- the next page's bitmap was noted
+pub noted-end : (old new : Option Index) (number bitmap : ℕ) → AreNoted old number bitmap new → EndAt old number → EndAt new (number + 1)
+noted-end None new number bitmap noted h = λ index e. absurd (none index (sym noted ∙ e))
+  where
+    none : (index : Index) → ◌≡◌ {A = Option Index} None (Some index) → ⊥
+    none index e = cc
+noted-end (Some old) None number bitmap noted h = absurd noted
+noted-end (Some old) (Some new) number bitmap noted h = λ index e.
+    let n = noted.0 (h old refl) in
+    let now : first_waiting new + waiting_in new ≡ number + 1 = omega (arith, n.first, n.one, h old refl) in
+    subst (λ (o : Option Index). IfSome o (λ x. first_waiting x + waiting_in x ≡ number + 1)) e now
+
+-- a bitmap more has room
+pub room-left : (bitmaps : Option Index) (f : FlashState) (first : ℕ) (plan : Plan) (table : Table) → ArePlanned bitmaps first plan → Stand bitmaps f first plan table → HaveRoom bitmaps → IsTrue (has_index plan) → table.waiting < entries_per_page plan
+room-left None f first plan table h s room t = absurd (no (sym (planned-none first plan h) ∙ t))
+  where
+    no : false ≡ true → ⊥
+    no e = cc
+room-left (Some index) f first plan table h s room t = omega (arith, room index refl, s.waits.count_is, planned-page index first plan h)
+
+-- the number of the next index page
+pub index-next : (index : Index) (f : FlashState) (first : ℕ) (plan : Plan) (table : Table) (s : Stands index f first plan table) → memory.next_in index ≡ s.in_ring.ring.next
+index-next index f first plan table s = ap (λ (o : Option Ring). unwrap_or (option_map (λ ring. next_of ring) o) 0) s.in_ring.memory_is ∙ s.in_ring.next
+
+no_index : (o : Option model.Ring) → is_some_ring o ≡ false → o ≡ None
+no_index None e = refl
+no_index (Some ring) e = cc
+
+pub index-number : (bitmaps : Option Index) (f : FlashState) (first : ℕ) (plan : Plan) (table : Table) (n : ℕ) → ArePlanned bitmaps first plan → IsIndexed plan table → Stand bitmaps f first plan table → numbers.next_of bitmaps ≤ n →
+    IfSome table.index (λ ring. ring.next ≤ n)
+index-number None f first plan table n planned facts s le = rw (no_index table.index (facts.has ∙ planned-none first plan planned)) tt
+index-number (Some index) f first plan table n planned facts s le =
+    subst (λ (o : Option model.Ring). IfSome o (λ ring. ring.next ≤ n)) (sym s.in_ring.facts.ring_is) (omega (arith, index-next index f first plan table s, le))
+
+-- no number is left just where the table's index has none
+pub index-spent : (bitmaps : Option Index) (f : FlashState) (first : ℕ) (plan : Plan) (table : Table) → ArePlanned bitmaps first plan → IsIndexed plan table → Stand bitmaps f first plan table →
+    nat_le spent_from (numbers.next_of bitmaps) ≡ unwrap_or (option_map (λ ring. nat_le spent_from ring.next) table.index) false
+index-spent None f first plan table planned facts s = rw (no_index table.index (facts.has ∙ planned-none first plan planned)) refl
+index-spent (Some index) f first plan table planned facts s =
+    ap (nat_le spent_from) (index-next index f first plan table s) ∙ ap (λ (o : Option model.Ring). unwrap_or (option_map (λ ring. nat_le spent_from ring.next) o) false) (sym s.in_ring.facts.ring_is)
+
+-- as many bitmaps wait as an index page holds, or fewer
+pub few-waiting : (index : Index) (f : FlashState) (first : ℕ) (plan : Plan) (table : Table) → Stands index f first plan table → table.waiting ≤ entries_per_page plan
+few-waiting index f first plan table s = omega (arith, s.waits.count_is, index.few, planned-page index first plan s.in_ring.planned)
+
+-- the last page of a table whose pending rows were sealed has these rows
+module _ (plan : Plan) (table : Table) (is : model.IsShape (shape_of plan DataRing)) (facts : IsPlainTable plan table) where
+  more : length (table.rows.counts ++ table.pending ∷ []) ≡ length table.rows.counts + 1
+  more = length-append table.rows.counts (table.pending ∷ [])
+
+  -- where the first p pages go
+  last_rows : (p n rows : ℕ) (counts : List ℕ) (entries : List Entry) → counts ≡ drop p (table.rows.counts ++ table.pending ∷ []) → entries ≡ drop (sum (take p (table.rows.counts ++ table.pending ∷ []))) table.entries →
+      p + n ≡ length table.rows.counts → slice_get counts n ≡ Some rows → take rows (drop (sum (take n counts)) entries) ≡ pending_entries table
+  last_rows p n rows counts entries kept left at e =
+      let there : slice_get (table.rows.counts ++ table.pending ∷ []) (p + n) ≡ Some rows = sym (slice_get-drop p (table.rows.counts ++ table.pending ∷ []) n) ∙ (ap (λ (cs : List ℕ). slice_get cs n) (sym kept) ∙ e) in
+      let count : table.pending ≡ rows = elim (slice_get-push table.rows.counts table.pending (p + n) rows there) [
+        | inl old ↦ let short = slice_get-short table.rows.counts (p + n) rows old in absurd (omega (arith, short, at))
+        | inr here ↦ here.1
+      ] in
+      let before : take (p + n) (table.rows.counts ++ table.pending ∷ []) ≡ table.rows.counts = take-front (p + n) table.rows.counts table.pending (omega (arith, at)) ∙ take_all (p + n) table.rows.counts (omega (arith, at)) in
+      let cut : length table.entries - table.pending ≡ sum table.rows.counts = omega (arith, facts.kept.counted) in
+      ap (λ (cs : List ℕ). take rows (drop (sum (take n cs)) entries)) kept
+      ∙ (ap (λ (es : List Entry). take rows (drop (sum (take n (drop p (table.rows.counts ++ table.pending ∷ [])))) es)) left
+      ∙ (sym (rows-drop table.entries (table.rows.counts ++ table.pending ∷ []) p n rows)
+      ∙ (ap (λ (cs : List ℕ). take rows (drop (sum cs) table.entries)) before
+      ∙ (ap (λ k. take k (drop (sum table.rows.counts) table.entries)) (sym count)
+      ∙ (take_all table.pending (drop (sum table.rows.counts) table.entries) (omega (arith, facts.kept.counted, length-drop (sum table.rows.counts) table.entries))
+      ∙ ap (λ k. drop k table.entries) (sym cut))))))
+
+  last-page : (n rows : ℕ) → table.rows.next ≡ oldest (after_seal plan DataRing table).rows + n → slice_get (after_seal plan DataRing table).rows.counts n ≡ Some rows →
+      rows_at (after_seal plan DataRing table) n rows ≡ pending_entries table
+  last-page n rows at e = by_test (model.is_full (shape_of plan DataRing) (model.extended table.pending table.rows)) refl at e
+    where
+      drop_none : {X : Type 0} (xs : List X) → drop 0 xs ≡ xs
+      drop_none [] = refl
+      drop_none (x ∷ xs) = refl
+
+      take_none : (xs : List ℕ) → take 0 xs ≡ []
+      take_none [] = refl
+      take_none (x ∷ xs) = refl
+
+      by_test : (b : Bool) → model.is_full (shape_of plan DataRing) (model.extended table.pending table.rows) ≡ b →
+          table.rows.next ≡ oldest (cond b (record (model.extended table.pending table.rows) { counts = drop plan.geometry.block (table.rows.counts ++ table.pending ∷ []); dirty = true }) (model.extended table.pending table.rows)) + n →
+          slice_get (cond b (record (model.extended table.pending table.rows) { counts = drop plan.geometry.block (table.rows.counts ++ table.pending ∷ []); dirty = true }) (model.extended table.pending table.rows)).counts n ≡ Some rows →
+          take rows (drop (sum (take n (cond b (record (model.extended table.pending table.rows) { counts = drop plan.geometry.block (table.rows.counts ++ table.pending ∷ []); dirty = true }) (model.extended table.pending table.rows)).counts))
+          (drop (sum (cond b (take plan.geometry.block (table.rows.counts ++ table.pending ∷ [])) [])) table.entries)) ≡ pending_entries table
+      by_test true full at e =
+          let long = full_long (shape_of plan DataRing) (model.extended table.pending table.rows) is full in
+          last_rows plan.geometry.block n rows _ _ refl refl (omega (arith, at, length-drop plan.geometry.block (table.rows.counts ++ table.pending ∷ []), long, more, facts.rows.not_negative)) e
+      by_test false full at e =
+          last_rows 0 n rows (table.rows.counts ++ table.pending ∷ []) (drop (sum []) table.entries) (sym (drop_none (table.rows.counts ++ table.pending ∷ [])))
+          (ap (λ (cs : List ℕ). drop (sum cs) table.entries) (sym (take_none (table.rows.counts ++ table.pending ∷ [])))) (omega (arith, at, more, facts.rows.not_negative)) e
+
+-- its other pages are those of before
+pub keeps-after : (plan : Plan) (table : Table) → model.IsShape (shape_of plan DataRing) → IsPlainTable plan table → KeepsPages table (after_seal plan DataRing table)
+keeps-after plan table is facts =
+    let next = sealed-next (shape_of plan DataRing) table.pending table.rows in
+    keeps-then table (seal_buffer plan DataRing table) (after_seal plan DataRing table)
+    (keeps-sealed (shape_of plan DataRing) table.pending table (seal_buffer plan DataRing table) is facts.rows.not_negative refl refl)
+    (keeps-same (seal_buffer plan DataRing table) (after_seal plan DataRing table) refl refl refl) (omega (arith, next))
+
+-- the bitmap of the page that was sealed waits
+pub stand-sealed : (old new : Option Index) (f g : FlashState) (first : ℕ) (plan : Plan) (table : Table) (number bitmap : ℕ) → model.IsShape (shape_of plan DataRing) → ArePlanned old (first + plan.data_blocks) plan → IsPlainTable plan table →
+    IsPlainTable plan (after_seal plan DataRing table) → ((n : ℕ) → bytes_in (page_at g) first plan IndexRing n ≡ bytes_in (page_at f) first plan IndexRing n) →
+    number ≡ table.rows.next → bitmap ≡ bitmap_of plan (pending_entries table) → AreNoted old number bitmap new → Stand old f (first + plan.data_blocks) plan table → Stand new g (first + plan.data_blocks) plan (after_seal plan DataRing table)
+stand-sealed None new f g first plan table number bitmap is planned facts after same at bits noted s =
+    subst (λ (o : Option Index). Stand o g (first + plan.data_blocks) plan (after_seal plan DataRing table)) (sym noted) (ap (λ b. cond b (table.waiting + 1) 0) (planned-none (first + plan.data_blocks) plan planned))
+stand-sealed (Some old) None f g first plan table number bitmap is planned facts after same at bits noted s = absurd noted
+stand-sealed (Some old) (Some new) f g first plan table number bitmap is planned facts after same at bits noted s =
+    let some = planned-some old (first + plan.data_blocks) plan planned in
+    let later = after_seal plan DataRing table in
+    let one : later.waiting ≡ table.waiting + 1 = ap (λ b. cond b (table.waiting + 1) 0) some in
+    let next : later.rows.next ≡ table.rows.next + 1 = sealed-next (shape_of plan DataRing) table.pending table.rows in
+    let within = facts.index.listed in
+    let n = noted.0 (omega (arith, s.waits.first_is, s.waits.count_is, at, within)) in
+    let keeps = keeps-after plan table is facts in
+    let ring = memories.ring-same old new f (first + plan.data_blocks) plan table n.same n.still s.in_ring in
+    let w = waits-moved old plan table later (table.rows.next - table.waiting) table.waiting keeps (omega (arith, within)) s.waits in
+    let waits : Waits new plan later (table.rows.next - table.waiting) (table.waiting + 1) = n.waits plan later (table.rows.next - table.waiting) table.waiting w
+    (λ k here. by_page k (omega (arith, here, within)) (slice_get later.rows.counts k) refl) in
+    let room : later.waiting ≤ entries_per_page plan = after.index.waiting (some) in
+    record {
+      in_ring = ring-moved new f g (first + plan.data_blocks) plan table later ring keeps refl (has-index plan later ring.ring ring.facts.ring_is after room) same;
+      waits = subst (λ k. Waits new plan later k later.waiting) (omega (arith, one, next, within)) (subst (λ k. Waits new plan later (table.rows.next - table.waiting) k) (sym one) waits);
+    }
+  where
+    by_page : (k : ℕ) → table.rows.next ≡ oldest (after_seal plan DataRing table).rows + k → (c : Option ℕ) → slice_get (after_seal plan DataRing table).rows.counts k ≡ c →
+        IfSome c (λ rows. 0 < rows → bitmap ≡ bitmap_of plan (rows_at (after_seal plan DataRing table) k rows))
+    by_page k here None e = tt
+    by_page k here (Some rows) e = λ some. bits ∙ ap (bitmap_of plan) (sym (last-page plan table is facts k rows here e))
+
+-- the index stands where other parts of its table changed
+pub stand-moved : (bitmaps : Option Index) (f g : FlashState) (first : ℕ) (plan : Plan) (table new : Table) → KeepsPages table new → new.index ≡ table.index → new.firsts ≡ table.firsts → new.waiting ≡ table.waiting → new.rows.next ≡ table.rows.next →
+    IsPlainTable plan table → IsPlainTable plan new → ((n : ℕ) → bytes_in (page_at g) first plan IndexRing n ≡ bytes_in (page_at f) first plan IndexRing n) → Stand bitmaps f (first + plan.data_blocks) plan table → Stand bitmaps g (first + plan.data_blocks) plan new
+stand-moved None f g first plan table new keeps index firsts waiting next facts after same s = waiting ∙ s
+stand-moved (Some bitmaps) f g first plan table new keeps index firsts waiting next facts after same s =
+    let few = few-waiting bitmaps f (first + plan.data_blocks) plan table s in
+    record {
+      in_ring = ring-moved bitmaps f g (first + plan.data_blocks) plan table new s.in_ring keeps firsts (has-index plan new s.in_ring.ring (index ∙ s.in_ring.facts.ring_is) after (omega (arith, few, waiting))) same;
+      waits = subst (λ k. Waits bitmaps plan new (k - new.waiting) new.waiting) (sym next) (subst (λ k. Waits bitmaps plan new (table.rows.next - k) k) (sym waiting)
+          (waits-moved bitmaps plan table new (table.rows.next - table.waiting) table.waiting keeps (omega (arith, facts.index.listed)) s.waits));
+    }

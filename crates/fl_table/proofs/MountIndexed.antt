@@ -1,0 +1,205 @@
+-- The mount of the index ring is part of the mount of its table.
+use Rattle.std.proofs.Common.{◌≡◌, ℕ, ◌+◌, ◌-◌, ◌*◌, ◌<◌, ◌≤◌, Bool, true, false, cond, Option, Some, None, option_map, unwrap_or, IfSome, nat_lt, append_assoc, Result, Ok, Err, List, [], ◌∷◌, ◌++◌, length, refl, sym, ◌∙◌, ap, subst, arith, ◌⊎◌, inl, inr, IsTrue}
+use Rattle.std.specs.List.{list_any}
+use Rattle.fl_flash.specs.Flash.{FlashState, page_at}
+use Rattle.fl_flash.specs.declared.flash.FlashFault.{FlashFault}
+use Rattle.fl_flash.specs.declared.flash.FlashFault.TheVariants.{Media}
+use Rattle.fl_index.specs.declared.index.Index.{Index}
+use Rattle.fl_index.specs.Outcomes as outcomes
+use Rattle.fl_index.specs.Standing as standing
+use Rattle.fl_index.specs.Standing.{HasIndex}
+use Rattle.fl_index.proofs.Lists.{end-drop}
+use Rattle.fl_model.specs.Facts.{IsTable}
+use Rattle.fl_model.specs.Mount.{renumber, renumbered, rings_of, index_end, least_alike}
+use Rattle.fl_model.specs.Record.{Plan, has_index, entries_per_page}
+use Rattle.fl_model.specs.Ring as model
+use Rattle.fl_model.specs.Ring.{oldest}
+use Rattle.fl_model.specs.Table.{Table, RingName, DataRing, IndexRing, VarRing, shape_of, full_pages, is_torn, is_dirty, seal_page, with_ring, lose, spent_from}
+use Rattle.fl_model.specs.Work.{Kind, Body, Mark, VoidMark, Erase, Device, PartEnd, Whole, CutIn, FailedIn, PartProgress}
+use Rattle.fl_model.specs.Within.{repair_within, effect_within, all_done, TablePerforms, TableUnreads, TableGoesOn, TableMounts, TableMountEnd, TableMounted, TableStopped, TableUnread}
+use Rattle.fl_model.proofs.Plain.{sealed-next, sealed-torn}
+use Rattle.fl_table.specs.Outcomes.{FaultEnds, MountsBadly, RingsEnd, MountEnds}
+use Rattle.fl_table.specs.Pages.{Rests, bytes_in}
+use Rattle.fl_table.specs.declared.counts.Mounted.{Mounted}
+use Rattle.fl_table.specs.declared.faults.MountFault.{MountFault}
+use Rattle.fl_table.specs.declared.faults.MountFault.TheVariants as mount
+use Rattle.fl_table.specs.declared.table.Table as code
+use Rattle.fl_table.proofs.IndexSeals.{IsBeside, IsNumberedTo, IsFront, front-left, erased-number, indexed-of, beside-facts, holds-beside, holds-indexed}
+use Rattle.fl_table.proofs.Plain.{IsPlain, IsPlainTable, facts-plain, least-below}
+use Rattle.fl_table.proofs.Repaired.{IsIdle, idle-lost}
+
+-- the repairs of an index ring that are left
+abbrev pub AreErases : List (RingName × Kind) → Type 0
+AreErases [] = Unit {0}
+AreErases ((IndexRing, Erase) ∷ operations) = AreErases operations
+AreErases _ = ⊥
+
+abbrev pub AreRepairs : List (RingName × Kind) → Table → Type 0
+AreRepairs [] table = Unit {0}
+AreRepairs ((IndexRing, VoidMark) ∷ operations) table = (is_torn IndexRing table ≡ true) × AreErases operations
+AreRepairs ((IndexRing, Erase) ∷ operations) table = AreErases operations
+AreRepairs _ table = ⊥
+
+erases_front : (front others : List (RingName × Kind)) → AreErases (front ++ others) → AreErases front
+erases_front [] others h = tt
+erases_front ((IndexRing, Erase) ∷ front) others h = erases_front front others h
+erases_front ((IndexRing, Body) ∷ front) others h = absurd h
+erases_front ((IndexRing, Mark) ∷ front) others h = absurd h
+erases_front ((IndexRing, VoidMark) ∷ front) others h = absurd h
+erases_front ((DataRing, kind) ∷ front) others h = absurd h
+erases_front ((VarRing, kind) ∷ front) others h = absurd h
+
+repairs_front : (front others : List (RingName × Kind)) (table : Table) → AreRepairs (front ++ others) table → AreRepairs front table
+repairs_front [] others table h = tt
+repairs_front ((IndexRing, VoidMark) ∷ front) others table h = (h.0, erases_front front others h.1)
+repairs_front ((IndexRing, Erase) ∷ front) others table h = erases_front front others h
+repairs_front ((IndexRing, Body) ∷ front) others table h = absurd h
+repairs_front ((IndexRing, Mark) ∷ front) others table h = absurd h
+repairs_front ((DataRing, kind) ∷ front) others table h = absurd h
+repairs_front ((VarRing, kind) ∷ front) others table h = absurd h
+
+are_repairs : (plan : Plan) (table : Table) → AreRepairs (repair_within plan IndexRing table) table
+are_repairs plan table = by_torn (is_torn IndexRing table) refl (is_dirty IndexRing (cond (is_torn IndexRing table) (seal_page plan IndexRing 0 table) table))
+  where
+    by_torn : (t : Bool) → is_torn IndexRing table ≡ t → (d : Bool) → AreRepairs ((cond t ((IndexRing, VoidMark) ∷ []) []) ++ (cond d ((IndexRing, Erase) ∷ []) [])) table
+    by_torn true e true = (e, tt)
+    by_torn true e false = (e, tt)
+    by_torn false e true = tt
+    by_torn false e false = tt
+
+-- what they leave of a table
+pub record IsLeft (plan : Plan) (table new : Table) : Type 0 where
+  pub beside : IsBeside table new
+  pub number : IsNumberedTo 4294967292 new.index
+  pub end : index_end plan new ≤ index_end plan table
+  pub waiting : new.waiting ≡ table.waiting
+
+erases_done : (plan : Plan) (table t : Table) (front : List (RingName × Kind)) → AreErases front → IsLeft plan table t → IsLeft plan table (all_done (effect_within plan) front t)
+erases_done plan table t [] h k = k
+erases_done plan table t ((IndexRing, Erase) ∷ front) h k =
+    erases_done plan table (effect_within plan (IndexRing, Erase) t) front h (record {
+      beside = record { entries = k.beside.entries; rows = k.beside.rows; var = k.beside.var; pending = k.beside.pending; fill = k.beside.fill; points = k.beside.points };
+      number = erased-number 4294967292 t.index k.number;
+      end = k.end;
+      waiting = k.waiting;
+    })
+erases_done plan table t ((IndexRing, Body) ∷ front) h k = absurd h
+erases_done plan table t ((IndexRing, Mark) ∷ front) h k = absurd h
+erases_done plan table t ((IndexRing, VoidMark) ∷ front) h k = absurd h
+erases_done plan table t ((DataRing, kind) ∷ front) h k = absurd h
+erases_done plan table t ((VarRing, kind) ∷ front) h k = absurd h
+
+voided_number : (n : ℕ) (shape : model.Shape) (o : Option model.Ring) → unwrap_or (option_map (λ ring. ring.torn) o) false ≡ true → IsNumberedTo n o → IsNumberedTo n (option_map (model.sealed shape 0) o)
+voided_number n shape None torn h = tt
+voided_number n shape (Some r) torn h =
+    let was : r.next + 1 ≤ n = subst (λ b. r.next + (cond b 1 0) ≤ n) torn h in
+    rw (sealed-torn shape 0 r, sealed-next shape 0 r) (omega (arith, was))
+
+repairs_done : (plan : Plan) (table t : Table) (front : List (RingName × Kind)) → AreRepairs front t → IsLeft plan table t → IsLeft plan table (all_done (effect_within plan) front t)
+repairs_done plan table t [] h k = k
+repairs_done plan table t ((IndexRing, VoidMark) ∷ front) h k =
+    erases_done plan table (effect_within plan (IndexRing, VoidMark) t) front h.1 (record {
+      beside = record { entries = k.beside.entries; rows = k.beside.rows; var = k.beside.var; pending = k.beside.pending; fill = k.beside.fill; points = k.beside.points };
+      number = voided_number 4294967292 (shape_of plan IndexRing) t.index h.0 k.number;
+      end = let less = end-drop (entries_per_page plan) (full_pages (unwrap_or (option_map (model.given_up (shape_of plan IndexRing) 0) t.index) [])) t.firsts in omega (arith, less, k.end);
+      waiting = k.waiting;
+    })
+repairs_done plan table t ((IndexRing, Erase) ∷ front) h k = erases_done plan table t ((IndexRing, Erase) ∷ front) h k
+repairs_done plan table t ((IndexRing, Body) ∷ front) h k = absurd h
+repairs_done plan table t ((IndexRing, Mark) ∷ front) h k = absurd h
+repairs_done plan table t ((DataRing, kind) ∷ front) h k = absurd h
+repairs_done plan table t ((VarRing, kind) ∷ front) h k = absurd h
+
+-- renumbered from 0 on, a ring's number is the same or less
+lower_number : (shape : model.Shape) (o : Option model.Ring) → 0 < shape.blocks * shape.pages → IfSome o (model.IsRing shape) → IsNumberedTo 4294967292 o → IsNumberedTo 4294967292 (option_map (renumbered shape 0) o)
+lower_number shape None some h k = tt
+lower_number shape (Some r) some h k = by_test (list_any (nat_lt 0) r.counts)
+  where
+    by_test : (b : Bool) → IsNumberedTo 4294967292 (Some (cond b r (record r { next = least_alike (shape.blocks * shape.pages) r.next (0 + length r.counts) })))
+    by_test true = k
+    by_test false = let low = least-below (shape.blocks * shape.pages) r.next (0 + length r.counts) some (omega (arith, h.not_negative)) in omega (arith, low, k)
+
+-- a table at rest, of which the index ring is mounted
+module _ (old new : FlashState) (first : ℕ) (plan : Plan) (table : Table) (rose : Bool) (device : Device) (plain : IsPlain plan) (has : has_index plan ≡ true) (some : 0 < plan.index_blocks * plan.geometry.block)
+    (facts : IsPlainTable plan table) (idle : IsIdle table) (rests : Rests old first plan table) (same_rows : (n : ℕ) → bytes_in (page_at new) first plan DataRing n ≡ bytes_in (page_at old) first plan DataRing n) where
+  -- the table rests on what the repairs left
+  pub left-rests : (left : Table) (ring : model.Ring) → IsFront (effect_within plan) (repair_within plan IndexRing (renumber plan IndexRing table)) (renumber plan IndexRing table) left → HasIndex plan left ring →
+      standing.HoldsIndex (page_at new) (first + plan.data_blocks) plan left ring → Rests new first plan left
+  left-rests left ring f known image =
+      let come = repairs_front f.front f.others (renumber plan IndexRing table) (subst (λ (ops : List (RingName × Kind)). AreRepairs ops (renumber plan IndexRing table)) f.split (are_repairs plan (renumber plan IndexRing table))) in
+      let is : IsLeft plan table left = subst (IsLeft plan table) (sym f.state) (repairs_done plan table (renumber plan IndexRing table) f.front come (record {
+        beside = record { entries = refl; rows = refl; var = refl; pending = refl; fill = refl; points = refl };
+        number = lower_number (shape_of plan IndexRing) table.index some facts.index.ring facts.index.number;
+        end = omega arith;
+        waiting = refl;
+      })) in
+      let number : ring.next + (cond ring.torn 1 0) ≤ 4294967292 = subst (IsNumberedTo 4294967292) known.ring_is is.number in
+      let b = is.beside in
+      let after : IsPlainTable plan left = beside-facts plan table left b facts (indexed-of plan left ring has known number (λ p. absurd (p (b.pending ∙ idle.pending)))
+      (λ lt more. subst (λ (r : model.Ring). r.next + (cond r.torn 1 0) ≤ spent_from + 1) (sym b.rows)
+      (facts.index.number_listed (omega (arith, ap oldest b.rows, lt, is.end)) (omega (arith, ap (λ (r : model.Ring). length r.counts) b.rows, more))))) in
+      let now : IsIdle left = record { pending = b.pending ∙ idle.pending; fill = b.fill ∙ idle.fill; waiting = is.waiting ∙ idle.waiting; points = b.points ∙ idle.points } in
+      record {
+        settled = record { facts = facts-plain plan left plain after; lost = idle-lost left now };
+        pages = holds-beside (page_at old) (page_at new) first plan table left b facts.var same_rows rests.pages.rows (holds-indexed (page_at new) first plan left ring known.ring_is image);
+      }
+
+  two_rings : rings_of plan ≡ IndexRing ∷ DataRing ∷ []
+  two_rings = rw (has, plain.no_var) refl
+
+  -- the mount of the index ring failed
+  pub index-fails : (fault : FlashFault) → outcomes.MountsBadly (first + plan.data_blocks) plan table rose device fault new → MountsBadly first plan (rings_of plan) table rose device fault new
+  index-fails fault h = record {
+    now = h.now;
+    did = subst (λ (rings : List RingName). (TableMounts plan rose rings device table (TableStopped h.now) × FaultEnds h.now.end fault new) ⊎ (TableMounts plan rose rings device table (TableUnread h.now) × (fault ≡ Media))) (sym two_rings) (by_did h.did);
+    counts = h.counts;
+    rests = left-rests h.now.state h.rests.ring (front h.did) h.rests.facts h.rests.pages;
+  }
+    where
+      stops : (now : PartProgress Table) (e : PartEnd Table) → now.end ≡ e → outcomes.FaultEnds e fault new →
+          TableGoesOn now.end now (TableStopped now) (TableMounts plan rose (DataRing ∷ []) now.device now.state (TableStopped now)) × FaultEnds e fault new
+      stops now Whole k a = absurd a
+      stops now (CutIn b) k a = (rw k refl, a)
+      stops now (FailedIn b) k a = (rw k refl, a)
+
+      by_did : (TablePerforms plan rose (repair_within plan IndexRing (renumber plan IndexRing table)) device (renumber plan IndexRing table) h.now × outcomes.FaultEnds h.now.end fault new)
+          ⊎ (TableUnreads plan rose (repair_within plan IndexRing (renumber plan IndexRing table)) device (renumber plan IndexRing table) h.now × (fault ≡ Media)) →
+          (TableMounts plan rose (IndexRing ∷ DataRing ∷ []) device table (TableStopped h.now) × FaultEnds h.now.end fault new) ⊎ (TableMounts plan rose (IndexRing ∷ DataRing ∷ []) device table (TableUnread h.now) × (fault ≡ Media))
+      by_did (inl p) = let s = stops h.now h.now.end refl p.1 in inl (inr (h.now, p.0, s.0), s.1)
+      by_did (inr u) = inr (inl (h.now, u.0, refl), u.1)
+
+      front : (TablePerforms plan rose (repair_within plan IndexRing (renumber plan IndexRing table)) device (renumber plan IndexRing table) h.now × outcomes.FaultEnds h.now.end fault new)
+          ⊎ (TableUnreads plan rose (repair_within plan IndexRing (renumber plan IndexRing table)) device (renumber plan IndexRing table) h.now × (fault ≡ Media)) →
+          IsFront (effect_within plan) (repair_within plan IndexRing (renumber plan IndexRing table)) (renumber plan IndexRing table) h.now.state
+      front (inl p) = front-left (λ (o : RingName × Kind). o.1) (effect_within plan) rose (repair_within plan IndexRing (renumber plan IndexRing table)) device (renumber plan IndexRing table) h.now p.0
+      front (inr u) =
+          let g = front-left (λ (o : RingName × Kind). o.1) (effect_within plan) rose u.0.front device (renumber plan IndexRing table) h.now u.0.did in
+          record { front = g.front; others = g.others ++ u.0.others; split = u.0.split ∙ (ap (λ (ops : List (RingName × Kind)). ops ++ u.0.others) g.split ∙ append_assoc g.front g.others u.0.others); state = g.state }
+
+  -- it ended well, and then the data ring is mounted
+  pub index-mounts : (end : Option ℕ) (now : Index) (h : outcomes.MountsWell (first + plan.data_blocks) plan table rose device end now new) → Rests new first plan h.now.state
+  index-mounts end now h =
+      left-rests h.now.state h.stands.ring (front-left (λ (o : RingName × Kind). o.1) (effect_within plan) rose (repair_within plan IndexRing (renumber plan IndexRing table)) device (renumber plan IndexRing table) h.now h.did)
+      h.stands.facts h.stands.pages
+
+  pub then-rows : (end : Option ℕ) (now : Index) (h : outcomes.MountsWell (first + plan.data_blocks) plan table rose device end now new) (result : Result Mounted MountFault) (t : code.Table) (last : FlashState) →
+      RingsEnd first plan (DataRing ∷ []) h.now.state rose h.now.device result t last → MountEnds first plan table rose device result t last
+  then-rows end now h result t last k = by_result result k
+    where
+      all : (how : TableMountEnd) → TableMounts plan rose (DataRing ∷ []) h.now.device h.now.state how → TableMounts plan rose (rings_of plan) device table how
+      all how m = subst (λ (rings : List RingName). TableMounts plan rose rings device table how) (sym two_rings)
+          (inr (h.now, h.did, subst (λ (e : PartEnd Table). TableGoesOn e h.now how (TableMounts plan rose (DataRing ∷ []) h.now.device h.now.state how)) (sym h.whole) m))
+
+      by_result : (result : Result Mounted MountFault) → RingsEnd first plan (DataRing ∷ []) h.now.state rose h.now.device result t last → MountEnds first plan table rose device result t last
+      by_result (Ok mounted) k = record { now = k.now; did = all (TableMounted k.now) k.did; counts = k.counts; power = k.power; stands = k.stands; answer = k.answer }
+      by_result (Err (mount.Flash fault)) k = record { now = k.now; did = by_did k.did; counts = k.counts; rests = k.rests }
+        where
+          by_did : (TableMounts plan rose (DataRing ∷ []) h.now.device h.now.state (TableStopped k.now) × FaultEnds k.now.end fault last) ⊎ (TableMounts plan rose (DataRing ∷ []) h.now.device h.now.state (TableUnread k.now) × (fault ≡ Media)) →
+              (TableMounts plan rose (rings_of plan) device table (TableStopped k.now) × FaultEnds k.now.end fault last) ⊎ (TableMounts plan rose (rings_of plan) device table (TableUnread k.now) × (fault ≡ Media))
+          by_did (inl p) = inl (all (TableStopped k.now) p.0, p.1)
+          by_did (inr p) = inr (all (TableUnread k.now) p.0, p.1)
+      by_result (Err (mount.Ring fault)) k = k
+      by_result (Err (mount.BadPage bad)) k = k
+      by_result (Err (mount.BadKeys page last key)) k = k
+      by_result (Err (mount.BadIndex end next)) k = k
+      by_result (Err (mount.BadBlob page next)) k = k

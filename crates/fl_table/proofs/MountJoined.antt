@@ -1,0 +1,239 @@
+-- A mount is that of the index, and then that of the data ring.
+use Rattle.std.proofs.Common.{◌≡◌, ℕ, ◌+◌, ◌-◌, ◌*◌, ◌%◌, ◌<◌, ◌≤◌, Bool, true, false, cond, Option, Some, None, IfSome, option_map, unwrap_or, get_or, Result, Ok, Err, List, [], ◌∷◌, length, refl, sym, ◌∙◌, ap, subst, arith, ◌⊎◌, inl, inr, IsTrue}
+use Rattle.std.proofs.Math.Nat.{mul-le-mul_right}
+use Rattle.fl_base.specs.declared.types.Geometry.{Geometry}
+use Rattle.fl_base.specs.declared.types.RingPlace.{RingPlace}
+use Rattle.fl_flash.specs.Flash.{FlashState, Goes, page_at}
+use Rattle.fl_flash.specs.declared.flash.FlashFault.{FlashFault}
+use Rattle.fl_index.specs.declared.index.Index.{Index}
+use Rattle.fl_index.specs.Finding.{FindsIndex}
+use Rattle.fl_index.specs.Memory as memory
+use Rattle.fl_index.specs.Outcomes as outcomes
+use Rattle.fl_index.specs.Outcomes.{end_of}
+use Rattle.fl_index.specs.Page.{first_on}
+use Rattle.fl_index.specs.Finding as finding
+use Rattle.fl_index.proofs.Sealings.{planned-ring}
+use Rattle.fl_model.specs.Facts.{counts_in, is_some_ring}
+use Rattle.fl_model.specs.Image.{IsRingImage, HoldsBitmaps}
+use Rattle.fl_index.specs.Standing as standing
+use Rattle.fl_ring.specs.Mounting.{shape_at}
+use Rattle.fl_table.proofs.Moved.{has-index}
+use Rattle.fl_model.specs.Mount.{rings_of, index_end}
+use Rattle.fl_model.specs.Record.{Plan, RowLayout, has_index, entries_per_page}
+use Rattle.fl_model.specs.Ring as model
+use Rattle.fl_model.specs.Table.{Table, RingName, DataRing, IndexRing, shape_of, full_pages}
+use Rattle.fl_model.specs.Work.{Device}
+use Rattle.fl_ring.specs.Causes as ring_causes
+use Rattle.fl_ring.specs.Causes.{CausedBy}
+use Rattle.fl_ring.specs.Device.{SameDevice}
+use Rattle.fl_ring.specs.Finding.{FoundFault}
+use Rattle.fl_ring.specs.Looking.{OnlyReads}
+use Rattle.fl_ring.specs.Mounting.{search_reads, HasNumbers, FailsAs}
+use Rattle.fl_ring.specs.Place.{next_of, oldest_of}
+use Rattle.fl_ring.specs.Ring.{Shape}
+use Rattle.fl_ring.specs.Step.{IsWatched}
+use Rattle.fl_ring.specs.declared.fault.RingFault.{RingFault}
+use Rattle.fl_ring.specs.declared.fault.RingFault.TheVariants as ring
+use Rattle.fl_ring.specs.declared.ring.Ring.{Ring}
+use Rattle.fl_schema.specs.Schema.{layout_of}
+use Rattle.fl_table.specs.Bitmaps.{ArePlanned, AreSamePlan, AreSameRing, StandForRing, StandOutside, MountEndsOf, IsOutside}
+use Rattle.fl_table.specs.Causes.{MountCausedBy, of_ring}
+use Rattle.fl_table.specs.Memory.{IsPlanned, IsSamePlan, ring_shape}
+use Rattle.fl_table.specs.Mounting.{FindsBitmaps, FindsRows, ReadsRing, HasBadPage, PagesUnread, HasBadRing, RefusesRows}
+use Rattle.fl_table.specs.Outcomes.{RingsEnd, MountEnds}
+use Rattle.fl_table.specs.Pages.{Rests, bytes_in}
+use Rattle.fl_table.specs.Reading.{AreRead, AreRefused, last_after, rows_after, voids_after, pages_of}
+use Rattle.fl_table.specs.declared.counts.Mounted.{Mounted as Found}
+use Rattle.fl_table.specs.declared.faults.MountFault.{MountFault}
+use Rattle.fl_table.specs.declared.faults.MountFault.TheVariants as mount
+use Rattle.fl_table.specs.declared.table.Table as code
+use Rattle.fl_table.proofs.Following.{cause-later}
+use Rattle.fl_table.proofs.Indexing.{planned-none, planned-some}
+use Rattle.fl_table.proofs.IndexSeals.{rows-stand}
+use Rattle.fl_table.proofs.MountIndexed.{index-fails, index-mounts, then-rows}
+use Rattle.fl_table.proofs.Plain.{IsPlain, IsPlainTable, plain-facts}
+use Rattle.fl_table.proofs.Repaired.{lost-idle}
+use Rattle.fl_table.proofs.SealAnswers.{planned-plain, planned-shape}
+
+-- a table without an index lists nothing
+none_listed : (plan : Plan) (table : Table) → has_index plan ≡ false → IsPlainTable plan table → index_end plan table ≡ 0
+none_listed plan table none facts = by_firsts table.firsts (by_ring table.index facts.index.has facts.index.first_each)
+  where
+    by_ring : (o : Option model.Ring) → is_some_ring o ≡ has_index plan → length table.firsts ≡ full_pages (counts_in o) → length table.firsts ≡ 0
+    by_ring None e k = k
+    by_ring (Some r) e k = absurd (no (e ∙ none))
+      where
+        no : true ≡ false → ⊥
+        no x = cc
+
+    by_firsts : (firsts : List ℕ) → length firsts ≡ 0 → index_end plan (record table { firsts = firsts }) ≡ 0
+    by_firsts [] e = refl
+    by_firsts (x ∷ xs) e = absurd (omega (arith, e))
+
+module _ (t : code.Table) (old new : FlashState) (first : ℕ) (plan : Plan) (table : Table) (rose : Bool) (device : Device) (planned : IsPlanned t first plan) (rests : Rests old first plan table) (watched : IsWatched old new rose device) where
+  plain : IsPlain plan
+  plain = planned-plain t first plan planned
+
+  facts : IsPlainTable plan table
+  facts = plain-facts plan table plain rests.settled.facts
+
+  some_blocks : 0 < plan.data_blocks * plan.geometry.block
+  some_blocks =
+      let shape = planned-shape t first plan planned in
+      let k : 3 * plan.geometry.block ≤ plan.data_blocks * plan.geometry.block = mul-le-mul_right plan.geometry.block shape.blocks in omega (arith, k, shape.pages)
+
+  module _ (index : Index) (is : t.bitmaps ≡ Some index) (outside : StandOutside (Some index) (page_at old) (page_at new)) where
+    planned_index : memory.IsPlanned index (first + plan.data_blocks) plan
+    planned_index = subst (λ (o : Option Index). ArePlanned o (first + plan.data_blocks) plan) is planned.index
+
+    some_pages : 0 < plan.index_blocks * plan.geometry.block
+    some_pages =
+        let k : 3 * plan.geometry.block ≤ plan.index_blocks * plan.geometry.block = mul-le-mul_right plan.geometry.block (omega (arith, planned_index.blocks, index.some_blocks)) in
+        omega (arith, k, (planned-shape t first plan planned).pages)
+
+    same_rows : (n : ℕ) → bytes_in (page_at new) first plan DataRing n ≡ bytes_in (page_at old) first plan DataRing n
+    same_rows = rows-stand (page_at old) (page_at new) first plan (memory.ring_shape index) some_blocks (ap (λ (r : Shape). r.first) (planned-ring index (first + plan.data_blocks) plan planned_index)) outside
+
+    has : has_index plan ≡ true
+    has = planned-some index (first + plan.data_blocks) plan planned_index
+
+    ring_of_index : (o : Option model.Ring) → table.index ≡ o → is_some_ring o ≡ true → (r : model.Ring) × (table.index ≡ Some r)
+    ring_of_index None e k = cc
+    ring_of_index (Some r) e k = (r, e)
+
+    rests_index : standing.Rests old (first + plan.data_blocks) plan table
+    rests_index =
+        let r = ring_of_index table.index refl (facts.index.has ∙ has) in
+        let idle = lost-idle table rests.settled.lost in
+        record {
+          ring = r.0;
+          facts = has-index plan table r.0 r.1 facts (omega (arith, idle.waiting));
+          idle = idle.waiting;
+          pages = subst (λ (o : Option model.Ring). IfSome o (λ x. IsRingImage (shape_of plan IndexRing) x (bytes_in (page_at old) first plan IndexRing) (HoldsBitmaps plan table x))) r.1 rests.pages.index;
+        }
+
+  -- the index failed
+  pub mount-fails : (bitmaps now : Option Index) (e : RingFault) (t' : code.Table) → t.bitmaps ≡ bitmaps → StandOutside bitmaps (page_at old) (page_at new) → MountEndsOf bitmaps old (first + plan.data_blocks) plan table rose device (Err e) now new →
+      MountEnds first plan table rose device (Err (of_ring e)) t' new
+  mount-fails None now e t' is outside h = absurd (no h.0)
+    where
+      no : ◌≡◌ {A = Result (Option ℕ) RingFault} (Err e) (Ok None) → ⊥
+      no k = cc
+  mount-fails (Some index) None e t' is outside h = absurd h
+  mount-fails (Some index) (Some now) e t' is outside h = by_fault e (h watched (planned_index index is outside) (rests_index index is outside))
+    where
+      by_fault : (e : RingFault) → outcomes.MountEnds (first + plan.data_blocks) plan table rose device (Err e) now new → MountEnds first plan table rose device (Err (of_ring e)) t' new
+      by_fault (ring.Flash fault) m = index-fails old new first plan table rose device plain (has index is outside) (some_pages index is outside) facts (lost-idle table rests.settled.lost) rests (same_rows index is outside) fault m
+      by_fault (ring.BadHead heads) m = absurd m
+      by_fault (ring.BadGap page) m = absurd m
+      by_fault (ring.BadPage page wanted found) m = absurd m
+      by_fault (ring.NoNumber least) m = absurd m
+
+  -- the index was mounted, and then the data ring
+  pub mount-then : (bitmaps now : Option Index) (end : Option ℕ) (result : Result Found MountFault) (t' : code.Table) (last : FlashState) → t.bitmaps ≡ bitmaps → StandOutside bitmaps (page_at old) (page_at new) →
+      MountEndsOf bitmaps old (first + plan.data_blocks) plan table rose device (Ok end) now new →
+      ((x : Table) (later : Device) → new.is_on ≡ true → SameDevice new later → Rests new first plan x → StandForRing now new (first + plan.data_blocks) plan x → unwrap_or end 0 ≡ index_end plan x →
+      RingsEnd first plan (DataRing ∷ []) x rose later result t' last) → MountEnds first plan table rose device result t' last
+  mount-then None now end result t' last is outside h go =
+      let none = planned-none (first + plan.data_blocks) plan (subst (λ (o : Option Index). ArePlanned o (first + plan.data_blocks) plan) is planned.index) in
+      let one : rings_of plan ≡ DataRing ∷ [] = rw (none, plain.no_var) refl in
+      subst (λ (rings : List RingName). RingsEnd first plan rings table rose device result t' last) (sym one)
+      (go table device (ap (λ (f : FlashState). f.is_on) h.2 ∙ watched.on) (subst (λ (f : FlashState). SameDevice f device) (sym h.2) watched.counts) (subst (λ (f : FlashState). Rests f first plan table) (sym h.2) rests)
+      (subst (λ (o : Option Index). StandForRing o new (first + plan.data_blocks) plan table) (sym h.1) tt) (ends h.0 ∙ sym (none_listed plan table none facts)))
+    where
+      ends : ◌≡◌ {A = Result (Option ℕ) RingFault} (Ok end) (Ok None) → unwrap_or end 0 ≡ 0
+      ends e = let k : end ≡ None = cc in ap (λ (o : Option ℕ). unwrap_or o 0) k
+  mount-then (Some index) None end result t' last is outside h go = absurd h
+  mount-then (Some index) (Some now) end result t' last is outside h go =
+      let m = h watched (planned_index index is outside) (rests_index index is outside) in
+      let at_rest = index-mounts old new first plan table rose device plain (has index is outside) (some_pages index is outside) facts (lost-idle table rests.settled.lost) rests (same_rows index is outside) end now m in
+      then-rows old new first plan table rose device plain (has index is outside) (some_pages index is outside) facts (lost-idle table rests.settled.lost) rests (same_rows index is outside) end now m result t' last
+      (go m.now.state m.now.device m.power m.counts at_rest m.stands (ap (λ (o : Option ℕ). unwrap_or o 0) m.answer))
+
+-- the index is the same where its ring is
+pub still-found : (was mid now : Option Index) (old new : FlashState) (end : Option ℕ) → FindsBitmaps was old end mid new → AreSamePlan mid now → AreSameRing mid now → FindsBitmaps was old end now new
+still-found None None None old new end h same still = h
+still-found None None (Some now) old new end h same still = absurd same
+still-found None (Some mid) now old new end h same still = absurd h
+still-found (Some was) None now old new end h same still = absurd h
+still-found (Some was) (Some mid) None old new end h same still = absurd same
+still-found (Some was) (Some mid) (Some now) old new end h same still = record {
+  ring = h.ring;
+  ring_is = still.ring ∙ h.ring_is;
+  ring_reads = h.ring_reads;
+  firsts = λ number low high. ap (λ v. get_or v.items (number % v.len) None) still.firsts ∙ h.firsts number low high;
+  end_is = h.end_is;
+}
+
+-- what a mount of the data ring found, of a table of the same plan
+shape_as : (t t1 : code.Table) → IsSamePlan t t1 → ring_shape t1 ≡ ring_shape t
+shape_as t t1 same = ap (λ (p : RingPlace). shape_at p t1.geometry) same.place ∙ ap (λ (g : Geometry). shape_at t.place g) same.geometry
+
+reads_as : (t t1 : code.Table) (f new : FlashState) (least : ℕ) (ring : Ring) → IsSamePlan t t1 → ReadsRing t1 f least ring new → ReadsRing t f least ring new
+reads_as t t1 f new least ring same h = record {
+  repaired = h.repaired;
+  numbers = subst (λ (r : Shape). HasNumbers f r least ring h.repaired) (shape_as t t1 same) h.numbers;
+  within = h.within;
+  reads = h.reads;
+}
+
+pub finds-as : (t t1 : code.Table) (f : FlashState) (was least : ℕ) (mounted : Found) (now : code.Table) (new : FlashState) → FindsRows t1 f was mounted now new → IsSamePlan t t1 → was ≡ least → FindsRows t f least mounted now new
+finds-as t t1 f was least mounted now new h same e = subst (λ (n : ℕ). FindsRows t f n mounted now new) e (record {
+  ring = h.ring;
+  ring_is = h.ring_is;
+  ring_reads = reads_as t t1 f new was h.ring same h.ring_reads;
+  read = subst (λ (l : RowLayout). AreRead l (pages_of h.ring new) (oldest_of h.ring) (next_of h.ring - oldest_of h.ring)) same.layout h.read;
+  mounted_is = h.mounted_is ∙ ap (λ (l : RowLayout). record {
+    rows = rows_after l (pages_of h.ring new) (oldest_of h.ring) (next_of h.ring - oldest_of h.ring);
+    pages = next_of h.ring - oldest_of h.ring;
+    voids = voids_after l (pages_of h.ring new) (oldest_of h.ring) (next_of h.ring - oldest_of h.ring);
+  }) same.layout;
+  last = h.last ∙ ap (λ (l : RowLayout). last_after l (pages_of h.ring new) (oldest_of h.ring) (next_of h.ring - oldest_of h.ring)) same.layout;
+})
+
+bad_page_as : (t t1 : code.Table) (f : FlashState) (least : ℕ) (fault : MountFault) (new : FlashState) → IsSamePlan t t1 → HasBadPage t1 f least fault new → HasBadPage t f least fault new
+bad_page_as t t1 f least fault new same h = record {
+  ring = h.ring;
+  ring_reads = reads_as t t1 f new least h.ring same h.ring_reads;
+  refused = subst (λ (l : RowLayout). AreRefused l (pages_of h.ring new) (oldest_of h.ring) (next_of h.ring - oldest_of h.ring) fault) same.layout h.refused;
+}
+
+refuses_as : (t t1 : code.Table) (f : FlashState) (least : ℕ) (fault : MountFault) (new : FlashState) → IsSamePlan t t1 → RefusesRows t1 f least fault new → RefusesRows t f least fault new
+unfolding reads_as
+refuses_as t t1 f least (mount.Flash fault) new same (inl h) = inl (subst (λ (r : Shape). FailsAs f r least (ring.Flash fault) new) (shape_as t t1 same) h)
+refuses_as t t1 f least (mount.Flash fault) new same (inr h) = inr (record { ring = h.ring; ring_reads = reads_as t t1 f new least h.ring same h.ring_reads; fails = h.fails })
+refuses_as t t1 f least (mount.Ring fault) new same h = record {
+  found = subst (λ (r : Shape). FoundFault f r least fault) (shape_as t t1 same) h.found;
+  reads = subst (λ (r : Shape). OnlyReads f (search_reads r) new) (shape_as t t1 same) h.reads;
+}
+refuses_as t t1 f least (mount.BadPage bad) new same h = bad_page_as t t1 f least (mount.BadPage bad) new same h
+refuses_as t t1 f least (mount.BadKeys page last first) new same h = bad_page_as t t1 f least (mount.BadKeys page last first) new same h
+refuses_as t t1 f least (mount.BadIndex end next) new same h = record {
+  ring = h.ring;
+  numbers = subst (λ (r : Shape). HasNumbers f r least h.ring new) (shape_as t t1 same) h.numbers;
+  end_is = h.end_is;
+  next_is = h.next_is;
+  beyond = h.beyond;
+}
+refuses_as t t1 f least (mount.BadBlob page next) new same h = h
+
+pub refuses-by : (t t1 : code.Table) (f : FlashState) (was least : ℕ) (fault : MountFault) (new : FlashState) → RefusesRows t1 f was fault new → IsSamePlan t t1 → was ≡ least → RefusesRows t f least fault new
+refuses-by t t1 f was least fault new h same e = subst (λ (n : ℕ). RefusesRows t f n fault new) e (refuses_as t t1 f was fault new same h)
+
+-- why a later part of a mount failed
+pub mount-cause-later : (old mid new : FlashState) → Goes old mid → (old.is_on ≡ true → mid.is_on ≡ true) → (e : MountFault) → MountCausedBy mid e new → MountCausedBy old e new
+mount-cause-later old mid new goes on (mount.Flash fault) h = cause-later old mid new goes on fault h
+mount-cause-later old mid new goes on (mount.Ring (ring.Flash fault)) h = absurd h
+mount-cause-later old mid new goes on (mount.Ring (ring.BadHead heads)) h = tt
+mount-cause-later old mid new goes on (mount.Ring (ring.BadGap page)) h = tt
+mount-cause-later old mid new goes on (mount.Ring (ring.BadPage page wanted found)) h = tt
+mount-cause-later old mid new goes on (mount.Ring (ring.NoNumber least)) h = tt
+mount-cause-later old mid new goes on (mount.BadPage bad) h = tt
+mount-cause-later old mid new goes on (mount.BadKeys page last first) h = tt
+mount-cause-later old mid new goes on (mount.BadIndex end next) h = tt
+mount-cause-later old mid new goes on (mount.BadBlob page next) h = tt
+
+-- a page outside the index ring stands
+pub stand-outside : (bitmaps : Option Index) (old new : ℕ → List ℕ) (page : ℕ) → StandOutside bitmaps old new → IfSome bitmaps (λ index. IsOutside (memory.ring_shape index) page) → new page ≡ old page
+stand-outside None old new page h out = h page
+stand-outside (Some index) old new page h out = h page out

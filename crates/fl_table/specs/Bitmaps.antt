@@ -1,0 +1,160 @@
+-- The index of a table, where it has one: the bitmaps of its sealed pages.
+use Rattle.std.specs.Prelude.{◌≡◌, ◌⊎◌, ℕ, ◌+◌, ◌-◌, ◌^◌, ◌<◌, ◌≤◌, min, max, Bool, true, false, ◌&&◌, ◌==◌, Result, Ok, Option, Some, None, IfSome, is_some, option_map, unwrap_or, List, [], ◌∷◌, slice_get, if◌then◌else◌}
+use Rattle.std.specs.Option.{ForSome}
+use Rattle.fl_flash.specs.Flash.{FlashState}
+use Rattle.fl_index.specs.declared.index.Index.{Index}
+use Rattle.fl_index.specs.Memory as memory
+use Rattle.fl_index.specs.Memory.{ring_shape, next_in, waiting_in, first_waiting, per_page, IsSameRing}
+use Rattle.fl_index.specs.Standing as standing
+use Rattle.fl_index.specs.Standing.{Waits}
+use Rattle.fl_model.specs.Image.{rows_at}
+use Rattle.fl_model.specs.Layout.{bitmap_of}
+use Rattle.fl_model.specs.Record.{Plan, has_index, entries_per_page}
+use Rattle.fl_model.specs.Ring.{oldest}
+use Rattle.fl_model.specs.Table.{Table, RingName, IndexRing}
+use Rattle.fl_model.specs.Work.{Device}
+use Rattle.fl_ring.specs.Ring.{Shape, OutsideStands, room}
+use Rattle.fl_ring.specs.Step.{IsWatched}
+use Rattle.fl_ring.specs.declared.fault.RingFault.{RingFault}
+use Rattle.fl_flash.specs.declared.flash.FlashFault.{FlashFault}
+use Rattle.fl_index.specs.Outcomes as outcomes
+
+-- as a plan says, where its index ring begins at this block
+abbrev pub ArePlanned : Option Index → ℕ → Plan → Type 0
+ArePlanned None first plan = plan.index_blocks ≡ 0
+ArePlanned (Some index) first plan = memory.IsPlanned index first plan
+
+-- what no call changes
+abbrev pub AreSamePlan : Option Index → Option Index → Type 0
+AreSamePlan None None = Unit {0}
+AreSamePlan (Some old) (Some new) = memory.IsSamePlan old new
+AreSamePlan None (Some new) = ⊥
+AreSamePlan (Some old) None = ⊥
+
+-- a flash on which the index lies
+abbrev pub LieOn : Option Index → FlashState → Type 0
+LieOn None f = Unit {0}
+LieOn (Some index) f = memory.LiesOn index f
+
+-- .. and what no call changes that leaves the ring
+abbrev pub AreSameRing : Option Index → Option Index → Type 0
+AreSameRing None None = Unit {0}
+AreSameRing (Some old) (Some new) = IsSameRing old new
+AreSameRing None (Some new) = ⊥
+AreSameRing (Some old) None = ⊥
+
+-- it stands for that of a table of the model, where no bitmap waits without an index
+abbrev pub Stand : Option Index → FlashState → ℕ → Plan → Table → Type 0
+Stand None f first plan table = table.waiting ≡ 0
+Stand (Some index) f first plan table = standing.Stands index f first plan table
+
+-- .. but for the bitmaps that wait
+abbrev pub StandForRing : Option Index → FlashState → ℕ → Plan → Table → Type 0
+StandForRing None f first plan table = Unit {0}
+StandForRing (Some index) f first plan table = standing.StandsForRing index f first plan table
+
+-- so many bitmaps wait, from that of a data page on
+abbrev pub AreWaiting : Option Index → Plan → Table → ℕ → ℕ → Type 0
+AreWaiting None plan table first count = Unit {0}
+AreWaiting (Some index) plan table first count = Waits index plan table first count
+
+-- the index was mounted, where there is one, and no seal of it failed since
+abbrev pub AreRunning : Option Index → Type 0
+AreRunning bitmaps = ForSome bitmaps (λ index. memory.is_running index ≡ true)
+
+-- a seal of it failed
+abbrev pub AreBroken : Option Index → Type 0
+AreBroken bitmaps = ForSome bitmaps (λ index. memory.is_running index ≡ false)
+
+-- no bitmap waits
+abbrev pub AreIdle : Option Index → Type 0
+AreIdle None = Unit {0}
+AreIdle (Some index) = waiting_in index ≡ 0
+
+-- one bitmap more has room
+abbrev pub HaveRoom : Option Index → Type 0
+HaveRoom bitmaps = ForSome bitmaps (λ index. waiting_in index < per_page index)
+
+-- the waiting bitmaps are those of the data pages before this number
+abbrev pub EndAt : Option Index → ℕ → Type 0
+EndAt bitmaps next = ForSome bitmaps (λ index. first_waiting index + waiting_in index ≡ next)
+
+-- an index page has a number
+abbrev pub NumberLeft : Option Index → Type 0
+NumberLeft bitmaps = ForSome bitmaps (λ index. next_in index + 1 < 2 ^ 32)
+
+-- the first data page whose bitmap waits after a mount: of the pages that the index doesn't list the last ones wait
+abbrev pub first_to_wait : Option Index → ℕ → ℕ → ℕ → ℕ
+first_to_wait None end oldest next = next
+first_to_wait (Some index) end oldest next = next - min (next - max end oldest) (per_page index)
+
+-- how many pages the index ring has
+abbrev pub room_of : Option Index → ℕ
+room_of bitmaps = unwrap_or (option_map (λ index. room (ring_shape index)) bitmaps) 0
+
+-- the number of the next index page
+abbrev pub next_of : Option Index → ℕ
+next_of bitmaps = unwrap_or (option_map (λ index. next_in index) bitmaps) 0
+
+-- .. and after the seal of the waiting bitmaps, where they fill a page
+abbrev pub next_after : Option Index → ℕ
+next_after bitmaps = unwrap_or (option_map (λ index. next_in index + (if waiting_in index == per_page index then 1 else 0)) bitmaps) 0
+
+-- how many rings an index has
+abbrev pub rings_of : Option Index → ℕ
+rings_of bitmaps = if is_some bitmaps then 1 else 0
+
+-- an index page is sealed where as many bitmaps wait as it holds
+abbrev pub bitmap_seals : Plan → Table → List RingName
+bitmap_seals plan table = if has_index plan && (table.waiting == entries_per_page plan) then IndexRing ∷ [] else []
+
+-- The bitmap of the data page behind the others waits.
+pub record IsNoted (old : Index) (bitmap : ℕ) (new : Index) : Type 0 where
+  pub same : memory.IsSamePlan old new
+  pub still : IsSameRing old new
+  pub first : first_waiting new ≡ first_waiting old
+  pub one : waiting_in new ≡ waiting_in old + 1
+  pub waits : (plan : Plan) (table : Table) (first count : ℕ) → Waits old plan table first count →
+      ((n : ℕ) → first + count ≡ oldest table.rows + n → IfSome (slice_get table.rows.counts n) (λ rows. 0 < rows → bitmap ≡ bitmap_of plan (rows_at table n rows))) →
+      Waits new plan table first (count + 1)
+
+-- .. where it is the next one to wait
+abbrev pub AreNoted : Option Index → ℕ → ℕ → Option Index → Type 0
+AreNoted None number bitmap new = new ≡ None
+AreNoted (Some old) number bitmap None = ⊥
+AreNoted (Some old) number bitmap (Some new) =
+    (first_waiting old + waiting_in old ≡ number → IsNoted old bitmap new) × ((first_waiting old + waiting_in old ≡ number → ⊥) → new ≡ old)
+
+-- Room was made for one bitmap more.
+pub record IsRoomMade (old new : Index) : Type 0 where
+  pub running : memory.is_running new ≡ true
+  pub room : waiting_in new < per_page new
+  pub same : first_waiting new + waiting_in new ≡ first_waiting old + waiting_in old
+  pub number : next_in new ≡ (if waiting_in old == per_page old then next_in old + 1 else next_in old)
+
+abbrev pub RoomMade : Option Index → Option Index → Type 0
+RoomMade None new = new ≡ None
+RoomMade (Some old) None = ⊥
+RoomMade (Some old) (Some new) = IsRoomMade old new
+
+-- how the calls end, over a flash that stands for a table of the model
+abbrev pub MakesRoomOf : Option Index → FlashState → ℕ → Plan → Table → Bool → Device → Result (Unit {0}) FlashFault → Option Index → FlashState → Type 0
+MakesRoomOf None old first plan table rose device result new_index new = (result ≡ Ok tt) × (new_index ≡ None) × (new ≡ old)
+MakesRoomOf (Some index) old first plan table rose device result None new = ⊥
+MakesRoomOf (Some index) old first plan table rose device result (Some now) new =
+    IsWatched old new rose device → standing.Stands index old first plan table → outcomes.MakesRoom first plan table rose device result now new
+
+abbrev pub MountEndsOf : Option Index → FlashState → ℕ → Plan → Table → Bool → Device → Result (Option ℕ) RingFault → Option Index → FlashState → Type 0
+MountEndsOf None old first plan table rose device result new_index new = (result ≡ Ok None) × (new_index ≡ None) × (new ≡ old)
+MountEndsOf (Some index) old first plan table rose device result None new = ⊥
+MountEndsOf (Some index) old first plan table rose device result (Some now) new =
+    IsWatched old new rose device → memory.IsPlanned index first plan → standing.Rests old first plan table → outcomes.MountEnds first plan table rose device result now new
+
+-- a flash page that isn't one of a ring's
+abbrev pub IsOutside : Shape → ℕ → Type 0
+IsOutside shape page = (page < shape.first) ⊎ (shape.first + room shape ≤ page)
+
+-- the flash pages outside the index ring stand
+abbrev pub StandOutside : Option Index → (ℕ → List ℕ) → (ℕ → List ℕ) → Type 0
+StandOutside None old new = (page : ℕ) → new page ≡ old page
+StandOutside (Some index) old new = OutsideStands (ring_shape index) old new

@@ -1,0 +1,113 @@
+// The index of a table, where it has one.
+ghost use Rattle.std.specs.Prelude.{◌≡◌, ◌+◌, ◌*◌, ◌^◌, ◌<◌, ◌≤◌, ℕ, Bool, None, Ok, Err, true, false, length, IsTrue, IfOk, IfErr, OnOk, OnErr};
+ghost use Rattle.fl_flash.specs.Flash.{Goes, page_at};
+ghost use Rattle.fl_model.specs.Record.{Plan};
+ghost use Rattle.fl_model.specs.Table as model;
+ghost use Rattle.fl_model.specs.Work.{Device};
+ghost use Rattle.fl_ring.specs.Causes.{CausedBy, IfFlash};
+ghost use Rattle.fl_table.specs.Bitmaps.{AreSamePlan, AreSameRing, LieOn, AreRunning, AreBroken, AreWaiting, AreIdle, HaveRoom, EndAt, NumberLeft, AreNoted, StandOutside, MountEndsOf, MakesRoomOf, RoomMade, first_to_wait, room_of, rings_of};
+ghost use Rattle.fl_table.specs.Mounting.{FewReads, FewRepairs, FindsBitmaps, RefusesBitmaps};
+
+use fl_flash::{Flash, FlashFault, PageBuf};
+use fl_index::Index;
+use fl_ring::RingFault;
+
+/// Mounts the index. It answers the number after the data pages that it lists, where it lists any.
+pub(crate) fn mount_bitmaps<F: Flash>(
+    bitmaps: &mut Option<Index>,
+    flash: &mut F,
+    buf: &mut PageBuf,
+) -> Result<Option<u32>, RingFault>
+    requires lies { LieOn bitmaps.old (F.state flash.old) }
+    requires room { length buf.old.bytes ≡ (F.state flash.old).geometry.page }
+    ensures goes { Goes (F.state flash.old) (F.state flash.new) }
+    ensures same { AreSamePlan bitmaps.old bitmaps.new }
+    ensures lies { LieOn bitmaps.new (F.state flash.new) }
+    ensures room { length buf.new.bytes ≡ length buf.old.bytes }
+    ensures ends { (first : ℕ) → (plan : Plan) → (table : model.Table) → (rose : Bool) → (device : Device) →
+        MountEndsOf bitmaps.old (F.state flash.old) first plan table rose device result bitmaps.new (F.state flash.new) }
+    ensures holds { OnErr result (buf.new.holds ≡ None) }
+    ensures running { OnOk result (AreRunning bitmaps.new) }
+    ensures idle { AreIdle bitmaps.new }
+    ensures found { IfOk result (λ end. IsTrue (F.state flash.old).media.tells → FindsBitmaps bitmaps.old (F.state flash.old) end bitmaps.new (F.state flash.new)) }
+    ensures refused { IfErr result (λ e. IsTrue (F.state flash.old).media.tells → RefusesBitmaps bitmaps.old (F.state flash.old) e (F.state flash.new)) }
+    ensures outside { IsTrue (F.state flash.old).media.tells → StandOutside bitmaps.old (page_at (F.state flash.old)) (page_at (F.state flash.new)) }
+    ensures reads { IsTrue (F.state flash.old).media.tells → FewReads (4 * room_of bitmaps.old) (F.state flash.old) (F.state flash.new) }
+    ensures repairs { FewRepairs (rings_of bitmaps.old) (F.state flash.old) (F.state flash.new) }
+    ensures cause { IfErr result (λ e. IfFlash (λ fault. CausedBy (F.state flash.old) fault (F.state flash.new)) e) }
+    ensures power { OnOk result ((F.state flash.old).is_on ≡ true → (F.state flash.new).is_on ≡ true) }
+{
+    match bitmaps {
+        Some(index) => index.mount(flash, buf),
+        None => Ok(None),
+    }
+}
+
+/// The first data page whose bitmap waits after a mount that found these pages: those wait that the index doesn't list,
+/// as many of the last ones as an index page holds.
+pub(crate) fn first_to_wait(bitmaps: &Option<Index>, end: u32, oldest: u32, next: u32) -> u32
+    requires end { end ≤ next }
+    requires oldest { oldest ≤ next }
+    ensures { result ≡ first_to_wait bitmaps.now end oldest next }
+{
+    match bitmaps {
+        Some(index) => next - (next - end.max(oldest)).min(index.capacity()),
+        None => next,
+    }
+}
+
+/// The bitmap of this data page is the first that waits.
+pub(crate) fn restart(bitmaps: &mut Option<Index>, first: u32)
+    requires idle { AreIdle bitmaps.old }
+    ensures same { AreSamePlan bitmaps.old bitmaps.new }
+    ensures still { AreSameRing bitmaps.old bitmaps.new }
+    ensures idle { AreIdle bitmaps.new }
+    ensures next { EndAt bitmaps.new first }
+    ensures waits { (plan : Plan) → (table : model.Table) → AreWaiting bitmaps.new plan table first 0 }
+{
+    match bitmaps {
+        Some(index) => index.restart(first),
+        None => {}
+    }
+}
+
+/// The bitmap of this data page waits behind the others, where it is the next one to wait.
+pub(crate) fn note_bitmap(bitmaps: &mut Option<Index>, number: u32, bitmap: u64)
+    requires room { EndAt bitmaps.old number → HaveRoom bitmaps.old }
+    requires left { number + 1 < 2 ^ 32 }
+    ensures same { AreSamePlan bitmaps.old bitmaps.new }
+    ensures still { AreSameRing bitmaps.old bitmaps.new }
+    ensures noted { AreNoted bitmaps.old number bitmap bitmaps.new }
+{
+    match bitmaps {
+        Some(index) if index.next_page() == number => index.note(bitmap),
+        _ => {}
+    }
+}
+
+/// Seals the waiting bitmaps where they fill an index page.
+pub(crate) fn make_room<F: Flash>(
+    bitmaps: &mut Option<Index>,
+    flash: &mut F,
+) -> Result<(), FlashFault>
+    requires running { AreRunning bitmaps.old }
+    requires lies { LieOn bitmaps.old (F.state flash.old) }
+    requires left { NumberLeft bitmaps.old }
+    ensures goes { Goes (F.state flash.old) (F.state flash.new) }
+    ensures same { AreSamePlan bitmaps.old bitmaps.new }
+    ensures lies { LieOn bitmaps.new (F.state flash.new) }
+    ensures ends { (first : ℕ) → (plan : Plan) → (table : model.Table) → (rose : Bool) → (device : Device) →
+        MakesRoomOf bitmaps.old (F.state flash.old) first plan table rose device result bitmaps.new (F.state flash.new) }
+    ensures made { OnOk result (RoomMade bitmaps.old bitmaps.new) }
+    ensures broken { OnErr result (AreBroken bitmaps.new) }
+    ensures outside { IsTrue (F.state flash.old).media.tells → StandOutside bitmaps.old (page_at (F.state flash.old)) (page_at (F.state flash.new)) }
+    ensures reads { (F.state flash.new).work.reads ≡ (F.state flash.old).work.reads }
+    ensures media_reads { (F.state flash.new).media.reads ≤ (F.state flash.old).media.reads + rings_of bitmaps.old }
+    ensures power { OnOk result ((F.state flash.old).is_on ≡ true → (F.state flash.new).is_on ≡ true) }
+    ensures cause { IfErr result (λ e. CausedBy (F.state flash.old) e (F.state flash.new)) }
+{
+    match bitmaps {
+        Some(index) => index.make_room(flash),
+        None => Ok(()),
+    }
+}
