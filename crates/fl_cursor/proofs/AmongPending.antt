@@ -13,7 +13,7 @@ use Rattle.fl_table.specs.Memory.{pending_in}
 use Rattle.fl_table.specs.declared.table.Table.{Table}
 use Rattle.fl_table.proofs.KeyRows.{length-rows_from}
 use Rattle.fl_cursor.specs.Asked.{is_left}
-use Rattle.fl_cursor.specs.Cursor.{table_of, asked_of, rows_behind, Passes, IsTold}
+use Rattle.fl_cursor.specs.Cursor.{index_page, table_of, asked_of, rows_behind, Passes, IsTold}
 use Rattle.fl_cursor.specs.Going.{Goes, took}
 use Rattle.fl_cursor.specs.Listed.{rows_of}
 use Rattle.fl_cursor.specs.Reads.{least_from}
@@ -44,8 +44,8 @@ module _ (old : Cursor) (row : ℕ) (here_is : old.place ≡ Pending row) (conte
   passes-here told = passes-same (asked_of old) (rows_of (table_of old) contents) (rows_behind old.table.now contents old.rows_buf.now.bytes old.place) (drop row rows ++ [])
       (ap (rows_behind old.table.now contents old.rows_buf.now.bytes) here_is ∙ sym (append-nil (drop row rows))) told.passes
 
-  least-here : least_from (table_of old) contents (asked_of old) old.place ≡ 0
-  least-here = ap (least_from (table_of old) contents (asked_of old)) here_is
+  least-here : least_from (table_of old) contents (asked_of old) (index_page old) old.place ≡ 0
+  least-here = ap (least_from (table_of old) contents (asked_of old) (index_page old)) here_is
 
   pub pending-taken : (k : ℕ) (found : Row) → slice_get rows k ≡ Some found → At k ≡ first_left (asked_of old) (drop row rows) row → found.key < 2 ^ 64 →
       Goes true contents reads old reads (took found.key (PendingRow k) (Pending (k + 1)) old)
@@ -61,12 +61,13 @@ module _ (old : Cursor) (row : ℕ) (here_is : old.place ≡ Pending row) (conte
       passes-same (asked_of old) (rows_of (table_of old) contents) (h.row ∷ (drop (suc h.j) (drop row rows) ++ [])) (found ∷ drop (k + 1) rows)
       (ap (λ (r : Row). r ∷ (drop (suc h.j) (drop row rows) ++ [])) (same-row rows row h.j k h.row found h.at h.here here)
       ∙ (ap (λ (xs : List Row). found ∷ xs) (append-nil (drop (suc h.j) (drop row rows))) ∙ ap (λ (xs : List Row). found ∷ xs) (drop-same rows row h.j k h.at))) h.passes)
+      (λ told. tt)
       (λ told last. omega arith)
       (λ told. omega (arith, least-here))
       (λ told last. least-here)
 
   ends : (IsTold old contents → Passes (asked_of old) (rows_of (table_of old) contents) []) → Goes false contents reads old reads (record old { place = Ended })
-  ends passes = moves-on old contents reads Ended tt passes (λ told. omega arith) (λ told. omega (arith, least-here))
+  ends passes = moves-on old contents reads Ended tt passes (λ told. tt) (λ told. omega arith) (λ told. omega (arith, least-here))
 
   pending-behind : Behind ≡ first_left (asked_of old) (drop row rows) row → Goes false contents reads old reads (record old { place = Ended })
   pending-behind search = ends (λ told. (passed (asked_of old) (rows_of (table_of old) contents) (drop row rows) [] row (passes-here told) search).passes)

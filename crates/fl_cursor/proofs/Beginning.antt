@@ -17,7 +17,7 @@ use Rattle.fl_model.specs.Ring as rings
 use Rattle.fl_model.specs.Row.{Row, stored_row}
 use Rattle.fl_model.specs.Spline.{page_at as page_with, is_pending_key, lookup_limit}
 use Rattle.fl_model.specs.Table as tables
-use Rattle.fl_model.specs.Table.{Entry, lose, pending_entries}
+use Rattle.fl_model.specs.Table.{Entry, VarRing, lose, pending_entries}
 use Rattle.fl_page.specs.Contents.{Contents, contents_of}
 use Rattle.fl_ring.specs.Place.{shape_of}
 use Rattle.fl_search.specs.Search.{IsPageOf, starts_by}
@@ -27,6 +27,7 @@ use Rattle.fl_table.specs.Memory.{next_in}
 use Rattle.fl_table.specs.Pages.{place_in}
 use Rattle.fl_table.specs.Standing.{Stands}
 use Rattle.fl_table.specs.declared.table.Table.{Table}
+use Rattle.fl_table.proofs.Blobbing as blobbing
 use Rattle.fl_table.proofs.Finds.{holds-pages, limit-told}
 use Rattle.fl_table.proofs.Images.{holds-same}
 use Rattle.fl_table.proofs.KeptRead.{ring-place}
@@ -71,6 +72,8 @@ stands-moved t f h = record {
   memory = h.stands.memory;
   bitmaps = stand-moved t.bitmaps h.flash f (h.first + h.plan.data_blocks) h.plan h.table
       (fun_ext (λ n. ap (λ (c : Contents). page_of c.bytes c.start c.geometry.page n) h.same)) h.stands.bitmaps;
+  blobs = blobbing.stand-moved t.blobs h.flash f h.first h.plan h.table h.table
+      (λ number. ap (λ (c : Contents). page_of c.bytes c.start c.geometry.page (place_in h.first h.plan VarRing number)) (sym h.same)) refl refl refl refl h.stands.blobs;
   points = h.stands.points;
 }
 

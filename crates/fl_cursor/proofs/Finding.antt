@@ -12,15 +12,18 @@ use Rattle.fl_page.specs.Steps.{Ascends}
 use Rattle.fl_search.specs.Search.{IsPageOf}
 use Rattle.fl_table.specs.Look.{layout_in, oldest_in, rows_noted, buffered_rows}
 use Rattle.fl_table.specs.Memory.{next_in}
+use Rattle.fl_table.specs.Skipping.{AreScanning}
 use Rattle.fl_table.proofs.KeyRows.{drop-row}
 use Rattle.fl_cursor.specs.Asked.{is_asked, lowest_of}
-use Rattle.fl_cursor.specs.Cursor.{table_of, asked_of, buffer_of, rows_behind, Passes, IsPlaced, IsTold}
+use Rattle.fl_cursor.specs.Cursor.{table_of, asked_of, buffer_of, index_page, rows_behind, Passes, IsPlaced, IsTold, IsLooking}
 use Rattle.fl_cursor.specs.Going.{Goes, Fails}
 use Rattle.fl_cursor.specs.Listed.{bytes_at, rows_on, rows_over, rows_from, rows_of}
-use Rattle.fl_cursor.specs.Reads.{begins_by, has_last, start_of, most_to_find, pages_to_last, pages_asked, raised, most_from, least_from}
+use Rattle.fl_cursor.specs.Reads.{begins_by, has_last, start_of, most_to_find, is_skipped, pages_to_last, pages_asked, index_most, index_least, raised, most_from, least_from}
 use Rattle.fl_cursor.specs.declared.cursor.Cursor.{Cursor}
+use Rattle.fl_cursor.specs.declared.place.Place.{Place}
 use Rattle.fl_cursor.specs.declared.place.Place.TheVariants.{Start, Pages, InPage}
 use Rattle.fl_cursor.proofs.Beginning.{start-is, over-split, asked-split, raised-below, raised-fewer, lowest-from}
+use Rattle.fl_cursor.proofs.Looked.{looking-later, looked-less, unread-less}
 use Rattle.fl_cursor.proofs.Passing.{passes-same, each-weaker}
 use Rattle.fl_cursor.proofs.Starting.{starts-behind, ascends-front}
 use Rattle.fl_cursor.proofs.Turning.{turns}
@@ -38,7 +41,7 @@ begins key [] e = absurd (no e)
     no e = cc
 begins key (row ∷ rows) e = record { row = row; first = refl; up_to = leb-true row.key key e }
 
-first-front : (xs ys : List Row) (row : Row) → slice_get xs 0 ≡ Some row → slice_get (xs ++ ys) 0 ≡ Some row
+pub first-front : (xs ys : List Row) (row : Row) → slice_get xs 0 ≡ Some row → slice_get (xs ++ ys) 0 ≡ Some row
 first-front [] ys row e = absurd (none e)
   where
     none : ◌≡◌ {A = Option Row} None (Some row) → ⊥
@@ -56,17 +59,24 @@ module _ (old : Cursor) (here_is : old.place ≡ Start) (buf : MutBor BufferStat
   passes-here : IsTold old contents → Passes (asked_of old) (rows_of (table_of old) contents) (rows_of (table_of old) contents)
   passes-here told = passes-same (asked_of old) (rows_of (table_of old) contents) (rows_behind (table_of old) contents (buffer_of old) old.place) (rows_of (table_of old) contents) (ap (rows_behind (table_of old) contents (buffer_of old)) here_is) told.passes
 
-  most-here : most_from (table_of old) contents (asked_of old) (buffer_of old) old.place
-      ≡ most_to_find (table_of old) low + pages_to_last (table_of old) contents (asked_of old).top (start_of (table_of old) contents low) (next_in (table_of old) - start_of (table_of old) contents low)
-  most-here = ap (most_from (table_of old) contents (asked_of old) (buffer_of old)) here_is
+  -- the reads behind the search, where it ends at this page
+  abbrev behind_most : ℕ → ℕ
+  behind_most n = pages_to_last old.table.now contents old.mark.span old.mark.top n (next_in old.table.now - n) + index_most old.table.now (asked_of old) (index_page old) n
 
-  least-here : least_from (table_of old) contents (asked_of old) old.place ≡ pages_asked (table_of old) contents (raised (asked_of old)) (oldest_in (table_of old)) pages
-  least-here = ap (least_from (table_of old) contents (asked_of old)) here_is
+  most-here : most_from (table_of old) contents (asked_of old) (index_page old) (buffer_of old) old.place ≡ most_to_find (table_of old) low + behind_most (start_of (table_of old) contents low)
+  most-here = ap (most_from (table_of old) contents (asked_of old) (index_page old) (buffer_of old)) here_is
+
+  least-here : least_from (table_of old) contents (asked_of old) (index_page old) old.place
+      ≡ pages_asked (table_of old) contents (raised (asked_of old)) (oldest_in (table_of old)) pages + index_least (table_of old) contents (asked_of old) (index_page old) (start_of (table_of old) contents low + 1)
+  least-here = ap (least_from (table_of old) contents (asked_of old) (index_page old)) here_is
+
+  looking-at : (number : ℕ) → IsTold old contents → AreScanning (table_of old).bitmaps number (index_page old)
+  looking-at number told = looking-later (table_of old).bitmaps 0 number (index_page old) (omega arith) (subst (λ (p : Place). IsLooking (table_of old).bitmaps p (index_page old)) here_is told.looking)
 
   -- the search failed
   pub start-fails : Fails contents reads old reads_now (record old { rows_buf = buf })
   start-fails = record {
-    keeps = record { table = refl; rows_name = named; rows_room = room; index = refl };
+    keeps = record { table = refl; rows_name = named; rows_room = room; index_name = refl; index_room = refl };
     notes = refl;
     ready = λ held h. record {
       flash = h.flash;
@@ -75,12 +85,15 @@ module _ (old : Cursor) (here_is : old.place ≡ Start) (buf : MutBor BufferStat
       rows_room = room ∙ h.rows_room;
       index_room = h.index_room;
       placed = subst (IsPlaced (table_of old) buf.now.bytes) (sym here_is) (subst (IsPlaced (table_of old) (buffer_of old)) here_is h.placed);
+      index_good = h.index_good;
     };
     told = λ told. record {
       standing = told.standing;
       ascends = told.ascends;
       passes = passes-same (asked_of old) (rows_of (table_of old) contents) (rows_of (table_of old) contents) (rows_behind (table_of old) contents buf.now.bytes old.place)
           (sym (ap (rows_behind (table_of old) contents buf.now.bytes) here_is)) (passes-here told);
+      fresh = told.fresh;
+      looking = told.looking;
     };
     most = λ told. let le = few told in omega (arith, le, most-here);
   }
@@ -91,19 +104,19 @@ module _ (old : Cursor) (here_is : old.place ≡ Start) (buf : MutBor BufferStat
       Goes false contents reads old reads_now (record old { rows_buf = buf; place = Pages first })
   start-none first is_oldest ordered is =
       subst (λ n. Goes false contents reads old reads_now (record old { rows_buf = buf; place = Pages n })) (sym is_oldest)
-      (turns old buf (Pages (oldest_in (table_of old))) contents reads reads_now named room (omega arith, ordered) later
+      (turns old buf old.index_buf (Pages (oldest_in (table_of old))) contents reads reads_now named room refl refl (λ good. good) (omega arith, ordered) later
       passes-here
+      (λ told. told.fresh) (looking-at (oldest_in (table_of old)))
       (λ told.
       let le = few told in
-      let start = start-is (table_of old) contents low None (is told) in
-      let same : pages_to_last (table_of old) contents (asked_of old).top (start_of (table_of old) contents low) (next_in (table_of old) - start_of (table_of old) contents low)
-      ≡ pages_to_last (table_of old) contents (asked_of old).top (oldest_in (table_of old)) pages =
-      ap (λ n. pages_to_last (table_of old) contents (asked_of old).top n (next_in (table_of old) - n)) start in
+      let same = ap behind_most (start-is (table_of old) contents low None (is told)) in
       omega (arith, le, most-here, same))
       (λ told lt.
       let le = later lt in
       let fewer = raised-fewer (table_of old) contents (asked_of old) pages (oldest_in (table_of old)) (lowest-from (asked_of old)) in
-      omega (arith, le, least-here, fewer)))
+      let start = ap (λ n. index_least (table_of old) contents (asked_of old) (index_page old) (n + 1)) (start-is (table_of old) contents low None (is told)) in
+      let looked = looked-less (table_of old) contents (asked_of old) (index_page old) (oldest_in (table_of old)) in
+      omega (arith, le, least-here, fewer, start, looked)))
 
   module _ (number : ℕ) (from : oldest_in (table_of old) ≤ number) (before : number < next_in (table_of old)) (good : IsGoodPage (layout_in (table_of old)) number buf.now.bytes)
       (some : IsTold old contents → reads_now < 2 ^ 64 - 1 → reads + 1 ≤ reads_now) (bytes : IsTold old contents → buf.now.bytes ≡ bytes_at (table_of old) contents number)
@@ -143,24 +156,31 @@ module _ (old : Cursor) (here_is : old.place ≡ Start) (buf : MutBor BufferStat
 
     pub start-some : Goes false contents reads old reads_now (record old { rows_buf = buf; place = InPage number 0 })
     start-some =
-        turns old buf (InPage number 0) contents reads reads_now named room (from, before, good, omega arith) later
+        turns old buf old.index_buf (InPage number 0) contents reads reads_now named room refl refl (λ held. held) (from, before, good, omega arith) later
         (λ told.
         let b = first told in
         subst (λ (all : List Row). Passes (asked_of old) all (rows_in (layout_in (table_of old)) buf.now.bytes ++ behind)) (sym rows-split)
         (passes-same (asked_of old) (front ++ (rows_on (table_of old) contents number ++ behind)) (rows_on (table_of old) contents number ++ behind) (rows_in (layout_in (table_of old)) buf.now.bytes ++ behind)
         (ap (λ (xs : List Row). xs ++ behind) (rows-here told))
         (starts-behind (asked_of old) front (rows_on (table_of old) contents number ++ behind) b.row (first-front (rows_on (table_of old) contents number) behind b.row b.first) b.up_to (subst (Ascends None) rows-split told.ascends))))
+        (λ told. told.fresh) (looking-at (number + 1))
         (λ told.
         let le = few told in
-        let start : start_of (table_of old) contents low ≡ number = start-is (table_of old) contents low (Some number) (is told) in
-        let same : pages_to_last (table_of old) contents (asked_of old).top (start_of (table_of old) contents low) (next_in (table_of old) - start_of (table_of old) contents low)
-        ≡ 1 + cond (has_last (asked_of old).top (rows_in (layout_in (table_of old)) buf.now.bytes)) 0 (pages_to_last (table_of old) contents (asked_of old).top (number + 1) (next_in (table_of old) - (number + 1))) =
-        ap (λ n. pages_to_last (table_of old) contents (asked_of old).top n (next_in (table_of old) - n)) start
-        ∙ (ap (pages_to_last (table_of old) contents (asked_of old).top number) (let one : next_in (table_of old) - number ≡ suc (next_in (table_of old) - (number + 1)) = omega (arith, before) in one)
-        ∙ (ap (λ b. cond b (pages_to_last (table_of old) contents (asked_of old).top (number + 1) (next_in (table_of old) - (number + 1)))
-        (1 + cond (has_last (asked_of old).top (rows_on (table_of old) contents number)) 0 (pages_to_last (table_of old) contents (asked_of old).top (number + 1) (next_in (table_of old) - (number + 1))))) (noted told)
-        ∙ ap (λ (xs : List Row). 1 + cond (has_last (asked_of old).top xs) 0 (pages_to_last (table_of old) contents (asked_of old).top (number + 1) (next_in (table_of old) - (number + 1)))) (rows-here told))) in
-        omega (arith, le, most-here, same))
+        let rest = pages_to_last (table_of old) contents (asked_of old).span (asked_of old).top (number + 1) (next_in (table_of old) - (number + 1)) in
+        let same : behind_most (start_of (table_of old) contents low)
+        ≡ cond (is_skipped (table_of old) contents (asked_of old).span number) (pages_to_last (table_of old) contents (asked_of old).span (asked_of old).top (number + 1) (next_in (table_of old) - (number + 1)))
+        (1 + cond (has_last (asked_of old).top (rows_in (layout_in (table_of old)) buf.now.bytes)) 0 (pages_to_last (table_of old) contents (asked_of old).span (asked_of old).top (number + 1) (next_in (table_of old) - (number + 1))))
+        + index_most (table_of old) (asked_of old) (index_page old) number =
+        ap behind_most (start-is (table_of old) contents low (Some number) (is told))
+        ∙ (ap (λ n. pages_to_last (table_of old) contents (asked_of old).span (asked_of old).top number n + index_most (table_of old) (asked_of old) (index_page old) number)
+        (let one : next_in (table_of old) - number ≡ suc (next_in (table_of old) - (number + 1)) = omega (arith, before) in one)
+        ∙ ap (λ (xs : List Row). cond (is_skipped (table_of old) contents (asked_of old).span number) (pages_to_last (table_of old) contents (asked_of old).span (asked_of old).top (number + 1) (next_in (table_of old) - (number + 1)))
+        (1 + cond (has_last (asked_of old).top xs) 0 (pages_to_last (table_of old) contents (asked_of old).span (asked_of old).top (number + 1) (next_in (table_of old) - (number + 1))))
+        + index_most (table_of old) (asked_of old) (index_page old) number) (rows-here told)) in
+        let less = unread-less (asked_of old).span (table_of old).bitmaps number (number + 1) (index_page old) (omega arith) in
+        let enters = enter-most (is_skipped (table_of old) contents (asked_of old).span number) (has_last (asked_of old).top (rows_in (layout_in (table_of old)) buf.now.bytes)) rest
+        (index_most (table_of old) (asked_of old) (index_page old) number) (index_most (table_of old) (asked_of old) (index_page old) (number + 1)) less in
+        omega (arith, le, most-here, same, enters))
         (λ told lt.
         let b = first told in
         let one = some told lt in
@@ -173,8 +193,15 @@ module _ (old : Cursor) (here_is : old.place ≡ Start) (buf : MutBor BufferStat
         ∙ ap (λ k. pages_asked (table_of old) contents (raised (asked_of old)) (oldest_in (table_of old)) (number - oldest_in (table_of old)) + pages_asked (table_of old) contents (raised (asked_of old)) k (suc (next_in (table_of old) - (number + 1)))) at) in
         let few_here = at-most-one (list_any (is_asked (raised (asked_of old))) (rows_on (table_of old) contents number)) in
         let fewer = raised-fewer (table_of old) contents (asked_of old) (next_in (table_of old) - (number + 1)) (number + 1) (lowest-from (asked_of old)) in
-        omega (arith, one, least-here, split, none, few_here, fewer))
+        let start = ap (λ n. index_least (table_of old) contents (asked_of old) (index_page old) (n + 1)) (start-is (table_of old) contents low (Some number) (is told)) in
+        omega (arith, one, least-here, split, none, few_here, fewer, start))
       where
+        enter-most : (skipped last : Bool) (rest most most_behind : ℕ) → most_behind ≤ most → cond last 0 (rest + most_behind) ≤ cond skipped rest (1 + cond last 0 rest) + most
+        enter-most true true rest most most_behind le = omega arith
+        enter-most true false rest most most_behind le = omega (arith, le)
+        enter-most false true rest most most_behind le = omega arith
+        enter-most false false rest most most_behind le = omega (arith, le)
+
         at-most-one : (b : Bool) → cond b 1 0 ≤ 1
         at-most-one true = omega arith
         at-most-one false = omega arith

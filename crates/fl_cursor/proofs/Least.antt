@@ -1,7 +1,7 @@
 -- What a cursor that begins reads at least, in the words of the model.
-use Rattle.std.proofs.Common.{◌≡◌, ℕ, zero, suc, ◌+◌, ◌-◌, ◌<◌, ◌≤◌, Bool, true, false, ◌&&◌, ◌||◌, cond, ◌==◌, nat_le, nat_lt, Option, Some, None, List, [], ◌∷◌, ◌++◌, length, map, take, drop, refl, sym, ◌∙◌, ap, subst, arith}
+use Rattle.std.proofs.Common.{◌≡◌, ℕ, zero, suc, ◌+◌, ◌-◌, ◌<◌, ◌≤◌, Bool, true, false, ◌&&◌, ◌||◌, cond, ◌==◌, nat_le, nat_lt, Option, Some, None, List, [], ◌∷◌, ◌++◌, length, map, take, drop, refl, sym, ◌∙◌, ap, subst, arith, inl, inr, ◌⊎◌}
 use Rattle.std.specs.List.{slice_get, list_any, count_by, sum, AllByRecursion}
-use Rattle.std.proofs.lemmas.Bool.{leb-true, le-leb, eqb-true, false_from_ne_true}
+use Rattle.std.proofs.lemmas.Bool.{cases_lt, leb-true, le-leb, eqb-true, false_from_ne_true}
 use Rattle.std.proofs.lemmas.List.{drop-drop}
 use Rattle.std.proofs.lemmas.List.Sums.{sum_by-cons}
 use Rattle.fl_base.specs.declared.types.KeyRange.{KeyRange}
@@ -28,12 +28,16 @@ use Rattle.fl_cursor.specs.Ascending.{both}
 use Rattle.fl_cursor.specs.Asked.{is_asked, row_matches, lowest_of}
 use Rattle.fl_cursor.specs.Cursor.{IsStanding}
 use Rattle.fl_cursor.specs.Listed.{rows_on, rows_over}
-use Rattle.fl_cursor.specs.Reads.{pages_asked, raised, least_from, has_bitmaps, IsBegun}
+use Rattle.fl_cursor.specs.Reads.{pages_asked, raised, start_of, pages_looked_up, index_least, least_from, IsBegun}
 use Rattle.fl_cursor.specs.declared.place.Place.{Place}
 use Rattle.fl_cursor.specs.declared.place.Place.TheVariants.{Start, Pages, InPage, Pending, Ended}
 use Rattle.fl_cursor.proofs.Beginning.{raised-below}
 use Rattle.fl_cursor.proofs.Finding.{begins}
-use Rattle.fl_cursor.proofs.Limited.{and-true}
+use Rattle.fl_cursor.proofs.Later.{lists_later, due-later, none-counted, first-over}
+use Rattle.fl_flash.specs.Buffer.{BufferState}
+use Rattle.fl_index.specs.declared.index.Index.{Index}
+use Rattle.fl_table.specs.Bitmaps.{ArePlanned}
+use Rattle.fl_table.specs.Skipping.{due_of}
 use Rattle.fl_cursor.proofs.Passing.{each-weaker}
 use Rattle.fl_cursor.proofs.Selected.{all-asked}
 use Rattle.fl_cursor.proofs.Starting.{ascends-front}
@@ -207,43 +211,70 @@ module _ (t : Table) (contents : Contents) (h : IsStanding t contents) where
       by_index None e = refl
       by_index (Some ring) e = absurd (no e)
 
-  abbrev lists_later : KeyRange → ℕ → Bool
-  lists_later range first = list_any (λ (page : ℕ × List Entry).
-      nat_le first page.0 && nat_lt page.0 (first + entries_per_page h.plan)
-      && nat_lt (first_page h.table range.low) page.0 && in_pages (first_page h.table range.low) (last_page h.table range.high) page.0) (pages_of h.table)
+  -- the index pages of the model
+  abbrev pages_listed : KeyRange → Option Span → ℕ
+  pages_listed range span = cond (asks_values span) (count_by (lists_later t contents h range span) h.table.firsts) 0
 
-  least-told : (range : KeyRange) (span : Option Span) → has_bitmaps h.plan span ≡ false → least_reads h.plan h.table range span ≡ count_by (has_match range span) (pages_of h.table)
-  least-told range None plain = omega arith
-  least-told range (Some span) plain =
-      let none : h.table.firsts ≡ [] = no-firsts (and-true (has_index h.plan) plain) in
-      let listed : cond (asks_values (Some span)) (count_by (lists_later range) h.table.firsts) 0 ≡ 0 =
-      ap (λ (xs : List ℕ). cond (asks_values (Some span)) (count_by (lists_later range) xs) 0) none ∙ by_span (asks_values (Some span)) in
-      let whole : least_reads h.plan h.table range (Some span) ≡ count_by (has_match range (Some span)) (pages_of h.table) + cond (asks_values (Some span)) (count_by (lists_later range) h.table.firsts) 0 = refl in
-      omega (arith, listed, whole)
+  listed-few : (range : KeyRange) (span : Option Span) (index : BufferState) → index.holds ≡ None → pages_listed range span ≤ index_least t contents (begin range span h.table) index (start_of t contents range.low + 1)
+  listed-few range None index empty = omega arith
+  listed-few range (Some span) index empty = by_values (asks_values (Some span)) (by_index t.bitmaps refl)
     where
-      by_span : (b : Bool) → cond {A = ℕ} b 0 0 ≡ 0
-      by_span true = refl
-      by_span false = refl
+      numbers : Option Index → ℕ
+      numbers o = due_of (Some span) o (pages_looked_up t contents (begin range (Some span) h.table).top (start_of t contents range.low + 1) (next_in t - (start_of t contents range.low + 1))) index
 
-  pub begun-least : (range : KeyRange) (span : Option Span) (place : Place) → has_bitmaps h.plan span ≡ false → IsBegun (begin range span h.table) t place →
-      least_reads h.plan h.table range span ≤ least_from t contents (begin range span h.table) place
-  begun-least range span place plain begun = by_place place begun (least-told range span plain)
+      by_values : (b : Bool) → count_by (lists_later t contents h range (Some span)) h.table.firsts ≤ index_least t contents (begin range (Some span) h.table) index (start_of t contents range.low + 1) →
+          cond b (count_by (lists_later t contents h range (Some span)) h.table.firsts) 0 ≤ index_least t contents (begin range (Some span) h.table) index (start_of t contents range.low + 1)
+      by_values true le = le
+      by_values false le = omega arith
+
+      by_index : (bitmaps : Option Index) → t.bitmaps ≡ bitmaps →
+          count_by (lists_later t contents h range (Some span)) h.table.firsts ≤ index_least t contents (begin range (Some span) h.table) index (start_of t contents range.low + 1)
+      by_index None is =
+          let plain = subst (λ (o : Option Index). ArePlanned o (h.first + h.plan.data_blocks) h.plan) is h.stands.planned.index in
+          let none = no-firsts (ap (λ n. nat_lt 0 n) plain) in
+          let nothing : count_by (lists_later t contents h range (Some span)) h.table.firsts ≡ 0 = ap (λ (xs : List ℕ). count_by (lists_later t contents h range (Some span)) xs) none in
+          omega (arith, nothing)
+      by_index (Some b) is =
+          subst (λ (o : Option Index). count_by (lists_later t contents h range (Some span)) h.table.firsts
+          ≤ due_of (Some span) o (pages_looked_up t contents (begin range (Some span) h.table).top (start_of t contents range.low + 1) (next_in t - (start_of t contents range.low + 1))) index) (sym is)
+          (due-later t contents h range (Some span) b index is empty span)
+
+  none-listed : (range : KeyRange) (span : Option Span) →
+      ((n : ℕ) (row : Row) → oldest_in t ≤ n → n < next_in t → slice_get (rows_on t contents n) 0 ≡ Some row → is_up_to (begin range span h.table).top row.key ≡ true → row.key ≤ range.low) → pages_listed range span ≡ 0
+  none-listed range span below = ap (λ n. cond (asks_values span) n 0) (none-counted t contents h range span below) ∙ by_values (asks_values span)
+    where
+      by_values : (b : Bool) → cond {A = ℕ} b 0 0 ≡ 0
+      by_values true = refl
+      by_values false = refl
+
+  pub begun-least : (range : KeyRange) (span : Option Span) (index : BufferState) (place : Place) → index.holds ≡ None → IsBegun (begin range span h.table) t place →
+      least_reads h.plan h.table range span ≤ least_from t contents (begin range span h.table) index place
+  begun-least range span index place empty begun = by_place place begun refl
       (least-all (begin range span h.table) (all-asked range span h.table (subst (Ascends None) (standing-rows t contents h) (standing-ascends t contents h))))
     where
-      by_place : (place : Place) → IsBegun (begin range span h.table) t place → least_reads h.plan h.table range span ≡ count_by (has_match range span) (pages_of h.table) →
+      up-below : (top : Option ℕ) (row : Row) → is_up_to top range.low ≡ false → is_up_to top row.key ≡ true → row.key ≤ range.low
+      up-below None row low up = absurd (no (sym up))
+      up-below (Some top) row low up = elim (cases_lt range.low row.key) [
+        | inl lt ↦ let le = leb-true row.key top up in absurd (no (sym (le-leb range.low top (omega (arith, lt, le))) ∙ low))
+        | inr le ↦ le
+      ]
+
+      by_place : (place : Place) → IsBegun (begin range span h.table) t place → least_reads h.plan h.table range span ≡ count_by (has_match range span) (pages_of h.table) + pages_listed range span →
           count_by (has_match range span) (pages_of h.table) ≤ pages_asked t contents (begin range span h.table) (oldest_in t) (next_in t - oldest_in t) →
-          least_reads h.plan h.table range span ≤ least_from t contents (begin range span h.table) place
-      by_place Start begun told le = omega (arith, told, le)
+          least_reads h.plan h.table range span ≤ least_from t contents (begin range span h.table) index place
+      by_place Start begun told le = let few = listed-few range span index empty in omega (arith, told, le, few)
       by_place (Pending row) begun told le =
           let b = begins (lowest_of (begin range span h.table)) (buffered_rows t) begun in
           let is : buffered_rows t ≡ b.row ∷ drop 1 (buffered_rows t) = drop-row (buffered_rows t) 0 b.row b.first in
           let lesser = ascends-front None (rows_over t contents (oldest_in t) (next_in t - oldest_in t)) b.row (drop 1 (buffered_rows t))
           (subst (λ (xs : List Row). Ascends None (rows_over t contents (oldest_in t) (next_in t - oldest_in t) ++ xs)) is (standing-ascends t contents h)) in
-          let none = raised-below t contents (begin range span h.table) (next_in t - oldest_in t) (oldest_in t)
-          (each-weaker (λ x. x.key < b.row.key) (λ x. x.key < lowest_of (begin range span h.table)) (rows_over t contents (oldest_in t) (next_in t - oldest_in t)) (λ x lt. omega (arith, lt, b.up_to)) lesser) in
-          omega (arith, told, le, none)
+          let below = each-weaker (λ x. x.key < b.row.key) (λ x. x.key < lowest_of (begin range span h.table)) (rows_over t contents (oldest_in t) (next_in t - oldest_in t)) (λ x lt. omega (arith, lt, b.up_to)) lesser in
+          let none = raised-below t contents (begin range span h.table) (next_in t - oldest_in t) (oldest_in t) below in
+          let nothing = none-listed range span (λ n row low high first up. let lt = first-over t contents (λ x. x.key < range.low) n row low high first below in omega (arith, lt)) in
+          omega (arith, told, le, none, nothing)
       by_place Ended begun told le =
           let none = pages-past t contents (begin range span h.table) (next_in t - oldest_in t) (oldest_in t) begun in
-          omega (arith, told, le, none)
+          let nothing = none-listed range span (λ n row low high first up. up-below (begin range span h.table).top row begun up) in
+          omega (arith, told, le, none, nothing)
       by_place (Pages next) begun told le = absurd begun
       by_place (InPage number row) begun told le = absurd begun

@@ -24,11 +24,23 @@ use Rattle.fl_table.proofs.Looks.{next-is, oldest-is, pages-is}
 use Rattle.fl_cursor.specs.Asked.{lowest_of}
 use Rattle.fl_cursor.specs.Cursor.{IsStanding}
 use Rattle.fl_cursor.specs.Listed.{rows_on}
-use Rattle.fl_cursor.specs.Reads.{begins_by, has_last, start_of, most_to_find, pages_to_last, most_from, has_bitmaps, IsBegun, IsBounded}
+use Rattle.fl_cursor.specs.Reads.{begins_by, has_last, start_of, most_to_find, is_missed, is_skipped, pages_to_last, most_from, IsBegun, IsBounded}
 use Rattle.fl_cursor.specs.declared.place.Place.{Place}
 use Rattle.fl_cursor.specs.declared.place.Place.TheVariants.{Start, Pages, InPage, Pending, Ended}
 use Rattle.fl_cursor.proofs.Beginning.{standing-start, start-is, pending-same}
 use Rattle.fl_cursor.proofs.Stood.{standing-many}
+use Rattle.fl_cursor.proofs.Wanted.{missed-wanted, wanted-same}
+use Rattle.fl_flash.specs.Buffer.{BufferState}
+use Rattle.fl_index.specs.Looking.{after_held, unread}
+use Rattle.fl_index.specs.Memory as indexes
+use Rattle.fl_index.specs.Page.{page_number}
+use Rattle.fl_index.specs.declared.index.Index.{Index}
+use Rattle.fl_index.proofs.Showing.{some_index}
+use Rattle.fl_index.proofs.Spanned.{unread-full}
+use Rattle.fl_model.specs.Image.{rows_at}
+use Rattle.fl_model.specs.Ring as rings
+use Rattle.fl_table.specs.Skipping.{unread_of, wants_page}
+use Rattle.fl_table.proofs.Skips.{index-stands}
 
 no : true ≡ false → ⊥
 no e = cc
@@ -59,17 +71,27 @@ pub bounded-min : (high : ℕ) (last : Option ℕ) → IsBounded (option_map (λ
 bounded-min high None = tt
 bounded-min high (Some key) = omega arith
 
-pub and-true : (b : Bool) → (b && true) ≡ false → b ≡ false
-and-true true h = h
-and-true false h = refl
-
 module _ (t : Table) (contents : Contents) (h : IsStanding t contents) where
-  -- without bitmaps no page is skipped
-  wanted : (span : Option Span) (number : ℕ) → has_bitmaps h.plan span ≡ false → is_wanted h.plan h.table span number ≡ true
-  wanted None number plain = refl
-  wanted (Some span) number plain =
-      ap (λ b. not (b && (nat_le (h.table.rows.next - h.table.waiting) number || is_listed h.plan h.table number)) || nat_lt 0 (bit_and (bitmap_of h.plan (rows_of_page h.table number)) (mask_of h.plan span)))
-      (and-true (has_index h.plan) plain)
+  -- a page with rows that isn't skipped counts
+  wanted : (span : Option Span) (number : ℕ) → oldest_in t ≤ number → number < next_in t → is_skipped t contents span number ≡ false → (0 < rows_noted t number) × (is_wanted h.plan h.table span number ≡ true)
+  wanted span number from before skipped = by_count (cases_lt 0 (rows_noted t number))
+    where
+      or-parts : (a b : Bool) → (a || b) ≡ false → (a ≡ false) × (b ≡ false)
+      or-parts false b e = (refl, e)
+      or-parts true b e = absurd (no e)
+
+      not-false : (b : Bool) → not b ≡ false → b ≡ true
+      not-false true e = refl
+      not-false false e = absurd (no e)
+
+      by_count : (0 < rows_noted t number) ⊎ (rows_noted t number ≤ 0) → (0 < rows_noted t number) × (is_wanted h.plan h.table span number ≡ true)
+      by_count (inl some) =
+          let parts = or-parts (rows_noted t number == 0) (is_missed t span number (rows_on t contents number)) skipped in
+          let wants = not-false (wants_page h.plan h.table span number (rows_at h.table (number - rings.oldest h.table.rows) (rows_noted t number))) (sym (missed-wanted t contents h number from before span) ∙ parts.1) in
+          (some, sym (wanted-same t contents h number from before span some) ∙ wants)
+      by_count (inr none) =
+          let z : rows_noted t number ≡ 0 = omega (arith, none) in
+          absurd (no (sym (ap (λ b. b || is_missed t span number (rows_on t contents number)) (eq-eqb (rows_noted t number) 0 z)) ∙ skipped))
 
   within : (high first number : ℕ) (page : Option ℕ) → IsPageOf (λ n. first_key (rows_on t contents n)) (oldest_in t) (next_in t) high page → oldest_in t ≤ number → number < next_in t →
       begins_by high (rows_on t contents number) ≡ true → first ≤ number → in_pages first page number ≡ true
@@ -84,35 +106,31 @@ module _ (t : Table) (contents : Contents) (h : IsStanding t contents) where
   abbrev counted : Option Span → ℕ → ℕ → ℕ → Bool
   counted span high first number = in_pages first (last_page h.table high) number && is_wanted h.plan h.table span number
 
-  to-last : (span : Option Span) (top : Option ℕ) (high first n number : ℕ) → has_bitmaps h.plan span ≡ false → IsBounded top high → oldest_in t ≤ number → number + n ≡ next_in t → first ≤ number →
-      pages_to_last t contents top number n ≤ 1 + count_by (counted span high first) (numbers_from number n)
-  to-last span top high first zero number plain bounded from is le = omega arith
-  to-last span top high first (suc n) number plain bounded from is le =
-      subst (λ c. pages_to_last t contents top number (suc n) ≤ 1 + c) (sym (sum_by-cons (λ x. cond (counted span high first x) 1 0) number (numbers_from (number + 1) n)))
-      (by_count (rows_noted t number == 0) refl (to-last span top high first n (number + 1) plain bounded (omega (arith, from)) (omega (arith, is)) (omega (arith, le))))
+  to-last : (span : Option Span) (top : Option ℕ) (high first n number : ℕ) → IsBounded top high → oldest_in t ≤ number → number + n ≡ next_in t → first ≤ number →
+      pages_to_last t contents span top number n ≤ 1 + count_by (counted span high first) (numbers_from number n)
+  to-last span top high first zero number bounded from is le = omega arith
+  to-last span top high first (suc n) number bounded from is le =
+      subst (λ c. pages_to_last t contents span top number (suc n) ≤ 1 + c) (sym (sum_by-cons (λ x. cond (counted span high first x) 1 0) number (numbers_from (number + 1) n)))
+      (by_skip (is_skipped t contents span number) refl (to-last span top high first n (number + 1) bounded (omega (arith, from)) (omega (arith, is)) (omega (arith, le))))
     where
-      by_last : (b : Bool) → has_last top (rows_on t contents number) ≡ b → (rows_noted t number == 0) ≡ false →
-          pages_to_last t contents top (number + 1) n ≤ 1 + count_by (counted span high first) (numbers_from (number + 1) n) →
-          1 + cond b 0 (pages_to_last t contents top (number + 1) n) ≤ 1 + (cond (counted span high first number) 1 0 + count_by (counted span high first) (numbers_from (number + 1) n))
-      by_last true last some others = omega arith
-      by_last false last some others =
+      by_last : (b : Bool) → has_last top (rows_on t contents number) ≡ b → is_skipped t contents span number ≡ false →
+          pages_to_last t contents span top (number + 1) n ≤ 1 + count_by (counted span high first) (numbers_from (number + 1) n) →
+          1 + cond b 0 (pages_to_last t contents span top (number + 1) n) ≤ 1 + (cond (counted span high first number) 1 0 + count_by (counted span high first) (numbers_from (number + 1) n))
+      by_last true last read others = omega arith
+      by_last false last read others =
+          let w = wanted span number from (omega (arith, is)) read in
           let many = standing-many t contents h number from (omega (arith, is)) in
-          let not_zero : rows_noted t number ≡ 0 → ⊥ = λ e. no (sym (eq-eqb (rows_noted t number) 0 e) ∙ some) in
-          let has : 0 < length (rows_on t contents number) = by_none (cases_lt 0 (length (rows_on t contents number))) many not_zero in
+          let has : 0 < length (rows_on t contents number) = omega (arith, many, w.0) in
           let begins = not-last top high (rows_on t contents number) bounded has last in
           let inside = within high first number (page_at h.table high) (standing-start t contents h high) from (omega (arith, is)) begins le in
-          let one : cond (counted span high first number) 1 0 ≡ 1 = ap (λ b. cond {A = ℕ} (b && is_wanted h.plan h.table span number) 1 0) inside ∙ ap (λ b. cond {A = ℕ} b 1 0) (wanted span number plain) in
+          let one : cond (counted span high first number) 1 0 ≡ 1 = ap (λ b. cond {A = ℕ} (b && is_wanted h.plan h.table span number) 1 0) inside ∙ ap (λ b. cond {A = ℕ} b 1 0) w.1 in
           omega (arith, others, one)
-        where
-          by_none : (0 < length (rows_on t contents number)) ⊎ (length (rows_on t contents number) ≤ 0) → length (rows_on t contents number) ≡ rows_noted t number → (rows_noted t number ≡ 0 → ⊥) → 0 < length (rows_on t contents number)
-          by_none (inl lt) many not_zero = lt
-          by_none (inr le) many not_zero = absurd (not_zero (omega (arith, le, many)))
 
-      by_count : (b : Bool) → (rows_noted t number == 0) ≡ b → pages_to_last t contents top (number + 1) n ≤ 1 + count_by (counted span high first) (numbers_from (number + 1) n) →
-          cond b (pages_to_last t contents top (number + 1) n) (1 + cond (has_last top (rows_on t contents number)) 0 (pages_to_last t contents top (number + 1) n))
+      by_skip : (b : Bool) → is_skipped t contents span number ≡ b → pages_to_last t contents span top (number + 1) n ≤ 1 + count_by (counted span high first) (numbers_from (number + 1) n) →
+          cond b (pages_to_last t contents span top (number + 1) n) (1 + cond (has_last top (rows_on t contents number)) 0 (pages_to_last t contents span top (number + 1) n))
           ≤ 1 + (cond (counted span high first number) 1 0 + count_by (counted span high first) (numbers_from (number + 1) n))
-      by_count true e others = omega (arith, others)
-      by_count false e others = by_last (has_last top (rows_on t contents number)) refl e others
+      by_skip true e others = omega (arith, others)
+      by_skip false e others = by_last (has_last top (rows_on t contents number)) refl e others
 
   -- where the page of a key may be
   record Between (page : ℕ) : Type 0 where
@@ -133,9 +151,29 @@ module _ (t : Table) (contents : Contents) (h : IsStanding t contents) where
       + (cond (has_index h.plan && is_spanned asked.span) (unwrap_or (option_map (λ (ring : Ring). full_pages ring.counts) h.table.index) 0) 0)
       + count_by (counted asked.span asked.range.high (first_page h.table (lowest_of asked))) (numbers_of h.table)
 
-  start-limit : (asked : Cursor) (page : List ℕ) → has_bitmaps h.plan asked.span ≡ false → IsBounded asked.top asked.range.high → begins_by (lowest_of asked) (buffered_rows t) ≡ false →
-      most_from t contents asked page Start ≤ scan_limit 64 h.plan h.table asked.range asked.span (lowest_of asked)
-  start-limit asked page plain bounded none =
+  -- the index pages that a scan may read
+  abbrev index_pages : Option Span → ℕ
+  index_pages span = cond (has_index h.plan && is_spanned span) (unwrap_or (option_map (λ (ring : Ring). full_pages ring.counts) h.table.index) 0) 0
+
+  few-unread : (span : Option Span) (number : ℕ) (index : BufferState) → index.holds ≡ None → unread_of span t.bitmaps number index ≤ index_pages span
+  few-unread None number index none = omega arith
+  few-unread (Some span) number index none = by_index t.bitmaps refl
+    where
+      by_index : (bitmaps : Option Index) → t.bitmaps ≡ bitmaps → unread_of (Some span) bitmaps number index ≤ index_pages (Some span)
+      by_index None is = omega arith
+      by_index (Some b) is =
+          let stands = index-stands t h.flash h.first h.plan h.table h.stands b is in
+          let start = ap (after_held (indexes.oldest_in b) (page_number index.bytes)) none in
+          let same = ap (unread b number) start in
+          let few = unread-full b h.flash (h.first + h.plan.data_blocks) h.plan h.table stands number in
+          let has : index_pages (Some span) ≡ full_pages stands.in_ring.ring.counts =
+          ap (λ x. cond (x && true) (unwrap_or (option_map (λ (ring : Ring). full_pages ring.counts) h.table.index) 0) 0) (some_index b h.flash (h.first + h.plan.data_blocks) h.plan h.table stands)
+          ∙ ap (λ (o : Option Ring). unwrap_or (option_map (λ (ring : Ring). full_pages ring.counts) o) 0) stands.in_ring.facts.ring_is in
+          omega (arith, same, few, has)
+
+  start-limit : (asked : Cursor) (index : BufferState) (page : List ℕ) → index.holds ≡ None → IsBounded asked.top asked.range.high → begins_by (lowest_of asked) (buffered_rows t) ≡ false →
+      most_from t contents asked index page Start ≤ scan_limit 64 h.plan h.table asked.range asked.span (lowest_of asked)
+  start-limit asked index page empty bounded none =
       let low = lowest_of asked in
       let pending : is_pending_key h.table (lowest_of asked) ≡ false = pending-same t contents h (lowest_of asked) ∙ none in
       let finds : most_to_find t (lowest_of asked) ≡ lookup_limit 64 h.plan h.table (lowest_of asked) =
@@ -152,20 +190,20 @@ module _ (t : Table) (contents : Contents) (h : IsStanding t contents) where
       let m = next_in t - start in
       let from : oldest_in t ≤ start_of t contents (lowest_of asked) = omega (arith, start_told, b.from) in
       let up_to : start_of t contents (lowest_of asked) ≤ next_in t = omega (arith, start_told, b.up_to) in
-      let few = to-last asked.span asked.top asked.range.high (first_page h.table low) m start plain bounded from (omega (arith, up_to)) (omega (arith, start_told, first_told)) in
+      let few = to-last asked.span asked.top asked.range.high (first_page h.table low) m start bounded from (omega (arith, up_to)) (omega (arith, start_told, first_told)) in
       let p = counted asked.span asked.range.high (first_page h.table low) in
       let part = later-counts p k m (oldest_in t) in
       let at : oldest_in t + k ≡ start = omega (arith, from) in
       let all : k + m ≡ length h.table.rows.counts = omega (arith, from, up_to, oldest, next, h.stands.facts.rows.not_negative) in
       let at_start : count_by p (numbers_from (oldest_in t + k) m) ≡ count_by p (numbers_from start m) = ap (λ a. count_by p (numbers_from a m)) at in
       let whole : count_by p (numbers_from (oldest_in t) (k + m)) ≡ count_by p (numbers_of h.table) = ap (λ n. count_by p (numbers_from (oldest_in t) n)) all ∙ ap (λ a. count_by p (numbers_from a (length h.table.rows.counts))) oldest in
-      let most : most_from t contents asked page Start ≤ beyond asked = omega (arith, finds, few, part, at_start, whole) in
-      subst (λ (b : Bool). most_from t contents asked page Start ≤ cond b 0 (beyond asked)) (sym pending) most
+      let most : most_from t contents asked index page Start ≤ beyond asked = omega (arith, finds, few, part, at_start, whole, few-unread asked.span start index empty) in
+      subst (λ (b : Bool). most_from t contents asked index page Start ≤ cond b 0 (beyond asked)) (sym pending) most
 
-  pub begun-limit : (asked : Cursor) (page : List ℕ) (place : Place) → has_bitmaps h.plan asked.span ≡ false → IsBounded asked.top asked.range.high → IsBegun asked t place →
-      most_from t contents asked page place ≤ scan_limit 64 h.plan h.table asked.range asked.span (lowest_of asked)
-  begun-limit asked page Start plain bounded begun = start-limit asked page plain bounded begun
-  begun-limit asked page (Pending row) plain bounded begun = omega arith
-  begun-limit asked page Ended plain bounded begun = omega arith
-  begun-limit asked page (Pages next) plain bounded begun = absurd begun
-  begun-limit asked page (InPage number row) plain bounded begun = absurd begun
+  pub begun-limit : (asked : Cursor) (index : BufferState) (page : List ℕ) (place : Place) → index.holds ≡ None → IsBounded asked.top asked.range.high → IsBegun asked t place →
+      most_from t contents asked index page place ≤ scan_limit 64 h.plan h.table asked.range asked.span (lowest_of asked)
+  begun-limit asked index page Start empty bounded begun = start-limit asked index page empty bounded begun
+  begun-limit asked index page (Pending row) empty bounded begun = omega arith
+  begun-limit asked index page Ended empty bounded begun = omega arith
+  begun-limit asked index page (Pages next) empty bounded begun = absurd begun
+  begun-limit asked index page (InPage number row) empty bounded begun = absurd begun

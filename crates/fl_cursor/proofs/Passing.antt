@@ -145,7 +145,7 @@ gives-taken asked all ahead row ascends h left =
 
 -- ---- the last key that may be given
 
-past-last : (top : Option ℕ) (key later : ℕ) → is_last top key ≡ true → key < later → is_up_to top later ≡ false
+pub past-last : (top : Option ℕ) (key later : ℕ) → is_last top key ≡ true → key < later → is_up_to top later ≡ false
 past-last None key later h lt = refl
 past-last (Some top) key later h lt =
     let le = leb-true top key h in

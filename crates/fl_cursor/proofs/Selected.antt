@@ -85,3 +85,22 @@ all-asked range span table ascends = by_entries table.entries refl ascends
         let top : last_entry table ≡ Some l.0 = ap (last_or None) are ∙ l.1 in
         each-weaker (λ (e : Entry). e.kept.key ≤ l.0.kept.key) (λ (e : Entry). matches range span e.kept ≡ true → is_asked (begin range span table) (stored_row e) ≡ true) (first ∷ entries)
         (λ e le is. asks l.0 e top le is) (h.first_too, h.others)
+
+-- .. and so is each key up to the high one
+pub all-up : (range : KeyRange) (span : Option Span) (table : Table) → Ascends None (map stored_row table.entries) →
+    AllByRecursion (λ (e : Entry). e.kept.key ≤ range.high → is_up_to (begin range span table).top e.kept.key ≡ true) table.entries
+all-up range span table ascends = by_entries table.entries refl ascends
+  where
+    up : (last e : Entry) → last_entry table ≡ Some last → e.kept.key ≤ last.kept.key → e.kept.key ≤ range.high → is_up_to (begin range span table).top e.kept.key ≡ true
+    up last e top le high =
+        ap (λ (o : Option Entry). is_up_to (option_map (λ (l : Entry). min range.high l.kept.key) o) e.kept.key) top ∙ le-leb e.kept.key (min range.high last.kept.key) (omega (arith, le, high))
+
+    by_entries : (entries : List Entry) → table.entries ≡ entries → Ascends None (map stored_row entries) →
+        AllByRecursion (λ (e : Entry). e.kept.key ≤ range.high → is_up_to (begin range span table).top e.kept.key ≡ true) entries
+    by_entries [] are ascends = tt
+    by_entries (first ∷ entries) are ascends =
+        let l = last-some first entries in
+        let h = up-to-last l.0 first entries l.1 ascends.1 in
+        let top : last_entry table ≡ Some l.0 = ap (last_or None) are ∙ l.1 in
+        each-weaker (λ (e : Entry). e.kept.key ≤ l.0.kept.key) (λ (e : Entry). e.kept.key ≤ range.high → is_up_to (begin range span table).top e.kept.key ≡ true) (first ∷ entries)
+        (λ e le high. up l.0 e top le high) (h.first_too, h.others)

@@ -1,14 +1,23 @@
 -- A step as the step of rows.
-use Rattle.std.proofs.Common.{◌≡◌, ℕ, true, false, Bool, [], filter, Result, Ok, Err, OnErr, IfOk, IfErr, refl, ◌∙◌, ap}
+use Rattle.std.proofs.Common.{◌≡◌, ℕ, true, false, Bool, [], filter, Result, Ok, Err, OnErr, IfOk, IfErr, refl, ◌∙◌, ap, inl, inr, Option, Some, None, ◌+◌, subst, sym}
 use Rattle.std.specs.Bool.{OnFalse}
 use Rattle.std.specs.Borrow.{Bor}
 use Rattle.fl_page.specs.Contents.{Contents}
 use Rattle.fl_page.specs.Steps.{Steps}
+use Rattle.fl_page.specs.declared.fault.BadPage.{BadPage as BadPageOf}
 use Rattle.fl_page.specs.declared.fault.ReadFault.{ReadFault}
 use Rattle.fl_page.specs.declared.fault.ReadFault.TheVariants.{Flash, BadPage}
+use Rattle.fl_flash.specs.Places.{page_of}
+use Rattle.fl_index.specs.Memory.{per_page, place_in}
+use Rattle.fl_index.specs.Page.{IsGoodPage}
+use Rattle.fl_index.specs.declared.index.Index.{Index}
+use Rattle.fl_index.proofs.Goods.{kept-good}
+use Rattle.fl_mark.specs.Mark.{state_of_page}
+use Rattle.fl_table.specs.Bitmaps.{LieOn}
 use Rattle.fl_table.specs.declared.table.Table.{Table}
+use Rattle.fl_table.proofs.Skips.{index-stands}
 use Rattle.fl_cursor.specs.Asked.{asked_by, is_left}
-use Rattle.fl_cursor.specs.Cursor.{table_of, asked_of, buffer_of, present_of, left_of, is_end, has_ended, rows_behind, IsTold, IfBad, MayBeBad}
+use Rattle.fl_cursor.specs.Cursor.{table_of, asked_of, buffer_of, index_page, present_of, left_of, is_end, has_ended, rows_behind, IsStanding, IsTold, AreBadIn, IfBad, MayBeBad}
 use Rattle.fl_cursor.specs.Going.{Goes, Fails}
 use Rattle.fl_cursor.specs.Listed.{rows_of}
 use Rattle.fl_cursor.specs.Reads.{least_of, least_from}
@@ -36,6 +45,15 @@ ended-none cursor contents told e =
     passes-left (asked_of cursor) (rows_of (table_of cursor) contents) (rows_behind (table_of cursor) contents (buffer_of cursor) cursor.place) told.passes
     ∙ ap (λ (p : Place). filter (is_left (asked_of cursor)) (rows_behind (table_of cursor) contents (buffer_of cursor) p)) (end-is cursor.place e)
 
+-- over a flash that stands for the table no index page is bad
+none-bad : (t : Table) (contents : Contents) (h : IsStanding t contents) (bad : BadPageOf) (bitmaps : Option Index) → t.bitmaps ≡ bitmaps → AreBadIn bitmaps contents bad → ⊥
+none-bad t contents h bad None is e = e
+none-bad t contents h bad (Some index) is e =
+    let same = ap (λ (c : Contents). page_of c.bytes c.start c.geometry.page (place_in index bad.wanted)) h.same in
+    let lies = subst (λ (o : Option Index). LieOn o h.flash) is h.lies.bitmaps in
+    let good = kept-good index h.flash (h.first + h.plan.data_blocks) h.plan h.table (index-stands t h.flash h.first h.plan h.table h.stands index is) lies h.reaches bad.wanted e.from e.before (ap state_of_page same ∙ e.committed) in
+    e.not_good (subst (IsGoodPage (per_page index) bad.wanted) same good)
+
 module _ (old new : Cursor) (contents : Contents) (reads reads_now : ℕ) where
   pub told-after : (result : Result Bool ReadFault) → IfOk result (λ more. Goes more contents reads old reads_now new) → OnErr result (Fails contents reads old reads_now new) → IsTold old contents → IsTold new contents
   told-after (Ok more) goes fails told = goes.told told
@@ -52,10 +70,12 @@ module _ (old new : Cursor) (contents : Contents) (reads reads_now : ℕ) where
   steps-after (Ok false) goes fails bad end told = goes-steps false (left_of old contents) (present_of new) (left_of new contents) (goes.gives told) (ended-none new contents (goes.told told) end)
   steps-after (Err (Flash fault)) goes fails bad end told = same-left fails
   steps-after (Err (BadPage page)) goes fails bad end told =
-      let is = bad (standing-tells (table_of old) contents told.standing) in
-      is.not_good (standing-good (table_of old) contents told.standing page.wanted is.from is.before is.committed)
+      elim (bad (standing-tells (table_of old) contents told.standing)) [
+        | inl is ↦ absurd (is.not_good (standing-good (table_of old) contents told.standing page.wanted is.from is.before is.committed))
+        | inr is ↦ absurd (none-bad (table_of old) contents told.standing page (table_of old).bitmaps refl is)
+      ]
 
   pub none-left : (result : Result Bool ReadFault) → IfOk result (λ more. OnFalse more (has_ended new ≡ true)) → IfOk result (λ more. OnFalse more (least_of new contents ≡ 0))
   none-left (Ok true) end = tt
-  none-left (Ok false) end = ap (λ (p : Place). least_from (table_of new) contents (asked_of new) p) (end-is new.place end)
+  none-left (Ok false) end = ap (λ (p : Place). least_from (table_of new) contents (asked_of new) (index_page new) p) (end-is new.place end)
   none-left (Err fault) end = tt

@@ -112,11 +112,11 @@ module _ (t : Table) (contents : Contents) (h : IsStanding t contents) where
           ∙ ap (map stored_row) (take_none (drop (sum (take i h.table.rows.counts)) h.table.entries)))
 
   -- a page with rows is committed, and a committed page is good
-  at-number : (number : ℕ) → oldest_in t ≤ number → number < next_in t → slice_get h.table.rows.counts (number - first_number) ≡ Some (rows_noted t number)
+  pub at-number : (number : ℕ) → oldest_in t ≤ number → number < next_in t → slice_get h.table.rows.counts (number - first_number) ≡ Some (rows_noted t number)
   at-number number from before =
       noted-is t h.flash h.first h.plan h.table h.stands number (omega (arith, from, oldest-is t h.flash h.first h.plan h.table h.stands)) (omega (arith, before, next-is t h.flash h.first h.plan h.table h.stands))
 
-  back : (number : ℕ) → oldest_in t ≤ number → first_number + (number - first_number) ≡ number
+  pub back : (number : ℕ) → oldest_in t ≤ number → first_number + (number - first_number) ≡ number
   back number from = omega (arith, from, oldest-is t h.flash h.first h.plan h.table h.stands)
 
   bytes-there : (number : ℕ) → oldest_in t ≤ number → there (number - first_number) ≡ bytes_at t contents number

@@ -1,55 +1,76 @@
 -- A cursor that reads the next page, or goes past a page without rows.
-use Rattle.std.proofs.Common.{◌≡◌, ℕ, suc, ◌+◌, ◌-◌, ◌^◌, ◌<◌, ◌≤◌, Bool, true, false, cond, ◌==◌, List, [], ◌++◌, length, refl, sym, ◌∙◌, ap, subst, append_assoc, arith}
+use Rattle.std.proofs.Common.{◌≡◌, ℕ, suc, ◌+◌, ◌-◌, ◌^◌, ◌<◌, ◌≤◌, Bool, true, false, not, ◌||◌, cond, ◌==◌, Result, Ok, Err, IfOk, List, [], ◌∷◌, ◌++◌, length, refl, sym, ◌∙◌, ap, subst, append_assoc, arith}
 use Rattle.std.specs.Borrow.{MutBor}
-use Rattle.std.specs.List.{list_any}
+use Rattle.std.specs.List.{list_any, AllByRecursion}
 use Rattle.std.proofs.lemmas.Bool.{eq-eqb, eqb-true, false_from_ne_true}
 use Rattle.fl_flash.specs.Buffer.{BufferState}
 use Rattle.fl_mark.specs.Mark.{state_of_page}
 use Rattle.fl_mark.specs.declared.page_state.PageState.TheVariants.{Committed}
+use Rattle.fl_model.specs.Query.{is_up_to}
 use Rattle.fl_model.specs.Row.{Row}
 use Rattle.fl_page.specs.Contents.{Contents}
 use Rattle.fl_page.specs.Page.{IsGoodPage, rows_in}
+use Rattle.fl_page.specs.declared.fault.ReadFault.{ReadFault}
 use Rattle.fl_table.specs.Look.{layout_in, oldest_in, rows_noted, buffered_rows}
 use Rattle.fl_table.specs.Memory.{next_in}
+use Rattle.fl_table.specs.Skipping.{AreScanning, HoldGood, LooksOn, unread_of, due_of}
 use Rattle.fl_cursor.specs.Asked.{is_asked}
-use Rattle.fl_cursor.specs.Cursor.{table_of, asked_of, buffer_of, rows_behind, Passes, IsPlaced, IsTold}
+use Rattle.fl_cursor.specs.Cursor.{table_of, asked_of, buffer_of, index_page, rows_behind, Passes, IsPlaced, IsTold, IsLooking, AreFreshIn}
 use Rattle.fl_cursor.specs.Going.{Goes, Fails}
 use Rattle.fl_cursor.specs.Listed.{bytes_at, rows_on, rows_over, rows_from, rows_of}
-use Rattle.fl_cursor.specs.Reads.{has_last, pages_to_last, pages_asked, most_from, least_from}
+use Rattle.fl_cursor.specs.Reads.{has_last, is_missed, is_skipped, pages_to_last, pages_asked, pages_looked_up, most_from, least_from}
 use Rattle.fl_cursor.specs.declared.cursor.Cursor.{Cursor}
 use Rattle.fl_cursor.specs.declared.place.Place.{Place}
 use Rattle.fl_cursor.specs.declared.place.Place.TheVariants.{Pages, InPage, Pending}
-use Rattle.fl_cursor.proofs.Passing.{passes-same}
+use Rattle.fl_cursor.proofs.Looked.{looking-later, unread-less, due-more, due-nothing, looked-from}
+use Rattle.fl_cursor.proofs.Passing.{NotLeft, passes-same, passes-over, each-weaker}
 use Rattle.fl_cursor.proofs.Stood.{standing-committed}
 use Rattle.fl_cursor.proofs.Taking.{moves-on}
 
--- with another page in its buffer it goes on from another place
-pub turns : (old : Cursor) (buf : MutBor BufferState) (place : Place) (contents : Contents) (reads reads_now : ℕ) → buf.ghost_name ≡ old.rows_buf.ghost_name → length buf.now.bytes ≡ length old.rows_buf.now.bytes →
+-- with other pages in its buffers it goes on from another place
+pub turns : (old : Cursor) (buf index : MutBor BufferState) (place : Place) (contents : Contents) (reads reads_now : ℕ) → buf.ghost_name ≡ old.rows_buf.ghost_name → length buf.now.bytes ≡ length old.rows_buf.now.bytes →
+    index.ghost_name ≡ old.index_buf.ghost_name → length index.now.bytes ≡ length old.index_buf.now.bytes → (HoldGood (table_of old).bitmaps (index_page old) → HoldGood (table_of old).bitmaps index.now) →
     IsPlaced (table_of old) buf.now.bytes place → (reads_now < 2 ^ 64 - 1 → reads ≤ reads_now) →
     (IsTold old contents → Passes (asked_of old) (rows_of (table_of old) contents) (rows_behind (table_of old) contents buf.now.bytes place)) →
-    (IsTold old contents → reads_now + most_from (table_of old) contents (asked_of old) buf.now.bytes place ≤ reads + most_from (table_of old) contents (asked_of old) (buffer_of old) old.place) →
-    (IsTold old contents → reads_now < 2 ^ 64 - 1 → reads + least_from (table_of old) contents (asked_of old) old.place ≤ reads_now + least_from (table_of old) contents (asked_of old) place) →
-    Goes false contents reads old reads_now (record old { rows_buf = buf; place = place })
-turns old buf place contents reads reads_now named room placed later passes most least = record {
-  keeps = record { table = refl; rows_name = named; rows_room = room; index = refl };
+    (IsTold old contents → AreFreshIn (table_of old).bitmaps contents index.now) → (IsTold old contents → IsLooking (table_of old).bitmaps place index.now) →
+    (IsTold old contents → reads_now + most_from (table_of old) contents (asked_of old) index.now buf.now.bytes place ≤ reads + most_from (table_of old) contents (asked_of old) (index_page old) (buffer_of old) old.place) →
+    (IsTold old contents → reads_now < 2 ^ 64 - 1 → reads + least_from (table_of old) contents (asked_of old) (index_page old) old.place ≤ reads_now + least_from (table_of old) contents (asked_of old) index.now place) →
+    Goes false contents reads old reads_now (record old { rows_buf = buf; index_buf = index; place = place })
+turns old buf index place contents reads reads_now named room index_named index_room good placed later passes fresh looking most least = record {
+  keeps = record { table = refl; rows_name = named; rows_room = room; index_name = index_named; index_room = index_room };
   notes = refl;
-  ready = λ held h. record { flash = h.flash; same = h.same; lies = h.lies; rows_room = room ∙ h.rows_room; index_room = h.index_room; placed = placed };
-  told = λ told. record { standing = told.standing; ascends = told.ascends; passes = passes told };
+  ready = λ held h. record { flash = h.flash; same = h.same; lies = h.lies; rows_room = room ∙ h.rows_room; index_room = index_room ∙ h.index_room; placed = placed; index_good = good h.index_good };
+  told = λ told. record { standing = told.standing; ascends = told.ascends; passes = passes told; fresh = fresh told; looking = looking told };
   gives = λ told. refl;
   most = most;
   later = later;
   least = least;
 }
 
+-- What a look at the index made of the buffer of index pages.
+pub record Looked (old : Cursor) (next : ℕ) (contents : Contents) (reads : ℕ) (result : Result Bool ReadFault) (mid : ℕ) (index : MutBor BufferState) : Type 0 where
+  pub named : index.ghost_name ≡ old.index_buf.ghost_name
+  pub room : length index.now.bytes ≡ length old.index_buf.now.bytes
+  pub good : HoldGood (table_of old).bitmaps (index_page old) → HoldGood (table_of old).bitmaps index.now
+  pub later : mid < 2 ^ 64 - 1 → reads ≤ mid
+  pub fresh : IsTold old contents → AreFreshIn (table_of old).bitmaps contents index.now
+  pub looks : IsTold old contents → LooksOn (table_of old).bitmaps (asked_of old).span next (index_page old) reads result mid index.now
+  pub shows : IsTold old contents → (rows_noted (table_of old) next ≡ 0 → ⊥) → IfOk result (λ may. is_missed (table_of old) (asked_of old).span next (rows_on (table_of old) contents next) ≡ not may)
+  pub misses : IsTold old contents → (rows_noted (table_of old) next ≡ 0 → ⊥) → result ≡ Ok false →
+      NotLeft (asked_of old) (rows_on (table_of old) contents next) × (list_any (is_asked (asked_of old)) (rows_on (table_of old) contents next) ≡ false)
+
 module _ (old : Cursor) (next : ℕ) (here_is : old.place ≡ Pages next) (from : oldest_in (table_of old) ≤ next) (before : next < next_in (table_of old)) (contents : Contents) (reads : ℕ) where
   abbrev behind : List Row
   behind = rows_from old.table.now contents (next + 1)
 
-  abbrev most_behind : ℕ
-  most_behind = pages_to_last old.table.now contents old.mark.top (next + 1) (next_in old.table.now - (next + 1))
+  abbrev pages_behind : ℕ
+  pages_behind = pages_to_last old.table.now contents old.mark.span old.mark.top (next + 1) (next_in old.table.now - (next + 1))
 
-  abbrev least_behind : ℕ
-  least_behind = pages_asked old.table.now contents (asked_of old) (next + 1) (next_in old.table.now - (next + 1))
+  abbrev asked_behind : ℕ
+  asked_behind = pages_asked old.table.now contents (asked_of old) (next + 1) (next_in old.table.now - (next + 1))
+
+  abbrev looked_behind : List ℕ
+  looked_behind = pages_looked_up old.table.now contents old.mark.top (next + 1) (next_in old.table.now - (next + 1))
 
   one-page : next_in (table_of old) - next ≡ suc (next_in (table_of old) - (next + 1))
   one-page = omega (arith, before)
@@ -63,92 +84,169 @@ module _ (old : Cursor) (next : ℕ) (here_is : old.place ≡ Pages next) (from 
   passes-here : IsTold old contents → Passes (asked_of old) (rows_of (table_of old) contents) (rows_on (table_of old) contents next ++ behind)
   passes-here told = passes-same (asked_of old) (rows_of (table_of old) contents) (rows_behind (table_of old) contents (buffer_of old) old.place) (rows_on (table_of old) contents next ++ behind) ahead-here told.passes
 
-  most-here : most_from (table_of old) contents (asked_of old) (buffer_of old) old.place
-      ≡ cond (rows_noted (table_of old) next == 0) most_behind (1 + cond (has_last (asked_of old).top (rows_on (table_of old) contents next)) 0 most_behind)
-  most-here = ap (most_from (table_of old) contents (asked_of old) (buffer_of old)) here_is ∙ ap (pages_to_last (table_of old) contents (asked_of old).top next) one-page
+  most-here : most_from (table_of old) contents (asked_of old) (index_page old) (buffer_of old) old.place
+      ≡ cond (is_skipped (table_of old) contents (asked_of old).span next) pages_behind (1 + cond (has_last (asked_of old).top (rows_on (table_of old) contents next)) 0 pages_behind)
+      + unread_of (asked_of old).span (table_of old).bitmaps next (index_page old)
+  most-here =
+      ap (most_from (table_of old) contents (asked_of old) (index_page old) (buffer_of old)) here_is
+      ∙ ap (λ n. pages_to_last (table_of old) contents (asked_of old).span (asked_of old).top next n + unread_of (asked_of old).span (table_of old).bitmaps next (index_page old)) one-page
 
-  least-here : least_from (table_of old) contents (asked_of old) old.place ≡ cond (list_any (is_asked (asked_of old)) (rows_on (table_of old) contents next)) 1 0 + least_behind
-  least-here = ap (least_from (table_of old) contents (asked_of old)) here_is ∙ ap (pages_asked (table_of old) contents (asked_of old) next) one-page
+  least-here : least_from (table_of old) contents (asked_of old) (index_page old) old.place
+      ≡ cond (list_any (is_asked (asked_of old)) (rows_on (table_of old) contents next)) 1 0 + asked_behind
+      + due_of (asked_of old).span (table_of old).bitmaps (cond (list_any (λ row. is_up_to (asked_of old).top row.key) (rows_on (table_of old) contents next)) (next ∷ looked_behind) looked_behind) (index_page old)
+  least-here =
+      ap (least_from (table_of old) contents (asked_of old) (index_page old)) here_is
+      ∙ ap (λ n. pages_asked (table_of old) contents (asked_of old) next n + due_of (asked_of old).span (table_of old).bitmaps (pages_looked_up (table_of old) contents (asked_of old).top next n) (index_page old)) one-page
+
+  -- at most the page itself is looked up beside those behind it
+  due-here : (b : Bool) → due_of (asked_of old).span (table_of old).bitmaps (cond b (next ∷ looked_behind) looked_behind) (index_page old) ≤ due_of (asked_of old).span (table_of old).bitmaps (next ∷ looked_behind) (index_page old)
+  due-here true = omega arith
+  due-here false = due-more (asked_of old).span (table_of old).bitmaps next looked_behind (index_page old)
+
+  looked-later : AllByRecursion (λ n. next ≤ n) looked_behind
+  looked-later = each-weaker (λ n. next + 1 ≤ n) (λ n. next ≤ n) looked_behind (λ n le. omega (arith, le)) (looked-from (table_of old) contents (asked_of old).top (next_in (table_of old) - (next + 1)) (next + 1))
+
+  looking-here : IsTold old contents → AreScanning (table_of old).bitmaps next (index_page old)
+  looking-here told = subst (λ (p : Place). IsLooking (table_of old).bitmaps p (index_page old)) here_is told.looking
+
+  kept-next : (oldest_in (table_of old) ≤ next + 1) × (next + 1 ≤ next_in (table_of old))
+  kept-next = (omega (arith, from), omega (arith, before))
 
   -- a page without rows is passed
   pub page-skipped : rows_noted (table_of old) next ≡ 0 → Goes false contents reads old reads (record old { place = Pages (next + 1) })
   page-skipped none =
       let is : (rows_noted (table_of old) next == 0) ≡ true = eq-eqb (rows_noted (table_of old) next) 0 none in
       let rows : rows_on (table_of old) contents next ≡ [] = ap (λ b. cond b [] (rows_in (layout_in (table_of old)) (bytes_at (table_of old) contents next))) is in
-      let from_next : oldest_in (table_of old) ≤ next + 1 = omega (arith, from) in
-      let to_next : next + 1 ≤ next_in (table_of old) = omega (arith, before) in
-      moves-on old contents reads (Pages (next + 1)) (from_next, to_next)
+      moves-on old contents reads (Pages (next + 1)) kept-next
       (λ told. passes-same (asked_of old) (rows_of (table_of old) contents) (rows_on (table_of old) contents next ++ behind) behind (ap (λ (xs : List Row). xs ++ behind) rows) (passes-here told))
+      (λ told. looking-later (table_of old).bitmaps next (next + 1) (index_page old) (omega arith) (looking-here told))
       (λ told.
-      let most = most-here ∙ ap (λ b. cond b most_behind (1 + cond (has_last (asked_of old).top (rows_on (table_of old) contents next)) 0 most_behind)) is in
-      omega (arith, most))
+      let most = most-here ∙ ap (λ b. cond (b || is_missed (table_of old) (asked_of old).span next (rows_on (table_of old) contents next)) pages_behind (1 + cond (has_last (asked_of old).top (rows_on (table_of old) contents next)) 0 pages_behind)
+      + unread_of (asked_of old).span (table_of old).bitmaps next (index_page old)) is in
+      let less = unread-less (asked_of old).span (table_of old).bitmaps next (next + 1) (index_page old) (omega arith) in
+      omega (arith, most, less))
       (λ told.
-      let least = least-here ∙ ap (λ (xs : List Row). cond (list_any (is_asked (asked_of old)) xs) 1 0 + least_behind) rows in
+      let least = least-here ∙ ap (λ (xs : List Row). cond (list_any (is_asked (asked_of old)) xs) 1 0 + asked_behind
+      + due_of (asked_of old).span (table_of old).bitmaps (cond (list_any (λ row. is_up_to (asked_of old).top row.key) xs) (next ∷ looked_behind) looked_behind) (index_page old)) rows in
       omega (arith, least))
 
   not-none : (rows_noted (table_of old) next ≡ 0 → ⊥) → (rows_noted (table_of old) next == 0) ≡ false
   not-none some = false_from_ne_true (rows_noted (table_of old) next == 0) (λ b. some (eqb-true (rows_noted (table_of old) next) 0 b))
 
-  most-some : (rows_noted (table_of old) next ≡ 0 → ⊥) → most_from (table_of old) contents (asked_of old) (buffer_of old) old.place ≡ 1 + cond (has_last (asked_of old).top (rows_on (table_of old) contents next)) 0 most_behind
-  most-some some = most-here ∙ ap (λ b. cond b most_behind (1 + cond (has_last (asked_of old).top (rows_on (table_of old) contents next)) 0 most_behind)) (not-none some)
+  skipped-is : (rows_noted (table_of old) next ≡ 0 → ⊥) → (b : Bool) → is_missed (table_of old) (asked_of old).span next (rows_on (table_of old) contents next) ≡ b → is_skipped (table_of old) contents (asked_of old).span next ≡ b
+  skipped-is some b missed = ap (λ x. x || is_missed (table_of old) (asked_of old).span next (rows_on (table_of old) contents next)) (not-none some) ∙ missed
 
-  -- the read failed
-  pub page-fails : (buf : MutBor BufferState) (reads_now : ℕ) → buf.ghost_name ≡ old.rows_buf.ghost_name → length buf.now.bytes ≡ length old.rows_buf.now.bytes → (rows_noted (table_of old) next ≡ 0 → ⊥) → reads_now ≤ reads + 1 →
-      Fails contents reads old reads_now (record old { rows_buf = buf })
-  page-fails buf reads_now named room some one = record {
-    keeps = record { table = refl; rows_name = named; rows_room = room; index = refl };
-    notes = refl;
-    ready = λ held h. record {
-      flash = h.flash;
-      same = h.same;
-      lies = h.lies;
-      rows_room = room ∙ h.rows_room;
-      index_room = h.index_room;
-      placed = subst (IsPlaced (table_of old) buf.now.bytes) (sym here_is) (subst (IsPlaced (table_of old) (buffer_of old)) here_is h.placed);
-    };
-    told = λ told. record {
-      standing = told.standing;
-      ascends = told.ascends;
-      passes = passes-same (asked_of old) (rows_of (table_of old) contents) (rows_behind (table_of old) contents (buffer_of old) old.place) (rows_behind (table_of old) contents buf.now.bytes old.place)
-          (ap (rows_behind (table_of old) contents (buffer_of old)) here_is ∙ sym (ap (rows_behind (table_of old) contents buf.now.bytes) here_is)) told.passes;
-    };
-    most = λ told. omega (arith, most-some some, one);
-  }
+  most-by : (rows_noted (table_of old) next ≡ 0 → ⊥) → (b : Bool) → is_missed (table_of old) (asked_of old).span next (rows_on (table_of old) contents next) ≡ b →
+      most_from (table_of old) contents (asked_of old) (index_page old) (buffer_of old) old.place
+      ≡ cond b pages_behind (1 + cond (has_last (asked_of old).top (rows_on (table_of old) contents next)) 0 pages_behind) + unread_of (asked_of old).span (table_of old).bitmaps next (index_page old)
+  most-by some b missed = most-here ∙ ap (λ x. cond x pages_behind (1 + cond (has_last (asked_of old).top (rows_on (table_of old) contents next)) 0 pages_behind) + unread_of (asked_of old).span (table_of old).bitmaps next (index_page old)) (skipped-is some b missed)
 
-  module _ (buf : MutBor BufferState) (reads_now : ℕ) (named : buf.ghost_name ≡ old.rows_buf.ghost_name) (room : length buf.now.bytes ≡ length old.rows_buf.now.bytes) (some : rows_noted (table_of old) next ≡ 0 → ⊥)
-      (one : reads_now ≤ reads + 1) (least_one : reads_now < 2 ^ 64 - 1 → reads + 1 ≤ reads_now) (bytes : IsTold old contents → buf.now.bytes ≡ bytes_at (table_of old) contents next) where
-    rows-here : IsTold old contents → rows_on (table_of old) contents next ≡ rows_in (layout_in (table_of old)) buf.now.bytes
-    rows-here told = ap (λ b. cond b [] (rows_in (layout_in (table_of old)) (bytes_at (table_of old) contents next))) (not-none some) ∙ ap (rows_in (layout_in (table_of old))) (sym (bytes told))
+  module _ (index : MutBor BufferState) (some : rows_noted (table_of old) next ≡ 0 → ⊥) where
+    looks-at : (result : Result Bool ReadFault) (mid : ℕ) → Looked old next contents reads result mid index → IsTold old contents → LooksOn (table_of old).bitmaps (asked_of old).span next (index_page old) reads result mid index.now
+    looks-at result mid l told = l.looks told
 
-    later-here : reads_now < 2 ^ 64 - 1 → reads ≤ reads_now
-    later-here lt = let le = least_one lt in omega (arith, le)
+    looking-then : (result : Result Bool ReadFault) (mid : ℕ) → Looked old next contents reads result mid index → IsTold old contents → AreScanning (table_of old).bitmaps (next + 1) index.now
+    looking-then result mid l told = looking-later (table_of old).bitmaps next (next + 1) index.now (omega arith) (l.looks told).scanning
 
-    -- its rows come next
-    pub page-entered : IsGoodPage (layout_in (table_of old)) next buf.now.bytes → Goes false contents reads old reads_now (record old { rows_buf = buf; place = InPage next 0 })
-    page-entered good =
-        turns old buf (InPage next 0) contents reads reads_now named room (from, before, good, omega arith) later-here
-        (λ told. passes-same (asked_of old) (rows_of (table_of old) contents) (rows_on (table_of old) contents next ++ behind) (rows_in (layout_in (table_of old)) buf.now.bytes ++ behind)
-        (ap (λ (xs : List Row). xs ++ behind) (rows-here told)) (passes-here told))
+    less-then : unread_of (asked_of old).span (table_of old).bitmaps (next + 1) index.now ≤ unread_of (asked_of old).span (table_of old).bitmaps next index.now
+    less-then = unread-less (asked_of old).span (table_of old).bitmaps next (next + 1) index.now (omega arith)
+
+    -- a page that its bitmap tells to have no row of the span is passed
+    pub page-missed : (mid : ℕ) → Looked old next contents reads (Ok false) mid index → Goes false contents reads old mid (record old { index_buf = index; place = Pages (next + 1) })
+    page-missed mid l =
+        turns old old.rows_buf index (Pages (next + 1)) contents reads mid refl refl l.named l.room l.good kept-next l.later
+        (λ told. passes-over (asked_of old) (rows_of (table_of old) contents) (rows_on (table_of old) contents next) behind (passes-here told) (l.misses told some refl).0)
+        l.fresh (looking-then (Ok false) mid l)
         (λ told.
-        let most = most-some some ∙ ap (λ (xs : List Row). 1 + cond (has_last (asked_of old).top xs) 0 most_behind) (rows-here told) in
-        omega (arith, most, one))
+        let most = most-by some true (l.shows told some) in
+        let once = (l.looks told).once in
+        omega (arith, most, once, less-then))
         (λ told lt.
-        let le = least_one lt in
-        let few = at-most-one (list_any (is_asked (asked_of old)) (rows_on (table_of old) contents next)) in
-        omega (arith, least-here, le, few))
-      where
-        at-most-one : (b : Bool) → cond b 1 0 ≤ 1
-        at-most-one true = omega arith
-        at-most-one false = omega arith
+        let least = least-here ∙ ap (λ b. cond b 1 0 + asked_behind
+        + due_of (asked_of old).span (table_of old).bitmaps (cond (list_any (λ row. is_up_to (asked_of old).top row.key) (rows_on (table_of old) contents next)) (next ∷ looked_behind) looked_behind) (index_page old)) (l.misses told some refl).1 in
+        let few = due-here (list_any (λ row. is_up_to (asked_of old).top row.key) (rows_on (table_of old) contents next)) in
+        let due = (l.looks told).least looked_behind looked-later lt in
+        omega (arith, least, few, due))
 
-    -- where the rows are told it isn't void
-    pub page-void : (state_of_page buf.now.bytes ≡ Committed → ⊥) → Goes false contents reads old reads_now (record old { rows_buf = buf; place = Pages (next + 1) })
-    page-void other =
-        turns old buf (Pages (next + 1)) contents reads reads_now named room (omega (arith, from), omega (arith, before)) later-here
-        (λ told. absurd (committed told)) (λ told. absurd (committed told)) (λ told lt. absurd (committed told))
-      where
-        committed : IsTold old contents → ⊥
-        committed told = other (ap state_of_page (bytes told) ∙ standing-committed (table_of old) contents told.standing next from before some)
+    -- a read failed: the place stays, and the buffers may hold other pages
+    fails-on : (buf : MutBor BufferState) (result : Result Bool ReadFault) (mid reads_now : ℕ) → Looked old next contents reads result mid index → buf.ghost_name ≡ old.rows_buf.ghost_name → length buf.now.bytes ≡ length old.rows_buf.now.bytes →
+        (IsTold old contents → reads_now ≤ reads + most_from (table_of old) contents (asked_of old) (index_page old) (buffer_of old) old.place) → Fails contents reads old reads_now (record old { rows_buf = buf; index_buf = index })
+    fails-on buf result mid reads_now l named room most = record {
+      keeps = record { table = refl; rows_name = named; rows_room = room; index_name = l.named; index_room = l.room };
+      notes = refl;
+      ready = λ held h. record {
+        flash = h.flash;
+        same = h.same;
+        lies = h.lies;
+        rows_room = room ∙ h.rows_room;
+        index_room = l.room ∙ h.index_room;
+        placed = subst (IsPlaced (table_of old) buf.now.bytes) (sym here_is) (subst (IsPlaced (table_of old) (buffer_of old)) here_is h.placed);
+        index_good = l.good h.index_good;
+      };
+      told = λ told. record {
+        standing = told.standing;
+        ascends = told.ascends;
+        passes = passes-same (asked_of old) (rows_of (table_of old) contents) (rows_behind (table_of old) contents (buffer_of old) old.place) (rows_behind (table_of old) contents buf.now.bytes old.place)
+            (ap (rows_behind (table_of old) contents (buffer_of old)) here_is ∙ sym (ap (rows_behind (table_of old) contents buf.now.bytes) here_is)) told.passes;
+        fresh = l.fresh told;
+        looking = subst (λ (p : Place). IsLooking (table_of old).bitmaps p index.now) (sym here_is) (l.looks told).scanning;
+      };
+      most = most;
+    }
+
+    pub look-fails : (mid : ℕ) (fault : ReadFault) → Looked old next contents reads (Err fault) mid index → Fails contents reads old mid (record old { index_buf = index })
+    look-fails mid fault l = fails-on old.rows_buf (Err fault) mid mid l refl refl (λ told. let le = (l.looks told).most in omega (arith, le, most-here))
+
+    module _ (mid : ℕ) (l : Looked old next contents reads (Ok true) mid index) (buf : MutBor BufferState) (reads_now : ℕ) (named : buf.ghost_name ≡ old.rows_buf.ghost_name) (room : length buf.now.bytes ≡ length old.rows_buf.now.bytes) (one : reads_now ≤ mid + 1) where
+      -- the read of the page failed
+      pub page-fails : Fails contents reads old reads_now (record old { rows_buf = buf; index_buf = index })
+      page-fails = fails-on buf (Ok true) mid reads_now l named room (λ told.
+          let most = most-by some false (l.shows told some) in
+          let le = (l.looks told).most in
+          omega (arith, most, le, one))
+
+      module _ (least_one : reads_now < 2 ^ 64 - 1 → mid + 1 ≤ reads_now) (bytes : IsTold old contents → buf.now.bytes ≡ bytes_at (table_of old) contents next) where
+        rows-here : IsTold old contents → rows_on (table_of old) contents next ≡ rows_in (layout_in (table_of old)) buf.now.bytes
+        rows-here told = ap (λ b. cond b [] (rows_in (layout_in (table_of old)) (bytes_at (table_of old) contents next))) (not-none some) ∙ ap (rows_in (layout_in (table_of old))) (sym (bytes told))
+
+        later-here : reads_now < 2 ^ 64 - 1 → reads ≤ reads_now
+        later-here lt = let le = least_one lt in let first = l.later (omega (arith, le, lt)) in omega (arith, le, first)
+
+        -- its rows come next
+        pub page-entered : IsGoodPage (layout_in (table_of old)) next buf.now.bytes → Goes false contents reads old reads_now (record old { rows_buf = buf; index_buf = index; place = InPage next 0 })
+        page-entered good =
+            turns old buf index (InPage next 0) contents reads reads_now named room l.named l.room l.good (from, before, good, omega arith) later-here
+            (λ told. passes-same (asked_of old) (rows_of (table_of old) contents) (rows_on (table_of old) contents next ++ behind) (rows_in (layout_in (table_of old)) buf.now.bytes ++ behind)
+            (ap (λ (xs : List Row). xs ++ behind) (rows-here told)) (passes-here told))
+            l.fresh (looking-then (Ok true) mid l)
+            (λ told.
+            let most = most-by some false (l.shows told some) ∙ ap (λ (xs : List Row). 1 + cond (has_last (asked_of old).top xs) 0 pages_behind + unread_of (asked_of old).span (table_of old).bitmaps next (index_page old)) (rows-here told) in
+            by_last (has_last (asked_of old).top (rows_in (layout_in (table_of old)) buf.now.bytes)) (l.looks told) most)
+            (λ told lt.
+            let le = least_one lt in
+            let few = at-most-one (list_any (is_asked (asked_of old)) (rows_on (table_of old) contents next)) in
+            let looked = due-here (list_any (λ row. is_up_to (asked_of old).top row.key) (rows_on (table_of old) contents next)) in
+            let due = (l.looks told).least looked_behind looked-later (omega (arith, le, lt)) in
+            omega (arith, least-here, le, few, looked, due))
+          where
+            at-most-one : (b : Bool) → cond b 1 0 ≤ 1
+            at-most-one true = omega arith
+            at-most-one false = omega arith
+
+            by_last : (b : Bool) → LooksOn (table_of old).bitmaps (asked_of old).span next (index_page old) reads (Ok true) mid index.now →
+                most_from (table_of old) contents (asked_of old) (index_page old) (buffer_of old) old.place ≡ 1 + cond b 0 pages_behind + unread_of (asked_of old).span (table_of old).bitmaps next (index_page old) →
+                reads_now + cond b 0 (pages_behind + unread_of (asked_of old).span (table_of old).bitmaps (next + 1) index.now) ≤ reads + most_from (table_of old) contents (asked_of old) (index_page old) (buffer_of old) old.place
+            by_last true looks most = omega (arith, most, one, looks.most)
+            by_last false looks most = omega (arith, most, one, looks.once, less-then)
+
+        -- where the rows are told it isn't void
+        pub page-void : (state_of_page buf.now.bytes ≡ Committed → ⊥) → Goes false contents reads old reads_now (record old { rows_buf = buf; index_buf = index; place = Pages (next + 1) })
+        page-void other =
+            turns old buf index (Pages (next + 1)) contents reads reads_now named room l.named l.room l.good kept-next later-here
+            (λ told. absurd (committed told)) (λ told. absurd (committed told)) (λ told. absurd (committed told)) (λ told. absurd (committed told)) (λ told lt. absurd (committed told))
+          where
+            committed : IsTold old contents → ⊥
+            committed told = other (ap state_of_page (bytes told) ∙ standing-committed (table_of old) contents told.standing next from before some)
 
 -- behind the last page are the pending rows
 pub pages-end : (old : Cursor) (next : ℕ) → old.place ≡ Pages next → next ≡ next_in (table_of old) → (contents : Contents) (reads : ℕ) → Goes false contents reads old reads (record old { place = Pending 0 })
@@ -157,7 +255,10 @@ pages-end old next here_is end contents reads =
     moves-on old contents reads (Pending 0) (omega arith)
     (λ told. passes-same (asked_of old) (rows_of (table_of old) contents) (rows_behind (table_of old) contents (buffer_of old) old.place) (buffered_rows (table_of old))
     (ap (rows_behind (table_of old) contents (buffer_of old)) here_is ∙ ap (λ k. rows_over (table_of old) contents next k ++ buffered_rows (table_of old)) none) told.passes)
+    (λ told. tt)
     (λ told. omega arith)
     (λ told.
-    let least : least_from (table_of old) contents (asked_of old) old.place ≡ 0 = ap (least_from (table_of old) contents (asked_of old)) here_is ∙ ap (pages_asked (table_of old) contents (asked_of old) next) none in
-    omega (arith, least))
+    let least = ap (least_from (table_of old) contents (asked_of old) (index_page old)) here_is
+    ∙ ap (λ n. pages_asked (table_of old) contents (asked_of old) next n + due_of (asked_of old).span (table_of old).bitmaps (pages_looked_up (table_of old) contents (asked_of old).top next n) (index_page old)) none in
+    let nothing = due-nothing (asked_of old).span (table_of old).bitmaps (index_page old) in
+    omega (arith, least, nothing))

@@ -14,7 +14,7 @@ use Rattle.fl_cursor.specs.declared.place.Place.{Place}
 use Rattle.fl_cursor.specs.declared.place.Place.TheVariants.{Start, Pages, InPage, Pending, Ended}
 
 pub keeps-then : (a b c : Cursor) → Keeps a b → Keeps b c → Keeps a c
-keeps-then a b c h k = record { table = k.table ∙ h.table; rows_name = k.rows_name ∙ h.rows_name; rows_room = k.rows_room ∙ h.rows_room; index = k.index ∙ h.index }
+keeps-then a b c h k = record { table = k.table ∙ h.table; rows_name = k.rows_name ∙ h.rows_name; rows_room = k.rows_room ∙ h.rows_room; index_name = k.index_name ∙ h.index_name; index_room = k.index_room ∙ h.index_room }
 
 notes-then : (taken : Bool) (a b c : Cursor) → mark_of b ≡ mark_of a → Notes taken b c → Notes taken a c
 notes-then false a b c e h = h ∙ e
@@ -66,10 +66,10 @@ fails-then contents reads mid now a b c h k = record {
 -- a cursor that holds no row yet
 pub goes-nowhere : (a : Cursor) (contents : Contents) (reads : ℕ) → Goes false contents reads a reads (record a { here = Nowhere })
 goes-nowhere a contents reads = record {
-  keeps = record { table = refl; rows_name = refl; rows_room = refl; index = refl };
+  keeps = record { table = refl; rows_name = refl; rows_room = refl; index_name = refl; index_room = refl };
   notes = refl;
-  ready = λ held h. record { flash = h.flash; same = h.same; lies = h.lies; rows_room = h.rows_room; index_room = h.index_room; placed = h.placed };
-  told = λ told. record { standing = told.standing; ascends = told.ascends; passes = told.passes };
+  ready = λ held h. record { flash = h.flash; same = h.same; lies = h.lies; rows_room = h.rows_room; index_room = h.index_room; placed = h.placed; index_good = h.index_good };
+  told = λ told. record { standing = told.standing; ascends = told.ascends; passes = told.passes; fresh = told.fresh; looking = told.looking };
   gives = λ told. refl;
   most = λ told. omega arith;
   later = λ lt. omega arith;

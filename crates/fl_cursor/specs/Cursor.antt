@@ -1,10 +1,16 @@
 -- What clauses see of a cursor.
-use Rattle.std.specs.Prelude.{◌≡◌, ℕ, ◌+◌, ◌-◌, ◌/◌, ◌<◌, ◌≤◌, Bool, true, false, ◌&&◌, nat_lt, nat_le, ◌==◌, None, unwrap_or, List, [], ◌++◌, length, drop, filter, slice_get, IsTrue}
+use Rattle.std.specs.Prelude.{◌≡◌, ◌⊎◌, ℕ, ◌+◌, ◌-◌, ◌/◌, ◌<◌, ◌≤◌, Bool, true, false, ◌&&◌, nat_lt, nat_le, ◌==◌, Option, Some, None, unwrap_or, List, [], ◌++◌, length, drop, filter, slice_get, IsTrue}
 use Rattle.std.specs.List.{AllByRecursion}
 use Rattle.std.specs.Borrow.{GName}
 use Rattle.fl_flash.specs.Buffer.{BufferState}
 use Rattle.fl_flash.specs.Flash.{FlashState}
-use Rattle.fl_flash.specs.Places.{extent}
+use Rattle.fl_flash.specs.Places.{extent, page_of}
+use Rattle.fl_index.specs.Looking as looking
+use Rattle.fl_index.specs.Looking.{IsHeld}
+use Rattle.fl_index.specs.Memory as indexes
+use Rattle.fl_index.specs.Memory.{per_page, place_in}
+use Rattle.fl_index.specs.Page as index_pages
+use Rattle.fl_index.specs.declared.index.Index.{Index}
 use Rattle.fl_mark.specs.Mark.{state_of_page}
 use Rattle.fl_mark.specs.declared.page_state.PageState.TheVariants.{Committed}
 use Rattle.fl_model.specs.Query as model
@@ -20,6 +26,7 @@ use Rattle.fl_page.specs.declared.fault.ReadFault.{ReadFault}
 use Rattle.fl_page.specs.declared.fault.ReadFault.TheVariants as fault
 use Rattle.fl_table.specs.Look.{layout_in, oldest_in, buffered_rows}
 use Rattle.fl_table.specs.Memory.{is_running, next_in, pending_in, LiesOn}
+use Rattle.fl_table.specs.Skipping.{AreScanning, HoldGood}
 use Rattle.fl_table.specs.Standing.{Stands}
 use Rattle.fl_table.specs.declared.table.Table.{Table}
 use Rattle.fl_cursor.specs.Asked.{asked_by, is_left}
@@ -137,11 +144,27 @@ pub record IsStanding (t : Table) (contents : Contents) : Type 0 where
   pub table : tables.Table
   pub stands : Stands t flash first plan table
 
+-- a kept index page that a buffer holds has the bytes that stand on the flash
+abbrev pub AreFreshIn : Option Index → Contents → BufferState → Type 0
+AreFreshIn None contents buf = Unit {0}
+AreFreshIn (Some index) contents buf =
+    (number : ℕ) → IsHeld index number buf → buf.bytes ≡ page_of contents.bytes contents.start contents.geometry.page (place_in index number)
+
+-- the buffer of index pages goes with the place: it holds none, or the one that was looked at last
+abbrev pub IsLooking : Option Index → Place → BufferState → Type 0
+IsLooking bitmaps Start buf = AreScanning bitmaps 0 buf
+IsLooking bitmaps (Pages next) buf = AreScanning bitmaps next buf
+IsLooking bitmaps (InPage number row) buf = AreScanning bitmaps (number + 1) buf
+IsLooking bitmaps (Pending row) buf = Unit {0}
+IsLooking bitmaps Ended buf = Unit {0}
+
 -- the rows left are told over such a flash
 pub record IsTold (cursor : Cursor) (contents : Contents) : Type 0 where
   pub standing : IsStanding (table_of cursor) contents
   pub ascends : Ascends None (rows_of (table_of cursor) contents)
   pub passes : Passes (asked_of cursor) (rows_of (table_of cursor) contents) (ahead_of cursor contents)
+  pub fresh : AreFreshIn (table_of cursor).bitmaps contents (index_page cursor)
+  pub looking : IsLooking (table_of cursor).bitmaps cursor.place (index_page cursor)
 
 -- ---- going over a flash
 
@@ -162,6 +185,8 @@ pub record IsReady (cursor : Cursor) (contents : Contents) : Type 0 where
   pub rows_room : length cursor.rows_buf.now.bytes ≡ contents.geometry.page
   pub index_room : length cursor.index_buf.now.bytes ≡ contents.geometry.page
   pub placed : IsPlaced (table_of cursor) (buffer_of cursor) cursor.place
+  -- an index page that is held isn't a bad one
+  pub index_good : HoldGood (table_of cursor).bitmaps (index_page cursor)
 
 -- Where the flash tells its bytes, the page at the place of the kept number that was wanted is committed, and has
 -- another number or a count that no page has.
@@ -172,8 +197,23 @@ pub record IsBadPage (t : Table) (contents : Contents) (bad : BadPage) : Type 0 
   pub not_good : IsGoodPage (layout_in t) bad.wanted (bytes_at t contents bad.wanted) → ⊥
   pub told : bad ≡ bad_page bad.wanted (bytes_at t contents bad.wanted)
 
+-- .. or the page at the place of a kept index page is, and has another number or another count than an index page
+abbrev pub index_bytes : Index → Contents → ℕ → List ℕ
+index_bytes index contents number = page_of contents.bytes contents.start contents.geometry.page (place_in index number)
+
+pub record IsBadIndexPage (index : Index) (contents : Contents) (bad : BadPage) : Type 0 where
+  pub from : indexes.oldest_in index ≤ bad.wanted
+  pub before : bad.wanted < indexes.next_in index
+  pub committed : state_of_page (index_bytes index contents bad.wanted) ≡ Committed
+  pub not_good : index_pages.IsGoodPage (per_page index) bad.wanted (index_bytes index contents bad.wanted) → ⊥
+  pub told : bad ≡ looking.bad_page bad.wanted (index_bytes index contents bad.wanted)
+
+abbrev pub AreBadIn : Option Index → Contents → BadPage → Type 0
+AreBadIn None contents bad = ⊥
+AreBadIn (Some index) contents bad = IsBadIndexPage index contents bad
+
 abbrev pub MayBeBad : Table → Contents → BadPage → Type 0
-MayBeBad t contents bad = IsTrue contents.tells → IsBadPage t contents bad
+MayBeBad t contents bad = IsTrue contents.tells → IsBadPage t contents bad ⊎ AreBadIn t.bitmaps contents bad
 
 -- a fault that is about a page says this
 abbrev pub IfBad : (BadPage → Type 0) → ReadFault → Type 0

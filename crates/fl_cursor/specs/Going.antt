@@ -18,7 +18,8 @@ pub record Keeps (old new : Cursor) : Type 0 where
   pub table : new.table ≡ old.table
   pub rows_name : new.rows_buf.ghost_name ≡ old.rows_buf.ghost_name
   pub rows_room : length new.rows_buf.now.bytes ≡ length old.rows_buf.now.bytes
-  pub index : new.index_buf ≡ old.index_buf
+  pub index_name : new.index_buf.ghost_name ≡ old.index_buf.ghost_name
+  pub index_room : length new.index_buf.now.bytes ≡ length old.index_buf.now.bytes
 
 -- The key of a row that was taken is the key given last, and nothing else is noted.
 abbrev pub Notes : Bool → Cursor → Cursor → Type 0

@@ -1,11 +1,14 @@
 -- How many reads the steps to come make.
-use Rattle.std.specs.Prelude.{◌≡◌, ◌≤◌, ℕ, zero, suc, ◌+◌, ◌-◌, ◌==◌, Bool, true, false, ◌&&◌, nat_le, Option, Some, None, option_map, unwrap_or, List, drop, if◌then◌else◌}
+use Rattle.std.specs.Prelude.{◌≡◌, ◌≤◌, ℕ, zero, suc, ◌+◌, ◌-◌, ◌==◌, pos, Bool, true, false, ◌&&◌, ◌||◌, nat_le, Option, Some, None, is_some, option_map, unwrap_or, List, [], ◌∷◌, drop, fold, bit_and, slice_get, if◌then◌else◌}
 use Rattle.std.specs.List.{list_any}
 use Rattle.fl_model.specs.Query as model
 use Rattle.fl_model.specs.Query.{is_up_to}
-use Rattle.fl_model.specs.Record.{Plan, has_index}
-use Rattle.fl_model.specs.Limits.{is_spanned}
 use Rattle.fl_base.specs.declared.types.Span.{Span}
+use Rattle.fl_bitmap.specs.Bucket.{mask_in, with_value}
+use Rattle.fl_bitmap.specs.declared.buckets.Buckets.{Buckets}
+use Rattle.fl_flash.specs.Buffer.{BufferState}
+use Rattle.fl_index.specs.Memory.{is_waiting, listing_in}
+use Rattle.fl_index.specs.declared.index.Index.{Index}
 use Rattle.fl_model.specs.Row.{Row}
 use Rattle.fl_page.specs.Contents.{Contents}
 use Rattle.fl_page.specs.Page.{rows_in}
@@ -13,9 +16,10 @@ use Rattle.fl_find.specs.Index.{most_reads}
 use Rattle.fl_find.specs.Pages.{first_key}
 use Rattle.fl_table.specs.Look.{layout_in, oldest_in, rows_noted, buffered_rows}
 use Rattle.fl_table.specs.Memory.{next_in}
+use Rattle.fl_table.specs.Skipping.{unread_of, due_of}
 use Rattle.fl_table.specs.declared.table.Table.{Table}
 use Rattle.fl_cursor.specs.Asked.{is_asked, is_last, lowest_of}
-use Rattle.fl_cursor.specs.Cursor.{table_of, asked_of, buffer_of}
+use Rattle.fl_cursor.specs.Cursor.{table_of, asked_of, buffer_of, index_page}
 use Rattle.fl_cursor.specs.Listed.{rows_on}
 use Rattle.fl_cursor.specs.declared.place.Place.{Place}
 use Rattle.fl_cursor.specs.declared.place.Place.TheVariants.{Start, Pages, InPage, Pending, Ended}
@@ -25,12 +29,50 @@ use Rattle.fl_cursor.specs.declared.cursor.Cursor.{Cursor}
 abbrev pub has_last : Option ℕ → List Row → Bool
 has_last top rows = list_any (λ row. is_last top row.key) rows
 
--- the pages with rows from this one on, up to the first with a row behind which none may be given
-abbrev pub pages_to_last : Table → Contents → Option ℕ → ℕ → ℕ → ℕ
-pages_to_last t contents top number zero = 0
-pages_to_last t contents top number (suc n) =
-    if rows_noted t number == 0 then pages_to_last t contents top (number + 1) n
-    else 1 + (if has_last top (rows_on t contents number) then 0 else pages_to_last t contents top (number + 1) n)
+-- the bitmap of rows: the buckets of their first values
+abbrev pub bitmap_in : Option Buckets → List Row → ℕ
+bitmap_in None rows = 0
+bitmap_in (Some buckets) rows = fold (λ bits row. with_value buckets bits (unwrap_or (slice_get row.values 0) (pos 0))) 0 rows
+
+-- the buckets of a span as bits
+abbrev pub mask_for : Option Buckets → Span → ℕ
+mask_for None span = 0
+mask_for (Some buckets) span = mask_in buckets span
+
+-- an index page lists a data page, or its bitmap waits
+abbrev pub is_indexed_in : Option Index → ℕ → Bool
+is_indexed_in None number = false
+is_indexed_in (Some index) number = is_waiting index number || is_some (listing_in index number)
+
+-- the bitmap of an indexed page with these rows tells that none has a value in the span
+abbrev pub is_missed : Table → Option Span → ℕ → List Row → Bool
+is_missed t None number rows = false
+is_missed t (Some span) number rows = is_indexed_in t.bitmaps number && (bit_and (bitmap_in t.buckets rows) (mask_for t.buckets span) == 0)
+
+-- it isn't read, because it has no rows or because its bitmap tells so
+abbrev pub is_skipped : Table → Contents → Option Span → ℕ → Bool
+is_skipped t contents span number = (rows_noted t number == 0) || is_missed t span number (rows_on t contents number)
+
+-- the pages to be read from this one on, up to the first with a row behind which none may be given
+abbrev pub pages_to_last : Table → Contents → Option Span → Option ℕ → ℕ → ℕ → ℕ
+pages_to_last t contents span top number zero = 0
+pages_to_last t contents span top number (suc n) =
+    if is_skipped t contents span number then pages_to_last t contents span top (number + 1) n
+    else 1 + (if has_last top (rows_on t contents number) then 0 else pages_to_last t contents span top (number + 1) n)
+
+-- the pages from this one on that are looked up: those with a row up to the last key that may be given
+abbrev pub pages_looked_up : Table → Contents → Option ℕ → ℕ → ℕ → List ℕ
+pages_looked_up t contents top number zero = []
+pages_looked_up t contents top number (suc n) =
+    if list_any (λ row. is_up_to top row.key) (rows_on t contents number) then number ∷ pages_looked_up t contents top (number + 1) n
+    else pages_looked_up t contents top (number + 1) n
+
+-- so many index pages may still be read from this page on, and so many have to be
+abbrev pub index_most : Table → model.Cursor → BufferState → ℕ → ℕ
+index_most t asked index number = unread_of asked.span t.bitmaps number index
+
+abbrev pub index_least : Table → Contents → model.Cursor → BufferState → ℕ → ℕ
+index_least t contents asked index number = due_of asked.span t.bitmaps (pages_looked_up t contents asked.top number (next_in t - number)) index
 
 -- the pages from this one on with a row that is asked for
 abbrev pub pages_asked : Table → Contents → model.Cursor → ℕ → ℕ → ℕ
@@ -60,35 +102,33 @@ most_to_find t key =
 abbrev pub raised : model.Cursor → model.Cursor
 raised asked = record asked { range = record { low = lowest_of asked; high = asked.range.high } }
 
--- from a place on
-abbrev pub most_from : Table → Contents → model.Cursor → List ℕ → Place → ℕ
-most_from t contents asked page Start =
+-- from a place on, where the buffers hold this index page and this page
+abbrev pub most_from : Table → Contents → model.Cursor → BufferState → List ℕ → Place → ℕ
+most_from t contents asked index page Start =
     let start = start_of t contents (lowest_of asked) in
-    most_to_find t (lowest_of asked) + pages_to_last t contents asked.top start (next_in t - start)
-most_from t contents asked page (Pages next) = pages_to_last t contents asked.top next (next_in t - next)
-most_from t contents asked page (InPage number row) =
-    if has_last asked.top (drop row (rows_in (layout_in t) page)) then 0 else pages_to_last t contents asked.top (number + 1) (next_in t - (number + 1))
-most_from t contents asked page (Pending row) = 0
-most_from t contents asked page Ended = 0
+    most_to_find t (lowest_of asked) + (pages_to_last t contents asked.span asked.top start (next_in t - start) + index_most t asked index start)
+most_from t contents asked index page (Pages next) = pages_to_last t contents asked.span asked.top next (next_in t - next) + index_most t asked index next
+most_from t contents asked index page (InPage number row) =
+    if has_last asked.top (drop row (rows_in (layout_in t) page)) then 0
+    else pages_to_last t contents asked.span asked.top (number + 1) (next_in t - (number + 1)) + index_most t asked index (number + 1)
+most_from t contents asked index page (Pending row) = 0
+most_from t contents asked index page Ended = 0
 
-abbrev pub least_from : Table → Contents → model.Cursor → Place → ℕ
-least_from t contents asked Start = pages_asked t contents (raised asked) (oldest_in t) (next_in t - oldest_in t)
-least_from t contents asked (Pages next) = pages_asked t contents asked next (next_in t - next)
-least_from t contents asked (InPage number row) = pages_asked t contents asked (number + 1) (next_in t - (number + 1))
-least_from t contents asked (Pending row) = 0
-least_from t contents asked Ended = 0
+abbrev pub least_from : Table → Contents → model.Cursor → BufferState → Place → ℕ
+least_from t contents asked index Start =
+    pages_asked t contents (raised asked) (oldest_in t) (next_in t - oldest_in t) + index_least t contents asked index (start_of t contents (lowest_of asked) + 1)
+least_from t contents asked index (Pages next) = pages_asked t contents asked next (next_in t - next) + index_least t contents asked index next
+least_from t contents asked index (InPage number row) = pages_asked t contents asked (number + 1) (next_in t - (number + 1)) + index_least t contents asked index (number + 1)
+least_from t contents asked index (Pending row) = 0
+least_from t contents asked index Ended = 0
 
 -- at most so many reads, up to the first that fails
 abbrev pub most_of : Cursor → Contents → ℕ
-most_of cursor contents = most_from (table_of cursor) contents (asked_of cursor) (buffer_of cursor) cursor.place
+most_of cursor contents = most_from (table_of cursor) contents (asked_of cursor) (index_page cursor) (buffer_of cursor) cursor.place
 
 -- at least so many, where none fails
 abbrev pub least_of : Cursor → Contents → ℕ
-least_of cursor contents = least_from (table_of cursor) contents (asked_of cursor) cursor.place
-
--- bitmaps could tell that a page has no row in the span
-abbrev pub has_bitmaps : Plan → Option Span → Bool
-has_bitmaps plan span = has_index plan && is_spanned span
+least_of cursor contents = least_from (table_of cursor) contents (asked_of cursor) (index_page cursor) cursor.place
 
 -- ---- the place where it begins
 

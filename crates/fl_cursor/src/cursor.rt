@@ -44,7 +44,7 @@ pub struct Cursor<'s, 'r, 'i> {
 impl<'s, 'r, 'i> Cursor<'s, 'r, 'i> {
     ghost use Rattle.fl_model.specs.Limits.{scan_limit, least_reads};
     ghost use Rattle.fl_cursor.specs.Asked.{asked_by, lowest_of};
-    ghost use Rattle.fl_cursor.specs.Reads.{most_of, least_of, has_bitmaps, IsBegun, IsBounded};
+    ghost use Rattle.fl_cursor.specs.Reads.{most_of, least_of, IsBegun, IsBounded};
     ghost use Rattle.fl_cursor.specs.Cursor.{table_of, mark_of, asked_of, place_of, left_of, IsStanding, IsTold, IsReady, rows_name, index_name, rows_page, index_page};
 
     /// A cursor over the rows whose keys are in the range and whose first values are in the span. Rows that are put from
@@ -69,13 +69,12 @@ impl<'s, 'r, 'i> Cursor<'s, 'r, 'i> {
         ensures ready { (f : FlashState) → LiesOn table.now f → length rows_buf.old.bytes ≡ f.geometry.page → length index_buf.old.bytes ≡ f.geometry.page → IsReady result (contents_of f) }
         ensures told { (contents : Contents) → IsStanding table.now contents → IsTold result contents }
         ensures limit { (f : FlashState) → (first : ℕ) → (plan : Plan) → (t : model.Table) → IsTrue f.media.tells → f.start + extent f.geometry f.blocks ≤ length f.media.content →
-            LiesOn table.now f → Stands table.now f first plan t → has_bitmaps plan span ≡ false →
+            LiesOn table.now f → Stands table.now f first plan t →
             most_of result (contents_of f) ≤ scan_limit 64 plan t range span range.low }
         ensures least { (f : FlashState) → (first : ℕ) → (plan : Plan) → (t : model.Table) → IsTrue f.media.tells → f.start + extent f.geometry f.blocks ≤ length f.media.content →
-            LiesOn table.now f → Stands table.now f first plan t → has_bitmaps plan span ≡ false → least_reads plan t range span ≤ least_of result (contents_of f) }
+            LiesOn table.now f → Stands table.now f first plan t → least_reads plan t range span ≤ least_of result (contents_of f) }
     {
         rows_buf.forget();
-        index_buf.forget();
         let top = last_wanted(table, range);
         let mark = Bookmark {
             after: None,
@@ -86,7 +85,8 @@ impl<'s, 'r, 'i> Cursor<'s, 'r, 'i> {
         Cursor::resume(table, mark, rows_buf, index_buf)
     }
 
-    /// The cursor that was parked as this bookmark. No page is taken from a buffer that wasn't read since.
+    /// The cursor that was parked as this bookmark. No page is taken from a buffer that wasn't read since: the buffer of
+    /// index pages forgets the page that it holds.
     pub fn resume(
         table: &'s Table,
         mark: Bookmark,
@@ -99,14 +99,15 @@ impl<'s, 'r, 'i> Cursor<'s, 'r, 'i> {
         ensures rows_name { rows_name result ≡ rows_buf.entry.ghost_name }
         ensures index_name { index_name result ≡ index_buf.entry.ghost_name }
         ensures rows_page { rows_page result ≡ rows_buf.old }
-        ensures index_page { index_page result ≡ index_buf.old }
+        ensures index_forget { index_page result ≡ record index_buf.old { holds = None } }
         ensures ready { (f : FlashState) → LiesOn table.now f → length rows_buf.old.bytes ≡ f.geometry.page → length index_buf.old.bytes ≡ f.geometry.page → IsReady result (contents_of f) }
         ensures told { (contents : Contents) → IsStanding table.now contents → IsTold result contents }
         ensures limit { (f : FlashState) → (first : ℕ) → (plan : Plan) → (t : model.Table) → IsTrue f.media.tells → f.start + extent f.geometry f.blocks ≤ length f.media.content →
-            LiesOn table.now f → Stands table.now f first plan t → has_bitmaps plan mark.span ≡ false → IsBounded mark.top mark.range.high →
+            LiesOn table.now f → Stands table.now f first plan t → IsBounded mark.top mark.range.high →
             most_of result (contents_of f) ≤ scan_limit 64 plan t mark.range mark.span (lowest_of (asked_by mark)) }
         ensures begun { IsBegun (asked_by mark) table.now (place_of result) }
     {
+        index_buf.forget();
         Cursor {
             table,
             rows_buf,

@@ -6,6 +6,8 @@ ghost use Rattle.fl_flash.specs.Flash.{FlashState};
 ghost use Rattle.fl_page.specs.Contents.{contents_of, OnlyReads};
 ghost use Rattle.fl_table.specs.Memory.{LiesOn};
 
+mod indexed;
+
 use crate::{Bookmark, Cursor};
 use arrayvec::ArrayVec;
 use fl_base::{Geometry, KeyRange, NoMemory, RingPlace, Span};
@@ -93,6 +95,7 @@ fn advance<F: Flash>(cursor: &mut Cursor<'_, '_, '_>, flash: &mut F) -> Answer
     requires { IsReady cursor.old (contents_of (F.state flash.old)) }
     ensures counts { OnlyReads (F.state flash.old) (F.state flash.new) }
     ensures keeps { Keeps cursor.old cursor.new }
+    ensures ready { IsReady cursor.new (contents_of (F.state flash.new)) }
 {
     match cursor.advance(flash) {
         Ok(true) => Row(cursor.row().key()),

@@ -129,8 +129,8 @@ impl Cursor<'_, '_, '_> {
         Ok(())
     }
 
-    /// Goes into the page with this number, which is read once, or past it where it has no rows. Behind the last page are
-    /// the pending rows.
+    /// Goes into the page with this number, which is read once, or past it where it has no rows or its bitmap tells that
+    /// none of them is asked for. Behind the last page are the pending rows.
     fn read_page<F: Flash>(&mut self, next: u32, end: u32, flash: &mut F) -> Result<(), ReadFault>
         requires ready { IsReady self.old (contents_of (F.state flash.old)) }
         requires next { place_of self.old ≡ Place.Pages next }
@@ -150,6 +150,13 @@ impl Cursor<'_, '_, '_> {
         }
         let behind = Place::Pages { next: next + 1 };
         if self.table.rows_of(next) == 0 {
+            self.place = behind;
+            return Ok(());
+        }
+        if !self
+            .table
+            .may_have(flash, next, self.mark.span, self.index_buf)?
+        {
             self.place = behind;
             return Ok(());
         }

@@ -14,6 +14,10 @@ pub mod Listings
 pub mod ListingAnswers
 pub mod Showing
 pub mod Lookups
+pub mod Counts
+pub mod Scans
+pub mod Spanned
+pub mod Goods
 pub mod Mountings
 pub mod MountPages
 pub mod MountEnded

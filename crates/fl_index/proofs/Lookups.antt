@@ -20,7 +20,7 @@ use Rattle.fl_index.specs.Page.{page_number}
 use Rattle.fl_index.specs.Standing.{Stands}
 use Rattle.fl_index.proofs.Firsts.{full-below}
 use Rattle.fl_index.proofs.Listings.{IsListing, listing-is}
-use Rattle.fl_index.proofs.Showing.{KeptPage, kept-page, ListingPage, PageIs, page-is, X_is}
+use Rattle.fl_index.proofs.Showing.{KeptPage, kept-page, ListingPage, listing-page, PageIs, page-is, X_is}
 
 pub some-of : (b : Bool) (x y : ℕ) → ◌≡◌ {A = Option ℕ} (cond b (Some x) None) (Some y) → (b ≡ true) × (y ≡ x)
 some-of true x y h = (refl, sym (same h))
@@ -100,24 +100,24 @@ unread-later t number from page low high h =
     subst (λ k. unread t number (page + 1) + 1 ≤ count_by (λ n. ends_above (per_page t) number (first_in t n)) (range_with_len from k)) (let s : n + suc m ≡ next_in t - from = omega (arith, low, high) in s)
     (count-later (λ n. ends_above (per_page t) number (first_in t n)) n m from page (omega (arith, low)) h)
 
-module _ (t : Index) (f : FlashState) (first : ℕ) (plan : Plan) (table : Table) (stands : Stands t f first plan table) (number page : ℕ) (old after : BufferState) (bytes : after.bytes ≡ page_at f (place_in t page)) (listing : listing_in t number ≡ Some page) where
-  here : PageIs t f first plan table stands number page after.bytes
-  here = page-is t f first plan table stands number page listing after.bytes bytes
+module _ (t : Index) (f : FlashState) (first : ℕ) (plan : Plan) (table : Table) (stands : Stands t f first plan table) (number page : ℕ) (listing : listing_in t number ≡ Some page) where
+  at-page : IsListing (per_page t) (first_in t) number (oldest_in t) (next_in t - oldest_in t) page
+  at-page = listing-is (per_page t) (first_in t) number (next_in t - oldest_in t) (oldest_in t) page listing
+
+  pub within : (oldest_in t ≤ page) × (page < next_in t)
+  within = (at-page.low, omega (arith, at-page.high, at-page.low))
 
   l : ListingPage t f first plan table stands number page
-  l = here.l
+  l = listing-page t f first plan table stands number page within.0 within.1 at-page.here
 
-  within : (oldest_in t ≤ page) × (page < next_in t)
-  within = let at = listing-is (per_page t) (first_in t) number (next_in t - oldest_in t) (oldest_in t) page listing in (at.low, omega (arith, at.low, at.high))
-
-  ends : ends_above (per_page t) number (first_in t page) ≡ true
-  ends = ap (ends_above (per_page t) number) here.l.memory ∙ lt_true number (here.l.first_page + per_page t) (omega (arith, here.l.high, X_is t f first plan table stands))
+  pub ends : ends_above (per_page t) number (first_in t page) ≡ true
+  ends = ap (ends_above (per_page t) number) l.memory ∙ lt_true number (l.first_page + per_page t) (omega (arith, l.high, X_is t f first plan table stands))
     where
       lt_true : (a b : ℕ) → a < b → nat_lt a b ≡ true
       lt_true a b h = lt-ltb a b h
 
   -- the kept index pages before it end at or below the number
-  before-it : (k : ℕ) → oldest_in t ≤ k → k < page → ends_above (per_page t) number (first_in t k) ≡ false
+  pub before-it : (k : ℕ) → oldest_in t ≤ k → k < page → ends_above (per_page t) number (first_in t k) ≡ false
   before-it k low high = by_first (first_in t k) refl (kept-page t f first plan table stands k low (omega (arith, high, within.1)))
     where
       zero_none : (c : ℕ) → (0 < c) ⊎ (c ≤ 0)
@@ -153,33 +153,37 @@ module _ (t : Index) (f : FlashState) (first : ℕ) (plan : Plan) (table : Table
                   by_test true e = absurd (omega (arith, ltb-true a b e, le))
                   by_test false e = refl
 
-  -- the scan goes on
-  pub scans-on : (from : ℕ) (a b : FlashState) → IsScanning t number from old → b.work.reads ≤ a.work.reads + 1 → after.holds ≡ Some (place_in t page) →
-      (IsHeld t page old → (b ≡ a) × (after ≡ old)) → ScansOn t number from a b after
-  scans-on from a b scanning reads holds held = by_buffer scanning
-    where
-      is_held : IsHeld t page after
-      is_held = record { kept = within; place = holds; number_is = here.is.good.number_is }
+  module _ (old after : BufferState) (bytes : after.bytes ≡ page_at f (place_in t page)) where
+    here : PageIs t f first plan table stands number page after.bytes
+    here = page-is t f first plan table stands number page listing after.bytes bytes
 
-      read : from ≤ page → ScansOn t number from a b after
-      read low = record {
-        next = page + 1;
-        scanning = inr (page, refl, record { is_held = is_held; before = before-it });
-        once = omega (arith, reads, unread-later t number from page low within.1 ends);
-      }
+    -- the scan goes on
+    pub scans-on : (from : ℕ) (a b : FlashState) → IsScanning t number from old → b.work.reads ≤ a.work.reads + 1 → after.holds ≡ Some (place_in t page) →
+        (IsHeld t page old → (b ≡ a) × (after ≡ old)) → ScansOn t number from a b after
+    scans-on from a b scanning reads holds held = by_buffer scanning
+      where
+        is_held : IsHeld t page after
+        is_held = record { kept = within; place = holds; number_is = here.is.good.number_is }
 
-      stays : (h : ℕ) → from ≡ h + 1 → HoldsLast t number h old → h ≡ page → ScansOn t number from a b after
-      stays h e last same =
-          let s = held (subst (λ n. IsHeld t n old) same last.is_held) in
-          record {
-            next = from;
-            scanning = inr (h, e, subst (λ (x : BufferState). HoldsLast t number h x) (sym s.1) last);
-            once = let r = ap (λ (x : FlashState). x.work.reads) s.0 in omega (arith, r);
-          }
+        read : from ≤ page → ScansOn t number from a b after
+        read low = record {
+          next = page + 1;
+          scanning = inr (page, refl, record { is_held = is_held; before = before-it });
+          once = omega (arith, reads, unread-later t number from page low within.1 ends);
+        }
 
-      by_buffer : IsScanning t number from old → ScansOn t number from a b after
-      by_buffer (inl none) = read (omega (arith, none.1, within.0))
-      by_buffer (inr h) = elim (cases_lt page h.0) [
-        | inl below ↦ absurd (false≢true (sym (h.2.before page within.0 below) ∙ ends))
-        | inr above ↦ elim (cases_lt h.0 page) [ inl more ↦ read (omega (arith, h.1, more)) | inr last ↦ stays h.0 h.1 h.2 (omega (arith, above, last)) ]
-      ]
+        stays : (h : ℕ) → from ≡ h + 1 → HoldsLast t number h old → h ≡ page → ScansOn t number from a b after
+        stays h e last same =
+            let s = held (subst (λ n. IsHeld t n old) same last.is_held) in
+            record {
+              next = from;
+              scanning = inr (h, e, subst (λ (x : BufferState). HoldsLast t number h x) (sym s.1) last);
+              once = let r = ap (λ (x : FlashState). x.work.reads) s.0 in omega (arith, r);
+            }
+
+        by_buffer : IsScanning t number from old → ScansOn t number from a b after
+        by_buffer (inl none) = read (omega (arith, none.1, within.0))
+        by_buffer (inr h) = elim (cases_lt page h.0) [
+          | inl below ↦ absurd (false≢true (sym (h.2.before page within.0 below) ∙ ends))
+          | inr above ↦ elim (cases_lt h.0 page) [ inl more ↦ read (omega (arith, h.1, more)) | inr last ↦ stays h.0 h.1 h.2 (omega (arith, above, last)) ]
+        ]

@@ -36,7 +36,7 @@ use Rattle.fl_index.proofs.Lists.{below-end}
 use Rattle.fl_index.proofs.Listings.{listing-is, listing-no}
 use Rattle.fl_index.proofs.Sealings.{planned-page, planned-width, planned-bits, planned-ring, planned-shape}
 
-both_true : (a b : Bool) → (a && b) ≡ true → (a ≡ true) × (b ≡ true)
+pub both_true : (a b : Bool) → (a && b) ≡ true → (a ≡ true) × (b ≡ true)
 both_true true b h = (refl, h)
 both_true false b h = cc
 
@@ -110,19 +110,19 @@ module _ (t : Index) (f : FlashState) (first : ℕ) (plan : Plan) (table : Table
   pub X_is : per_page t ≡ entries_per_page plan
   X_is = planned-page t first plan stands.in_ring.planned
 
-  some_index : nat_lt 0 plan.index_blocks ≡ true
+  pub some_index : nat_lt 0 plan.index_blocks ≡ true
   some_index = lt-ltb 0 plan.index_blocks (let k = planned-shape t first plan stands.in_ring.planned in omega (arith, k.blocks))
 
-  number_next : next_in t ≡ ring.next
+  pub number_next : next_in t ≡ ring.next
   number_next = ap (λ (o : Option Ring). unwrap_or (option_map (λ r. place.next_of r) o) 0) stands.in_ring.memory_is ∙ stands.in_ring.next
 
-  number_old : oldest_in t ≡ model.oldest ring
+  pub number_old : oldest_in t ≡ model.oldest ring
   number_old = ap (λ (o : Option Ring). unwrap_or (option_map (λ r. place.oldest_of r) o) 0) stands.in_ring.memory_is ∙ stands.in_ring.oldest_is
 
-  kept_len : next_in t - oldest_in t ≡ length ring.counts
+  pub kept_len : next_in t - oldest_in t ≡ length ring.counts
   kept_len = omega (arith, number_next, number_old, stands.in_ring.facts.is_ring.not_negative)
 
-  firsts_from : first_waiting t + waiting_in t ≡ table.rows.next
+  pub firsts_from : first_waiting t + waiting_in t ≡ table.rows.next
   firsts_from = omega (arith, stands.waits.first_is, stands.waits.count_is, stands.in_ring.facts.listed)
 
   -- the kept index page with a number, and what is remembered of it
@@ -180,7 +180,7 @@ module _ (t : Index) (f : FlashState) (first : ℕ) (plan : Plan) (table : Table
           absurd (no_page (ap (lists (per_page t) number) (sym (k.memory ∙ ap (λ c. cond (c == 0) None (slice_get table.firsts (full_pages (take k.i ring.counts)))) z)) ∙ h))
 
   -- a data page that the index lists, or whose bitmap waits, is indexed
-  listed-indexed : (number page : ℕ) → ListingPage number page → is_indexed plan table number ≡ true
+  pub listed-indexed : (number page : ℕ) → ListingPage number page → is_indexed plan table number ≡ true
   listed-indexed number page l =
       and_join (nat_lt 0 plan.index_blocks) _ some_index
       (ap (λ b. nat_le (table.rows.next - table.waiting) number || b) (any-some (λ first. nat_le first number && nat_lt number (first + entries_per_page plan)) table.firsts _ l.first_page l.listed
@@ -190,7 +190,7 @@ module _ (t : Index) (f : FlashState) (first : ℕ) (plan : Plan) (table : Table
       or_true true = refl
       or_true false = refl
 
-  waits-indexed : (number : ℕ) → is_waiting t number ≡ true → is_indexed plan table number ≡ true
+  pub waits-indexed : (number : ℕ) → is_waiting t number ≡ true → is_indexed plan table number ≡ true
   waits-indexed number h =
       let b = both_true (nat_le (first_waiting t) number) (nat_lt number (first_waiting t + waiting_in t)) h in
       and_join (nat_lt 0 plan.index_blocks) _ some_index

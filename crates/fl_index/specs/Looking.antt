@@ -1,6 +1,6 @@
 -- A lookup of a data page's bitmap, over any bytes and for a table of the model.
-use Rattle.std.specs.Prelude.{◌≡◌, ◌⊎◌, ℕ, ◌+◌, ◌-◌, ◌<◌, ◌≤◌, Bool, false, nat_lt, Option, Some, None, IfSome, is_some, unwrap_or, Result, Ok, Err, List, count_by, slice_get, if◌then◌else◌}
-use Rattle.std.specs.List.{range_with_len}
+use Rattle.std.specs.Prelude.{◌≡◌, ◌⊎◌, ℕ, ◌+◌, ◌-◌, ◌<◌, ◌≤◌, Bool, false, nat_lt, ◌==◌, Option, Some, None, IfSome, is_some, unwrap_or, Result, Ok, Err, List, count_by, slice_get, if◌then◌else◌}
+use Rattle.std.specs.List.{range_with_len, list_any}
 use Rattle.fl_flash.specs.Buffer.{BufferState}
 use Rattle.fl_flash.specs.Flash.{FlashState, page_at}
 use Rattle.fl_flash.specs.declared.flash.FlashFault.{FlashFault}
@@ -100,3 +100,40 @@ pub record ScansOn (index : Index) (number from : ℕ) (old new : FlashState) (a
   pub next : ℕ
   pub scanning : IsScanning index number next after
   pub once : new.work.reads + unread index number next ≤ old.work.reads + unread index number from
+
+-- the first index page that may still be read where a buffer holds what was looked at last
+abbrev pub after_held : ℕ → ℕ → Option ℕ → ℕ
+after_held oldest number None = oldest
+after_held oldest number (Some page) = number + 1
+
+abbrev pub next_to_read : Index → BufferState → ℕ
+next_to_read index buf = after_held (oldest_in index) (page_number buf.bytes) buf.holds
+
+-- an index page is the one to be looked at for a data page
+abbrev pub is_page : ℕ → Option ℕ → Bool
+is_page listing None = false
+is_page listing (Some page) = page == listing
+
+abbrev pub is_looked_at : Index → ℕ → ℕ → Bool
+is_looked_at index listing number = is_page listing (looked_at index number)
+
+-- of the kept index pages from one on those to be looked at for some of these data pages
+abbrev pub due : Index → List ℕ → ℕ → ℕ
+due index numbers from = count_by (λ n. list_any (is_looked_at index n) numbers) (range_with_len from (next_in index - from))
+
+-- a kept index page that a buffer holds is good, or not committed
+abbrev pub HoldsGood : Index → BufferState → Type 0
+HoldsGood index buf = (number : ℕ) → IsHeld index number buf → state_of_page buf.bytes ≡ Committed → IsGoodPage (per_page index) number buf.bytes
+
+-- a kept index page that is committed on a flash, and isn't good
+pub record IsBadPage (index : Index) (f : FlashState) (bad : Refusal) : Type 0 where
+  pub from : oldest_in index ≤ bad.wanted
+  pub before : bad.wanted < next_in index
+  pub committed : state_of_page (page_at f (place_in index bad.wanted)) ≡ Committed
+  pub not_good : IsGoodPage (per_page index) bad.wanted (page_at f (place_in index bad.wanted)) → ⊥
+  pub told : bad ≡ bad_page bad.wanted (page_at f (place_in index bad.wanted))
+
+-- what a bad page has to be
+abbrev pub IfBad : (Refusal → Type 0) → ReadFault → Type 0
+IfBad P (Flash fault) = Unit {0}
+IfBad P (BadPage bad) = P bad

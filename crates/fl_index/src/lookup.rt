@@ -1,5 +1,5 @@
 // A lookup of a data page's bitmap.
-ghost use Rattle.std.specs.Prelude.{◌≡◌, ◌⊎◌, ◌+◌, ◌-◌, ◌*◌, ◌<◌, ◌≤◌, None, Some, Err, true, false, length, IsTrue, IfSome, IfErr, OnOk, OnErr, if◌then◌else◌, unwrap_or};
+ghost use Rattle.std.specs.Prelude.{◌≡◌, ◌⊎◌, ◌+◌, ◌-◌, ◌*◌, ◌^◌, ◌<◌, ◌≤◌, None, Some, Err, true, false, length, IsTrue, IfSome, IfErr, OnOk, OnErr, if◌then◌else◌, unwrap_or};
 ghost use Rattle.fl_flash.specs.Flash.{page_at};
 ghost use Rattle.fl_flash.specs.Media.{next_count};
 ghost use Rattle.fl_page.specs.Contents as contents;
@@ -23,10 +23,11 @@ struct Listing {
 }
 
 impl Index {
-    ghost use Rattle.std.specs.Prelude.{ℕ};
+    ghost use Rattle.std.specs.Prelude.{ℕ, List, ◌∷◌};
+    ghost use Rattle.std.specs.List.{AllByRecursion};
     ghost use Rattle.fl_model.specs.Record.{Plan};
     ghost use Rattle.fl_model.specs.Table as model;
-    ghost use Rattle.fl_index.specs.Looking.{looked_at, entry_of, IsFound, IsHeld, IsFresh, IfRead, IfUnread, ByMemory, ShowsBitmap, IsScanning, ScansOn};
+    ghost use Rattle.fl_index.specs.Looking.{looked_at, entry_of, IsFound, IsHeld, IsFresh, IfRead, IfUnread, ByMemory, ShowsBitmap, IsScanning, ScansOn, HoldsGood, IsBadPage, IfBad, due, next_to_read, unread};
     ghost use Rattle.fl_index.specs.Memory.{first_in, listing_from, lists, per_page, place_in, width_in, LiesOn};
     ghost use Rattle.fl_index.specs.Standing.{Stands};
 
@@ -61,6 +62,15 @@ impl Index {
             IsFresh self.now (F.state flash.old) buf.old → number < table.rows.next → ShowsBitmap plan table number result }
         ensures scans { (first : ℕ) → (plan : Plan) → (table : model.Table) → (from : ℕ) → IsTrue (F.state flash.old).media.tells → Stands self.now (F.state flash.old) first plan table →
             IsFresh self.now (F.state flash.old) buf.old → IsScanning self.now number from buf.old → OnOk result (ScansOn self.now number from (F.state flash.old) (F.state flash.new) buf.new) }
+        ensures most { (first : ℕ) → (plan : Plan) → (table : model.Table) → (from : ℕ) → IsTrue (F.state flash.old).media.tells → Stands self.now (F.state flash.old) first plan table →
+            IsFresh self.now (F.state flash.old) buf.old → IsScanning self.now number from buf.old → (F.state flash.new).work.reads ≤ (F.state flash.old).work.reads + unread self.now number from }
+        ensures least { (first : ℕ) → (plan : Plan) → (table : model.Table) → (from : ℕ) → (numbers : List ℕ) → IsTrue (F.state flash.old).media.tells → Stands self.now (F.state flash.old) first plan table →
+            IsFresh self.now (F.state flash.old) buf.old → IsScanning self.now number from buf.old → AllByRecursion (λ n. number ≤ n) numbers → (F.state flash.new).work.reads < 2 ^ 64 - 1 →
+            OnOk result ((F.state flash.old).work.reads + due self.now (number ∷ numbers) from ≤ (F.state flash.new).work.reads + due self.now numbers (next_to_read self.now buf.new)) }
+
+        // A page that is held isn't bad, and a bad one that is answered stands on the flash.
+        ensures good { HoldsGood self.now buf.old → OnOk result (HoldsGood self.now buf.new) }
+        ensures bad { IfErr result (IfBad (λ bad. IsTrue (F.state flash.old).media.tells → HoldsGood self.now buf.old → IsBadPage self.now (F.state flash.old) bad)) }
         ensures fails { IfErr result (IfUnread (λ e. ReadFails (F.state flash.old) e (F.state flash.new))) }
         ensures unread { IfErr result (IfUnread (λ e. buf.new.holds ≡ None)) }
     {

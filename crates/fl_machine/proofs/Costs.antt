@@ -2,6 +2,7 @@
 use Rattle.std.proofs.Common.{◌≡◌, ℕ, zero, suc, ◌+◌, ◌-◌, ◌^◌, ◌<◌, ◌≤◌, Bool, true, false, cond, Option, Some, None, IfSome, List, [], ◌∷◌, ◌++◌, length, take, refl, ap, subst, ◌∙◌, ◌⊎◌, MatchOption, MatchBool, slice_set, nat_eq, IsTrue, arith}
 use Rattle.std.specs.List.{slice_get}
 use Rattle.std.specs.Option.{is_some}
+use Rattle.fl_base.specs.declared.types.KeyRange.{KeyRange}
 use Rattle.fl_model.specs.Record.{Plan, Record, Config}
 use Rattle.fl_model.specs.Table.{Table, Refusal, refusal_of, put_seals, put_record}
 use Rattle.fl_model.specs.Work.{Device, Progress, Outcome, Finished, CutShort, Failed, Performs, operations_of, changed_at}
@@ -15,8 +16,9 @@ use Rattle.fl_words.specs.Reply.{Reply}
 use Rattle.fl_machine.specs.Machine.{Machine, OpenCursor, Cost, OfGet}
 use Rattle.fl_machine.specs.Step.{Moment, Step, StepOf, Says, EndsAs, EndsMount, WithTable, Located, located, LoadsFrom, LoadsOn, GetStep, NextStep, cursor_at, no_column, load_record, next_random, rows_of, cost_reply, refused}
 use Rattle.fl_machine.specs.Run.{Run}
-use Rattle.fl_machine.specs.Reads.{has_reads, is_unread, none_read, ExactOf, RunExact, reads_in}
-use Rattle.fl_machine.specs.Costs.{executed_on, cost_of_get, cost_after, TellsCosts, CostsAreTold}
+use Rattle.fl_machine.specs.Reads.{has_reads, is_unread, none_read, OnTable, OnColumns, ReadsLeast, GetExact, ExactOf, RunExact, reads_in}
+use Rattle.fl_machine.specs.AllReads.{GetReads, ScanReads, ReadsOf, RunReads}
+use Rattle.fl_machine.specs.Costs.{executed_on, cost_of_get, cost_after, TellsCosts, CostsAreTold, PromisedCostsAreTold}
 
 cost_in : Machine → Cost
 cost_in m = m.cost
@@ -136,16 +138,15 @@ get-known : (config : Config) (old : Machine) (m : Moment) (name : List ℕ) (ke
     IsKnown (cost_of_get config m key known (executed_on config old name)) m.after.cost
 get-known config old m name key known k step reads = by_cases old.mounted (located config old name) step reads
   where
-    by_reads : (at : Located) (u c : Bool) → is_unread m ≡ u → has_reads config.knots at.plan at.table key ≡ c → GetStep config old m key at →
-        (is_unread m ≡ false → IsTrue (has_reads config.knots at.plan at.table key) → m.reads ≡ lookup_reads config.knots at.plan at.table key) →
+    by_reads : (at : Located) (u c : Bool) → is_unread m ≡ u → has_reads config.knots at.plan at.table key ≡ c → GetStep config old m key at → GetExact config m key at →
         IsKnown (cond u None (cond c (Some (OfGet (lookup_reads config.knots at.plan at.table key) (lookup_limit config.knots at.plan at.table key))) None)) m.after.cost
     by_reads at true c e f step reads = tt
     by_reads at false false e f step reads = tt
     by_reads at false true e f step reads =
-        ap (λ (x : Machine). x.cost) step.0 ∙ ap (λ (n : ℕ). OfGet n (lookup_limit config.knots at.plan at.table key)) (reads e f)
+        ap (λ (x : Machine). x.cost) step.0 ∙ ap (λ (n : ℕ). OfGet n (lookup_limit config.knots at.plan at.table key)) (reads.covered e f)
 
     by_cases : (b : Bool) (o : Option Located) → MatchBool b (MatchOption o (Says m (reply.NoTable ∷ []) old) (GetStep config old m key)) (Says m (reply.NotMounted ∷ []) old) →
-        MatchBool b (MatchOption o (none_read m) (λ (at : Located). is_unread m ≡ false → IsTrue (has_reads config.knots at.plan at.table key) → m.reads ≡ lookup_reads config.knots at.plan at.table key)) (none_read m) → IsKnown (cost_of_get config m key known (cond b o None)) m.after.cost
+        MatchBool b (MatchOption o (none_read m) (GetExact config m key)) (none_read m) → IsKnown (cost_of_get config m key known (cond b o None)) m.after.cost
     by_cases true None step reads = known-keeps known old m k (says-keeps old old m (reply.NoTable ∷ []) refl step)
     by_cases true (Some at) step reads = by_reads at (is_unread m) (has_reads config.knots at.plan at.table key) refl refl step reads
     by_cases false o step reads = known-keeps known old m k (says-keeps old old m (reply.NotMounted ∷ []) refl step)
@@ -209,5 +210,56 @@ run-known config before old (m ∷ ms) known k (step, run) (read, reads) below =
   run-known config (before + m.reads) m.after ms (cost_after config old m known m.command) (step-known config old m known m.command k step (read (omega (arith, below)))) run reads (omega (arith, below)),
 )
 
+pub promised-costs-told : PromisedCostsAreTold
+promised-costs-told config old moments run reads below = run-known config 0 old moments (Some old.cost) refl run reads (omega (arith, below))
+
+-- what is said of the located table may be weakened
+on-read : (config : Config) (old : Machine) (m : Moment) (name : List ℕ) (P Q : Located → Type 0) → ((at : Located) → P at → Q at) → OnTable config old m name P → OnTable config old m name Q
+on-read config old m name P Q go h = by_cases old.mounted (located config old name) h
+  where
+    by_cases : (b : Bool) (o : Option Located) → MatchBool b (MatchOption o (none_read m) P) (none_read m) → MatchBool b (MatchOption o (none_read m) Q) (none_read m)
+    by_cases true None h = h
+    by_cases true (Some at) h = go at h
+    by_cases false o h = h
+
+-- an operator over columns reads no fewer pages than it must
+over-read : (config : Config) (m : Moment) (range : KeyRange) (columns : List ℕ) (at : Located) → OnColumns m columns (ScanReads config m range None) at → OnColumns m columns (ReadsLeast m range None) at
+over-read config m range columns at h = by_lacked (no_column at.plan columns) h
+  where
+    by_lacked : (lacked : Option ℕ) → MatchOption lacked (ScanReads config m range None at) (λ column. none_read m) → MatchOption lacked (ReadsLeast m range None at) (λ column. none_read m)
+    by_lacked None h = h.1
+    by_lacked (Some column) h = h
+
+-- the reads of every command are as many as is promised
+exact-read : (config : Config) (old : Machine) (m : Moment) (c : Command) → ReadsOf config old m c → ExactOf config old m c
+exact-read config old m command.Nothing r = tt
+exact-read config old m command.Mount r = tt
+exact-read config old m command.Off r = tt
+exact-read config old m (command.Cut n kind) r = tt
+exact-read config old m (command.Put name key values blob) r = tt
+exact-read config old m (command.Flush name) r = tt
+exact-read config old m (command.Get name key) r = on-read config old m name (GetReads config m key) (GetExact config m key) (λ at p. record { covered = p.1; found = p.2; failed = p.0.1 }) r
+exact-read config old m (command.Blob name key) r = tt
+exact-read config old m (command.Scan name range span) r = on-read config old m name (ScanReads config m range span) (ReadsLeast m range span) (λ at p. p.1) r
+exact-read config old m (command.Open cursor name range span) r = tt
+exact-read config old m (command.Next cursor count) r = tt
+exact-read config old m (command.Close cursor) r = tt
+exact-read config old m (command.Select name range column op value) r = on-read config old m name (OnColumns m (column ∷ []) (ScanReads config m range None)) (OnColumns m (column ∷ []) (ReadsLeast m range None)) (over-read config m range (column ∷ [])) r
+exact-read config old m (command.Project name range columns) r = on-read config old m name (OnColumns m columns (ScanReads config m range None)) (OnColumns m columns (ReadsLeast m range None)) (over-read config m range columns) r
+exact-read config old m (command.Agg name range column width) r = on-read config old m name (OnColumns m (column ∷ []) (ScanReads config m range None)) (OnColumns m (column ∷ []) (ReadsLeast m range None)) (over-read config m range (column ∷ [])) r
+exact-read config old m (command.Join left right range) r = tt
+exact-read config old m (command.Stat name) r = tt
+exact-read config old m command.Cost r = tt
+exact-read config old m (command.Load name count step seed) r = tt
+exact-read config old m (command.Device page block) r = tt
+exact-read config old m (command.Table line) r = tt
+
+run-told : (config : Config) (old : Machine) (moments : List Moment) (known : Option Cost) → IsKnown known old.cost → Run config old moments → RunReads config old moments → TellsCosts config known old moments
+run-told config old [] known k run reads = tt
+run-told config old (m ∷ ms) known k (step, run) (read, reads) = (
+  cost-known config old m known k step,
+  run-told config m.after ms (cost_after config old m known m.command) (step-known config old m known m.command k step (exact-read config old m m.command read)) run reads,
+)
+
 pub costs-told : CostsAreTold
-costs-told config old moments run reads below = run-known config 0 old moments (Some old.cost) refl run reads (omega (arith, below))
+costs-told config old moments run reads = run-told config old moments (Some old.cost) refl run reads

@@ -19,8 +19,9 @@ use Rattle.fl_machine.specs.Plain.{perform, perform_first, mount_on, mount_rings
 use Rattle.fl_machine.specs.Run.{Run, end_of, commands_of, risen_in}
 use Rattle.fl_machine.specs.Determined.{without_reads, reply_without_reads, state_without_reads, replies_of, IsWhole, IsDetermined}
 
--- two moments reply the same and go on to the same state
+-- two moments reply the same and go on to the same state, and no operation of the first failed
 record Agrees (m n : Moment) : Type 0 where
+  last : m.last ≡ None
   replies : map reply_without_reads m.replies ≡ map reply_without_reads n.replies
   after : state_without_reads m.after ≡ state_without_reads n.after
 
@@ -35,7 +36,7 @@ alike : (k : Cost) (old : Machine) → IsAlike k old → state_without_reads old
 alike k old e = ap (λ cost. record old { cost = cost }) e
 
 agrees-says : (c : Command) (m : Moment) (new other : Machine) (replies : List Reply) → Says m replies new → state_without_reads new ≡ state_without_reads other → Agrees m (says c replies other)
-agrees-says c m new other replies h e = record { replies = ap (map reply_without_reads) h.replies_are; after = ap state_without_reads h.after_is ∙ e }
+agrees-says c m new other replies h e = record { last = h.last_is; replies = ap (map reply_without_reads) h.replies_are; after = ap state_without_reads h.after_is ∙ e }
 
 cut-not-finished : (last : List Table) → CutShort last ≡ Finished → ⊥
 cut-not-finished last e = cc
@@ -117,6 +118,7 @@ lists-agree rose lines ending replies e (inr h) = absurd (not-both rose e h.0)
 counts-agree : (c : Command) (old new other : Machine) (m : Moment) (lines : List Reply) → m.rose ≡ false → Counts old m lines new → state_without_reads new ≡ state_without_reads other →
     Agrees m (says c (counted_lines lines) other)
 counts-agree c old new other m lines rose (after, last, lists) same = record {
+  last = last;
   replies = ap (map reply_without_reads) (lists-agree m.rose lines (reply.EndCount (length lines)) m.replies rose lists);
   after = ap state_without_reads after ∙ same;
 }
@@ -168,11 +170,12 @@ next-agrees : (config : Config) (c : Command) (old : Machine) (k : Cost) (m : Mo
     Agrees m (next_on config c (recost k old) n count open_cursor (slice_get config.plans open_cursor.table) (slice_get old.tables open_cursor.table))
 next-agrees config c old k m n count open_cursor same rose h = by_cases (slice_get config.plans open_cursor.table) (slice_get old.tables open_cursor.table) h
   where
-    by_given : (plan : Plan) (given : List Entry) (ending : Reply) (g : ℕ) →
+    by_given : (plan : Plan) (given : List Entry) (ending : Reply) (g : ℕ) → m.last ≡ None →
         (m.after ≡ record old { cursors = slice_set old.cursors n (Some (record open_cursor { cursor = moved open_cursor.cursor (take g given) })) }) →
         (g ≡ length given) × (m.replies ≡ rows_of plan given ++ ending ∷ []) →
         Agrees m (says c (rows_of plan given ++ ending ∷ []) (record (recost k old) { cursors = slice_set old.cursors n (Some (record open_cursor { cursor = moved open_cursor.cursor given })) }))
-    by_given plan given ending g after (whole, replies) = record {
+    by_given plan given ending g last after (whole, replies) = record {
+      last = last;
       replies = ap (map reply_without_reads) replies;
       after =
           ap state_without_reads after
@@ -194,7 +197,7 @@ next-agrees config c old k m n count open_cursor same rose h = by_cases (slice_g
     by_cases (Some plan) None h = agrees-says c m old (recost k old) [] h (alike k old same)
     by_cases (Some plan) (Some table) (last, (g, within, after, ends)) =
         let given = take count (left_of open_cursor.cursor table.entries) in
-        by_given plan given (cond (nat_eq (length given) count) reply.More reply.CursorEnd) g after (elim ends [ inl h ↦ h | inr h ↦ absurd (not-both m.rose rose h.0) ])
+        by_given plan given (cond (nat_eq (length given) count) reply.More reply.CursorEnd) g last after (elim ends [ inl h ↦ h | inr h ↦ absurd (not-both m.rose rose h.0) ])
 
 -- a load
 loads-agree : (config : Config) (c : Command) (old : Machine) (k : Cost) (m : Moment) (plan : Plan) (place step seed turns i s loaded : ℕ) (device : Device) (tables : List Table) → IsAlike k old → m.rose ≡ false →
@@ -372,10 +375,11 @@ step-agrees config old k m (command.Flush name) same rose h whole =
     on-table config (command.Flush name) old k name m _ _ same h whole (λ at p w. flush-agrees config (command.Flush name) old k m at same rose p w)
 step-agrees config old k m (command.Get name key) same rose h whole =
     on-table config (command.Get name key) old k name m _ _ same h whole
-    (λ at p w. record { replies = ap (map reply_without_reads) (or-fault m.rose _ _ rose p.2); after = ap state_without_reads p.0 })
+    (λ at p w. record { last = p.1; replies = ap (map reply_without_reads) (or-fault m.rose _ _ rose p.2); after = ap state_without_reads p.0 })
 step-agrees config old k m (command.Blob name key) same rose h whole =
     on-table config (command.Blob name key) old k name m _ _ same h whole
     (λ at p w. record {
+      last = p.1;
       replies = ap (map reply_without_reads) (entry-agrees at.table (entry_at key at.table.entries) m.rose m.replies rose (or-fault m.rose _ _ rose p.2));
       after = ap state_without_reads p.0 ∙ alike k old same;
     })
@@ -412,6 +416,7 @@ step-agrees config old k m (command.Stat name) same rose h whole =
     on-table config (command.Stat name) old k name m _ _ same h whole
     (λ at p w. agrees-says (command.Stat name) m old (recost k old) (stat_reply old at.table ∷ []) p (alike k old same))
 step-agrees config old k m command.Cost same rose h whole = record {
+  last = h.last_is;
   replies = ap (map reply_without_reads) h.replies_are ∙ ap (λ (r : Reply). r ∷ []) (cost-agrees old.cost ∙ (ap cost_reply same ∙ sym (cost-agrees k)));
   after = ap state_without_reads h.after_is ∙ alike k old same;
 }
@@ -440,16 +445,17 @@ run-agrees : (config : Config) (old other : Machine) (moments : List Moment) →
     Run config old moments → risen_in moments ≡ 0 → AllByRecursion IsWhole (plain_run config other (commands_of moments)) →
     (replies_of moments ≡ replies_of (plain_run config other (commands_of moments)))
     × (state_without_reads (end_of old moments) ≡ state_without_reads (end_of other (plain_run config other (commands_of moments))))
-run-agrees config old other [] same run risen whole = (refl, same)
+    × AllByRecursion IsWhole moments
+run-agrees config old other [] same run risen whole = (refl, same, tt)
 run-agrees config old other (m ∷ ms) same (step, run) risen (first, rest) =
     let n = plain config other m.command in
     let a : Agrees m n =
     subst (λ (x : Machine). IsWhole (plain config x m.command) → Agrees m (plain config x m.command)) (recosted old other same)
     (λ w. step-agrees config old other.cost m m.command (ap (λ (x : Machine). x.cost) same) (risen-first m.rose (risen_in ms) risen) step w) first in
     let others = run-agrees config m.after n.after ms a.after run (risen-others m.rose (risen_in ms) risen) rest in
-    (rw (a.replies, others.0) refl, others.1)
+    (rw (a.replies, others.0) refl, others.1, (a.last, others.2))
 
 pub determined : IsDetermined
 determined config old moments run risen whole =
     let h = run-agrees config old old moments refl run risen whole in
-    record { replies = h.0; ends = h.1 }
+    record { replies = h.0; ends = h.1; whole = h.2 }

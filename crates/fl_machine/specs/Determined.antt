@@ -31,10 +31,11 @@ replies_of moments = map (λ moment. map reply_without_reads moment.replies) mom
 abbrev pub IsWhole : Moment → Type 0
 IsWhole moment = moment.last ≡ None
 
--- two runs from a state reply the same and end in the same state
+-- two runs from a state reply the same and end in the same state, and no operation of the first fails
 pub record SameRuns (old : Machine) (moments others : List Moment) : Type 0 where
   pub replies : replies_of moments ≡ replies_of others
   pub ends : state_without_reads (end_of old moments) ≡ state_without_reads (end_of old others)
+  pub whole : AllByRecursion IsWhole moments
 
 -- Where no cut falls into an operation of the plain machine, and the medium's faults rise in no moment of a run, the run
 -- is that of the plain machine.

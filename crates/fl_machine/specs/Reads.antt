@@ -1,9 +1,11 @@
 -- How many pages a moment reads.
-use Rattle.std.specs.Prelude.{◌≡◌, ℕ, ◌+◌, ◌-◌, ◌*◌, ◌^◌, ◌<◌, ◌≤◌, min, Bool, true, false, not, ◌&&◌, None, option_map, unwrap_or, List, [], ◌∷◌, sum_by, IsTrue, MatchBool, MatchOption, slice_get}
+use Rattle.std.specs.Prelude.{◌≡◌, ℕ, ◌+◌, ◌-◌, ◌*◌, ◌^◌, ◌<◌, ◌≤◌, min, Bool, true, false, not, ◌&&◌, Option, None, is_some, option_map, unwrap_or, List, [], ◌∷◌, sum_by, IsTrue, MatchBool, MatchOption, slice_get}
 use Rattle.std.specs.List.{last_or}
+use Rattle.fl_base.specs.declared.types.KeyRange.{KeyRange}
+use Rattle.fl_base.specs.declared.types.Span.{Span}
 use Rattle.fl_model.specs.Record.{Plan, Config, blocks_of}
-use Rattle.fl_model.specs.Table.{Table}
-use Rattle.fl_model.specs.Query.{Cursor}
+use Rattle.fl_model.specs.Table.{Table, written}
+use Rattle.fl_model.specs.Query.{Cursor, entry_at}
 use Rattle.fl_model.specs.Spline.{retained, is_covered, is_pending_key, lookup_limit, lookup_reads}
 use Rattle.fl_model.specs.Limits.{scan_limit, least_reads}
 use Rattle.fl_words.specs.Command as command
@@ -11,7 +13,7 @@ use Rattle.fl_words.specs.Command.{Command}
 use Rattle.fl_words.specs.Reply as reply
 use Rattle.fl_words.specs.Reply.{Reply}
 use Rattle.fl_machine.specs.Machine.{Machine}
-use Rattle.fl_machine.specs.Step.{Moment, Located, located, cursor_at}
+use Rattle.fl_machine.specs.Step.{Moment, Located, located, cursor_at, no_column}
 
 abbrev pub is_read_fault : Reply → Bool
 is_read_fault reply.ReadFault = true
@@ -39,13 +41,24 @@ none_read moment = moment.reads ≡ 0
 abbrev pub OnTable : Config → Machine → Moment → List ℕ → (Located → Type 0) → Type 0
 OnTable config old moment name P = MatchBool old.mounted (MatchOption (located config old name) (none_read moment) P) (none_read moment)
 
--- The greatest number of reads of a command. Of a blob and of the operators nothing is promised yet.
+-- the reads of a command over columns, and none where the table lacks one of them
+abbrev pub OnColumns : Moment → List ℕ → (Located → Type 0) → Located → Type 0
+OnColumns moment columns P at = MatchOption (no_column at.plan columns) (P at) (λ column. none_read moment)
+
+-- no more pages than a scan of the range may read; and no fewer than it reads at least, where no read failed
+abbrev pub WithinScan : Config → Moment → KeyRange → Option Span → Located → Type 0
+WithinScan config moment range span at = moment.reads ≤ scan_limit config.knots at.plan at.table range span range.low
+
+abbrev pub ReadsLeast : Moment → KeyRange → Option Span → Located → Type 0
+ReadsLeast moment range span at = is_unread moment ≡ false → least_reads at.plan at.table range span ≤ moment.reads
+
+-- The greatest number of reads of a command. An operator reads no more than a scan of its range, and a join no more than
+-- two. Of a blob nothing is promised yet.
 abbrev pub LimitOf : Config → Machine → Moment → Command → Type 0
 LimitOf config old moment command.Mount = MatchBool old.mounted (none_read moment) (moment.reads ≤ 4 * pages_in config)
 LimitOf config old moment (command.Get name key) = OnTable config old moment name (λ at. moment.reads ≤ lookup_limit config.knots at.plan at.table key)
 LimitOf config old moment (command.Blob name key) = Unit {0}
-LimitOf config old moment (command.Scan name range span) =
-    OnTable config old moment name (λ at. moment.reads ≤ scan_limit config.knots at.plan at.table range span range.low)
+LimitOf config old moment (command.Scan name range span) = OnTable config old moment name (WithinScan config moment range span)
 LimitOf config old moment (command.Next cursor count) =
     MatchBool old.mounted
     (MatchOption (cursor_at old cursor) (none_read moment) (λ c.
@@ -53,10 +66,12 @@ LimitOf config old moment (command.Next cursor count) =
     MatchOption (slice_get old.tables c.table) (none_read moment) (λ table.
     moment.reads ≤ scan_limit config.knots plan table c.cursor.range c.cursor.span (lowest_of c.cursor)))))
     (none_read moment)
-LimitOf config old moment (command.Select name range column op value) = Unit {0}
-LimitOf config old moment (command.Project name range columns) = Unit {0}
-LimitOf config old moment (command.Agg name range column width) = Unit {0}
-LimitOf config old moment (command.Join left right range) = Unit {0}
+LimitOf config old moment (command.Select name range column op value) = OnTable config old moment name (OnColumns moment (column ∷ []) (WithinScan config moment range None))
+LimitOf config old moment (command.Project name range columns) = OnTable config old moment name (OnColumns moment columns (WithinScan config moment range None))
+LimitOf config old moment (command.Agg name range column width) = OnTable config old moment name (OnColumns moment (column ∷ []) (WithinScan config moment range None))
+LimitOf config old moment (command.Join left right range) =
+    OnTable config old moment left (λ a. OnTable config old moment right (λ b.
+    moment.reads ≤ scan_limit config.knots a.plan a.table range None range.low + scan_limit config.knots b.plan b.table range None range.low))
 LimitOf config old moment _ = none_read moment
 
 -- .. in each moment of a run
@@ -65,12 +80,19 @@ RunLimits config old [] = Unit {0}
 RunLimits config old (moment ∷ moments) = LimitOf config old moment moment.command × RunLimits config moment.after moments
 
 -- Where no read of it failed, a get of a covered key that isn't pending reads just as many pages as the definition says, and
--- a scan at least the least number.
+-- of a written record at least one. One whose read failed read one at least.
+pub record GetExact (config : Config) (moment : Moment) (key : ℕ) (at : Located) : Type 0 where
+  pub covered : is_unread moment ≡ false → IsTrue (has_reads config.knots at.plan at.table key) → moment.reads ≡ lookup_reads config.knots at.plan at.table key
+  pub found : is_unread moment ≡ false → IsTrue (is_some (entry_at key (written at.table))) → 1 ≤ moment.reads
+  pub failed : IsTrue (is_unread moment) → 1 ≤ moment.reads
+
+-- .. a scan, or an operator over one range, at least the least number
 abbrev pub ExactOf : Config → Machine → Moment → Command → Type 0
-ExactOf config old moment (command.Get name key) =
-    OnTable config old moment name (λ at. is_unread moment ≡ false → IsTrue (has_reads config.knots at.plan at.table key) → moment.reads ≡ lookup_reads config.knots at.plan at.table key)
-ExactOf config old moment (command.Scan name range span) =
-    OnTable config old moment name (λ at. is_unread moment ≡ false → least_reads at.plan at.table range span ≤ moment.reads)
+ExactOf config old moment (command.Get name key) = OnTable config old moment name (GetExact config moment key)
+ExactOf config old moment (command.Scan name range span) = OnTable config old moment name (ReadsLeast moment range span)
+ExactOf config old moment (command.Select name range column op value) = OnTable config old moment name (OnColumns moment (column ∷ []) (ReadsLeast moment range None))
+ExactOf config old moment (command.Project name range columns) = OnTable config old moment name (OnColumns moment columns (ReadsLeast moment range None))
+ExactOf config old moment (command.Agg name range column width) = OnTable config old moment name (OnColumns moment (column ∷ []) (ReadsLeast moment range None))
 ExactOf config old moment _ = Unit {0}
 
 -- the reads of some moments

@@ -49,35 +49,39 @@ join-equal a b left right same climbs =
 
 -- the first row of each
 pub begin-pairs : (result : Result Bool ReadFault) (a b : Row) (start left before after : List Row) → start ≡ a ∷ left → Steps result before b after
-    → PairsGo result (key_join (records_of start) (records_of before)) (pairs_from a left b after)
+    → PairsGo result (key_join (records_of start) (records_of before)) (pairs_from a left b after) (key_join (records_of left) (records_of after))
 begin-pairs (Ok true) a b start left before after first is =
     ap (λ rows. key_join (records_of rows) (records_of before)) first ∙ ap (λ rows. key_join (record_of a ∷ records_of left) (records_of rows)) is
 begin-pairs (Ok false) a b start left before after first is =
-    ap (λ rows. key_join (records_of start) (records_of rows)) is.0 ∙ join-none (records_of start)
+    (ap (λ rows. key_join (records_of start) (records_of rows)) is.0 ∙ join-none (records_of start), ap (λ rows. key_join (records_of left) (records_of rows)) is.1 ∙ join-none (records_of left))
 begin-pairs (Err (Flash fault)) a b start left before after first is = tt
 begin-pairs (Err (BadPage bad)) a b start left before after first is = is
 
 -- the left row has the lesser key, and so no pair
 pub pass-left : (result : Result Bool ReadFault) (a b next : Row) (before after right : List Row) → a.key < b.key → Ascends (Some b.key) right → Steps result before next after
-    → PairsGo result (pairs_from a before b right) (pairs_from next after b right)
+    → PairsGo result (pairs_from a before b right) (pairs_from next after b right) (key_join (records_of after) (records_of right))
 pass-left (Ok true) a b next before after right less ascends is =
     join-less (record_of a) (record_of b) (records_of before) (records_of right) less (Climbs-rows b.key right ascends)
     ∙ ap (λ rows. key_join (records_of rows) (record_of b ∷ records_of right)) is
-pass-left (Ok false) a b next before after right less ascends is =
-    join-less (record_of a) (record_of b) (records_of before) (records_of right) less (Climbs-rows b.key right ascends)
-    ∙ ap (λ rows. key_join (records_of rows) (record_of b ∷ records_of right)) is.0
+pass-left (Ok false) a b next before after right less ascends is = (
+  join-less (record_of a) (record_of b) (records_of before) (records_of right) less (Climbs-rows b.key right ascends)
+      ∙ ap (λ rows. key_join (records_of rows) (record_of b ∷ records_of right)) is.0,
+  ap (λ rows. key_join (records_of rows) (records_of right)) is.1,
+)
 pass-left (Err (Flash fault)) a b next before after right less ascends is = tt
 pass-left (Err (BadPage bad)) a b next before after right less ascends is = is
 
 -- the right row has the lesser key
 pub pass-right : (result : Result Bool ReadFault) (a b next : Row) (left before after : List Row) → b.key < a.key → Ascends (Some a.key) left → Steps result before next after
-    → PairsGo result (pairs_from a left b before) (pairs_from a left next after)
+    → PairsGo result (pairs_from a left b before) (pairs_from a left next after) (key_join (records_of left) (records_of after))
 pass-right (Ok true) a b next left before after less ascends is =
     join-greater (record_of a) (record_of b) (records_of left) (records_of before) less (Climbs-rows a.key left ascends)
     ∙ ap (λ rows. key_join (record_of a ∷ records_of left) (records_of rows)) is
-pass-right (Ok false) a b next left before after less ascends is =
-    join-greater (record_of a) (record_of b) (records_of left) (records_of before) less (Climbs-rows a.key left ascends)
-    ∙ ap (λ rows. key_join (record_of a ∷ records_of left) (records_of rows)) is.0 ∙ join-none (record_of a ∷ records_of left)
+pass-right (Ok false) a b next left before after less ascends is = (
+  join-greater (record_of a) (record_of b) (records_of left) (records_of before) less (Climbs-rows a.key left ascends)
+      ∙ ap (λ rows. key_join (record_of a ∷ records_of left) (records_of rows)) is.0 ∙ join-none (record_of a ∷ records_of left),
+  ap (λ rows. key_join (records_of left) (records_of rows)) is.1 ∙ join-none (records_of left),
+)
 pass-right (Err (Flash fault)) a b next left before after less ascends is = tt
 pass-right (Err (BadPage bad)) a b next left before after less ascends is = is
 

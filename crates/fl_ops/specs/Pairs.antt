@@ -19,10 +19,10 @@ abbrev pub keys_above : Option ℕ → ℕ
 keys_above None = 2 ^ 64
 keys_above (Some key) = 2 ^ 64 - 1 - key
 
--- What a call with this result made of the pairs to come: true leaves them, and false comes where there is none. Where
--- the rows are told no page is bad.
-abbrev pub PairsGo : Result Bool ReadFault → List (Record × Record) → List (Record × Record) → Type 0
-PairsGo (Ok true) before after = before ≡ after
-PairsGo (Ok false) before after = before ≡ []
-PairsGo (Err (Flash fault)) before after = Unit {0}
-PairsGo (Err (BadPage bad)) before after = ⊥
+-- What a call with this result made of the pairs to come: true leaves them, and false comes where there is none, and
+-- none is left of the rows then. Where the rows are told no page is bad.
+abbrev pub PairsGo : Result Bool ReadFault → List (Record × Record) → List (Record × Record) → List (Record × Record) → Type 0
+PairsGo (Ok true) before after left = before ≡ after
+PairsGo (Ok false) before after left = (before ≡ []) × (left ≡ [])
+PairsGo (Err (Flash fault)) before after left = Unit {0}
+PairsGo (Err (BadPage bad)) before after left = ⊥

@@ -12,7 +12,7 @@ mod tally;
 
 pub use aggregate::Aggregate;
 pub use group::Group;
-pub use join::KeyJoin;
+pub use join::{KeyJoin, next_pair};
 pub use project::Project;
 pub use select::Select;
 pub use selection::selection_is_the_models;

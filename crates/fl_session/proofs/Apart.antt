@@ -1,5 +1,5 @@
 -- A table whose rings stand beside the one that a call changes.
-use Rattle.std.proofs.Common.{◌≡◌, ℕ, zero, suc, ◌+◌, ◌*◌, ◌%◌, ◌<◌, ◌≤◌, ◌⊎◌, Bool, true, false, inl, inr, Option, None, Some, IfSome, List, [], ◌∷◌, take, refl, sym, ◌∙◌, ap, subst, arith}
+use Rattle.std.proofs.Common.{◌≡◌, ℕ, zero, suc, ◌+◌, ◌*◌, ◌%◌, ◌<◌, ◌≤◌, ◌⊎◌, Bool, true, false, inl, inr, Option, None, Some, IfSome, List, [], ◌∷◌, length, take, refl, sym, ◌∙◌, ap, subst, arith}
 use Rattle.std.specs.Prelude.{MatchBool}
 use Rattle.std.proofs.Math.Path.{fun_ext}
 use Rattle.std.proofs.Math.Nat.{mod-lt, mul-le-mul_right, add-mul}
@@ -13,23 +13,28 @@ use Rattle.fl_index.specs.Memory as memory
 use Rattle.fl_index.proofs.Sealings.{planned-ring as index-ring}
 use Rattle.fl_index.proofs.State.{shape_in as index_shape}
 use Rattle.fl_model.specs.Facts.{is_some_ring}
-use Rattle.fl_model.specs.Image.{IsRingImage, HoldsRows, HoldsBitmaps}
-use Rattle.fl_model.specs.Record.{Plan, blocks_of, has_index}
+use Rattle.fl_model.specs.Image.{IsRingImage, HoldsRows, HoldsBitmaps, HoldsBlob, HoldsContent}
+use Rattle.fl_model.specs.Query.{page_stands}
+use Rattle.fl_model.specs.Record.{Plan, blocks_of, has_index, has_var}
 use Rattle.fl_model.specs.Ring.{Ring, IsShape}
 use Rattle.fl_model.specs.Table as model
-use Rattle.fl_model.specs.Table.{DataRing, IndexRing, shape_of, lose}
+use Rattle.fl_model.specs.Table.{DataRing, IndexRing, VarRing, shape_of, lose}
 use Rattle.fl_ring.specs.Ring.{Shape, room}
 use Rattle.fl_table.specs.Bitmaps.{ArePlanned, IsOutside, Stand}
+use Rattle.fl_table.specs.Blobs as variable
 use Rattle.fl_table.specs.Memory.{IsPlanned}
 use Rattle.fl_table.specs.Mounting.{OutsideStands}
 use Rattle.fl_table.specs.Pages.{HoldsTable, Rests, bytes_in, place_in}
 use Rattle.fl_table.specs.Standing.{Stands}
 use Rattle.fl_table.specs.declared.table.Table.{Table}
+use Rattle.fl_table.proofs.Blobbing as blobbing
 use Rattle.fl_table.proofs.Indexing.{planned-some, stand-moved}
 use Rattle.fl_table.proofs.Moved.{keeps-same}
-use Rattle.fl_table.proofs.Plain.{IsPlain, IsPlainTable, plain-facts, plain-lose}
-use Rattle.fl_table.proofs.SealAnswers.{planned-plain, planned-shape, planned-ring}
+use Rattle.fl_table.proofs.Plain.{IsPlainTable, plain-lose, table-parts}
+use Rattle.fl_table.proofs.SealAnswers.{planned-shape, planned-ring}
 use Rattle.fl_table.proofs.States.{shape_in}
+use Rattle.fl_var.specs.Memory.{var_shape}
+use Rattle.fl_var.specs.declared.var_data.VarData.{VarData}
 use Rattle.fl_session.specs.Tables.{first_of, EntryStands}
 use Rattle.fl_session.specs.declared.tables.Entry.{Entry}
 
@@ -63,12 +68,16 @@ outside-ring first at blocks plan r page begins size from upto (inr behind) =
 -- what a call of a table leaves of the pages outside its blocks
 beside-stands : (t : Table) (first : ℕ) (plan : Plan) (old new : ℕ → List ℕ) → IsPlanned t first plan → OutsideStands t old new → (page : ℕ) → IsBeside first plan page → new page ≡ old page
 beside-stands t first plan old new planned outside page beside =
-    outside page (subst (λ r. IsOutside r page) (sym (planned-ring t first plan planned)) (outside-ring first first plan.data_blocks plan (shape_in first plan) page refl refl (omega arith) (omega arith) beside)) (by-index t.bitmaps planned.index)
+    outside page (subst (λ r. IsOutside r page) (sym (planned-ring t first plan planned)) (outside-ring first first plan.data_blocks plan (shape_in first plan) page refl refl (omega arith) (omega arith) beside)) (by-index t.bitmaps planned.index) (by-var t.blobs planned.var)
   where
     by-index : (bitmaps : Option Index) → ArePlanned bitmaps (first + plan.data_blocks) plan → IfSome bitmaps (λ index. IsOutside (memory.ring_shape index) page)
     by-index None p = tt
     by-index (Some index) p =
         subst (λ r. IsOutside r page) (sym (index-ring index (first + plan.data_blocks) plan p)) (outside-ring first (first + plan.data_blocks) plan.index_blocks plan (index_shape (first + plan.data_blocks) plan) page refl refl (omega arith) (omega arith) beside)
+
+    by-var : (blobs : Option VarData) → variable.ArePlanned blobs (first + plan.data_blocks + plan.index_blocks) plan → IfSome blobs (λ var. IsOutside (var_shape var) page)
+    by-var None p = tt
+    by-var (Some var) p = outside-ring first (first + plan.data_blocks + plan.index_blocks) plan.var_blocks plan (var_shape var) page p.begins (rw (p.planned.blocks, p.planned.geometry) refl) (omega arith) (omega arith) beside
 
 -- tables whose blocks stand one after the other
 abbrev AreApart : ℕ → Plan → ℕ → Plan → Type 0
@@ -96,16 +105,30 @@ some-pages b p x y = let k : 1 * p ≤ b * p = mul-le-mul_right p x in omega (ar
 
 -- the pages of these rings stand
 module _ (f g : FlashState) (first : ℕ) (plan : Plan) (same-rows : (n : ℕ) → page_at g (place_in first plan DataRing n) ≡ page_at f (place_in first plan DataRing n))
-    (same-index : has_index plan ≡ true → (n : ℕ) → page_at g (place_in first plan IndexRing n) ≡ page_at f (place_in first plan IndexRing n)) where
+    (same-index : has_index plan ≡ true → (n : ℕ) → page_at g (place_in first plan IndexRing n) ≡ page_at f (place_in first plan IndexRing n))
+    (same-var : has_var plan ≡ true → (n : ℕ) → page_at g (place_in first plan VarRing n) ≡ page_at f (place_in first plan VarRing n)) where
+  abbrev AreBlobs : model.Table → Ring → (ℕ → List ℕ) → Type 0
+  AreBlobs table ring at =
+      (i : ℕ) (entry : model.Entry) (blob : List ℕ) → slice_get table.entries i ≡ Some entry → entry.kept.blob ≡ Some blob → 0 < length blob → page_stands ring entry.page ≡ true → HoldsBlob plan ring at entry blob
+
   holds-apart : (table : model.Table) → IsPlainTable plan table → HoldsTable (page_at f) first plan table → HoldsTable (page_at g) first plan table
   holds-apart table facts h =
       record {
         rows = subst (λ (at : ℕ → List ℕ). IsRingImage (shape_of plan DataRing) table.rows at (HoldsRows plan table)) (sym (fun_ext (λ n. same-rows n))) h.rows;
         index = by-index table.index facts.index.has h.index;
-        var = rw facts.var tt;
-        blobs = rw facts.var tt;
+        var = by-var table.var facts.blobs.has h.var;
+        blobs = by-blobs table.var facts.blobs.has h.blobs;
       }
     where
+      by-var : (o : Option Ring) → is_some_ring o ≡ has_var plan → IfSome o (λ ring. IsRingImage (shape_of plan VarRing) ring (bytes_in (page_at f) first plan VarRing) (HoldsContent plan ring)) →
+          IfSome o (λ ring. IsRingImage (shape_of plan VarRing) ring (bytes_in (page_at g) first plan VarRing) (HoldsContent plan ring))
+      by-var None has i = tt
+      by-var (Some ring) has i = subst (λ (at : ℕ → List ℕ). IsRingImage (shape_of plan VarRing) ring at (HoldsContent plan ring)) (sym (fun_ext (λ n. same-var (sym has) n))) i
+
+      by-blobs : (o : Option Ring) → is_some_ring o ≡ has_var plan → IfSome o (λ ring. AreBlobs table ring (bytes_in (page_at f) first plan VarRing)) → IfSome o (λ ring. AreBlobs table ring (bytes_in (page_at g) first plan VarRing))
+      by-blobs None has b = tt
+      by-blobs (Some ring) has b = subst (λ (at : ℕ → List ℕ). AreBlobs table ring at) (sym (fun_ext (λ n. same-var (sym has) n))) b
+
       by-index : (o : Option Ring) → is_some_ring o ≡ has_index plan → IfSome o (λ ring. IsRingImage (shape_of plan IndexRing) ring (bytes_in (page_at f) first plan IndexRing) (HoldsBitmaps plan table ring)) →
           IfSome o (λ ring. IsRingImage (shape_of plan IndexRing) ring (bytes_in (page_at g) first plan IndexRing) (HoldsBitmaps plan table ring))
       by-index None has i = tt
@@ -113,8 +136,7 @@ module _ (f g : FlashState) (first : ℕ) (plan : Plan) (same-rows : (n : ℕ) �
 
   stands-apart : (t : Table) (table : model.Table) → Stands t f first plan table → Stands t g first plan table
   stands-apart t table h =
-      let plain = planned-plain t first plan h.planned in
-      let facts = plain-facts plan table plain h.facts in
+      let facts = table-parts plan table h.facts in
       record {
         planned = h.planned;
         facts = h.facts;
@@ -123,6 +145,7 @@ module _ (f g : FlashState) (first : ℕ) (plan : Plan) (same-rows : (n : ℕ) �
         pages = holds-apart (lose table) (plain-lose plan table facts) h.pages;
         memory = h.memory;
         bitmaps = by-bitmaps t.bitmaps h.planned.index facts h.bitmaps;
+        blobs = by-stand t.blobs h.planned.var h.blobs;
         points = h.points;
       }
     where
@@ -131,13 +154,18 @@ module _ (f g : FlashState) (first : ℕ) (plan : Plan) (same-rows : (n : ℕ) �
       by-bitmaps (Some index) p facts s =
           stand-moved (Some index) f g first plan table table (keeps-same table table refl refl refl) refl refl refl refl facts facts (same-index (planned-some index (first + plan.data_blocks) plan p)) s
 
-  rests-apart : (table : model.Table) → IsPlain plan → Rests f first plan table → Rests g first plan table
-  rests-apart table plain h = record { settled = h.settled; pages = holds-apart table (plain-facts plan table plain h.settled.facts) h.pages }
+      by-stand : (blobs : Option VarData) → variable.ArePlanned blobs (first + plan.data_blocks + plan.index_blocks) plan → variable.Stand blobs f (first + plan.data_blocks + plan.index_blocks) plan table → variable.Stand blobs g (first + plan.data_blocks + plan.index_blocks) plan table
+      by-stand None p s = s
+      by-stand (Some var) p s =
+          blobbing.stand-moved (Some var) f g first plan table table (same-var (blobbing.planned-some var (first + plan.data_blocks + plan.index_blocks) plan p)) refl refl refl refl s
+
+  rests-apart : (table : model.Table) → Rests f first plan table → Rests g first plan table
+  rests-apart table h = record { settled = h.settled; pages = holds-apart table (table-parts plan table h.settled.facts) h.pages }
 
 -- .. where all pages do
 pub stands-pages : (f g : FlashState) → page_at g ≡ page_at f → (t : Table) (first : ℕ) (plan : Plan) (table : model.Table) → Stands t f first plan table → Stands t g first plan table
 stands-pages f g same t first plan table h =
-    stands-apart f g first plan (λ n. ap (λ (at : ℕ → List ℕ). at (place_in first plan DataRing n)) same) (λ has n. ap (λ (at : ℕ → List ℕ). at (place_in first plan IndexRing n)) same) t table h
+    stands-apart f g first plan (λ n. ap (λ (at : ℕ → List ℕ). at (place_in first plan DataRing n)) same) (λ has n. ap (λ (at : ℕ → List ℕ). at (place_in first plan IndexRing n)) same) (λ has n. ap (λ (at : ℕ → List ℕ). at (place_in first plan VarRing n)) same) t table h
 
 -- it stands as before
 entry-apart : (entry changed : Entry) (f g : FlashState) (mounted : Bool) (first other : ℕ) (plan own : Plan) (table : model.Table) → AreApart first plan other own → plan.geometry ≡ own.geometry → IsPlanned changed.table other own →
@@ -163,9 +191,12 @@ entry-apart entry changed f g mounted first other plan own table apart same-geom
     same-index : has_index plan ≡ true → (n : ℕ) → page_at g (place_in first plan IndexRing n) ≡ page_at f (place_in first plan IndexRing n)
     same-index has n = same-page (first + plan.data_blocks) plan.index_blocks n (ltb-true 0 plan.index_blocks has) (omega arith) (omega arith)
 
+    same-var : has_var plan ≡ true → (n : ℕ) → page_at g (place_in first plan VarRing n) ≡ page_at f (place_in first plan VarRing n)
+    same-var has n = same-page (first + plan.data_blocks + plan.index_blocks) plan.var_blocks n (ltb-true 0 plan.var_blocks has) (omega arith) (omega arith)
+
     by-mounted : (m : Bool) → MatchBool m (Stands entry.table f first plan table) (Rests f first plan table) → MatchBool m (Stands entry.table g first plan table) (Rests g first plan table)
-    by-mounted true s = stands-apart f g first plan same-rows same-index entry.table table s
-    by-mounted false s = rests-apart f g first plan same-rows same-index table (planned-plain entry.table first plan h.planned) s
+    by-mounted true s = stands-apart f g first plan same-rows same-index same-var entry.table table s
+    by-mounted false s = rests-apart f g first plan same-rows same-index same-var table s
 
 -- a table at another place than the one that was changed
 pub other-stands : (plans : List Plan) (i at : ℕ) (plan own : Plan) (entry changed : Entry) (f g : FlashState) (mounted before : Bool) (table was : model.Table) →

@@ -4,13 +4,11 @@ use Rattle.std.specs.Prelude.{IfSome}
 use Rattle.std.proofs.lemmas.Bool.{le-ltb, eqb-true}
 use Rattle.std.specs.List.{list_all, slice_get}
 use Rattle.fl_base.specs.declared.types.Span.{Span}
-use Rattle.fl_cursor.specs.Reads.{has_bitmaps}
 use Rattle.fl_model.specs.Limits.{is_spanned}
-use Rattle.fl_model.specs.Record.{Plan}
+use Rattle.fl_model.specs.Record.{Plan, has_var}
 use Rattle.fl_plan.specs.Plan.{IsConfigOf}
 use Rattle.fl_plan.specs.declared.table_config.TableConfig.{TableConfig}
 use Rattle.fl_session.specs.Built.{are_built, is_built_plan}
-use Rattle.fl_model.proofs.Plain.{IsPlain}
 
 pub all-built : (plans : List Plan) → ((i : ℕ) (plan : Plan) → slice_get plans i ≡ Some plan → is_built_plan plan ≡ true) → list_all is_built_plan plans ≡ true
 all-built [] each = refl
@@ -40,24 +38,13 @@ and-right : (a b : Bool) → (a && b) ≡ true → b ≡ true
 and-right true b e = e
 and-right false b e = cc
 
--- the tables of a configuration that is built have no rings but those of their data
+-- the tables of a configuration that is built have no variable data
 abbrev pub ArePlain : List Plan → Type 0
-ArePlain plans = (i : ℕ) (plan : Plan) → slice_get plans i ≡ Some plan → IsPlain plan
+ArePlain plans = (i : ℕ) (plan : Plan) → slice_get plans i ≡ Some plan → has_var plan ≡ false
 
-no_blocks : (n : ℕ) → (n == 0) ≡ true → nat_lt 0 n ≡ false
-no_blocks n e = le-ltb 0 n (omega (arith, eqb-true n 0 e))
-
-built-plain : (plan : Plan) → is_built_plan plan ≡ true → IsPlain plan
-built-plain plan e = record {
-  no_index = no_blocks plan.index_blocks (and-left (plan.index_blocks == 0) (plan.var_blocks == 0) e);
-  no_var = no_blocks plan.var_blocks (and-right (plan.index_blocks == 0) (plan.var_blocks == 0) e);
-}
-
-pub built-all : (plans : List Plan) → are_built plans ≡ true → ArePlain plans
-built-all [] e i plan k = cc
-built-all (p ∷ plans) e zero plan k = let same : p ≡ plan = cc in subst IsPlain same (built-plain p (and-left (is_built_plan p) (list_all is_built_plan plans) e))
-built-all (p ∷ plans) e (suc i) plan k = built-all plans (and-right (is_built_plan p) (list_all is_built_plan plans) e) i plan k
-
--- no bitmaps are kept
-pub no-bitmaps : (plans : List Plan) → are_built plans ≡ true → (i : ℕ) (plan : Plan) → slice_get plans i ≡ Some plan → (span : Option Span) → has_bitmaps plan span ≡ false
-no-bitmaps plans built i plan e span = ap (λ b. b && is_spanned span) (built-all plans built i plan e).no_index
+pub no-blobs : (plans : List Plan) → are_built plans ≡ true → ArePlain plans
+no-blobs [] e i plan k = cc
+no-blobs (p ∷ plans) e zero plan k =
+    let same : p ≡ plan = cc in
+    subst (λ (x : Plan). has_var x ≡ false) same (le-ltb 0 p.var_blocks (omega (arith, eqb-true p.var_blocks 0 (and-left (is_built_plan p) (list_all is_built_plan plans) e))))
+no-blobs (p ∷ plans) e (suc i) plan k = no-blobs plans (and-right (is_built_plan p) (list_all is_built_plan plans) e) i plan k

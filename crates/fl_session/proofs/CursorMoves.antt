@@ -5,14 +5,14 @@ use Rattle.std.specs.List.{slice_get}
 use Rattle.std.proofs.lemmas.List.{map-set}
 use Rattle.fl_base.specs.Causes.{Appends, AppendsFront}
 use Rattle.fl_cursor.specs.Asked.{asked_by, lowest}
-use Rattle.fl_cursor.specs.Reads.{IsBounded, has_bitmaps}
+use Rattle.fl_cursor.specs.Reads.{IsBounded}
 use Rattle.fl_cursor.specs.declared.bookmark.Bookmark.{Bookmark}
 use Rattle.fl_flash.specs.Flash.{FlashState}
 use Rattle.fl_flash.specs.declared.armed.Armed.{Armed}
 use Rattle.fl_flash.specs.declared.flash.Work.{Work}
 use Rattle.fl_model.specs.Query as query
 use Rattle.fl_model.specs.Query.{moved}
-use Rattle.fl_model.specs.Record.{Config, Plan}
+use Rattle.fl_model.specs.Record.{Config, Plan, has_var}
 use Rattle.fl_model.specs.Table as model
 use Rattle.fl_page.specs.Contents.{OnlyReads}
 use Rattle.fl_words.specs.Command as command
@@ -40,7 +40,7 @@ use Rattle.fl_session.specs.Standing.{SessionStands}
 use Rattle.fl_session.specs.Tables.{first_of}
 use Rattle.fl_session.proofs.Answering.{answers-saying, executes-answered, saying, says}
 use Rattle.fl_session.proofs.Costing.{read-none}
-use Rattle.fl_session.proofs.BuiltAll.{no-bitmaps}
+use Rattle.fl_session.proofs.BuiltAll.{no-blobs}
 use Rattle.fl_session.proofs.CursorsOf.{cursor-told}
 use Rattle.fl_session.proofs.Getting.{goes-reads, tables-looked}
 use Rattle.fl_session.proofs.Sound.{lies-on}
@@ -104,12 +104,12 @@ next-limit config old moment n count cursor plan table on at p t most =
 -- the rows were given and the cursor was moved, or a page wasn't read; where the sink failed the cursor may be anywhere
 pub next-executes : (E : Type 0) (config : Config) (old : Machine) (entries : List Entry) (entry : Entry) (notes : Notes) (f g : FlashState) (reads n count : ℕ) (mounted : Bool) (cursor : TableCursor) (new : Bookmark) (told told_now : Option (List ℕ)) (result : Result (Unit {0}) E) →
     SessionStands config entries f mounted notes old → mounted ≡ true → slice_get notes.cursors n ≡ Some (Some cursor) → slice_get entries cursor.table ≡ Some entry → IfSome cursor.mark.after (λ after. after < 2 ^ 64) → OnlyReads f g → HasRead f reads g → reads ≡ g.work.reads - f.work.reads →
-    ((first : ℕ) (plan : Plan) (table : model.Table) → IsTrue f.media.tells → f.is_on ≡ true → Stands entry.table f first plan table → has_bitmaps plan cursor.mark.span ≡ false → Nexts plan table count cursor.mark new told told_now f.media.faults g.media.faults f.work.reads g.work.reads result) →
+    ((first : ℕ) (plan : Plan) (table : model.Table) → IsTrue f.media.tells → f.is_on ≡ true → Stands entry.table f first plan table → has_var plan ≡ false → Nexts plan table count cursor.mark new told told_now f.media.faults g.media.faults f.work.reads g.work.reads result) →
     Executes config old (command.Next n count) (SessionStands config entries g mounted (record notes { cursors = set notes.cursors n (Some (record cursor { mark = new })) })) f g told told_now result
 next-executes E config old entries entry notes f g reads n count mounted cursor new told told_now result h on e here fits only counted reads_are nexts =
     let h' = subst (λ m. SessionStands config entries f m notes old) on h in
     let own = at-place f (λ i. true) config.plans entries old.tables cursor.table entry h'.tables here in
-    let s = nexts (first_of config.plans cursor.table) own.plan own.table h'.medium.told (h'.power refl) own.stands.on_flash (no-bitmaps config.plans h'.built cursor.table own.plan own.plan_is cursor.mark.span) in
+    let s = nexts (first_of config.plans cursor.table) own.plan own.table h'.medium.told (h'.power refl) own.stands.on_flash (no-blobs config.plans h'.built cursor.table own.plan own.plan_is) in
     let end : query.Cursor = moved (asked_by cursor.mark) (take s.given (given_of count cursor.mark own.table)) in
     let moment : Moment = record { command = command.Next n count; rose = s.rose; reads = reads; last = None; replies = s.replies; after = with_cursor old n cursor.table end } in
     let at : cursor_at old n ≡ Some (cursor_of cursor) = ap (λ (cs : List (Option OpenCursor)). unwrap_or (slice_get cs n) None) h'.cursors ∙ cursor-told notes.cursors n (Some cursor) e in

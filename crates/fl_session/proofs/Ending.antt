@@ -24,6 +24,7 @@ use Rattle.fl_session.specs.declared.status.Status.TheVariants.{Done, Line, Scri
 use Rattle.fl_session.proofs.Beginning.{command-takes}
 use Rattle.fl_session.proofs.Running.{ran-none, ran-seen, ran_into-seen}
 use Rattle.fl_session.proofs.Ready.{after-alike}
+use Rattle.fl_session.proofs.Plainly.{ran-plainly, ran_into-plainly}
 
 unended-untouched : (start : Start) (told : Told) → IsUnended start → IsUntouched told → EndsEarly start told
 unended-untouched (Unended config n) told u h = h
@@ -132,35 +133,50 @@ ran_into-earlier config old commands stands before mid now told told_now e h = r
   told_front = h.told_front;
 }
 
-pub runs-all : (config : Config) (told : Told) (around : Around) (stands stands_now : Machine → Type 0) (commands : List Command) → Over config told around stands stands_now → RanAll around stands stands_now commands → RunsAll config commands told
-runs-all config told around stands stands_now commands o h = record {
-  own = o.own;
-  formed = o.formed;
-  runs = λ old s.
-      let b = o.begins old s in
-      let ran = h old b.0 (subst (λ c. IsReady c old) (sym o.config_is) b.1) in
-      let seen = ran-seen around.config old commands stands_now (StandsAfter config (Some told.content_now)) around.faults around.faults_now around.told around.told_now o.ends ran in
-      let earlier = ran-earlier around.config old commands (StandsAfter config (Some told.content_now)) told.faults around.faults around.faults_now around.told around.told_now o.faults seen in
-      subst (λ c. Ran c old commands (StandsAfter config (Some told.content_now)) told.faults told.faults_now told.written told.written_now) o.config_is
-      (subst (λ f. Ran around.config old commands (StandsAfter config (Some told.content_now)) told.faults f told.written told.written_now) o.faults_now
-      (subst (λ t. Ran around.config old commands (StandsAfter config (Some told.content_now)) told.faults around.faults_now t told.written_now) o.written
-      (subst (λ t. Ran around.config old commands (StandsAfter config (Some told.content_now)) told.faults around.faults_now around.told t) o.written_now earlier)));
+-- where commands were run from each state, they were run as the plain machine does if nothing fails
+runs-with : (config : Config) (commands : List Command) (told : Told) → IsOwn config told.content → IsFormed config told.content_now →
+    ((old : Machine) → StandsFor config told.content old → Ran config old commands (StandsAfter config (Some told.content_now)) told.faults told.faults_now told.written told.written_now) → RunsAll config commands told
+runs-with config commands told own formed runs = record {
+  own = own;
+  formed = formed;
+  runs = runs;
+  plain = λ calm old s uncut. ran-plainly config old commands told.content_now told.faults told.faults_now told.written told.written_now calm uncut (runs old s);
 }
+
+run-over : (config : Config) (told : Told) (around : Around) (stands stands_now : Machine → Type 0) (commands : List Command) → Over config told around stands stands_now → RanAll around stands stands_now commands →
+    (old : Machine) → StandsFor config told.content old → Ran config old commands (StandsAfter config (Some told.content_now)) told.faults told.faults_now told.written told.written_now
+run-over config told around stands stands_now commands o h old s =
+    let b = o.begins old s in
+    let ran = h old b.0 (subst (λ c. IsReady c old) (sym o.config_is) b.1) in
+    let seen = ran-seen around.config old commands stands_now (StandsAfter config (Some told.content_now)) around.faults around.faults_now around.told around.told_now o.ends ran in
+    let earlier = ran-earlier around.config old commands (StandsAfter config (Some told.content_now)) told.faults around.faults around.faults_now around.told around.told_now o.faults seen in
+    subst (λ c. Ran c old commands (StandsAfter config (Some told.content_now)) told.faults told.faults_now told.written told.written_now) o.config_is
+    (subst (λ f. Ran around.config old commands (StandsAfter config (Some told.content_now)) told.faults f told.written told.written_now) o.faults_now
+    (subst (λ t. Ran around.config old commands (StandsAfter config (Some told.content_now)) told.faults around.faults_now t told.written_now) o.written
+    (subst (λ t. Ran around.config old commands (StandsAfter config (Some told.content_now)) told.faults around.faults_now around.told t) o.written_now earlier)))
+
+pub runs-all : (config : Config) (told : Told) (around : Around) (stands stands_now : Machine → Type 0) (commands : List Command) → Over config told around stands stands_now → RanAll around stands stands_now commands → RunsAll config commands told
+runs-all config told around stands stands_now commands o h = runs-with config commands told o.own o.formed (run-over config told around stands stands_now commands o h)
+
+run-over_into : (config : Config) (told : Told) (around : Around) (stands stands_now : Machine → Type 0) (commands : List Command) → Over config told around stands stands_now → RanPart around stands stands_now commands →
+    (old : Machine) → StandsFor config told.content old → RanInto config old commands (StandsAfter config (Some told.content_now)) told.faults told.faults_now told.written told.written_now
+run-over_into config told around stands stands_now commands o h old s =
+    let b = o.begins old s in
+    let ran = h old b.0 (subst (λ c. IsReady c old) (sym o.config_is) b.1) in
+    let seen = ran_into-seen around.config old commands (StandsAlike stands_now) (StandsAfter config (Some told.content_now)) around.faults around.faults_now around.told around.told_now
+    (after-alike config (Some told.content_now) stands_now o.ends) ran in
+    let earlier = ran_into-earlier around.config old commands (StandsAfter config (Some told.content_now)) told.faults around.faults around.faults_now around.told around.told_now o.faults seen in
+    subst (λ c. RanInto c old commands (StandsAfter config (Some told.content_now)) told.faults told.faults_now told.written told.written_now) o.config_is
+    (subst (λ f. RanInto around.config old commands (StandsAfter config (Some told.content_now)) told.faults f told.written told.written_now) o.faults_now
+    (subst (λ t. RanInto around.config old commands (StandsAfter config (Some told.content_now)) told.faults around.faults_now t told.written_now) o.written
+    (subst (λ t. RanInto around.config old commands (StandsAfter config (Some told.content_now)) told.faults around.faults_now around.told t) o.written_now earlier)))
 
 pub runs-into : (config : Config) (told : Told) (around : Around) (stands stands_now : Machine → Type 0) (commands : List Command) → Over config told around stands stands_now → RanPart around stands stands_now commands → RunsInto config commands told
 runs-into config told around stands stands_now commands o h = record {
   own = o.own;
   formed = o.formed;
-  runs = λ old s.
-      let b = o.begins old s in
-      let ran = h old b.0 (subst (λ c. IsReady c old) (sym o.config_is) b.1) in
-      let seen = ran_into-seen around.config old commands (StandsAlike stands_now) (StandsAfter config (Some told.content_now)) around.faults around.faults_now around.told around.told_now
-      (after-alike config (Some told.content_now) stands_now o.ends) ran in
-      let earlier = ran_into-earlier around.config old commands (StandsAfter config (Some told.content_now)) told.faults around.faults around.faults_now around.told around.told_now o.faults seen in
-      subst (λ c. RanInto c old commands (StandsAfter config (Some told.content_now)) told.faults told.faults_now told.written told.written_now) o.config_is
-      (subst (λ f. RanInto around.config old commands (StandsAfter config (Some told.content_now)) told.faults f told.written told.written_now) o.faults_now
-      (subst (λ t. RanInto around.config old commands (StandsAfter config (Some told.content_now)) told.faults around.faults_now t told.written_now) o.written
-      (subst (λ t. RanInto around.config old commands (StandsAfter config (Some told.content_now)) told.faults around.faults_now around.told t) o.written_now earlier)));
+  runs = run-over_into config told around stands stands_now commands o h;
+  plain = λ calm old s uncut. ran_into-plainly config old commands told.content_now told.faults told.faults_now told.written told.written_now calm uncut (run-over_into config told around stands stands_now commands o h old s);
 }
 
 -- the lines up to a place behind the command that ended the configuration
@@ -300,14 +316,10 @@ ends-empty knots text now number config told left a same w own formed stands lat
   a.short,
   subst (λ s. EndsDone s told) (sym (start-at_end knots text now number left config a w)) (
     refl,
-    record {
-      own = own;
-      formed = formed;
-      runs = λ old s.
-          ran-earlier config old [] (StandsAfter config (Some told.content_now)) told.faults told.faults_now told.faults_now told.written told.written_now later
-          (subst (λ t. Ran config old [] (StandsAfter config (Some told.content_now)) told.faults_now told.faults_now told.written t) (sym written)
-          (ran-none config old (StandsAfter config (Some told.content_now)) told.faults_now told.written (stands old s)));
-    },
+    runs-with config [] told own formed (λ old s.
+        ran-earlier config old [] (StandsAfter config (Some told.content_now)) told.faults told.faults_now told.faults_now told.written told.written_now later
+        (subst (λ t. Ran config old [] (StandsAfter config (Some told.content_now)) told.faults_now told.faults_now told.written t) (sym written)
+        (ran-none config old (StandsAfter config (Some told.content_now)) told.faults_now told.written (stands old s)))),
   ),
   same ∙ a.nothing,
 )

@@ -6,7 +6,7 @@ use Rattle.fl_flash.specs.Places.{extent}
 use Rattle.fl_flash.specs.declared.armed.Armed.{Armed}
 use Rattle.fl_flash.specs.declared.flash.Work.{Work}
 use Rattle.fl_model.specs.Query.{entry_at}
-use Rattle.fl_model.specs.Record.{Config, Plan}
+use Rattle.fl_model.specs.Record.{Config, Plan, has_var}
 use Rattle.fl_model.specs.Spline.{retained, is_covered, is_pending_key, lookup_limit, lookup_reads}
 use Rattle.fl_model.specs.Table as model
 use Rattle.fl_page.specs.Contents.{Contents, OnlyReads}
@@ -34,6 +34,7 @@ use Rattle.fl_session.specs.declared.cost.Cost.TheVariants as code_cost
 use Rattle.fl_session.specs.Standing.{SessionStands}
 use Rattle.fl_session.specs.Tables.{first_of, EntryStands, TablesStand}
 use Rattle.fl_session.proofs.Apart.{stands-pages}
+use Rattle.fl_session.proofs.BuiltAll.{no-blobs}
 use Rattle.fl_session.proofs.Answering.{executes-answered, step-is, table-step}
 use Rattle.fl_session.proofs.Owning.{own-of, own-none}
 use Rattle.fl_session.proofs.TablesChanged.{tables-still}
@@ -108,14 +109,14 @@ has-parts false covered e = (refl, e)
 pub get-executes : (E : Type 0) (config : Config) (old : Machine) (entries : List Entry) (at : ℕ) (entry : Entry) (asked : List ℕ) (notes : Notes) (f g : FlashState) (reads limit key : ℕ) (mounted : Bool) (said : code.Reply) (told told_now : Option (List ℕ)) (result : Result (Unit {0}) E) →
     SessionStands config entries f mounted notes old → IsReached entries mounted asked at → slice_get entries at ≡ Some entry → OnlyReads f g → HasRead f reads g → reads ≡ g.work.reads - f.work.reads →
     ((f : FlashState) (first : ℕ) (plan : Plan) (table : model.Table) → Stands entry.table f first plan table → limit ≡ lookup_limit 64 plan table key) →
-    ((first : ℕ) (plan : Plan) (table : model.Table) → IsTrue f.media.tells → f.is_on ≡ true → Stands entry.table f first plan table → Looks plan table key f.media.faults g.media.faults f.work.reads g.work.reads (reply_text said)) →
+    ((first : ℕ) (plan : Plan) (table : model.Table) → IsTrue f.media.tells → f.is_on ≡ true → Stands entry.table f first plan table → has_var plan ≡ false → Looks plan table key f.media.faults g.media.faults f.work.reads g.work.reads (reply_text said)) →
     Written told told_now result (reply_text said) →
     Executes config old (command.Get asked key) (SessionStands config entries g mounted (record notes { cost = code_cost.OfGet reads limit })) f g told told_now result
 get-executes E config old entries at entry asked notes f g reads limit key mounted said told told_now result h r here only counted reads_are limits looks wrote =
     let h' = subst (λ m. SessionStands config entries f m notes old) r.mounted_is h in
     let own = own-of config old entries f notes asked at entry h' here r.named in
     let first = first_of config.plans at in
-    let s = looks first own.plan own.table h'.medium.told (h'.power refl) own.stands.on_flash in
+    let s = looks first own.plan own.table h'.medium.told (h'.power refl) own.stands.on_flash (no-blobs config.plans h'.built at own.plan own.plan_is) in
     let is : limit ≡ lookup_limit config.knots own.plan own.table key = limits f first own.plan own.table own.stands.on_flash ∙ ap (λ n. lookup_limit n own.plan own.table key) (sym h'.knots) in
     let moment : Moment = record { command = command.Get asked key; rose = s.rose; reads = reads; last = None; replies = s.reply ∷ []; after = record old { cost = OfGet reads (lookup_limit config.knots own.plan own.table key) } } in
     let place : Located = record { place = at; plan = own.plan; table = own.table } in
@@ -123,10 +124,14 @@ get-executes E config old entries at entry asked notes f g reads limit key mount
     let step = table-step config old moment asked (GetStep config old moment key) place h'.is_mounted own.found (refl, refl, replied) in
     let stated : ReadsGet config moment key g place = record {
       within = omega (arith, s.within, reads_are, ap (λ n. lookup_limit n own.plan own.table key) h'.knots);
-      exact = λ below unread has.
-          let both = has-parts (is_pending_key own.table key) (is_covered (retained config.knots own.plan.error own.table.points) key) has in
-          let covered : is_covered (retained 64 own.plan.error own.table.points) key ≡ true = ap (λ n. is_covered (retained n own.plan.error own.table.points) key) (sym h'.knots) ∙ both.1 in
-          omega (arith, s.exact unread both.0 covered below, reads_are, ap (λ n. lookup_reads n own.plan own.table key) h'.knots);
+      exact = λ below. record {
+        covered = λ unread has.
+            let both = has-parts (is_pending_key own.table key) (is_covered (retained config.knots own.plan.error own.table.points) key) has in
+            let covered : is_covered (retained 64 own.plan.error own.table.points) key ≡ true = ap (λ n. is_covered (retained n own.plan.error own.table.points) key) (sym h'.knots) ∙ both.1 in
+            omega (arith, s.exact unread both.0 covered below, reads_are, ap (λ n. lookup_reads n own.plan own.table key) h'.knots);
+        found = λ unread some. omega (arith, s.found unread some below, reads_are);
+        failed = λ unread. omega (arith, s.failed unread below, reads_are);
+      };
     } in
     let keeps : OnTable config old moment asked (ReadsGet config moment key g) = on-table config old moment asked (ReadsGet config moment key g) place h'.is_mounted own.found stated in
     let written : Written told told_now result (texts (s.reply ∷ [])) = subst (λ (l : List ℕ). Written told told_now result l) (s.said_is ∙ sym (one-text s.reply)) wrote in

@@ -4,7 +4,7 @@ use Rattle.std.proofs.lemmas.List.{map-append}
 use Rattle.std.proofs.lemmas.Grind.{flat_map-append}
 use Rattle.std.specs.List.{last_or}
 use Rattle.fl_base.specs.Causes.{Appends, AppendsFront}
-use Rattle.fl_cursor.specs.Cursor.{table_of, mark_of, asked_of, left_of, is_end, has_ended}
+use Rattle.fl_cursor.specs.Cursor.{index_page, table_of, mark_of, asked_of, left_of, is_end, has_ended}
 use Rattle.fl_cursor.specs.Reads.{least_of, least_from}
 use Rattle.fl_cursor.specs.declared.place.Place.{Place}
 use Rattle.fl_cursor.specs.declared.place.Place.TheVariants.{Start, Pages, InPage, Pending, Ended}
@@ -82,7 +82,7 @@ module _ (first mid new : Cursor) (contents : Contents) (told told_mid : Option 
 pub least-ended : (cursor : Cursor) (contents : Contents) → has_ended cursor ≡ true → least_of cursor contents ≡ 0
 least-ended cursor contents e = by_place cursor.place e
   where
-    by_place : (place : Place) → is_end place ≡ true → least_from (table_of cursor) contents (asked_of cursor) place ≡ 0
+    by_place : (place : Place) → is_end place ≡ true → least_from (table_of cursor) contents (asked_of cursor) (index_page cursor) place ≡ 0
     by_place Ended e = refl
     by_place Start e = cc
     by_place (Pages next) e = cc

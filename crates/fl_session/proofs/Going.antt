@@ -5,6 +5,7 @@ use Rattle.fl_flash.specs.Places.{extent}
 use Rattle.fl_flash.specs.declared.armed.Armed.{Armed}
 use Rattle.fl_table.specs.Memory.{IsSamePlan}
 use Rattle.fl_table.specs.declared.table.Table.{Table}
+use Rattle.fl_table.proofs.Blobbing as variable
 use Rattle.fl_table.proofs.Indexing.{plan-same, plan-then}
 
 -- the power or the armed cut alone was changed
@@ -47,7 +48,7 @@ goes-same f = goes-set f f.is_on f.armed
 
 -- .. and a table
 pub same-plan : (t : Table) → IsSamePlan t t
-same-plan t = record { geometry = refl; layout = refl; place = refl; buckets = refl; error = refl; bitmaps = plan-same t.bitmaps }
+same-plan t = record { geometry = refl; layout = refl; place = refl; buckets = refl; error = refl; bitmaps = plan-same t.bitmaps; blobs = variable.plan-same t.blobs; limit = refl }
 
 pub same-on : (old mid new : Table) → IsSamePlan old mid → IsSamePlan mid new → IsSamePlan old new
-same-on old mid new a b = record { geometry = b.geometry ∙ a.geometry; layout = b.layout ∙ a.layout; place = b.place ∙ a.place; buckets = b.buckets ∙ a.buckets; error = b.error ∙ a.error; bitmaps = plan-then old.bitmaps mid.bitmaps new.bitmaps a.bitmaps b.bitmaps }
+same-on old mid new a b = record { geometry = b.geometry ∙ a.geometry; layout = b.layout ∙ a.layout; place = b.place ∙ a.place; buckets = b.buckets ∙ a.buckets; error = b.error ∙ a.error; bitmaps = plan-then old.bitmaps mid.bitmaps new.bitmaps a.bitmaps b.bitmaps; blobs = variable.plan-then old.blobs mid.blobs new.blobs a.blobs b.blobs; limit = b.limit ∙ a.limit }

@@ -1,4 +1,5 @@
 pub mod Equality
+pub mod Pairing
 pub mod Parts
 pub mod Reading
 pub mod Running
@@ -31,6 +32,8 @@ pub mod TablesMade
 pub mod Over
 pub mod Fresh
 pub mod Completing
+pub mod BlobLines
+pub mod BlobNotes
 pub mod BuiltAll
 pub mod Untouched
 pub mod Generating
@@ -55,3 +58,7 @@ pub mod Following
 pub mod Resumed
 pub mod CursorMoves
 pub mod MountReads
+pub mod BuiltLines
+pub mod Plainly
+pub mod Exactly
+pub mod Bounded

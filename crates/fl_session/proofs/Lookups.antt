@@ -1,21 +1,32 @@
 -- The replies to a lookup.
-use Rattle.std.proofs.Common.{◌≡◌, ℕ, ◌+◌, ◌≤◌, true, false, Some, None, List, refl, sym, ◌∙◌, ap, inl, inr}
+use Rattle.std.proofs.Common.{◌≡◌, ℕ, suc, ◌+◌, ◌-◌, ◌<◌, ◌≤◌, Bool, true, false, IsTrue, Option, Some, None, List, [], ◌∷◌, length, map, refl, sym, ◌∙◌, ap, inl, inr, arith}
+use Rattle.std.specs.Prelude.{is_some, ◌==◌}
+use Rattle.std.proofs.lemmas.Bool.{eqb-true}
+use Rattle.std.proofs.Common.{length-take}
+use Rattle.std.specs.List.{slice_get}
+use Rattle.fl_find.proofs.Entries.{row-entry}
 use Rattle.fl_flash.specs.Buffer.{BufferState}
 use Rattle.fl_flash.specs.Flash.{FlashState}
 use Rattle.fl_flash.specs.declared.flash.FlashFault.{FlashFault}
 use Rattle.fl_flash.specs.declared.flash.FlashFault.TheVariants.{PowerLost, Media}
+use Rattle.fl_model.specs.Facts.{IsTable}
 use Rattle.fl_model.specs.Query.{entry_at}
 use Rattle.fl_model.specs.Record.{Plan, has_var}
 use Rattle.fl_model.specs.Row.{Row, stored_row}
 use Rattle.fl_model.specs.Table as model
-use Rattle.fl_model.specs.Table.{Entry, pending_entries}
-use Rattle.fl_ring.specs.Looking.{ReadFails}
+use Rattle.fl_model.specs.Table.{Entry, pending_entries, written}
+use Rattle.fl_model.proofs.Lists.{slice_get-drop, slice_get-front, slice_get-short}
+use Rattle.fl_page.specs.declared.fault.ReadFault.TheVariants as fault
+use Rattle.fl_search.specs.Search.{RoseSome}
 use Rattle.fl_words.specs.Reply as reply
 use Rattle.fl_words.specs.Reply.{Reply, text}
 use Rattle.fl_machine.specs.Step.{row_of, found_reply}
 use Rattle.fl_model.specs.Spline.{lookup_limit}
-use Rattle.fl_table.specs.Finding.{IsFound, ShowsEntry, row_of_place}
+use Rattle.fl_table.specs.Finding.{IsFound, ShowsEntry, TookReads, LookupFails, row_of_place}
 use Rattle.fl_table.specs.declared.find.RowAt.{RowAt}
+use Rattle.fl_table.specs.declared.find.RowAt.TheVariants as at
+use Rattle.fl_table.specs.declared.table.Table.{Table}
+use Rattle.fl_table.proofs.PendingRows.{entry-front}
 use Rattle.fl_session.specs.Looked.{Looks}
 use Rattle.fl_session.specs.Rows.{row_reply}
 use Rattle.fl_session.proofs.RowLines.{row-line}
@@ -26,15 +37,70 @@ same-some a b e = cc
 never : {P : Type 0} → false ≡ true → P
 never e = cc
 
+-- ---- a record that was found in memory isn't written
+
+the-entry : (o : Option Entry) → IsTrue (is_some o) → (entry : Entry) × (o ≡ Some entry)
+the-entry None some = never some
+the-entry (Some entry) some = (entry, refl)
+
+-- the record that is found has the key, and a place
+found-place : (key : ℕ) (entries : List Entry) (entry : Entry) → entry_at key entries ≡ Some entry → (i : ℕ) × (slice_get entries i ≡ Some entry) × (entry.kept.key ≡ key)
+found-place key [] entry e = absurd (none e)
+  where
+    none : ◌≡◌ {A = Option Entry} None (Some entry) → ⊥
+    none e = cc
+found-place key (x ∷ entries) entry e = by_key (x.kept.key == key) refl (found-place key entries entry)
+  where
+    by_key : (b : Bool) → (x.kept.key == key) ≡ b → (entry_at key entries ≡ Some entry → (i : ℕ) × (slice_get entries i ≡ Some entry) × (entry.kept.key ≡ key)) → (i : ℕ) × (slice_get (x ∷ entries) i ≡ Some entry) × (entry.kept.key ≡ key)
+    by_key true t later =
+        let same : x ≡ entry = same-some x entry (rw t at e) in
+        (0, ap (λ (y : Entry). Some y) same, ap (λ (y : Entry). y.kept.key) (sym same) ∙ eqb-true x.kept.key key t)
+    by_key false t later =
+        let rest = later (rw t at e) in
+        (suc rest.0, rest.1, rest.2)
+
+pending-unwritten : (plan : Plan) (table : model.Table) (key i : ℕ) (entry : Entry) → IsTable plan table → entry.kept.key ≡ key → slice_get (map stored_row (pending_entries table)) i ≡ Some (stored_row entry) → IsTrue (is_some (entry_at key (written table))) → ⊥
+pending-unwritten plan table key i entry facts has there some =
+    let n = length table.entries - table.pending in
+    let w = the-entry (entry_at key (written table)) some in
+    let first = found-place key (written table) w.0 w.1 in
+    let x = row-entry (pending_entries table) i (stored_row entry) there in
+    let same : x.0.kept.key ≡ key = ap (λ (r : Row). r.key) x.2 ∙ has in
+    let before : first.0 < length (written table) = slice_get-short (written table) first.0 w.0 first.1 in
+    let up = facts.ascending first.0 (length table.entries - table.pending + i) w.0 x.0 (omega (arith, before, length-take (length table.entries - table.pending) table.entries))
+    (slice_get-front (length table.entries - table.pending) table.entries first.0 w.0 first.1) (sym (slice_get-drop (length table.entries - table.pending) table.entries i) ∙ x.1) in
+    omega (arith, up, first.2, same)
+
+-- a written record took a read
+took-reads : (plan : Plan) (table : model.Table) (key reads reads_now : ℕ) (buf : BufferState) (place : RowAt) → IsTable plan table → ShowsEntry plan table key buf place → TookReads reads reads_now (Some place) → IsTrue (is_some (entry_at key (written table))) → RoseSome reads reads_now
+took-reads plan table key reads reads_now buf (at.Pending i) facts shows took some =
+    let here = found-place key table.entries shows.entry shows.found in
+    absurd (pending-unwritten plan table key i shows.entry facts here.2 shows.row some)
+took-reads plan table key reads reads_now buf (at.InPage place) facts shows took some = took
+
 -- no record has the key
 pub looks-absent : (plan : Plan) (table : model.Table) (key faults faults_now reads reads_now : ℕ) (said : List ℕ) (buf : BufferState) → IsFound 64 plan table key reads reads_now buf None → reads_now ≤ reads + lookup_limit 64 plan table key → entry_at key table.entries ≡ None → said ≡ text reply.Absent → Looks plan table key faults faults_now reads reads_now said
-looks-absent plan table key faults faults_now reads reads_now said buf found within none is =
-    record { rose = false; risen = λ t. never t; reply = reply.Absent; reply_is = inl (ap (found_reply plan) (sym none)); said_is = is; within = within; exact = λ unread. found.exact }
+looks-absent plan table key faults faults_now reads reads_now said buf found within none is = record {
+  rose = false;
+  risen = λ t. never t;
+  reply = reply.Absent;
+  reply_is = inl (ap (found_reply plan) (sym none));
+  said_is = is;
+  within = within;
+  exact = λ unread. found.exact;
+  found = λ unread some.
+      let w = the-entry (entry_at key (written table)) some in
+      absurd (no w.0 (sym none ∙ entry-front key (length table.entries - table.pending) table.entries w.0 w.1));
+  failed = λ t. never t;
+}
+  where
+    no : (entry : Entry) → ◌≡◌ {A = Option Entry} None (Some entry) → ⊥
+    no entry e = cc
 
 -- one has it, and this is its row
-pub looks-found : (plan : Plan) (table : model.Table) (key faults faults_now reads reads_now : ℕ) (buf : BufferState) (place : RowAt) (row : Row) (said : List ℕ) → has_var plan ≡ false → IsFound 64 plan table key reads reads_now buf (Some place) → reads_now ≤ reads + lookup_limit 64 plan table key →
+pub looks-found : (plan : Plan) (table : model.Table) (key faults faults_now reads reads_now : ℕ) (buf : BufferState) (place : RowAt) (row : Row) (said : List ℕ) → has_var plan ≡ false → IsTable plan table → IsFound 64 plan table key reads reads_now buf (Some place) → reads_now ≤ reads + lookup_limit 64 plan table key →
     ShowsEntry plan table key buf place → row_of_place plan table buf place ≡ Some row → said ≡ text (row_reply row) → Looks plan table key faults faults_now reads reads_now said
-looks-found plan table key faults faults_now reads reads_now buf place row said none found within shows at is =
+looks-found plan table key faults faults_now reads reads_now buf place row said none facts found within shows at is =
     let same : row ≡ stored_row shows.entry = same-some row (stored_row shows.entry) (sym at ∙ shows.row) in
     record {
       rose = false;
@@ -44,12 +110,25 @@ looks-found plan table key faults faults_now reads reads_now buf place row said 
       said_is = is ∙ ap text (ap row_reply same ∙ row-line plan shows.entry none);
       within = within;
       exact = λ unread. found.exact;
+      found = λ unread some. took-reads plan table key reads reads_now buf place facts shows found.some some;
+      failed = λ t. never t;
     }
 
 -- a page wasn't read
-pub looks-unread : (plan : Plan) (table : model.Table) (key : ℕ) (old new : FlashState) (fault : FlashFault) (said : List ℕ) → old.is_on ≡ true → ReadFails old fault new → new.work.reads ≤ old.work.reads + lookup_limit 64 plan table key → said ≡ text reply.ReadFault → Looks plan table key old.media.faults new.media.faults old.work.reads new.work.reads said
-looks-unread plan table key old new PowerLost said on fails within is = never (sym fails ∙ on)
-looks-unread plan table key old new Media said on fails within is = record { rose = true; risen = λ t. fails; reply = reply.ReadFault; reply_is = inr (refl, refl); said_is = is; within = within; exact = λ unread. absurd (no unread) }
+pub looks-unread : (plan : Plan) (table : model.Table) (key : ℕ) (t : Table) (old new : FlashState) (e : FlashFault) (said : List ℕ) → old.is_on ≡ true → LookupFails t old (fault.Flash e) new → new.work.reads ≤ old.work.reads + lookup_limit 64 plan table key → said ≡ text reply.ReadFault →
+    Looks plan table key old.media.faults new.media.faults old.work.reads new.work.reads said
+looks-unread plan table key t old new PowerLost said on fails within is = never (sym fails.0 ∙ on)
+looks-unread plan table key t old new Media said on fails within is = record {
+  rose = true;
+  risen = λ t. fails.0;
+  reply = reply.ReadFault;
+  reply_is = inr (refl, refl);
+  said_is = is;
+  within = within;
+  exact = λ unread. absurd (no unread);
+  found = λ unread. absurd (no unread);
+  failed = λ t. fails.1;
+}
   where
     no : true ≡ false → ⊥
     no e = cc

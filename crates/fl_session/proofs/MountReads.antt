@@ -21,7 +21,9 @@ use Rattle.fl_machine.specs.Step.{Moment, Step, StepOf, Says, EndsAs, EndsMount}
 use Rattle.fl_script.specs.Written.{Written}
 use Rattle.fl_index.specs.declared.index.Index.{Index}
 use Rattle.fl_table.specs.Bitmaps.{ArePlanned, room_of}
+use Rattle.fl_table.specs.Blobs as variable
 use Rattle.fl_table.specs.Mounting.{pages_in}
+use Rattle.fl_var.specs.declared.var_data.VarData.{VarData}
 use Rattle.fl_session.specs.Answer.{Answers}
 use Rattle.fl_session.specs.Cost.{ReadsMount}
 use Rattle.fl_session.specs.Execute.{Executes}
@@ -74,6 +76,10 @@ index-room : (bitmaps : Option Index) (first : ℕ) (plan : Plan) → ArePlanned
 index-room None first plan h = omega arith
 index-room (Some index) first plan h = rw (h.blocks, h.geometry) (omega arith)
 
+var-room : (blobs : Option VarData) (first : ℕ) (plan : Plan) → variable.ArePlanned blobs first plan → variable.room_of blobs ≤ plan.var_blocks * plan.geometry.block
+var-room None first plan h = omega arith
+var-room (Some var) first plan h = rw (h.planned.blocks, h.planned.geometry) (omega arith)
+
 module _ (config : Config) (old : Machine) (entries : List Entry) (notes : Notes) (f g : FlashState) (mounted : Bool) (h : SessionStands config entries f mounted notes old) where
   few-pages : pages_of entries ≤ machine.pages_in config
   few-pages = pages-within config.plans entries config.geometry.block h.tables.as_many (λ i plan entry p e.
@@ -83,7 +89,9 @@ module _ (config : Config) (old : Machine) (entries : List Entry) (notes : Notes
       let rows : entry.table.place.blocks * entry.table.geometry.block ≡ plan.data_blocks * config.geometry.block = rw (s.planned.blocks, geometry) refl in
       let index = index-room entry.table.bitmaps (first_of config.plans i + plan.data_blocks) plan s.planned.index in
       let block : plan.index_blocks * plan.geometry.block ≡ plan.index_blocks * config.geometry.block = ap (λ (k : Geometry). plan.index_blocks * k.block) (s.geometry ∙ h.medium.geometry) in
-      omega (arith, rows, index, block, add-mul plan.data_blocks plan.index_blocks config.geometry.block, add-mul (plan.data_blocks + plan.index_blocks) plan.var_blocks config.geometry.block))
+      let var = var-room entry.table.blobs (first_of config.plans i + plan.data_blocks + plan.index_blocks) plan s.planned.var in
+      let block_var : plan.var_blocks * plan.geometry.block ≡ plan.var_blocks * config.geometry.block = ap (λ (k : Geometry). plan.var_blocks * k.block) (s.geometry ∙ h.medium.geometry) in
+      omega (arith, rows, index, block, var, block_var, add-mul plan.data_blocks plan.index_blocks config.geometry.block, add-mul (plan.data_blocks + plan.index_blocks) plan.var_blocks config.geometry.block))
 
   mount-limit : (moment : Moment) → ReadsMount mounted f g (4 * pages_of entries) → moment.reads ≡ g.work.reads - f.work.reads → LimitOf config old moment command.Mount
   mount-limit moment few is = subst (λ b. MatchBool b (none_read moment) (moment.reads ≤ 4 * machine.pages_in config)) (sym h.is_mounted) (by_mounted mounted few)

@@ -1,12 +1,14 @@
 -- The commands of a session that list what an operator makes of a range.
-use Rattle.std.proofs.Common.{◌≡◌, ℕ, ◌<◌, ◌≤◌, Bool, true, false, nat_lt, IsTrue, length, arith, Option, Some, None, Result, ℤ, List, [], ◌∷◌, refl, sym, ◌∙◌, ap, subst}
+use Rattle.std.proofs.Common.{◌≡◌, ℕ, ◌+◌, ◌<◌, ◌≤◌, Bool, true, false, nat_lt, IsTrue, length, arith, Option, Some, None, Result, ℤ, List, [], ◌∷◌, refl, sym, ◌∙◌, ap, map, subst}
 use Rattle.std.proofs.lemmas.Bool.Decides.{nat_tests}
 use Rattle.std.specs.Prelude.{MatchOption}
 use Rattle.std.specs.List.{slice_get}
 use Rattle.fl_base.specs.declared.types.KeyRange.{KeyRange}
 use Rattle.fl_base.specs.declared.types.Op.{Op}
 use Rattle.fl_flash.specs.Flash.{FlashState}
-use Rattle.fl_model.specs.Record.{Config, Plan, RowLayout}
+use Rattle.fl_model.specs.Limits.{scan_limit, least_reads}
+use Rattle.fl_model.specs.Operators.{key_join}
+use Rattle.fl_model.specs.Record.{Config, Plan, RowLayout, has_var}
 use Rattle.fl_model.specs.Table as model
 use Rattle.fl_page.specs.Contents.{OnlyReads}
 use Rattle.fl_words.specs.Command as words
@@ -14,7 +16,8 @@ use Rattle.fl_words.specs.Command.{Command}
 use Rattle.fl_words.specs.Reply as reply
 use Rattle.fl_words.specs.Reply.{Reply, text}
 use Rattle.fl_machine.specs.Machine.{Machine}
-use Rattle.fl_machine.specs.Step.{Moment, Step, Located, WithTable, WithColumns, Counts, Says, no_column}
+use Rattle.fl_machine.specs.Reads.{none_read, OnTable, OnColumns}
+use Rattle.fl_machine.specs.Step.{Moment, Step, Located, WithTable, WithColumns, Counts, Says, no_column, records_of, pair_reply}
 use Rattle.fl_script.specs.ReplyView.{reply_text}
 use Rattle.fl_script.specs.Written.{Written}
 use Rattle.fl_script.specs.declared.reply.Reply as code
@@ -24,19 +27,21 @@ use Rattle.fl_table.specs.Standing.{Stands}
 use Rattle.fl_table.specs.declared.table.Table.{Table}
 use Rattle.fl_session.specs.Answer.{Refusal, IsReached}
 use Rattle.fl_session.specs.Asked.{lacked_column}
-use Rattle.fl_session.specs.Cost.{HasRead, CountsReads, ReadsAsStated}
+use Rattle.fl_session.specs.Cost.{HasRead, CountsReads, ReadsScan, ReadsAsStated}
 use Rattle.fl_session.specs.Execute.{Executes}
 use Rattle.fl_session.specs.Lines.{Counted}
 use Rattle.fl_session.specs.Standing.{SessionStands}
 use Rattle.fl_session.specs.Tables.{first_of}
 use Rattle.fl_session.specs.declared.tables.Entry.{Entry}
 use Rattle.fl_session.specs.declared.notes.Notes.{Notes}
-use Rattle.fl_session.proofs.Answering.{executes-answered, answers-saying, saying, says, table-step}
+use Rattle.fl_session.proofs.BuiltAll.{no-blobs}
+use Rattle.fl_session.proofs.Answering.{executes-answered, answers-saying, saying, says, step-is, table-step}
 use Rattle.fl_session.proofs.Costing.{read-none}
 use Rattle.fl_session.proofs.Executing.{executes-by}
-use Rattle.fl_session.proofs.Getting.{session-read}
+use Rattle.fl_session.proofs.Getting.{session-read, on-table, off-table}
 use Rattle.fl_session.proofs.Owning.{own-of}
 use Rattle.fl_session.proofs.Refusing.{answers-refused}
+use Rattle.fl_session.proofs.Scanned.{on-ok-weaker}
 
 -- one column that is there, and one that isn't
 pub has-column : (t : Table) (first : ℕ) (plan : Plan) (column : ℕ) → column ≤ length (layout_in t).columns → IsPlanned t first plan → no_column plan (column ∷ []) ≡ None
@@ -61,33 +66,40 @@ session-still config entries notes f g m only h =
 pub lacked-column : (t : Table) (first : ℕ) (plan : Plan) (columns : List ℕ) (lacked : Option ℕ) → lacked ≡ lacked_column (layout_in t) columns → IsPlanned t first plan → no_column plan columns ≡ lacked
 lacked-column t first plan columns lacked is h = ap (λ (l : RowLayout). lacked_column l columns) h.layout ∙ sym is
 
-module _ (E : Type 0) (config : Config) (old : Machine) (entries : List Entry) (asked : List ℕ) (notes : Notes) (f : FlashState) (mounted : Bool) (command : List ℕ → Command) (columns : List ℕ) (lines : Located → List Reply)
+module _ (E : Type 0) (config : Config) (old : Machine) (entries : List Entry) (asked : List ℕ) (notes : Notes) (f : FlashState) (mounted : Bool) (command : List ℕ → Command) (columns : List ℕ) (range : KeyRange) (lines : Located → List Reply)
     (told told_now : Option (List ℕ)) (result : Result (Unit {0}) E)
-    (steps : (at : List ℕ) (moment : Moment) → moment.command ≡ command at → WithTable config old moment at (WithColumns old moment columns (λ place. Counts old moment (lines place) old)) → Step config old moment) where
+    (steps : (at : List ℕ) (moment : Moment) → moment.command ≡ command at → WithTable config old moment at (WithColumns old moment columns (λ place. Counts old moment (lines place) old)) → Step config old moment)
+    (states : (g : FlashState) (moment : Moment) → OnTable config old moment asked (OnColumns moment columns (ReadsScan config moment range None g result)) → ReadsAsStated config old moment g result (command asked)) where
   -- it is executed
-  pub operator-executes : (at : ℕ) (entry : Entry) (g : FlashState) (reads : ℕ) → ((moment : Moment) → HasRead f moment.reads g → CountsReads f moment g (command asked)) → ((moment : Moment) → ReadsAsStated config old moment g result (command asked)) →
+  pub operator-executes : (at : ℕ) (entry : Entry) (g : FlashState) (reads : ℕ) → ((moment : Moment) → HasRead f moment.reads g → CountsReads f moment g (command asked)) →
       SessionStands config entries f mounted notes old → IsReached entries mounted asked at → slice_get entries at ≡ Some entry → OnlyReads f g → HasRead f reads g →
       ((first : ℕ) (plan : Plan) → IsPlanned entry.table first plan → no_column plan columns ≡ None) →
-      ((first : ℕ) (plan : Plan) (table : model.Table) → IsTrue f.media.tells → f.is_on ≡ true → Stands entry.table f first plan table → Counted (lines (record { place = at; plan = plan; table = table })) told told_now f.media.faults g.media.faults result) →
+      ((first : ℕ) (plan : Plan) (table : model.Table) → IsTrue f.media.tells → f.is_on ≡ true → Stands entry.table f first plan table → has_var plan ≡ false → Counted (lines (record { place = at; plan = plan; table = table })) (scan_limit 64 plan table range None range.low) (least_reads plan table range None) told told_now f.media.faults g.media.faults f.work.reads g.work.reads result) →
       Executes config old (command asked) (SessionStands config entries g mounted notes) f g told told_now result
-  operator-executes at entry g reads counts stated h r there only counted within lists =
+  operator-executes at entry g reads counts h r there only counted within lists =
       let h' = subst (λ m. SessionStands config entries f m notes old) r.mounted_is h in
       let own = own-of config old entries f notes asked at entry h' there r.named in
       let first = first_of config.plans at in
-      let s = lists first own.plan own.table h'.medium.told (h'.power refl) own.stands.on_flash in
+      let s = lists first own.plan own.table h'.medium.told (h'.power refl) own.stands.on_flash (no-blobs config.plans h'.built at own.plan own.plan_is) in
       let place : Located = record { place = at; plan = own.plan; table = own.table } in
       let moment : Moment = record { command = command asked; rose = s.rose; reads = reads; last = None; replies = s.replies; after = old } in
       let here = subst (λ (none : Option ℕ). MatchOption none (Counts old moment (lines place) old) (λ column. Says moment (reply.NoColumn column ∷ []) old)) (sym (within first own.plan own.stands.planned)) (refl, refl, s.lists) in
       let step = steps asked moment refl (table-step config old moment asked (WithColumns old moment columns (λ place. Counts old moment (lines place) old)) place h'.is_mounted own.found here) in
+      let read : ReadsScan config moment range None g result place = record {
+        within = omega (arith, s.within, counted.flash, ap (λ n. scan_limit n own.plan own.table range None range.low) h'.knots);
+        least = on-ok-weaker result (λ some below unread. let more = some unread below in omega (arith, more, counted.flash)) s.some;
+      } in
+      let stated = on-table config old moment asked (OnColumns moment columns (ReadsScan config moment range None g result)) place h'.is_mounted own.found
+      (subst (λ (none : Option ℕ). MatchOption none (ReadsScan config moment range None g result place) (λ column. none_read moment)) (sym (within first own.plan own.stands.planned)) read) in
       subst (λ m. Executes config old (command asked) (SessionStands config entries g m notes) f g told told_now result) (sym r.mounted_is)
-      (executes-by E config old (command asked) (SessionStands config entries g true notes) f g told told_now result moment refl step (session-still config entries notes f g old only h') (counts moment counted) (stated moment) s.risen s.wrote)
+      (executes-by E config old (command asked) (SessionStands config entries g true notes) f g told told_now result moment refl step (session-still config entries notes f g old only h') (counts moment counted) (states g moment stated) s.risen s.wrote)
 
   -- it asks for a column that isn't there
-  pub operator-no_column : (at : ℕ) (entry : Entry) → ((moment : Moment) → HasRead f moment.reads f → CountsReads f moment f (command asked)) → ((moment : Moment) → ReadsAsStated config old moment f result (command asked)) →
+  pub operator-no_column : (at : ℕ) (entry : Entry) → ((moment : Moment) → HasRead f moment.reads f → CountsReads f moment f (command asked)) →
       SessionStands config entries f mounted notes old → IsReached entries mounted asked at → slice_get entries at ≡ Some entry → (column : ℕ) → ((first : ℕ) (plan : Plan) → IsPlanned entry.table first plan → no_column plan columns ≡ Some column) →
       Written told told_now result (text (reply.NoColumn column)) →
       Executes config old (command asked) (SessionStands config entries f mounted notes) f f told told_now result
-  operator-no_column at entry counts stated h r there column lacks wrote =
+  operator-no_column at entry counts h r there column lacks wrote =
       let h' = subst (λ m. SessionStands config entries f m notes old) r.mounted_is h in
       let own = own-of config old entries f notes asked at entry h' there r.named in
       let place : Located = record { place = at; plan = own.plan; table = own.table } in
@@ -96,17 +108,84 @@ module _ (E : Type 0) (config : Config) (old : Machine) (entries : List Entry) (
       let step = steps asked moment refl (table-step config old moment asked (WithColumns old moment columns (λ place. Counts old moment (lines place) old)) place h'.is_mounted own.found here) in
       subst (λ m. Executes config old (command asked) (SessionStands config entries f m notes) f f told told_now result) (sym r.mounted_is)
       (executes-answered E config old (command asked) (SessionStands config entries f true notes) f f (text (reply.NoColumn column)) told told_now result
-      (answers-saying config old (command asked) (reply.NoColumn column) old (SessionStands config entries f true notes) f.media.faults f.media.faults step h') (λ moment none. counts moment (read-none f moment.reads none)) (λ moment none. stated moment) wrote)
+      (answers-saying config old (command asked) (reply.NoColumn column) old (SessionStands config entries f true notes) f.media.faults f.media.faults step h') (λ moment none. counts moment (read-none f moment.reads none))
+      (λ moment none. states f moment (on-table config old moment asked (OnColumns moment columns (ReadsScan config moment range None f result)) place h'.is_mounted own.found
+      (subst (λ (some : Option ℕ). MatchOption some (ReadsScan config moment range None f result place) (λ column. none_read moment)) (sym (lacks (first_of config.plans at) own.plan own.stands.planned)) none))) wrote)
 
   -- it isn't executed
-  pub operator-refused : ((moment : Moment) → HasRead f moment.reads f → CountsReads f moment f (command asked)) → ((moment : Moment) → ReadsAsStated config old moment f result (command asked)) →
+  pub operator-refused : ((moment : Moment) → HasRead f moment.reads f → CountsReads f moment f (command asked)) →
       SessionStands config entries f mounted notes old → (said : code.Reply) → Refusal entries mounted asked said → Written told told_now result (reply_text said) →
       Executes config old (command asked) (SessionStands config entries f mounted notes) f f told told_now result
-  operator-refused counts stated h said r wrote =
+  operator-refused counts h said r wrote =
       executes-answered E config old (command asked) (SessionStands config entries f mounted notes) f f (reply_text said) told told_now result
-      (answers-refused config old entries notes f mounted (command asked) asked (λ moment. WithColumns old moment columns (λ place. Counts old moment (lines place) old)) said f.media.faults h r (λ moment is w. steps asked moment is w)) (λ moment none. counts moment (read-none f moment.reads none)) (λ moment none. stated moment) wrote
+      (answers-refused config old entries notes f mounted (command asked) asked (λ moment. WithColumns old moment columns (λ place. Counts old moment (lines place) old)) said f.media.faults h r (λ moment is w. steps asked moment is w)) (λ moment none. counts moment (read-none f moment.reads none))
+      (λ moment none. states f moment (off-table config old entries notes f mounted moment asked (OnColumns moment columns (ReadsScan config moment range None f result)) said h r none)) wrote
 
 -- the same value by another name
 pub select-by : {E : Type 0} {config : Config} {old : Machine} {name : List ℕ} {range : KeyRange} {column : ℕ} {op : Op} {v w : ℤ} {stands : Machine → Type 0} {f g : FlashState} {told now : Option (List ℕ)} {result : Result (Unit {0}) E} → v ≡ w →
     Executes config old (words.Select name range column op v) stands f g told now result → Executes config old (words.Select name range column op w) stands f g told now result
 select-by {E} {config} {old} {name} {range} {column} {op} {v} {w} {stands} {f} {g} {told} {now} {result} same h = subst (λ x. Executes config old (words.Select name range column op x) stands f g told now result) same h
+
+module _ (E : Type 0) (config : Config) (old : Machine) (entries : List Entry) (left right : List ℕ) (notes : Notes) (f : FlashState) (mounted : Bool) (range : KeyRange) (told told_now : Option (List ℕ)) (result : Result (Unit {0}) E) where
+  abbrev pairs_at : Located → Located → List Reply
+  pairs_at a b = map pair_reply (key_join (records_of range a) (records_of range b))
+
+  abbrev CountsPairs : Moment → Located → Located → Type 0
+  CountsPairs moment a b = Counts old moment (pairs_at a b) old
+
+  -- it reads no more than two scans
+  abbrev IsWithinBoth : Moment → Located → Located → Type 0
+  IsWithinBoth moment a b = moment.reads ≤ scan_limit config.knots a.plan a.table range None range.low + scan_limit config.knots b.plan b.table range None range.low
+
+  join-step : (moment : Moment) → moment.command ≡ words.Join left right range → WithTable config old moment left (λ a. WithTable config old moment right (CountsPairs moment a)) → Step config old moment
+  join-step moment is w = step-is config old moment (words.Join left right range) is w
+
+  -- the pairs of the rows of two tables
+  pub join-executes : (l r : ℕ) (a b : Entry) (g : FlashState) (reads : ℕ) → SessionStands config entries f mounted notes old → IsReached entries mounted left l → slice_get entries l ≡ Some a → IsReached entries mounted right r → slice_get entries r ≡ Some b →
+      OnlyReads f g → HasRead f reads g →
+      ((first second : ℕ) (p q : Plan) (t u : model.Table) → IsTrue f.media.tells → f.is_on ≡ true → Stands a.table f first p t → Stands b.table f second q u →
+      Counted (pairs_at (record { place = l; plan = p; table = t }) (record { place = r; plan = q; table = u })) (scan_limit 64 p t range None range.low + scan_limit 64 q u range None range.low) 0
+      told told_now f.media.faults g.media.faults f.work.reads g.work.reads result) →
+      Executes config old (words.Join left right range) (SessionStands config entries g mounted notes) f g told told_now result
+  join-executes l r a b g reads h at_left left_there at_right right_there only counted lists =
+      let h' = subst (λ m. SessionStands config entries f m notes old) at_left.mounted_is h in
+      let own = own-of config old entries f notes left l a h' left_there at_left.named in
+      let other = own-of config old entries f notes right r b h' right_there at_right.named in
+      let s = lists (first_of config.plans l) (first_of config.plans r) own.plan other.plan own.table other.table h'.medium.told (h'.power refl) own.stands.on_flash other.stands.on_flash in
+      let place : Located = record { place = l; plan = own.plan; table = own.table } in
+      let beside : Located = record { place = r; plan = other.plan; table = other.table } in
+      let moment : Moment = record { command = words.Join left right range; rose = s.rose; reads = reads; last = None; replies = s.replies; after = old } in
+      let step = join-step moment refl (table-step config old moment left (λ a. WithTable config old moment right (CountsPairs moment a)) place h'.is_mounted own.found
+      (table-step config old moment right (CountsPairs moment place) beside h'.is_mounted other.found (refl, refl, s.lists))) in
+      let within : IsWithinBoth moment place beside = omega (
+        arith,
+        s.within,
+        counted.flash,
+        ap (λ n. scan_limit n own.plan own.table range None range.low) h'.knots,
+        ap (λ n. scan_limit n other.plan other.table range None range.low) h'.knots,
+      ) in
+      let stated = on-table config old moment left (λ a. OnTable config old moment right (IsWithinBoth moment a)) place h'.is_mounted own.found
+      (on-table config old moment right (IsWithinBoth moment place) beside h'.is_mounted other.found within) in
+      subst (λ m. Executes config old (words.Join left right range) (SessionStands config entries g m notes) f g told told_now result) (sym at_left.mounted_is)
+      (executes-by E config old (words.Join left right range) (SessionStands config entries g true notes) f g told told_now result moment refl step (session-still config entries notes f g old only h') counted stated s.risen s.wrote)
+
+  -- the left one isn't there, or nothing is mounted
+  pub join-refused : SessionStands config entries f mounted notes old → (said : code.Reply) → Refusal entries mounted left said → Written told told_now result (reply_text said) →
+      Executes config old (words.Join left right range) (SessionStands config entries f mounted notes) f f told told_now result
+  join-refused h said r wrote =
+      executes-answered E config old (words.Join left right range) (SessionStands config entries f mounted notes) f f (reply_text said) told told_now result
+      (answers-refused config old entries notes f mounted (words.Join left right range) left (λ moment a. WithTable config old moment right (CountsPairs moment a)) said f.media.faults h r join-step) (λ moment none. read-none f moment.reads none)
+      (λ moment none. off-table config old entries notes f mounted moment left (λ a. OnTable config old moment right (IsWithinBoth moment a)) said h r none) wrote
+
+  -- .. or the right one
+  pub join-alone : (l : ℕ) → SessionStands config entries f mounted notes old → IsReached entries mounted left l → (said : code.Reply) → Refusal entries mounted right said → Written told told_now result (reply_text said) →
+      Executes config old (words.Join left right range) (SessionStands config entries f mounted notes) f f told told_now result
+  join-alone l h at_left said r wrote =
+      let h' = subst (λ m. SessionStands config entries f m notes old) at_left.mounted_is h in
+      let own = own-of config old entries f notes left l at_left.named.entry h' at_left.named.here at_left.named in
+      let place : Located = record { place = l; plan = own.plan; table = own.table } in
+      executes-answered E config old (words.Join left right range) (SessionStands config entries f mounted notes) f f (reply_text said) told told_now result
+      (answers-refused config old entries notes f mounted (words.Join left right range) right (λ moment. CountsPairs moment place) said f.media.faults h r
+      (λ moment is w. join-step moment is (table-step config old moment left (λ a. WithTable config old moment right (CountsPairs moment a)) place h'.is_mounted own.found w))) (λ moment none. read-none f moment.reads none)
+      (λ moment none. on-table config old moment left (λ a. OnTable config old moment right (IsWithinBoth moment a)) place h'.is_mounted own.found
+      (off-table config old entries notes f mounted moment right (IsWithinBoth moment place) said h r none)) wrote

@@ -46,7 +46,7 @@ use Rattle.fl_session.proofs.Ready.{ready-room, stands-ready}
 use Rattle.fl_session.proofs.Ending.{runs-seen, ends-of_run, begins-ready, begins-takes}
 use Rattle.fl_session.proofs.Apart.{blocks-apart}
 use Rattle.fl_session.proofs.TablesChanged.{some-is}
-use Rattle.fl_session.proofs.BuiltAll.{ArePlain, built-all}
+use Rattle.fl_session.proofs.BuiltAll.{ArePlain, no-blobs}
 use Rattle.fl_session.proofs.Rested.{session-begins, session-ends, opened-rests, opened-formed}
 
 -- the parts of a whole configuration
@@ -75,7 +75,7 @@ pub whole-parts : (knots : ℕ) (lines : Lines) (config : Config) → whole knot
 whole-parts knots lines config e = parts_of knots lines lines.device lines.plans config refl refl e
 
 pub plain-of : (knots : ℕ) (lines : Lines) (config : Config) → are_built lines.plans ≡ true → AreParts knots lines config → ArePlain config.plans
-plain-of knots lines config built parts = built-all config.plans (ap are_built (sym parts.plans) ∙ built)
+plain-of knots lines config built parts = no-blobs config.plans (ap are_built (sym parts.plans) ∙ built)
 
 or-left : (a b : Bool) → (a || b) ≡ false → a ≡ false
 or-left true b e = e

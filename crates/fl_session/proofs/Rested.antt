@@ -107,7 +107,7 @@ new-rests config old new f start geometry content room plain h e = record {
         let blank : (ring : RingName) (n : ℕ) → is_blank (page_at f (place_in first plan ring n)) ≡ true =
         λ ring n. ap (λ c. is_blank (slice_range c (f.start + place_in first plan ring n * f.geometry.page) (f.start + place_in first plan ring n * f.geometry.page + f.geometry.page))) (content ∙ e)
         ∙ blank-part (header config) (medium_len config - 1024) (f.start + place_in first plan ring n * f.geometry.page) (f.start + place_in first plan ring n * f.geometry.page + f.geometry.page) (omega (arith, size, start)) in
-        subst (λ c. IsTableImage config c i plan (fresh_table plan)) content (rests-image config i plan (fresh_table plan) f start geometry (blank-rests f first plan (record { no_var = (plain i plan p).no_var }) blank))
+        subst (λ c. IsTableImage config c i plan (fresh_table plan)) content (rests-image config i plan (fresh_table plan) f start geometry (blank-rests f first plan blank))
 
 -- .. and has the form of its configuration
 pub opened-formed : (config : Config) (old new : MediaState) → IsTrue old.tells → Opened config old new → IsFormed config new.content

@@ -7,16 +7,15 @@ use Rattle.std.proofs.lemmas.Bool.{cases_lt}
 use Rattle.fl_base.specs.Causes.{Rose, Appends}
 use Rattle.fl_flash.specs.Flash.{FlashState}
 use Rattle.fl_model.specs.Record.{Config}
-use Rattle.fl_model.specs.Limits.{scan_limit, least_reads}
-use Rattle.fl_model.specs.Spline.{lookup_limit, lookup_reads}
+use Rattle.fl_model.specs.Spline.{lookup_limit}
 use Rattle.fl_words.specs.Command as command
 use Rattle.fl_words.specs.Command.{Command}
 use Rattle.fl_words.specs.Reply.{texts}
 use Rattle.fl_machine.specs.Machine.{Machine}
 use Rattle.fl_machine.specs.OpenCursors.{AreWithin}
 use Rattle.fl_machine.proofs.OpenCursors.{run-within}
-use Rattle.fl_machine.specs.Reads.{none_read, is_unread, has_reads, OnTable, LimitOf, RunLimits, ExactOf, RunExact, reads_in}
-use Rattle.fl_machine.specs.Step.{Moment, Step, Located, located}
+use Rattle.fl_machine.specs.Reads.{none_read, OnTable, OnColumns, WithinScan, ReadsLeast, GetExact, LimitOf, RunLimits, ExactOf, RunExact, reads_in}
+use Rattle.fl_machine.specs.Step.{Moment, Step, Located, located, no_column}
 use Rattle.fl_machine.specs.Run.{Run, end_of, written_by, risen_in}
 use Rattle.fl_machine.specs.Script.{Ran, RanInto, RoseBy}
 use Rattle.fl_machine.proofs.Steps.{finds}
@@ -75,18 +74,32 @@ on-table-weaker config old moment name P Q f h = by_cases old.mounted (located c
     by_cases true (Some at) h = f at h
     by_cases false at h = h
 
+-- .. and of one over columns
+columns-weaker : (moment : Moment) (columns : List ℕ) (P Q : Located → Type 0) → ((at : Located) → P at → Q at) → (at : Located) → OnColumns moment columns P at → OnColumns moment columns Q at
+columns-weaker moment columns P Q f at h = by_lacked (no_column at.plan columns) h
+  where
+    by_lacked : (lacked : Option ℕ) → MatchOption lacked (P at) (λ column. none_read moment) → MatchOption lacked (Q at) (λ column. none_read moment)
+    by_lacked None h = f at h
+    by_lacked (Some column) h = h
+
+on-columns-weaker : (config : Config) (old : Machine) (moment : Moment) (name columns : List ℕ) (P Q : Located → Type 0) → ((at : Located) → P at → Q at) → OnTable config old moment name (OnColumns moment columns P) → OnTable config old moment name (OnColumns moment columns Q)
+on-columns-weaker config old moment name columns P Q f h = on-table-weaker config old moment name (OnColumns moment columns P) (OnColumns moment columns Q) (columns-weaker moment columns P Q f) h
+
 limit-by : {E : Type 0} (config : Config) (old : Machine) (moment : Moment) (before now : FlashState) (result : Result (Unit {0}) E) (c : Command) → AreWithin old.cursors → CountsReads before moment now c → ReadsAsStated config old moment now result c → LimitOf config old moment c
 limit-by config old moment before now result command.Mount within h k = k
 limit-by config old moment before now result (command.Get name key) within h k =
     on-table-weaker config old moment name (ReadsGet config moment key now) (λ at. moment.reads ≤ lookup_limit config.knots at.plan at.table key) (λ at p. p.within) k
 limit-by config old moment before now result (command.Blob name key) within h k = tt
 limit-by config old moment before now result (command.Scan name range span) within h k =
-    on-table-weaker config old moment name (ReadsScan config moment range span now result) (λ at. moment.reads ≤ scan_limit config.knots at.plan at.table range span range.low) (λ at p. p.within) k
+    on-table-weaker config old moment name (ReadsScan config moment range span now result) (WithinScan config moment range span) (λ at p. p.within) k
 limit-by config old moment before now result (command.Next cursor count) within h k = k within
-limit-by config old moment before now result (command.Select name range column op value) within h k = tt
-limit-by config old moment before now result (command.Project name range columns) within h k = tt
-limit-by config old moment before now result (command.Agg name range column width) within h k = tt
-limit-by config old moment before now result (command.Join left right range) within h k = tt
+limit-by config old moment before now result (command.Select name range column op value) within h k =
+    on-columns-weaker config old moment name (column ∷ []) (ReadsScan config moment range None now result) (WithinScan config moment range None) (λ at p. p.within) k
+limit-by config old moment before now result (command.Project name range columns) within h k =
+    on-columns-weaker config old moment name columns (ReadsScan config moment range None now result) (WithinScan config moment range None) (λ at p. p.within) k
+limit-by config old moment before now result (command.Agg name range column width) within h k =
+    on-columns-weaker config old moment name (column ∷ []) (ReadsScan config moment range None now result) (WithinScan config moment range None) (λ at p. p.within) k
+limit-by config old moment before now result (command.Join left right range) within h k = k
 limit-by config old moment before now result c within h k = h.0
 
 limit : {E : Type 0} (config : Config) (old : Machine) (moment : Moment) (before now : FlashState) (result : Result (Unit {0}) E) (c : Command) → moment.command ≡ c → AreWithin old.cursors → CountsReads before moment now c → ReadsAsStated config old moment now result c → LimitOf config old moment moment.command
@@ -100,9 +113,15 @@ limits-more config old (m ∷ moments) moment run reads = (run.0, limits-more co
 
 exact-by : (E : Type 0) (config : Config) (old : Machine) (moment : Moment) (now : FlashState) (c : Command) → now.work.reads < 2 ^ 64 - 1 → ReadsAsStated {E = E} config old moment now (Ok tt) c → ExactOf config old moment c
 exact-by E config old moment now (command.Get name key) below k =
-    on-table-weaker config old moment name (ReadsGet config moment key now) (λ at. is_unread moment ≡ false → IsTrue (has_reads config.knots at.plan at.table key) → moment.reads ≡ lookup_reads config.knots at.plan at.table key) (λ at p. p.exact below) k
+    on-table-weaker config old moment name (ReadsGet config moment key now) (GetExact config moment key) (λ at p. p.exact below) k
 exact-by E config old moment now (command.Scan name range span) below k =
-    on-table-weaker config old moment name (ReadsScan {E = E} config moment range span now (Ok tt)) (λ at. is_unread moment ≡ false → least_reads at.plan at.table range span ≤ moment.reads) (λ at p. p.least below) k
+    on-table-weaker config old moment name (ReadsScan {E = E} config moment range span now (Ok tt)) (ReadsLeast moment range span) (λ at p. p.least below) k
+exact-by E config old moment now (command.Select name range column op value) below k =
+    on-columns-weaker config old moment name (column ∷ []) (ReadsScan {E = E} config moment range None now (Ok tt)) (ReadsLeast moment range None) (λ at p. p.least below) k
+exact-by E config old moment now (command.Project name range columns) below k =
+    on-columns-weaker config old moment name columns (ReadsScan {E = E} config moment range None now (Ok tt)) (ReadsLeast moment range None) (λ at p. p.least below) k
+exact-by E config old moment now (command.Agg name range column width) below k =
+    on-columns-weaker config old moment name (column ∷ []) (ReadsScan {E = E} config moment range None now (Ok tt)) (ReadsLeast moment range None) (λ at p. p.least below) k
 exact-by E config old moment now c below k = tt
 
 counted-by : (before : FlashState) (moment : Moment) (now : FlashState) (c : Command) → CountsReads before moment now c → now.work.reads ≤ before.work.reads + moment.reads

@@ -34,11 +34,15 @@ pub on-ok : {E P : Type 0} → P → (r : Result (Unit {0}) E) → OnOk r P
 on-ok p (Ok done) = p
 on-ok p (Err e) = tt
 
+pub on-ok-weaker : {E P Q : Type 0} (result : Result (Unit {0}) E) → (P → Q) → OnOk result P → OnOk result Q
+on-ok-weaker (Ok done) f p = f p
+on-ok-weaker (Err e) f p = tt
+
 no : false ≡ true → ⊥
 no e = cc
 
 -- what ends with a read fault
-unread-last : (lines : List Reply) → ends_unread (lines ++ reply.ReadFault ∷ []) ≡ true
+pub unread-last : (lines : List Reply) → ends_unread (lines ++ reply.ReadFault ∷ []) ≡ true
 unread-last lines = ap (λ (last : Option Reply). unwrap_or (option_map is_read_fault last) false) (last_or-push None lines reply.ReadFault)
 
 module _ (plan : Plan) (table : model.Table) (range : KeyRange) (span : Option Span) (count : ℕ) (first new : Cursor) (contents : Contents) (told mid now : Option (List ℕ)) (f g : FlashState) (result : Result (Unit {0}) SinkFailed)

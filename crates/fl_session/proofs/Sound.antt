@@ -6,12 +6,11 @@ use Rattle.std.proofs.lemmas.Bool.Decides.{eqb_tells}
 use Rattle.std.proofs.lemmas.Bool.{false≢true, cases_lt}
 use Rattle.std.proofs.lemmas.List.{length-set}
 use Rattle.fl_base.specs.declared.types.Geometry.{Geometry}
-use Rattle.fl_flash.specs.Flash.{FlashState, Goes, pages}
+use Rattle.fl_flash.specs.Flash.{FlashState, Goes}
 use Rattle.fl_flash.specs.declared.armed.Armed.{Armed}
-use Rattle.fl_ring.proofs.Exists.{lies_still}
 use Rattle.fl_table.specs.Memory.{LiesOn, is_running}
 use Rattle.fl_table.specs.declared.table.Table.{Table}
-use Rattle.fl_table.proofs.Indexing.{lies-goes}
+use Rattle.fl_table.proofs.StillStands.{lies-moved}
 use Rattle.fl_session.specs.Standing.{HasRooms, IsSound}
 use Rattle.fl_session.specs.Tables.{entries_with, LieOn, AreRunning}
 use Rattle.fl_session.specs.declared.buffers.Buffers.{Buffers}
@@ -23,16 +22,7 @@ use Rattle.fl_session.proofs.TablesChanged.{set-there, set-here, set-elsewhere, 
 
 -- a table lies on a flash after a call of another table
 pub lies-on : (t : Table) (f g : FlashState) → Goes f g → LiesOn t f → LiesOn t g
-lies-on t f g goes lies = record {
-  geometry = goes.geometry ∙ lies.geometry;
-  within = omega (arith, lies.within, goes.blocks);
-  few = subst (λ k. k < 2 ^ 32) (sym same) lies.few;
-  ring = λ ring is. lies_still ring f g (lies.ring ring is) goes;
-  bitmaps = lies-goes t.bitmaps f g goes lies.bitmaps;
-}
-  where
-    same : pages g ≡ pages f
-    same = ap (λ k. k * g.geometry.block) goes.blocks ∙ ap (λ (x : Geometry). f.blocks * x.block) goes.geometry
+lies-on t f g goes lies = lies-moved t f g goes lies
 
 pub lie-on : (entries : List Entry) (f g : FlashState) → Goes f g → LieOn entries f → LieOn entries g
 lie-on entries f g goes lie i entry e = lies-on entry.table f g goes (lie i entry e)
@@ -86,10 +76,11 @@ runs-after old new breaks said o e s n = e ∙ (ap (λ b. b && not breaks) o ∙
 
 -- .. and after reads, with other buffers
 pub sound-read : (entries : List Entry) (f g : FlashState) (buf buf' : Buffers) (mounted : Bool) (notes notes' : Notes) → Goes f g → length buf'.rows.bytes ≡ length buf.rows.bytes → length buf'.index.bytes ≡ length buf.index.bytes →
+    (length buf'.right_rows.bytes ≡ length buf.right_rows.bytes) × (length buf'.right_index.bytes ≡ length buf.right_index.bytes) →
     ((i : ℕ) (c : TableCursor) → slice_get notes'.cursors i ≡ Some (Some c) → c.table < length entries) → IsSound entries f buf mounted notes → IsSound entries g buf' mounted notes'
-sound-read entries f g buf buf' mounted notes notes' goes rows index cursors s = record {
+sound-read entries f g buf buf' mounted notes notes' goes rows index right cursors s = record {
   lie = lie-on entries f g goes s.lie;
-  room = subst (λ (x : Geometry). HasRooms buf' x.page) (sym goes.geometry) (rows ∙ s.room.0, index ∙ s.room.1);
+  room = subst (λ (x : Geometry). HasRooms buf' x.page) (sym goes.geometry) (rows ∙ s.room.0, index ∙ s.room.1, right.0 ∙ s.room.2, right.1 ∙ s.room.3);
   running = s.running;
   cursors = cursors;
 }
@@ -112,10 +103,11 @@ cursors-set entries cursors n mark within own i c e = by-place (eqb_tells n i)
     by-place (inr other) = within i c (sym (set-elsewhere cursors n i mark other.1) ∙ e)
 
 pub sound-off : (entries : List Entry) (f g : FlashState) (buf buf' : Buffers) (mounted : Bool) (notes : Notes) → g ≡ record f { is_on = false } → length buf'.rows.bytes ≡ length buf.rows.bytes → length buf'.index.bytes ≡ length buf.index.bytes →
+    (length buf'.right_rows.bytes ≡ length buf.right_rows.bytes) × (length buf'.right_index.bytes ≡ length buf.right_index.bytes) →
     IsSound entries f buf mounted notes → IsSound entries g buf' false notes
-sound-off entries f g buf buf' mounted notes is rows index s = rw is (record {
+sound-off entries f g buf buf' mounted notes is rows index right s = rw is (record {
   lie = lie-on entries f (record f { is_on = false }) (goes-set f false f.armed) s.lie;
-  room = (rows ∙ s.room.0, index ∙ s.room.1);
+  room = (rows ∙ s.room.0, index ∙ s.room.1, right.0 ∙ s.room.2, right.1 ∙ s.room.3);
   running = λ on. absurd (false≢true on);
   cursors = s.cursors;
 })

@@ -19,8 +19,7 @@ use Rattle.fl_table.specs.declared.table.Table.{Table}
 use Rattle.fl_table.specs.Pages.{Rests}
 use Rattle.fl_table.specs.Standing.{Stands}
 use Rattle.fl_table.proofs.Holding.{lost-twice}
-use Rattle.fl_table.proofs.Plain.{plain-facts, facts-plain, plain-lose}
-use Rattle.fl_table.proofs.SealAnswers.{planned-plain}
+use Rattle.fl_table.proofs.Plain.{plain-lose, table-facts, table-parts}
 use Rattle.fl_session.specs.Answer.{Answers}
 use Rattle.fl_session.specs.Built.{IsRunnable}
 use Rattle.fl_session.specs.Execute.{Executes}
@@ -45,9 +44,8 @@ executes-nothing E config old c stands f told e s =
 -- a table rests where what it has in memory is lost
 stands-rests : (t : Table) (f : FlashState) (first : ℕ) (plan : Plan) (table : model.Table) → Stands t f first plan table → Rests f first plan (lose table)
 stands-rests t f first plan table h =
-    let plain = planned-plain t first plan h.planned in
     record {
-      settled = record { facts = facts-plain plan (lose table) plain (plain-lose plan table (plain-facts plan table plain h.facts)); lost = lost-twice table };
+      settled = record { facts = table-facts plan (lose table) (plain-lose plan table (table-parts plan table h.facts)); lost = lost-twice table };
       pages = h.pages;
     }
 
@@ -112,33 +110,35 @@ answers-cut config old n kind stands faults faults_now s =
 pub default-view : (c : code.Command) (room : List ℕ) → IsRunnable (command_view c room) → (c ≡ code.TheVariants.Mount → ⊥) → (c ≡ code.TheVariants.Off → ⊥) → ((n : ℕ) (kind : CutKind) → c ≡ code.TheVariants.Cut n kind → ⊥) →
     ((name : _) (key : ℕ) (values : _) (blob : Bool) → c ≡ code.TheVariants.Put name key values blob → ⊥) → ((name : _) → c ≡ code.TheVariants.Flush name → ⊥) → ((name : _) → c ≡ code.TheVariants.Stat name → ⊥) → ((name : _) (key : ℕ) → c ≡ code.TheVariants.Get name key → ⊥) → ((name : _) (range : _) (span : _) → c ≡ code.TheVariants.Scan name range span → ⊥) →
     ((name : _) (count step seed : ℕ) → c ≡ code.TheVariants.Load name count step seed → ⊥) → ((cursor : ℕ) (name : _) (range : _) (span : _) → c ≡ code.TheVariants.Open cursor name range span → ⊥) → ((cursor : ℕ) → c ≡ code.TheVariants.Close cursor → ⊥) → ((cursor count : ℕ) → c ≡ code.TheVariants.Next cursor count → ⊥) →
-    (c ≡ code.TheVariants.Cost → ⊥) → ((name : _) (range : _) (column : ℕ) (op : _) (value : _) → c ≡ code.TheVariants.Select name range column op value → ⊥) → ((name : _) (range : _) (columns : _) → c ≡ code.TheVariants.Project name range columns → ⊥) → ((name : _) (range : _) (column width : ℕ) → c ≡ code.TheVariants.Agg name range column width → ⊥) → command_view c room ≡ command.Nothing
-default-view code.TheVariants.Nothing room r m n k p f s t l o u v w q x y z = refl
-default-view code.TheVariants.Mount room r m n k p f s t l o u v w q x y z = absurd (m refl)
-default-view code.TheVariants.Off room r m n k p f s t l o u v w q x y z = absurd (n refl)
-default-view (code.TheVariants.Cut i kind) room r m n k p f s t l o u v w q x y z = absurd (k i kind refl)
-default-view (code.TheVariants.Put name key values blob) room r m n k p f s t l o u v w q x y z = absurd (p name key values blob refl)
-default-view (code.TheVariants.Flush name) room r m n k p f s t l o u v w q x y z = absurd (f name refl)
-default-view (code.TheVariants.Stat name) room r m n k p f s t l o u v w q x y z = absurd (s name refl)
-default-view (code.TheVariants.Get name key) room r m n k p f s t l o u v w q x y z = absurd (t name key refl)
-default-view (code.TheVariants.Scan name range span) room r m n k p f s t l o u v w q x y z = absurd (l name range span refl)
-default-view code.TheVariants.Cost room r m n k p f s t l o u v w q x y z = absurd (q refl)
-default-view (code.TheVariants.Load name count step seed) room r m n k p f s t l o u v w q x y z = absurd (o name count step seed refl)
-default-view (code.TheVariants.Open cursor name range span) room r m n k p f s t l o u v w q x y z = absurd (u cursor name range span refl)
-default-view (code.TheVariants.Close cursor) room r m n k p f s t l o u v w q x y z = absurd (v cursor refl)
-default-view (code.TheVariants.Next cursor count) room r m n k p f s t l o u v w q x y z = absurd (w cursor count refl)
-default-view (code.TheVariants.Select name range column op value) room r m n k p f s t l o u v w q x y z = absurd (x name range column op value refl)
-default-view (code.TheVariants.Project name range columns) room r m n k p f s t l o u v w q x y z = absurd (y name range columns refl)
-default-view (code.TheVariants.Agg name range column width) room r m n k p f s t l o u v w q x y z = absurd (z name range column width refl)
-default-view (code.TheVariants.Device page block) room r m n k p f s t l o u v w q x y z = absurd (none r.runs)
+    (c ≡ code.TheVariants.Cost → ⊥) → ((name : _) (range : _) (column : ℕ) (op : _) (value : _) → c ≡ code.TheVariants.Select name range column op value → ⊥) → ((name : _) (range : _) (columns : _) → c ≡ code.TheVariants.Project name range columns → ⊥) → ((name : _) (range : _) (column width : ℕ) → c ≡ code.TheVariants.Agg name range column width → ⊥) →
+    ((left right : _) (range : _) → c ≡ code.TheVariants.Join left right range → ⊥) → command_view c room ≡ command.Nothing
+default-view code.TheVariants.Nothing room r m n k p f s t l o u v w q x y z j = refl
+default-view code.TheVariants.Mount room r m n k p f s t l o u v w q x y z j = absurd (m refl)
+default-view code.TheVariants.Off room r m n k p f s t l o u v w q x y z j = absurd (n refl)
+default-view (code.TheVariants.Cut i kind) room r m n k p f s t l o u v w q x y z j = absurd (k i kind refl)
+default-view (code.TheVariants.Put name key values blob) room r m n k p f s t l o u v w q x y z j = absurd (p name key values blob refl)
+default-view (code.TheVariants.Flush name) room r m n k p f s t l o u v w q x y z j = absurd (f name refl)
+default-view (code.TheVariants.Stat name) room r m n k p f s t l o u v w q x y z j = absurd (s name refl)
+default-view (code.TheVariants.Get name key) room r m n k p f s t l o u v w q x y z j = absurd (t name key refl)
+default-view (code.TheVariants.Scan name range span) room r m n k p f s t l o u v w q x y z j = absurd (l name range span refl)
+default-view code.TheVariants.Cost room r m n k p f s t l o u v w q x y z j = absurd (q refl)
+default-view (code.TheVariants.Load name count step seed) room r m n k p f s t l o u v w q x y z j = absurd (o name count step seed refl)
+default-view (code.TheVariants.Open cursor name range span) room r m n k p f s t l o u v w q x y z j = absurd (u cursor name range span refl)
+default-view (code.TheVariants.Close cursor) room r m n k p f s t l o u v w q x y z j = absurd (v cursor refl)
+default-view (code.TheVariants.Next cursor count) room r m n k p f s t l o u v w q x y z j = absurd (w cursor count refl)
+default-view (code.TheVariants.Select name range column op value) room r m n k p f s t l o u v w q x y z j = absurd (x name range column op value refl)
+default-view (code.TheVariants.Project name range columns) room r m n k p f s t l o u v w q x y z j = absurd (y name range columns refl)
+default-view (code.TheVariants.Agg name range column width) room r m n k p f s t l o u v w q x y z j = absurd (z name range column width refl)
+default-view (code.TheVariants.Join left right range) room r m n k p f s t l o u v w q x y z j = absurd (j left right range refl)
+default-view (code.TheVariants.Device page block) room r m n k p f s t l o u v w q x y z j = absurd (none r.runs)
   where
     none : None ≡ Some (command.Device page block) → ⊥
     none e = cc
-default-view (code.TheVariants.Table name key rows index var bits base width error blob) room r m n k p f s t l o u v w q x y z = absurd (none r.runs)
+default-view (code.TheVariants.Table name key rows index var bits base width error blob) room r m n k p f s t l o u v w q x y z j = absurd (none r.runs)
   where
     none : None ≡ Some (command_view (code.TheVariants.Table name key rows index var bits base width error blob) room) → ⊥
     none e = cc
-default-view c room r m n k p f s t l o u v w q x y z = absurd (unbuilt r.built)
+default-view c room r m n k p f s t l o u v w q x y z j = absurd (unbuilt r.built)
   where
     unbuilt : false ≡ true → ⊥
     unbuilt e = cc

@@ -16,19 +16,7 @@ use Rattle.fl_words.specs.Config.{Lines}
 use Rattle.fl_session.specs.Built.{are_built}
 use Rattle.fl_session.specs.Tables.{first_of, IsNewTable, AreNewTables}
 use Rattle.fl_session.specs.declared.tables.Entry.{Entry}
-use Rattle.fl_session.proofs.BuiltAll.{built-all}
-
--- a table that is built has no variable data
-no-ring : (o : Option RingPlace) (n : ℕ) → IfSome o IsRingSize → blocks_in o ≡ n → nat_lt 0 n ≡ false → o ≡ None
-no-ring None n h e none = refl
-no-ring (Some place) n h e none = absurd (omega (arith, h.0, e, ltb-false 0 n none))
-
-pub built-alone : (plans : List Plan) (i : ℕ) (config : TableConfig) → are_built plans ≡ true → i < length plans → IfSome (slice_get plans i) (λ plan. IsConfigOf config plan) → IsWithinLimits config → config.var ≡ None
-built-alone plans i config built lt is limits =
-    let plan = slice_get-some plans i lt in
-    let of : IsConfigOf config plan.0 = subst (λ o. IfSome o (λ plan. IsConfigOf config plan)) plan.1 is in
-    let plain = built-all plans built i plan.0 plan.1 in
-    no-ring config.var plan.0.var_blocks limits.var (ap (λ (p : Plan). p.var_blocks) of.is) plain.no_var
+use Rattle.fl_session.proofs.BuiltAll.{no-blobs}
 
 -- tables for the first lines
 pub record MadeSoFar (lines : Lines) (n : ℕ) (entries : List Entry) : Type 0 where
@@ -49,10 +37,18 @@ index-within config plan blocks of within = by-index config.index of.index (ap (
     by-index None at size = tt
     by-index (Some place) at size = omega (arith, at, size, within)
 
+-- .. and that of variable data
+var-within : (config : TableConfig) (plan : Plan) (blocks : ℕ) → IsConfigOf config plan → config.rows.first_block + blocks_of plan ≤ blocks → IfSome config.var (λ place. place.first_block + place.blocks ≤ blocks)
+var-within config plan blocks of within = by-var config.var of.var (ap (λ (p : Plan). p.var_blocks) of.is)
+  where
+    by-var : (o : Option RingPlace) → IfSome o (λ place. place.first_block ≡ config.rows.first_block + plan.data_blocks + plan.index_blocks) → blocks_in o ≡ plan.var_blocks → IfSome o (λ place. place.first_block + place.blocks ≤ blocks)
+    by-var None at size = tt
+    by-var (Some place) at size = omega (arith, at, size, within)
+
 -- the table of the next line
 new-table : (lines : Lines) (i : ℕ) (plan : Plan) (config : TableConfig) (name : List ℕ) (t : Table) → slice_get lines.plans i ≡ Some plan → lines.device ≡ Some config.geometry →
     IfSome (slice_get lines.plans i) (λ plan. IsConfigOf config plan) → IfSome (slice_get lines.plans i) (λ plan. name ≡ plan.name) → config.rows.first_block ≡ sum_by blocks_of (take i lines.plans) →
-    ((plan : Plan) → IsConfigOf config plan → IsPlanned t config.rows.first_block plan) → ((f : FlashState) → f.geometry ≡ config.geometry → config.rows.first_block + config.rows.blocks ≤ f.blocks → IfSome config.index (λ place. place.first_block + place.blocks ≤ f.blocks) → pages f < 2 ^ 32 → LiesOn t f) → IsNewTable (record { name = name; table = t }) (first_of lines.plans i) plan lines
+    ((plan : Plan) → IsConfigOf config plan → IsPlanned t config.rows.first_block plan) → ((f : FlashState) → f.geometry ≡ config.geometry → config.rows.first_block + config.rows.blocks ≤ f.blocks → IfSome config.index (λ place. place.first_block + place.blocks ≤ f.blocks) → IfSome config.var (λ place. place.first_block + place.blocks ≤ f.blocks) → pages f < 2 ^ 32 → LiesOn t f) → IsNewTable (record { name = name; table = t }) (first_of lines.plans i) plan lines
 new-table lines i plan config name t p device is named first planned lies =
     let of : IsConfigOf config plan = subst (λ o. IfSome o (λ plan. IsConfigOf config plan)) p is in
     let name_is : name ≡ plan.name = subst (λ o. IfSome o (λ (plan : Plan). name ≡ plan.name)) p named in
@@ -61,12 +57,12 @@ new-table lines i plan config name t p device is named first planned lies =
       named = sym name_is;
       device = device ∙ ap Some (geometry-of config plan of ∙ own.geometry);
       planned = subst (λ n. IsPlanned t n plan) first own;
-      lies = λ f geometry within few. lies f (geometry ∙ sym (geometry-of config plan of)) (omega (arith, within, first, ap (λ (p : Plan). p.data_blocks) of.is)) (index-within config plan f.blocks of (omega (arith, within, first))) few;
+      lies = λ f geometry within few. lies f (geometry ∙ sym (geometry-of config plan of)) (omega (arith, within, first, ap (λ (p : Plan). p.data_blocks) of.is)) (index-within config plan f.blocks of (omega (arith, within, first))) (var-within config plan f.blocks of (omega (arith, within, first))) few;
     }
 
 pub made-more : (lines : Lines) (n : ℕ) (entries : List Entry) (config : TableConfig) (name : List ℕ) (t : Table) → MadeSoFar lines n entries → lines.device ≡ Some config.geometry →
     IfSome (slice_get lines.plans n) (λ plan. IsConfigOf config plan) → IfSome (slice_get lines.plans n) (λ plan. name ≡ plan.name) → config.rows.first_block ≡ sum_by blocks_of (take n lines.plans) →
-    ((plan : Plan) → IsConfigOf config plan → IsPlanned t config.rows.first_block plan) → ((f : FlashState) → f.geometry ≡ config.geometry → config.rows.first_block + config.rows.blocks ≤ f.blocks → IfSome config.index (λ place. place.first_block + place.blocks ≤ f.blocks) → pages f < 2 ^ 32 → LiesOn t f) → MadeSoFar lines (n + 1) (entries ++ record { name = name; table = t } ∷ [])
+    ((plan : Plan) → IsConfigOf config plan → IsPlanned t config.rows.first_block plan) → ((f : FlashState) → f.geometry ≡ config.geometry → config.rows.first_block + config.rows.blocks ≤ f.blocks → IfSome config.index (λ place. place.first_block + place.blocks ≤ f.blocks) → IfSome config.var (λ place. place.first_block + place.blocks ≤ f.blocks) → pages f < 2 ^ 32 → LiesOn t f) → MadeSoFar lines (n + 1) (entries ++ record { name = name; table = t } ∷ [])
 made-more lines n entries config name t so_far device is named first planned lies = record {
   as_many = length-append entries (new ∷ []) ∙ ap (λ k. k + 1) so_far.as_many;
   each = λ i plan entry p e. by-place i plan entry p (slice_get-push entries new i entry e);

@@ -23,6 +23,7 @@ is_built (command.Select name range column op value) = true
 is_built (command.Project name range columns) = true
 -- a group has room for a key
 is_built (command.Agg name range column width) = nat_le 1 width
+is_built (command.Join left right range) = true
 is_built (command.Stat name) = true
 -- there are four cursors
 is_built (command.Open cursor name range span) = nat_lt cursor 4
@@ -33,9 +34,9 @@ is_built command.Cost = true
 is_built (command.Load name count step seed) = nat_le 1 step
 is_built c = false
 
--- the configurations: tables without an index ring and without variable data
+-- the configurations: tables without variable data
 abbrev pub is_built_plan : Plan → Bool
-is_built_plan plan = (plan.index_blocks == 0) && (plan.var_blocks == 0)
+is_built_plan plan = plan.var_blocks == 0
 
 abbrev pub are_built : List Plan → Bool
 are_built plans = list_all is_built_plan plans

@@ -1,17 +1,17 @@
 -- The cost of a command: the pages that it reads.
-use Rattle.std.specs.Prelude.{◌≡◌, ℕ, ◌+◌, ◌-◌, ◌^◌, ◌<◌, ◌≤◌, Bool, true, false, IsTrue, OnOk, Option, Result}
+use Rattle.std.specs.Prelude.{◌≡◌, ℕ, ◌+◌, ◌-◌, ◌^◌, ◌<◌, ◌≤◌, Bool, true, false, OnOk, Option, None, Result, [], ◌∷◌}
 use Rattle.fl_base.specs.declared.types.KeyRange.{KeyRange}
 use Rattle.fl_base.specs.declared.types.Span.{Span}
 use Rattle.fl_flash.specs.Flash.{FlashState}
 use Rattle.fl_model.specs.Record.{Config}
 use Rattle.fl_model.specs.Limits.{scan_limit, least_reads}
-use Rattle.fl_model.specs.Spline.{lookup_limit, lookup_reads}
+use Rattle.fl_model.specs.Spline.{lookup_limit}
 use Rattle.fl_words.specs.Command as command
 use Rattle.fl_words.specs.Command.{Command}
 use Rattle.fl_machine.specs.Machine as machine
 use Rattle.fl_machine.specs.Machine.{Machine}
 use Rattle.fl_machine.specs.OpenCursors.{AreWithin}
-use Rattle.fl_machine.specs.Reads.{none_read, is_unread, has_reads, OnTable, LimitOf}
+use Rattle.fl_machine.specs.Reads.{none_read, is_unread, OnTable, OnColumns, GetExact, LimitOf}
 use Rattle.fl_machine.specs.Step.{Moment, Located}
 use Rattle.fl_session.specs.declared.cost.Cost.{Cost}
 use Rattle.fl_session.specs.declared.cost.Cost.TheVariants.{NothingYet, OfGet, OfScan}
@@ -41,13 +41,12 @@ CountsReads old moment new (command.Agg name range column width) = HasRead old m
 CountsReads old moment new (command.Join left right range) = HasRead old moment.reads new
 CountsReads old moment new _ = none_read moment × (new.work.reads ≤ old.work.reads)
 
--- The reads of a get: at most its limit. Of a covered key that isn't pending they are those of the definition, where no read
--- failed and the flash's count isn't at its end.
+-- The reads of a get: at most its limit, and as many as is promised, where the flash's count isn't at its end.
 pub record ReadsGet (config : Config) (moment : Moment) (key : ℕ) (now : FlashState) (at : Located) : Type 0 where
   pub within : moment.reads ≤ lookup_limit config.knots at.plan at.table key
-  pub exact : now.work.reads < 2 ^ 64 - 1 → is_unread moment ≡ false → IsTrue (has_reads config.knots at.plan at.table key) → moment.reads ≡ lookup_reads config.knots at.plan at.table key
+  pub exact : now.work.reads < 2 ^ 64 - 1 → GetExact config moment key at
 
--- The reads of a scan: at most its limit. They are at least the least number, where no read and no write failed and the
+-- The reads of a scan, or of an operator over one range: at most its limit. They are at least the least number, where no read and no write failed and the
 -- flash's count isn't at its end.
 pub record ReadsScan {E : Type 0} (config : Config) (moment : Moment) (range : KeyRange) (span : Option Span) (now : FlashState) (result : Result (Unit {0}) E) (at : Located) : Type 0 where
   pub within : moment.reads ≤ scan_limit config.knots at.plan at.table range span range.low
@@ -58,11 +57,15 @@ abbrev pub ReadsMount : Bool → FlashState → FlashState → ℕ → Type 0
 ReadsMount true old new most = new.work.reads ≡ old.work.reads
 ReadsMount false old new most = new.work.reads ≤ old.work.reads + most
 
--- A command reads as many pages as is stated: a mount and a `next` at most their limits, `next` where the open cursors are
--- within their ranges. Of a blob and of the operators nothing is stated yet.
+-- A command reads as many pages as is stated: a mount, a `next` and a join at most their limits, `next` where the open
+-- cursors are within their ranges. Of a blob nothing is stated yet.
 abbrev pub ReadsAsStated : {E : Type 0} → Config → Machine → Moment → FlashState → Result (Unit {0}) E → Command → Type 0
 ReadsAsStated config old moment now result command.Mount = LimitOf config old moment command.Mount
 ReadsAsStated config old moment now result (command.Get name key) = OnTable config old moment name (ReadsGet config moment key now)
 ReadsAsStated config old moment now result (command.Scan name range span) = OnTable config old moment name (ReadsScan config moment range span now result)
 ReadsAsStated config old moment now result (command.Next cursor count) = AreWithin old.cursors → LimitOf config old moment (command.Next cursor count)
+ReadsAsStated config old moment now result (command.Select name range column op value) = OnTable config old moment name (OnColumns moment (column ∷ []) (ReadsScan config moment range None now result))
+ReadsAsStated config old moment now result (command.Project name range columns) = OnTable config old moment name (OnColumns moment columns (ReadsScan config moment range None now result))
+ReadsAsStated config old moment now result (command.Agg name range column width) = OnTable config old moment name (OnColumns moment (column ∷ []) (ReadsScan config moment range None now result))
+ReadsAsStated config old moment now result (command.Join left right range) = LimitOf config old moment (command.Join left right range)
 ReadsAsStated config old moment now result _ = Unit {0}

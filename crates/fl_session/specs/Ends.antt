@@ -1,6 +1,6 @@
 -- How a run over a script and a medium ends, by its status.
 use Rattle.std.specs.Prelude.{◌≡◌, ℕ, ◌+◌, ◌-◌, ◌<◌, ◌≤◌, false, ◌⊎◌, IsTrue, Option, Some, None, Ok, List, [], ◌∷◌, ◌++◌, length, take, drop, replicate, slice_get, if◌then◌else◌}
-use Rattle.fl_base.specs.Causes.{Appends}
+use Rattle.fl_base.specs.Causes.{Rose, Appends}
 use Rattle.fl_flash.specs.Media.{MediaState}
 use Rattle.fl_model.specs.Record.{Config}
 use Rattle.fl_model.specs.Image.{medium_len}
@@ -10,6 +10,7 @@ use Rattle.fl_words.specs.Medium.{header}
 use Rattle.fl_machine.specs.Machine.{Machine}
 use Rattle.fl_machine.specs.Script.{Start, Ready, Unended, BadLine, BadConfig, start_of, ended, accepted, first_refused, StandsFor, StandsAfter, Ran, RanInto}
 use Rattle.fl_session.specs.Built.{is_built, is_built_config}
+use Rattle.fl_session.specs.Determined.{IsUncut, RanPlainly, RanPlainlyInto}
 use Rattle.fl_session.specs.Taken.{HasTaken, TakesLine, TakesBegin}
 use Rattle.fl_session.specs.Texts.{most_bytes, whole_lines, rest_of, is_long, lines_read}
 use Rattle.fl_session.specs.declared.status.Status.{Status}
@@ -31,6 +32,10 @@ pub record IsUntouched (told : Told) : Type 0 where
   pub content : told.content_now ≡ told.content
   pub written : Appends told.written told.written_now []
 
+-- the medium's count of faults didn't rise
+abbrev pub IsCalm : Told → Type 0
+IsCalm told = Rose told.faults told.faults_now → ⊥
+
 -- a medium has the length and the header of the configuration
 abbrev pub IsFormed : Config → List ℕ → Type 0
 IsFormed config content = (length content ≡ medium_len config) × (take 1024 content ≡ header config)
@@ -46,6 +51,9 @@ pub record RunsAll (config : Config) (commands : List Command) (told : Told) : T
   pub formed : IsFormed config told.content_now
   pub runs : (old : Machine) → StandsFor config told.content old →
       Ran config old commands (StandsAfter config (Some told.content_now)) told.faults told.faults_now told.written told.written_now
+  -- where the medium doesn't fail and no cut falls into an operation, as the plain machine runs them
+  pub plain : IsCalm told → (old : Machine) → StandsFor config told.content old → IsUncut config old commands →
+      RanPlainly config old commands told.content_now told.written told.written_now
 
 -- .. and in the reply of the last of them the sink failed
 pub record RunsInto (config : Config) (commands : List Command) (told : Told) : Type 0 where
@@ -53,6 +61,8 @@ pub record RunsInto (config : Config) (commands : List Command) (told : Told) : 
   pub formed : IsFormed config told.content_now
   pub runs : (old : Machine) → StandsFor config told.content old →
       RanInto config old commands (StandsAfter config (Some told.content_now)) told.faults told.faults_now told.written told.written_now
+  pub plain : IsCalm told → (old : Machine) → StandsFor config told.content old → IsUncut config old commands →
+      RanPlainlyInto config old commands told.content_now told.written told.written_now
 
 -- the first place at which two texts differ
 pub record Differs (wanted found : List ℕ) (at a b : ℕ) : Type 0 where
@@ -220,24 +230,3 @@ IsEarlyBy old new told told_now (OtherConfig wanted found at) = IsEarly old new 
 IsEarlyBy old new told told_now MediaMake = IsHalfMade old new told told_now
 IsEarlyBy old new told told_now NoMemory = IsMadeAtMost old new told told_now
 IsEarlyBy old new told told_now status = Unit {0}
-
--- A script of commands that are all in the grammar and in their places, over a medium that is empty or of its configuration
-abbrev pub IsWhole : Start → List ℕ → Type 0
-IsWhole (Ready config n lines) content = (first_refused n lines ≡ None) × IsOwn config content
-IsWhole (Unended config n) content = ⊥
-IsWhole (BadLine n) content = ⊥
-IsWhole (BadConfig n) content = ⊥
-
--- .. is run to its end, but where memory is wanted or a line isn't built
-abbrev pub RunsToEnd : Status → Type 0
-RunsToEnd Done = Unit {0}
-RunsToEnd NoMemory = Unit {0}
-RunsToEnd (NotYet n) = Unit {0}
-RunsToEnd Usage = ⊥
-RunsToEnd (Line n) = ⊥
-RunsToEnd ScriptRead = ⊥
-RunsToEnd OutWrite = ⊥
-RunsToEnd MediaMake = ⊥
-RunsToEnd (BadConfiguration n) = ⊥
-RunsToEnd (OtherConfig wanted found at) = ⊥
-RunsToEnd ScriptLong = ⊥

@@ -1,3 +1,6 @@
+pub mod Paired
+pub mod BlobLine
+pub mod BlobNotes
 pub mod Words
 pub mod Built
 pub mod Texts
@@ -25,3 +28,6 @@ pub mod Listed
 pub mod Looked
 pub mod Lines
 pub mod Asked
+pub mod Complete
+pub mod Determined
+pub mod Operations

@@ -1,5 +1,5 @@
 -- Lines that are made one after another, and the replies that they are.
-use Rattle.std.specs.Prelude.{◌≡◌, ℕ, ◌≤◌, Bool, IsTrue, IfErr, Option, Some, None, Result, Ok, Err, List, [], ◌∷◌, length, take}
+use Rattle.std.specs.Prelude.{◌≡◌, ℕ, ◌+◌, ◌-◌, ◌^◌, ◌<◌, ◌≤◌, Bool, false, IsTrue, IfErr, OnOk, Option, Some, None, Result, Ok, Err, List, [], ◌∷◌, length, take}
 use Rattle.fl_base.specs.Causes.{Rose, Appends, AppendsFront}
 use Rattle.fl_page.specs.declared.fault.ReadFault.{ReadFault}
 use Rattle.fl_page.specs.declared.fault.ReadFault.TheVariants.{Flash, BadPage}
@@ -9,7 +9,7 @@ use Rattle.fl_machine.specs.Step as machine
 use Rattle.fl_script.specs.ReplyView.{reply_text}
 use Rattle.fl_script.specs.Written.{Written}
 use Rattle.fl_script.specs.declared.reply.Reply.{Reply}
-use Rattle.fl_session.specs.Listed.{IfSink}
+use Rattle.fl_session.specs.Listed.{IfSink, ends_unread}
 use Rattle.fl_session.specs.declared.listing.ListFault.{ListFault}
 use Rattle.fl_session.specs.declared.listing.ListFault.TheVariants.{Sink, Read}
 
@@ -27,13 +27,22 @@ LineSteps (Ok None) before after = before ≡ []
 LineSteps (Err (Flash fault)) before after = Unit {0}
 LineSteps (Err (BadPage bad)) before after = ⊥
 
+-- The count of reads rose from one number to another while lines were listed: by at most so many, and where all were listed
+-- by at least so many, unless it is at its end.
+pub record ReadsLines (most least reads reads_now : ℕ) (result : Result ℕ ListFault) : Type 0 where
+  pub within : reads_now ≤ reads + most
+  pub some : OnOk result (reads_now < 2 ^ 64 - 1 → reads + least ≤ reads_now)
+
 -- The lines and their number were written, or a front of them where the sink failed; or a read failed behind some of them.
-pub record Counted {E : Type 0} (lines : List words.Reply) (told told_now : Option (List ℕ)) (faults faults_now : ℕ) (result : Result (Unit {0}) E) : Type 0 where
+-- The count of reads rose by at most so many, and where no read failed by at least so many.
+pub record Counted {E : Type 0} (lines : List words.Reply) (most least : ℕ) (told told_now : Option (List ℕ)) (faults faults_now reads reads_now : ℕ) (result : Result (Unit {0}) E) : Type 0 where
   pub rose : Bool
   pub risen : IsTrue rose → Rose faults faults_now
   pub replies : List words.Reply
   pub lists : machine.Lists rose lines (words.EndCount (length lines)) replies
   pub wrote : Written told told_now result (texts replies)
+  pub within : reads_now ≤ reads + most
+  pub some : OnOk result (ends_unread replies ≡ false → reads_now < 2 ^ 64 - 1 → reads + least ≤ reads_now)
 
 -- These lines were written and counted. Or the sink failed in one of them, or the medium behind some of them; no page
 -- is bad.

@@ -38,7 +38,8 @@ pub record SessionStands (config : Config) (entries : List Entry) (f : FlashStat
 
 -- each buffer has room for a page of this size
 abbrev pub HasRooms : Buffers → ℕ → Type 0
-HasRooms buf size = (length buf.rows.bytes ≡ size) × (length buf.index.bytes ≡ size)
+HasRooms buf size =
+    (length buf.rows.bytes ≡ size) × (length buf.index.bytes ≡ size) × (length buf.right_rows.bytes ≡ size) × (length buf.right_index.bytes ≡ size)
 
 -- what holds of a session always: a cursor that is open is over one of its tables
 pub record IsSound (entries : List Entry) (f : FlashState) (buf : Buffers) (mounted : Bool) (notes : Notes) : Type 0 where

@@ -5,11 +5,13 @@ use fl_base::NoMemory;
 use fl_flash::PageBuf;
 use std::alloc::Global;
 
-/// Room for a page of rows and for a page of an index.
+/// Room for a page of rows and for a page of an index, and the same for the right one of two cursors.
 #[derive(Drop)]
 pub(crate) struct Buffers {
     pub(crate) rows: PageBuf,
     pub(crate) index: PageBuf,
+    pub(crate) right_rows: PageBuf,
+    pub(crate) right_index: PageBuf,
 }
 
 impl Buffers {
@@ -17,10 +19,14 @@ impl Buffers {
     pub(crate) fn new(alloc: Global, size: u32) -> Result<Buffers, NoMemory>
         ensures rows { IfOk result (λ b. length b.rows.bytes ≡ size) }
         ensures index { IfOk result (λ b. length b.index.bytes ≡ size) }
+        ensures right_rows { IfOk result (λ b. length b.right_rows.bytes ≡ size) }
+        ensures right_index { IfOk result (λ b. length b.right_index.bytes ≡ size) }
     {
         Ok(Buffers {
             rows: PageBuf::new(alloc, size)?,
             index: PageBuf::new(alloc, size)?,
+            right_rows: PageBuf::new(alloc, size)?,
+            right_index: PageBuf::new(alloc, size)?,
         })
     }
 
@@ -28,8 +34,11 @@ impl Buffers {
     pub(crate) fn forget(&mut self)
         ensures rows { length self.new.rows.bytes ≡ length self.old.rows.bytes }
         ensures index { length self.new.index.bytes ≡ length self.old.index.bytes }
+        ensures right { (length self.new.right_rows.bytes ≡ length self.old.right_rows.bytes) × (length self.new.right_index.bytes ≡ length self.old.right_index.bytes) }
     {
         self.rows.forget();
         self.index.forget();
+        self.right_rows.forget();
+        self.right_index.forget();
     }
 }

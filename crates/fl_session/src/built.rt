@@ -12,10 +12,10 @@ fn is_built_table(table: &TableConfig) -> bool
     requires { IsWithinLimits table.now }
     ensures { (plan : Plan) → IsConfigOf table.now plan → result ≡ is_built_plan plan }
 {
-    table.index.is_none() && table.var.is_none()
+    table.var.is_none()
 }
 
-/// Whether the configuration is one that is built: its tables have no index rings and no variable data.
+/// Whether the configuration is one that is built: its tables have no variable data.
 pub(crate) fn is_built_config(config: &Config) -> bool
     ensures { result ≡ are_built config.now.plans }
 {

@@ -2,10 +2,9 @@
 ghost use Rattle.std.specs.Prelude.{◌≡◌, ℕ, true, false, length, IsTrue};
 ghost use Rattle.fl_base.specs.Causes.{HasCause};
 ghost use Rattle.fl_cursor.specs.Asked.{asked_by};
-ghost use Rattle.fl_cursor.specs.Reads.{has_bitmaps};
 ghost use Rattle.fl_flash.specs.Flash.{FlashState};
 ghost use Rattle.fl_model.specs.Query.{begin};
-ghost use Rattle.fl_model.specs.Record.{Plan};
+ghost use Rattle.fl_model.specs.Record.{Plan, has_var};
 ghost use Rattle.fl_model.specs.Table as model;
 ghost use Rattle.fl_page.specs.Contents.{OnlyReads};
 ghost use Rattle.fl_script.specs.ReplyView.{reply_text};
@@ -34,6 +33,7 @@ pub(crate) fn open_cursor(
     ensures begins { (f : FlashState) (first : ℕ) (plan : Plan) (t : model.Table) → Stands table.now f first plan t → asked_by result ≡ begin range span t }
     ensures rows { length buf.new.rows.bytes ≡ length buf.old.rows.bytes }
     ensures index { length buf.new.index.bytes ≡ length buf.old.index.bytes }
+    ensures right { (length buf.new.right_rows.bytes ≡ length buf.old.right_rows.bytes) × (length buf.new.right_index.bytes ≡ length buf.old.right_index.bytes) }
 {
     Cursor::begin(table, range, span, &mut buf.rows, &mut buf.index).park()
 }
@@ -64,8 +64,9 @@ pub(crate) fn next_rows<F: Flash, K: Sink>(
     ensures counts { OnlyReads (F.state flash.old) (F.state flash.new) }
     ensures rows { length buf.new.rows.bytes ≡ length buf.old.rows.bytes }
     ensures index { length buf.new.index.bytes ≡ length buf.old.index.bytes }
+    ensures right { (length buf.new.right_rows.bytes ≡ length buf.old.right_rows.bytes) × (length buf.new.right_index.bytes ≡ length buf.old.right_index.bytes) }
     ensures cause { HasCause (K.faults out.old) (K.faults out.new) result }
-    ensures nexts { (first : ℕ) → (plan : Plan) → (t : model.Table) → IsTrue (F.state flash.old).media.tells → (F.state flash.old).is_on ≡ true → Stands table.now (F.state flash.old) first plan t → has_bitmaps plan mark.old.span ≡ false →
+    ensures nexts { (first : ℕ) → (plan : Plan) → (t : model.Table) → IsTrue (F.state flash.old).media.tells → (F.state flash.old).is_on ≡ true → Stands table.now (F.state flash.old) first plan t → has_var plan ≡ false →
         Nexts plan t count mark.old mark.new (K.written out.old) (K.written out.new) (F.state flash.old).media.faults (F.state flash.new).media.faults (F.state flash.old).work.reads (F.state flash.new).work.reads result }
 {
     let columns = table.columns();

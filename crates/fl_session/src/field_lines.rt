@@ -35,6 +35,10 @@ impl<F: Flash, R: Rows<F>> ReplyLines<F> for Project<'_, R> {
 
     ghost lines = { λ rows contents. map words.Fields (project (columns_of rows) (records_of (R.left (input_of rows) contents))) };
 
+    ghost most = { λ rows. R.most (input_of rows) };
+
+    ghost least = { λ rows. R.least (input_of rows) };
+
     fn next_line(&mut self, columns: usize, flash: &mut F) -> Result<Option<Reply>, ReadFault> {
         if !self.step(flash)? {
             return Ok(None);

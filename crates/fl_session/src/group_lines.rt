@@ -34,6 +34,10 @@ impl<F: Flash, R: Rows<F>> ReplyLines<F> for Aggregate<R> {
 
     ghost lines = { λ groups contents. map group_reply (groups_left groups (R.present (input_of groups)) (R.left (input_of groups) contents)) };
 
+    ghost most = { λ groups. R.most (input_of groups) };
+
+    ghost least = { λ groups. R.least (input_of groups) };
+
     fn next_line(&mut self, _columns: usize, flash: &mut F) -> Result<Option<Reply>, ReadFault> {
         match self.step(flash)? {
             Some(group) => Ok(Some(group_line(group))),

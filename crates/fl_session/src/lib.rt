@@ -2,6 +2,8 @@
 #![tactic(auto)]
 
 mod begin;
+mod blob_line;
+mod blob_note;
 mod buffers;
 mod built;
 mod commands;
@@ -11,6 +13,7 @@ mod executor;
 mod field_lines;
 mod generator;
 mod group_lines;
+mod laws;
 mod lines;
 mod listing;
 mod load;
@@ -18,6 +21,7 @@ mod lookup;
 mod next;
 mod notes;
 mod operators;
+mod pair_lines;
 mod replies;
 mod reply_lines;
 mod row_lines;
@@ -29,6 +33,7 @@ mod tables;
 mod whole_run;
 mod words;
 
+pub use laws::commands_are_exact;
 pub use status::Status;
 pub use whole_run::{KNOTS, run};
 pub use words::image_of;

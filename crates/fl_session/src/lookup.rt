@@ -1,7 +1,7 @@
 // A record that is looked up by its key.
-ghost use Rattle.std.specs.Prelude.{◌≡◌, ℕ, true, length, IsTrue};
+ghost use Rattle.std.specs.Prelude.{◌≡◌, ℕ, true, false, length, IsTrue};
 ghost use Rattle.fl_flash.specs.Flash.{Goes};
-ghost use Rattle.fl_model.specs.Record.{Plan};
+ghost use Rattle.fl_model.specs.Record.{Plan, has_var};
 ghost use Rattle.fl_model.specs.Table as model;
 ghost use Rattle.fl_page.specs.Contents.{OnlyReads};
 ghost use Rattle.fl_script.specs.ReplyView.{reply_text};
@@ -24,7 +24,7 @@ pub(crate) fn look_up<F: Flash>(table: &Table, key: u64, flash: &mut F, buf: &mu
     ensures counts { OnlyReads (F.state flash.old) (F.state flash.new) }
     ensures lies { LiesOn table.now (F.state flash.new) }
     ensures room { length buf.new.bytes ≡ length buf.old.bytes }
-    ensures looks { (first : ℕ) → (plan : Plan) → (t : model.Table) → IsTrue (F.state flash.old).media.tells → (F.state flash.old).is_on ≡ true → Stands table.now (F.state flash.old) first plan t →
+    ensures looks { (first : ℕ) → (plan : Plan) → (t : model.Table) → IsTrue (F.state flash.old).media.tells → (F.state flash.old).is_on ≡ true → Stands table.now (F.state flash.old) first plan t → has_var plan ≡ false →
         Looks plan t key (F.state flash.old).media.faults (F.state flash.new).media.faults (F.state flash.old).work.reads (F.state flash.new).work.reads (reply_text result) }
 {
     let columns = table.columns();

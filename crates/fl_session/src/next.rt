@@ -24,6 +24,7 @@ fn is_built(command: &Command) -> bool
         | Command::Scan { .. }
         | Command::Select { .. }
         | Command::Project { .. }
+        | Command::Join { .. }
         | Command::Stat { .. }
         | Command::Cost => true,
         Command::Cut { n, .. } => 1 <= *n,

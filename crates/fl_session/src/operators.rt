@@ -1,16 +1,18 @@
 // What the operators make of the rows of a range, listed.
-ghost use Rattle.std.specs.Prelude.{◌≡◌, ◌≤◌, ◌<◌, ◌^◌, ℕ, None, IsTrue, true, length, map, filter};
+ghost use Rattle.std.specs.Prelude.{◌≡◌, ◌+◌, ◌≤◌, ◌<◌, ◌^◌, ℕ, None, IsTrue, true, false, length, map, filter};
 ghost use Rattle.fl_base.specs.Causes.{HasCause};
 ghost use Rattle.fl_flash.specs.Flash.{FlashState};
-ghost use Rattle.fl_machine.specs.Step.{note_of, group_reply};
+ghost use Rattle.fl_machine.specs.Step.{note_of, group_reply, pair_reply};
+ghost use Rattle.fl_model.specs.Limits.{scan_limit, least_reads};
 ghost use Rattle.fl_model.specs.Operators as operators;
-ghost use Rattle.fl_model.specs.Record.{Plan};
+ghost use Rattle.fl_model.specs.Record.{Plan, has_var};
 ghost use Rattle.fl_model.specs.Table as model;
 ghost use Rattle.fl_page.specs.Contents.{contents_of, OnlyReads};
 ghost use Rattle.fl_table.specs.Look.{layout_in};
 ghost use Rattle.fl_table.specs.Memory.{is_running, LiesOn};
 ghost use Rattle.fl_table.specs.Standing.{Stands};
 ghost use Rattle.fl_cursor.specs.Cursor.{table_of, present_of, rows_name, index_name, left_of, IsReady, IsTold};
+ghost use Rattle.fl_cursor.specs.Reads.{most_of, least_of};
 ghost use Rattle.fl_ops.specs.Columns.{records_of, row_passes};
 ghost use Rattle.fl_ops.specs.Groups as grouped;
 ghost use Rattle.fl_ops.specs.Project as projected;
@@ -19,10 +21,12 @@ ghost use Rattle.fl_words.specs.Reply as words;
 ghost use Rattle.fl_session.specs.Rows.{row_reply};
 ghost use Rattle.fl_session.specs.Asked.{asked_records, lacked_column};
 ghost use Rattle.fl_session.specs.Lines.{Counted};
+ghost use Rattle.fl_session.specs.Paired.{pair_lines};
 ghost use Rattle.fl_session.specs.Standing.{HasRooms};
 
 use crate::buffers::Buffers;
-use crate::reply_lines::answer_lines;
+use crate::pair_lines::list_pairs;
+use crate::reply_lines::{answer_lines, end_list};
 use arrayvec::ArrayVec;
 use fl_base::{KeyRange, Op, Sink, SinkFailed};
 use fl_cursor::Cursor;
@@ -55,7 +59,8 @@ fn list_selected<F: Flash, K: Sink>(
     ensures cause { HasCause (K.faults out.old) (K.faults out.new) result }
     ensures counted { IsTold (selected.input_of rows.old) (contents_of (F.state flash.old)) → length (left_of (selected.input_of rows.old) (contents_of (F.state flash.old))) < 2 ^ 63 → (F.state flash.old).is_on ≡ true →
         Counted (map row_reply (filter (row_passes (selected.comparison_of rows.old)) (left_of (selected.input_of rows.old) (contents_of (F.state flash.old)))))
-        (K.written out.old) (K.written out.new) (F.state flash.old).media.faults (F.state flash.new).media.faults result }
+        (most_of (selected.input_of rows.old) (contents_of (F.state flash.old))) (least_of (selected.input_of rows.old) (contents_of (F.state flash.old)))
+        (K.written out.old) (K.written out.new) (F.state flash.old).media.faults (F.state flash.new).media.faults (F.state flash.old).work.reads (F.state flash.new).work.reads result }
 {
     answer_lines(rows, columns, flash, out)
 }
@@ -77,8 +82,9 @@ pub(crate) fn select<F: Flash, K: Sink>(
     ensures lies { LiesOn table.now (F.state flash.new) }
     ensures room { HasRooms buf.new (F.state flash.old).geometry.page }
     ensures cause { HasCause (K.faults out.old) (K.faults out.new) result }
-    ensures counted { (first : ℕ) → (plan : Plan) → (t : model.Table) → IsTrue (F.state flash.old).media.tells → (F.state flash.old).is_on ≡ true → Stands table.now (F.state flash.old) first plan t →
-        Counted (map (note_of plan) (operators.select comparison.column comparison.op comparison.value (asked_records range t))) (K.written out.old) (K.written out.new) (F.state flash.old).media.faults (F.state flash.new).media.faults result }
+    ensures counted { (first : ℕ) → (plan : Plan) → (t : model.Table) → IsTrue (F.state flash.old).media.tells → (F.state flash.old).is_on ≡ true → Stands table.now (F.state flash.old) first plan t → has_var plan ≡ false →
+        Counted (map (note_of plan) (operators.select comparison.column comparison.op comparison.value (asked_records range t))) (scan_limit 64 plan t range None range.low) (least_reads plan t range None)
+        (K.written out.old) (K.written out.new) (F.state flash.old).media.faults (F.state flash.new).media.faults (F.state flash.old).work.reads (F.state flash.new).work.reads result }
 {
     let cursor = Cursor::begin(table, range, None, &mut buf.rows, &mut buf.index);
     let mut rows = Select::new(cursor, comparison.column, comparison.op, comparison.value);
@@ -127,7 +133,8 @@ fn list_projected<F: Flash, K: Sink>(
     ensures cause { HasCause (K.faults out.old) (K.faults out.new) result }
     ensures counted { IsTold (projected.input_of rows.old) (contents_of (F.state flash.old)) → length (left_of (projected.input_of rows.old) (contents_of (F.state flash.old))) < 2 ^ 63 → (F.state flash.old).is_on ≡ true →
         Counted (map words.Fields (operators.project (projected.columns_of rows.old) (records_of (left_of (projected.input_of rows.old) (contents_of (F.state flash.old))))))
-        (K.written out.old) (K.written out.new) (F.state flash.old).media.faults (F.state flash.new).media.faults result }
+        (most_of (projected.input_of rows.old) (contents_of (F.state flash.old))) (least_of (projected.input_of rows.old) (contents_of (F.state flash.old)))
+        (K.written out.old) (K.written out.new) (F.state flash.old).media.faults (F.state flash.new).media.faults (F.state flash.old).work.reads (F.state flash.new).work.reads result }
 {
     answer_lines(rows, columns, flash, out)
 }
@@ -151,7 +158,8 @@ pub(crate) fn project<F: Flash, K: Sink>(
     ensures room { HasRooms buf.new (F.state flash.old).geometry.page }
     ensures cause { HasCause (K.faults out.old) (K.faults out.new) result }
     ensures counted { (first : ℕ) → (plan : Plan) → (t : model.Table) → IsTrue (F.state flash.old).media.tells → (F.state flash.old).is_on ≡ true → Stands table.now (F.state flash.old) first plan t →
-        Counted (map words.Fields (operators.project columns.now (asked_records range t))) (K.written out.old) (K.written out.new) (F.state flash.old).media.faults (F.state flash.new).media.faults result }
+        Counted (map words.Fields (operators.project columns.now (asked_records range t))) (scan_limit 64 plan t range None range.low) (least_reads plan t range None)
+        (K.written out.old) (K.written out.new) (F.state flash.old).media.faults (F.state flash.new).media.faults (F.state flash.old).work.reads (F.state flash.new).work.reads result }
 {
     let places = places_of(columns);
     let cursor = Cursor::begin(table, range, None, &mut buf.rows, &mut buf.index);
@@ -174,7 +182,8 @@ fn list_groups<F: Flash, K: Sink>(
     ensures counted { IsTold (grouped.input_of groups.old) (contents_of (F.state flash.old)) →
         length (grouped.groups_left groups.old (present_of (grouped.input_of groups.old)) (left_of (grouped.input_of groups.old) (contents_of (F.state flash.old)))) < 2 ^ 63 → (F.state flash.old).is_on ≡ true →
         Counted (map group_reply (grouped.groups_left groups.old (present_of (grouped.input_of groups.old)) (left_of (grouped.input_of groups.old) (contents_of (F.state flash.old)))))
-        (K.written out.old) (K.written out.new) (F.state flash.old).media.faults (F.state flash.new).media.faults result }
+        (most_of (grouped.input_of groups.old) (contents_of (F.state flash.old))) (least_of (grouped.input_of groups.old) (contents_of (F.state flash.old)))
+        (K.written out.old) (K.written out.new) (F.state flash.old).media.faults (F.state flash.new).media.faults (F.state flash.old).work.reads (F.state flash.new).work.reads result }
 {
     answer_lines(groups, 0, flash, out)
 }
@@ -200,9 +209,76 @@ pub(crate) fn aggregate<F: Flash, K: Sink>(
     ensures room { HasRooms buf.new (F.state flash.old).geometry.page }
     ensures cause { HasCause (K.faults out.old) (K.faults out.new) result }
     ensures counted { (first : ℕ) → (plan : Plan) → (t : model.Table) → IsTrue (F.state flash.old).media.tells → (F.state flash.old).is_on ≡ true → Stands table.now (F.state flash.old) first plan t →
-        Counted (map group_reply (operators.aggregate column width (asked_records range t))) (K.written out.old) (K.written out.new) (F.state flash.old).media.faults (F.state flash.new).media.faults result }
+        Counted (map group_reply (operators.aggregate column width (asked_records range t))) (scan_limit 64 plan t range None range.low) (least_reads plan t range None)
+        (K.written out.old) (K.written out.new) (F.state flash.old).media.faults (F.state flash.new).media.faults (F.state flash.old).work.reads (F.state flash.new).work.reads result }
 {
     let cursor = Cursor::begin(table, range, None, &mut buf.rows, &mut buf.index);
     let mut groups = Aggregate::new(cursor, column, width);
     list_groups(&mut groups, flash, out)
+}
+
+/// Lists the pairs of two cursors' rows and their number, or says why a page isn't read.
+fn answer_pairs<F: Flash, K: Sink>(
+    left: &mut Cursor<'_, '_, '_>,
+    right: &mut Cursor<'_, '_, '_>,
+    columns: (usize, usize),
+    flash: &mut F,
+    out: &mut K,
+) -> Result<(), SinkFailed>
+    requires left_ready { IsReady left.old (contents_of (F.state flash.old)) }
+    requires right_ready { IsReady right.old (contents_of (F.state flash.old)) }
+    requires left { columns.0 ≡ length (layout_in (table_of left.old)).columns }
+    requires few_left { columns.0 ≤ 8 }
+    requires right { columns.1 ≡ length (layout_in (table_of right.old)).columns }
+    requires few_right { columns.1 ≤ 8 }
+    ensures reads_only { OnlyReads (F.state flash.old) (F.state flash.new) }
+    ensures left_rows_name { rows_name left.new ≡ rows_name left.old }
+    ensures left_index_name { index_name left.new ≡ index_name left.old }
+    ensures right_rows_name { rows_name right.new ≡ rows_name right.old }
+    ensures right_index_name { index_name right.new ≡ index_name right.old }
+    ensures left_ready { IsReady left.new (contents_of (F.state flash.old)) }
+    ensures right_ready { IsReady right.new (contents_of (F.state flash.old)) }
+    ensures cause { HasCause (K.faults out.old) (K.faults out.new) result }
+    ensures counted { IsTold left.old (contents_of (F.state flash.old)) → IsTold right.old (contents_of (F.state flash.old)) →
+        length (pair_lines (left_of left.old (contents_of (F.state flash.old))) (left_of right.old (contents_of (F.state flash.old)))) < 2 ^ 63 → (F.state flash.old).is_on ≡ true →
+        Counted (pair_lines (left_of left.old (contents_of (F.state flash.old))) (left_of right.old (contents_of (F.state flash.old))))
+        (most_of left.old (contents_of (F.state flash.old)) + most_of right.old (contents_of (F.state flash.old))) 0
+        (K.written out.old) (K.written out.new) (F.state flash.old).media.faults (F.state flash.new).media.faults (F.state flash.old).work.reads (F.state flash.new).work.reads result }
+{
+    let listed = list_pairs(left, right, columns, flash, out);
+    end_list(listed, out)
+}
+
+/// Lists the pairs of rows of two tables that have one key in the range.
+pub(crate) fn join<F: Flash, K: Sink>(
+    left: &Table,
+    right: &Table,
+    range: KeyRange,
+    flash: &mut F,
+    buf: &mut Buffers,
+    out: &mut K,
+) -> Result<(), SinkFailed>
+    requires left_running { is_running left.now ≡ true }
+    requires right_running { is_running right.now ≡ true }
+    requires left_lies { LiesOn left.now (F.state flash.old) }
+    requires right_lies { LiesOn right.now (F.state flash.old) }
+    requires room { HasRooms buf.old (F.state flash.old).geometry.page }
+    ensures reads_only { OnlyReads (F.state flash.old) (F.state flash.new) }
+    ensures room { HasRooms buf.new (F.state flash.old).geometry.page }
+    ensures cause { HasCause (K.faults out.old) (K.faults out.new) result }
+    ensures counted { (first second : ℕ) → (a b : Plan) → (t u : model.Table) → IsTrue (F.state flash.old).media.tells → (F.state flash.old).is_on ≡ true →
+        Stands left.now (F.state flash.old) first a t → Stands right.now (F.state flash.old) second b u →
+        Counted (map pair_reply (operators.key_join (asked_records range t) (asked_records range u))) (scan_limit 64 a t range None range.low + scan_limit 64 b u range None range.low) 0
+        (K.written out.old) (K.written out.new) (F.state flash.old).media.faults (F.state flash.new).media.faults (F.state flash.old).work.reads (F.state flash.new).work.reads result }
+{
+    let columns = (left.columns(), right.columns());
+    let mut left_rows = Cursor::begin(left, range, None, &mut buf.rows, &mut buf.index);
+    let mut right_rows = Cursor::begin(
+        right,
+        range,
+        None,
+        &mut buf.right_rows,
+        &mut buf.right_index,
+    );
+    answer_pairs(&mut left_rows, &mut right_rows, columns, flash, out)
 }

@@ -1,11 +1,12 @@
 // Lines that are made one after another, and listed.
-ghost use Rattle.std.specs.Prelude.{◌≡◌, ℕ, ◌+◌, ◌-◌, ◌^◌, ◌<◌, ◌≤◌, true, List, length, Ok, IfErr, IfOk};
+ghost use Rattle.std.specs.Prelude.{◌≡◌, ℕ, ◌+◌, ◌-◌, ◌^◌, ◌<◌, ◌≤◌, true, List, Option, length, Ok, OnOk, IfErr, IfOk, IfNone};
 ghost use Rattle.std.specs.Borrow.{GName};
 ghost use Rattle.fl_base.specs.Causes.{HasCause};
 ghost use Rattle.fl_flash.specs.Flash.{FlashState};
 ghost use Rattle.fl_page.specs.Contents.{Contents, contents_of, OnlyReads, IsCaused};
+ghost use Rattle.fl_page.specs.Steps.{left_after};
 ghost use Rattle.fl_words.specs.Reply as words;
-ghost use Rattle.fl_session.specs.Lines.{LineSteps, Counted, ListsAll, HasSinkCause};
+ghost use Rattle.fl_session.specs.Lines.{LineSteps, Counted, ListsAll, ReadsLines, HasSinkCause};
 
 use crate::listing::{ListFault, write_fault};
 use fl_base::{Sink, SinkFailed};
@@ -27,6 +28,11 @@ pub(crate) trait ReplyLines<F: Flash> {
     /// The lines left.
     ghost lines: { Self → Contents → List words.Reply };
 
+    /// How many reads the lines left take at most, up to the first that fails, and how many at least where none fails.
+    ghost most: { Self → Contents → ℕ };
+
+    ghost least: { Self → Contents → ℕ };
+
     /// The next line, or none where none is left.
     fn next_line(&mut self, columns: usize, flash: &mut F) -> Result<Option<Reply>, ReadFault>
         requires { ready self.old columns (contents_of (F.state flash.old)) }
@@ -36,7 +42,12 @@ pub(crate) trait ReplyLines<F: Flash> {
         ensures stays_ready { (contents : Contents) → ready self.old columns contents → ready self.new columns contents }
         ensures stays_told { told self.old (contents_of (F.state flash.old)) → told self.new (contents_of (F.state flash.old)) }
         ensures steps { told self.old (contents_of (F.state flash.old)) →
-            LineSteps result (lines self.old (contents_of (F.state flash.old))) (lines self.new (contents_of (F.state flash.old))) };
+            LineSteps result (lines self.old (contents_of (F.state flash.old))) (lines self.new (contents_of (F.state flash.old))) }
+        ensures most { told self.old (contents_of (F.state flash.old)) →
+            (F.state flash.new).work.reads + left_after result (most self.new (contents_of (F.state flash.old))) ≤ (F.state flash.old).work.reads + most self.old (contents_of (F.state flash.old)) }
+        ensures least { told self.old (contents_of (F.state flash.old)) → (F.state flash.new).work.reads < 2 ^ 64 - 1 →
+            OnOk result ((F.state flash.old).work.reads + least self.old (contents_of (F.state flash.old)) ≤ (F.state flash.new).work.reads + least self.new (contents_of (F.state flash.old))) }
+        ensures none_left { told self.old (contents_of (F.state flash.old)) → IfOk result (λ line. IfNone line (least self.new (contents_of (F.state flash.old)) ≡ 0)) };
 }
 
 /// Lists the lines, and counts them.
@@ -53,6 +64,8 @@ pub(crate) fn list_lines<F: Flash, L: ReplyLines<F>, K: Sink>(
     ensures cause { HasSinkCause (K.faults out.old) (K.faults out.new) result }
     ensures lists { L.told lines.old (contents_of (F.state flash.old)) → length (L.lines lines.old (contents_of (F.state flash.old))) < 2 ^ 63 → (F.state flash.old).is_on ≡ true →
         ListsAll (L.lines lines.old (contents_of (F.state flash.old))) (K.written out.old) (K.written out.new) (F.state flash.old).media.faults (F.state flash.new).media.faults result }
+    ensures reads { L.told lines.old (contents_of (F.state flash.old)) → length (L.lines lines.old (contents_of (F.state flash.old))) < 2 ^ 63 →
+        ReadsLines (L.most lines.old (contents_of (F.state flash.old))) (L.least lines.old (contents_of (F.state flash.old))) (F.state flash.old).work.reads (F.state flash.new).work.reads result }
 {
     for count in 0..u64::MAX {
         let Some(line) = lines.next_line(columns, flash)? else {
@@ -61,6 +74,22 @@ pub(crate) fn list_lines<F: Flash, L: ReplyLines<F>, K: Sink>(
         write_reply(&line, out)?;
     }
     Ok(u64::MAX)
+}
+
+/// Says how many lines were listed, or why a page isn't read. A sink that failed is asked for nothing more.
+pub(crate) fn end_list<K: Sink>(
+    listed: Result<u64, ListFault>,
+    out: &mut K,
+) -> Result<(), SinkFailed>
+    ensures cause { (faults : ℕ) → HasSinkCause faults (K.faults out.old) listed → HasCause faults (K.faults out.new) result }
+    ensures counted { (lines : List words.Reply) (most least : ℕ) (told : Option (List ℕ)) (faults faults_now reads reads_now : ℕ) →
+        ListsAll lines told (K.written out.old) faults faults_now listed → ReadsLines most least reads reads_now listed →
+        Counted lines most least told (K.written out.new) faults faults_now reads reads_now result }
+{
+    match listed {
+        Ok(count) => write_reply(&Reply::EndCount { count }, out),
+        Err(fault) => write_fault(fault, out),
+    }
 }
 
 /// Lists the lines and their number, or says why a page isn't read.
@@ -76,10 +105,9 @@ pub(crate) fn answer_lines<F: Flash, L: ReplyLines<F>, K: Sink>(
     ensures stays_ready { (contents : Contents) → L.ready lines.old columns contents → L.ready lines.new columns contents }
     ensures cause { HasCause (K.faults out.old) (K.faults out.new) result }
     ensures counted { L.told lines.old (contents_of (F.state flash.old)) → length (L.lines lines.old (contents_of (F.state flash.old))) < 2 ^ 63 → (F.state flash.old).is_on ≡ true →
-        Counted (L.lines lines.old (contents_of (F.state flash.old))) (K.written out.old) (K.written out.new) (F.state flash.old).media.faults (F.state flash.new).media.faults result }
+        Counted (L.lines lines.old (contents_of (F.state flash.old))) (L.most lines.old (contents_of (F.state flash.old))) (L.least lines.old (contents_of (F.state flash.old)))
+        (K.written out.old) (K.written out.new) (F.state flash.old).media.faults (F.state flash.new).media.faults (F.state flash.old).work.reads (F.state flash.new).work.reads result }
 {
-    match list_lines(lines, columns, flash, out) {
-        Ok(count) => write_reply(&Reply::EndCount { count }, out),
-        Err(fault) => write_fault(fault, out),
-    }
+    let listed = list_lines(lines, columns, flash, out);
+    end_list(listed, out)
 }

@@ -18,6 +18,10 @@ impl<F: Flash, R: Rows<F>> ReplyLines<F> for Select<R> {
 
     ghost lines = { λ select contents. map row_reply (⟦<Select<R> as Rows<F>>⟧.left select contents) };
 
+    ghost most = { λ select. ⟦<Select<R> as Rows<F>>⟧.most select };
+
+    ghost least = { λ select. ⟦<Select<R> as Rows<F>>⟧.least select };
+
     fn next_line(&mut self, columns: usize, flash: &mut F) -> Result<Option<Reply>, ReadFault> {
         if !self.step(flash)? {
             return Ok(None);

@@ -13,7 +13,7 @@ use fl_schema::RowRef;
 use fl_script::{BlobNote, Reply, write_reply};
 
 /// The values of a row.
-fn values_of(row: &RowRef<'_>, columns: usize) -> ArrayVec<i64, 8>
+pub(crate) fn values_of(row: &RowRef<'_>, columns: usize) -> ArrayVec<i64, 8>
     requires columns { columns ≡ length (layout_of_row row.now).columns }
     requires few { columns ≤ 8 }
     ensures { result.items ≡ (row_of row.now).values }

@@ -1,8 +1,7 @@
 // The rows of a table that are asked for, as replies.
 ghost use Rattle.std.specs.Prelude.{◌≡◌, ℕ, true, false, length, IsTrue};
 ghost use Rattle.fl_base.specs.Causes.{HasCause};
-ghost use Rattle.fl_cursor.specs.Reads.{has_bitmaps};
-ghost use Rattle.fl_model.specs.Record.{Plan};
+ghost use Rattle.fl_model.specs.Record.{Plan, has_var};
 ghost use Rattle.fl_model.specs.Table as model;
 ghost use Rattle.fl_page.specs.Contents.{OnlyReads};
 ghost use Rattle.fl_table.specs.Memory.{is_running, LiesOn};
@@ -33,8 +32,9 @@ pub(crate) fn list_rows<F: Flash, K: Sink>(
     ensures counts { OnlyReads (F.state flash.old) (F.state flash.new) }
     ensures rows { length buf.new.rows.bytes ≡ length buf.old.rows.bytes }
     ensures index { length buf.new.index.bytes ≡ length buf.old.index.bytes }
+    ensures right { (length buf.new.right_rows.bytes ≡ length buf.old.right_rows.bytes) × (length buf.new.right_index.bytes ≡ length buf.old.right_index.bytes) }
     ensures cause { HasCause (K.faults out.old) (K.faults out.new) result }
-    ensures scans { (first : ℕ) → (plan : Plan) → (t : model.Table) → IsTrue (F.state flash.old).media.tells → (F.state flash.old).is_on ≡ true → Stands table.now (F.state flash.old) first plan t → has_bitmaps plan span ≡ false →
+    ensures scans { (first : ℕ) → (plan : Plan) → (t : model.Table) → IsTrue (F.state flash.old).media.tells → (F.state flash.old).is_on ≡ true → Stands table.now (F.state flash.old) first plan t → has_var plan ≡ false →
         Scans plan t range span (K.written out.old) (K.written out.new) (F.state flash.old).media.faults (F.state flash.new).media.faults (F.state flash.old).work.reads (F.state flash.new).work.reads result }
 {
     let columns = table.columns();

@@ -23,14 +23,15 @@ use crate::executor::Executor;
 use crate::load::load;
 use crate::lookup::look_up;
 use crate::notes::{NO_CURSORS, Notes, TableCursor};
-use crate::operators::{Comparison, aggregate, lacked_column, project, select};
+use crate::operators::Comparison;
 use crate::replies::{cost_reply, flush_breaks, flush_reply, mount_reply, put_breaks, put_reply};
 use crate::scans::list_rows;
 use crate::tables::Tables;
-use arrayvec::ArrayVec;
 use fl_base::{CutKind, KeyRange, Name, Sink, SinkFailed, Span};
 use fl_flash::{Flash, Media, SimFlash};
 use fl_script::{Command, LineRoom, Reply, write_reply};
+
+mod operate;
 
 /// A session over a flash: it mounts the tables there and executes commands on them.
 pub struct Session<'m, M: Media> {
@@ -333,113 +334,6 @@ impl<'m, M: Media> Session<'m, M> {
         written
     }
 
-    /// Lists the rows of a range that pass a comparison, and their number.
-    fn select<K: Sink>(
-        &mut self,
-        name: Name,
-        range: KeyRange,
-        comparison: Comparison,
-        out: &mut K,
-    ) -> Result<(), SinkFailed>
-        requires sound { ⟦<Self as Executor>⟧.sound self.old }
-        ensures sound { ⟦<Self as Executor>⟧.sound self.new }
-        ensures goes { Goes (⟦<Self as Executor>⟧.flash self.old) (⟦<Self as Executor>⟧.flash self.new) }
-        ensures sink { HasCause (K.faults out.old) (K.faults out.new) result }
-        ensures step { (config : Config) (old : Machine) → ⟦<Self as Executor>⟧.stands self.old config old →
-            Executes config old (words.Select name range comparison.column comparison.op comparison.value) (⟦<Self as Executor>⟧.stands self.new config)
-            (⟦<Self as Executor>⟧.flash self.old) (⟦<Self as Executor>⟧.flash self.new) (K.written out.old) (K.written out.new) result }
-    {
-        let at = match self.find(name) {
-            Ok(at) => at,
-            Err(refusal) => return write_reply(&refusal, out),
-        };
-        let table = &self.tables.entries[at].table;
-        if table.columns() < comparison.column {
-            let column = comparison.column as u64;
-            return write_reply(&Reply::NoColumn { column }, out);
-        }
-        // The reads of this command are a difference of two counts, of which this is the first.
-        let _before = self.flash.work();
-        select(
-            table,
-            range,
-            comparison,
-            &mut self.flash,
-            &mut self.buf,
-            out,
-        )
-    }
-
-    /// Lists columns of each row of a range, and the number of rows.
-    fn project<K: Sink>(
-        &mut self,
-        name: Name,
-        range: KeyRange,
-        columns: &ArrayVec<u64, 8>,
-        out: &mut K,
-    ) -> Result<(), SinkFailed>
-        requires sound { ⟦<Self as Executor>⟧.sound self.old }
-        ensures sound { ⟦<Self as Executor>⟧.sound self.new }
-        ensures goes { Goes (⟦<Self as Executor>⟧.flash self.old) (⟦<Self as Executor>⟧.flash self.new) }
-        ensures sink { HasCause (K.faults out.old) (K.faults out.new) result }
-        ensures step { (config : Config) (old : Machine) → ⟦<Self as Executor>⟧.stands self.old config old →
-            Executes config old (words.Project name range columns.now.items) (⟦<Self as Executor>⟧.stands self.new config)
-            (⟦<Self as Executor>⟧.flash self.old) (⟦<Self as Executor>⟧.flash self.new) (K.written out.old) (K.written out.new) result }
-    {
-        let at = match self.find(name) {
-            Ok(at) => at,
-            Err(refusal) => return write_reply(&refusal, out),
-        };
-        let table = &self.tables.entries[at].table;
-        if let Some(column) = lacked_column(table, columns.as_slice()) {
-            return write_reply(&Reply::NoColumn { column }, out);
-        }
-        // The reads of this command are a difference of two counts, of which this is the first.
-        let _before = self.flash.work();
-        let columns = columns.as_slice();
-        project(table, range, columns, &mut self.flash, &mut self.buf, out)
-    }
-
-    /// Lists the groups of the rows of a range, and their number.
-    fn aggregate<K: Sink>(
-        &mut self,
-        name: Name,
-        range: KeyRange,
-        column: usize,
-        width: u64,
-        out: &mut K,
-    ) -> Result<(), SinkFailed>
-        requires sound { ⟦<Self as Executor>⟧.sound self.old }
-        requires width { 1 ≤ width }
-        ensures sound { ⟦<Self as Executor>⟧.sound self.new }
-        ensures goes { Goes (⟦<Self as Executor>⟧.flash self.old) (⟦<Self as Executor>⟧.flash self.new) }
-        ensures sink { HasCause (K.faults out.old) (K.faults out.new) result }
-        ensures step { (config : Config) (old : Machine) → ⟦<Self as Executor>⟧.stands self.old config old →
-            Executes config old (words.Agg name range column width) (⟦<Self as Executor>⟧.stands self.new config)
-            (⟦<Self as Executor>⟧.flash self.old) (⟦<Self as Executor>⟧.flash self.new) (K.written out.old) (K.written out.new) result }
-    {
-        let at = match self.find(name) {
-            Ok(at) => at,
-            Err(refusal) => return write_reply(&refusal, out),
-        };
-        let table = &self.tables.entries[at].table;
-        if table.columns() < column {
-            let column = column as u64;
-            return write_reply(&Reply::NoColumn { column }, out);
-        }
-        // The reads of this command are a difference of two counts, of which this is the first.
-        let _before = self.flash.work();
-        aggregate(
-            table,
-            range,
-            column,
-            width,
-            &mut self.flash,
-            &mut self.buf,
-            out,
-        )
-    }
-
     /// Puts generated records, up to the first one that is refused, and tells how many.
     fn load<K: Sink>(
         &mut self,
@@ -542,6 +436,7 @@ impl<'m, M: Media> Executor for Session<'m, M> {
                 column,
                 width,
             } => return self.aggregate(*name, *range, *column as usize, *width, out),
+            Command::Join { left, right, range } => return self.join(*left, *right, *range, out),
             Command::Load {
                 name,
                 count,

@@ -5,7 +5,6 @@ ghost use Rattle.fl_model.specs.Record.{Plan};
 ghost use Rattle.fl_model.specs.Table as model;
 ghost use Rattle.fl_model.specs.Work.{Device};
 ghost use Rattle.fl_ring.specs.Step.{IsWatched};
-ghost use Rattle.fl_session.specs.Built.{are_built};
 
 use fl_base::{Name, NoMemory};
 use fl_config::Config;
@@ -38,7 +37,6 @@ impl Tables {
 
     /// The tables of a configuration. None of them is mounted.
     pub(crate) fn plan(alloc: Global, config: &Config) -> Result<Tables, NoMemory>
-        requires built { are_built config.now.plans ≡ true }
         ensures { IfOk result (λ tables. AreNewTables tables.entries.items config.now) }
     {
         let mut entries = Vec::with_capacity(alloc, config.tables())?;

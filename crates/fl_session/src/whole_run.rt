@@ -6,12 +6,14 @@ ghost use Rattle.fl_flash.specs.Places.{extent, IsGeometry};
 ghost use Rattle.fl_flash.specs.Sim.{on_medium};
 ghost use Rattle.fl_base.specs.declared.types.Geometry.{Geometry};
 ghost use Rattle.fl_model.specs.Record.{Config as Configuration, blocks_of};
+ghost use Rattle.fl_words.specs.Command.{Command as Commanded};
 ghost use Rattle.fl_words.specs.Config.{whole};
 ghost use Rattle.fl_config.specs.Whole.{is_whole};
 ghost use Rattle.fl_session.specs.Built.{are_built};
 ghost use Rattle.fl_session.specs.Begin.{HoldsFirst};
 ghost use Rattle.fl_session.specs.Words.{image_named};
-ghost use Rattle.fl_session.specs.Ends.{Ends, told_of, IsEarlyBy, IsWhole, RunsToEnd, start_in};
+ghost use Rattle.fl_session.specs.Complete.{IsInPlace, Completes};
+ghost use Rattle.fl_session.specs.Ends.{Ends, told_of, IsEarlyBy, IsOwn};
 ghost use Rattle.fl_session.specs.Opening.{MediaGoes, KeepsForm, IsBlankBehind};
 ghost use Rattle.fl_session.specs.Run.{RunsFrom, HasRoom, around_of, IsOfCommands, refused_status};
 ghost use Rattle.fl_session.specs.Standing.{RestsOn, HasRooms};
@@ -224,11 +226,12 @@ pub fn run<M: Media, S: Source, K: Sink>(
     ensures goes { MediaGoes (M.state media.old) (M.state media.new) }
     ensures later { (S.faults script.old ≤ S.faults script.new) × (K.faults out.old ≤ K.faults out.new) }
 
-    // Where no cause holds and no count rises, the script is run to its end, or memory is wanted, or a line isn't built.
-    ensures complete { (text : List ℕ) → IsTrue (M.state media.old).tells → S.left script.old ≡ Some text → length text ≤ 2 ^ 24 →
-        (image_named (map (λ word. string_bytes word) words.now) ≡ None → ⊥) → IsWhole (start_in KNOTS text) (M.state media.old).content →
+    // A script whose lines are in the grammar and in their places, over a medium that is empty or of its configuration, is run
+    // to its end where no count rises; or memory is wanted before the first command, or not all of it is built.
+    ensures complete { (text : List ℕ) (config : Configuration) (commands : List Commanded) → IsTrue (M.state media.old).tells → S.left script.old ≡ Some text →
+        IsInPlace KNOTS text config commands → (image_named (map (λ word. string_bytes word) words.now) ≡ None → ⊥) → IsOwn config (M.state media.old).content →
         (Rose (S.faults script.old) (S.faults script.new) → ⊥) → (Rose (K.faults out.old) (K.faults out.new) → ⊥) → (Rose (M.state media.old).faults (M.state media.new).faults → ⊥) →
-        RunsToEnd result }
+        Completes config commands (told_of (M.state media.old) (M.state media.new) (S.left script.new) (K.written out.old) (K.written out.new)) result }
 {
     if image_of(words).is_none() {
         return Status::Usage;

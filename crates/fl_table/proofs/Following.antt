@@ -58,6 +58,24 @@ module _ (first : ℕ) (plan : Plan) (rings others : List RingName) (table : Tab
       }
       by_result (Err fault) k = record { now = k.now; did = did k.now k.did; answer = k.answer; counts = k.counts; rests = k.rests }
 
+-- the first seals were done, and others, which made this table
+pub finishes-then : (first : ℕ) (plan : Plan) (rings others : List RingName) (table last : Table) (rose : Bool) (device : Device) (t : code.Table) (mid : FlashState) (u : code.Table) (new : FlashState) →
+    (h : Finishes first plan (seals_within plan rings table) table (after_seals plan rings table) rose device t mid) →
+    Finishes first plan (seals_within plan others (after_seals plan rings table)) (after_seals plan rings table) last rose h.now.device u new →
+    Finishes first plan (seals_within plan (rings ++ others) table) table last rose device u new
+finishes-then first plan rings others table last rose device t mid u new h k =
+    let done : h.now.state ≡ after_seals plan rings table = (performs-whole (λ (o : RingName × Kind). o.1) (effect_within plan) rose (seals_within plan rings table) device table h.now h.did h.whole).0 ∙ seals-all_done plan rings table in
+    record {
+      now = k.now;
+      did = subst (λ (ops : List (RingName × Kind)). TablePerforms plan rose ops device table k.now) (sym (within-append plan rings others table))
+          (performs-more (λ (o : RingName × Kind). o.1) (effect_within plan) rose (seals_within plan rings table) (seals_within plan others (after_seals plan rings table)) device table h.now k.now h.did h.whole
+          (subst (λ (x : Table). TablePerforms plan rose (seals_within plan others (after_seals plan rings table)) h.now.device x k.now) (sym done) k.did));
+      whole = k.whole;
+      counts = k.counts;
+      power = k.power;
+      stands = k.stands;
+    }
+
 append-nil : {X : Type 0} (xs : List X) → xs ++ [] ≡ xs
 append-nil [] = refl
 append-nil (x ∷ xs) = ap (λ ys. x ∷ ys) (append-nil xs)

@@ -1,16 +1,17 @@
 -- A table at rest on a flash, and its image on the flash's medium.
-use Rattle.std.proofs.Common.{◌≡◌, ℕ, ◌+◌, ◌-◌, ◌*◌, ◌<◌, Bool, true, false, cond, Some, None, IfSome, List, length, take, drop, refl, sym, ◌∙◌, ap, subst, arith, sum_by}
+use Rattle.std.proofs.Common.{◌≡◌, ℕ, ◌+◌, ◌-◌, ◌*◌, ◌<◌, Bool, true, false, cond, Some, None, IfSome, List, [], length, take, drop, refl, sym, ◌∙◌, ap, subst, arith, sum_by}
 use Rattle.std.proofs.Math.Path.{fun_ext}
 use Rattle.std.proofs.lemmas.Nat.Gcd.{dvd-zero}
 use Rattle.std.specs.List.{slice_get}
 use Rattle.fl_flash.specs.Flash.{FlashState, page_at}
-use Rattle.fl_model.specs.Record.{Plan, Config, blocks_of, has_index}
+use Rattle.fl_model.specs.Record.{Plan, Config, blocks_of, has_index, has_var}
 use Rattle.fl_model.specs.Ring.{Shape, IsRing, fresh}
 use Rattle.fl_model.specs.Table.{Table, Entry, RingName, DataRing, IndexRing, VarRing, shape_of, fresh_table}
 use Rattle.fl_model.specs.Layout.{is_blank}
 use Rattle.fl_model.specs.Query.{page_stands}
 use Rattle.fl_model.specs.Image.{IsTableImage, IsRingImage, HoldsRows, HoldsBitmaps, HoldsContent, HoldsBlob, page_bytes}
-use Rattle.fl_table.proofs.Plain.{IsPlain, IsIndexed, facts-plain}
+use Rattle.fl_table.proofs.BlobTables.{IsBlobbed}
+use Rattle.fl_table.proofs.Plain.{IsIndexed, table-facts}
 use Rattle.fl_table.specs.Pages.{HoldsTable, Rests, bytes_in, place_in}
 
 -- the pages of a medium whose flash begins behind its header
@@ -111,17 +112,43 @@ fresh_index plan = by_index (has_index plan) refl
       number_listed = λ lt. absurd (omega (arith, lt));
     }
 
+-- the variable data of an empty table
+no_entry : (entry : Entry) → None ≡ Some entry → ⊥
+no_entry entry e = cc
+
+fresh_blobs : (plan : Plan) → IsBlobbed plan (fresh_table plan)
+fresh_blobs plan = by_var (has_var plan) refl
+  where
+    by_var : (b : Bool) → has_var plan ≡ b → IsBlobbed plan (record (fresh_table plan) { var = cond b (Some fresh) None })
+    by_var true e = record {
+      has = sym e;
+      ring = fresh_ring (shape_of plan VarRing);
+      counts = tt;
+      fill = omega arith;
+      blobs = λ i entry blob at k some. absurd (no_entry entry at);
+      number = omega arith;
+      number_pending = λ p. absurd (p refl);
+    }
+    by_var false e = record {
+      has = sym e;
+      ring = tt;
+      counts = tt;
+      fill = omega arith;
+      blobs = λ i entry blob at k some. tt;
+      number = tt;
+      number_pending = λ p. absurd (p refl);
+    }
+
 -- an empty table rests on blank pages
-pub blank-rests : (f : FlashState) (first : ℕ) (plan : Plan) → IsPlain plan → ((ring : RingName) (n : ℕ) → is_blank (page_at f (place_in first plan ring n)) ≡ true) → Rests f first plan (fresh_table plan)
-blank-rests f first plan plain blank = record {
+pub blank-rests : (f : FlashState) (first : ℕ) (plan : Plan) → ((ring : RingName) (n : ℕ) → is_blank (page_at f (place_in first plan ring n)) ≡ true) → Rests f first plan (fresh_table plan)
+blank-rests f first plan blank = record {
   settled = record {
-    facts = facts-plain plan (fresh_table plan) plain (record {
+    facts = table-facts plan (fresh_table plan) (record {
       rows = fresh_ring (shape_of plan DataRing);
       kept = record { fit = tt; counted = refl; few_rows = tt; ascending = λ i j a b lt e k. absurd (none a e) };
       few_pending = omega arith;
       index = fresh_index plan;
-      var = rw plain.no_var refl;
-      fill = omega arith;
+      blobs = fresh_blobs plan;
       number = omega arith;
       number_pending = λ some. absurd (some refl);
     });
@@ -130,13 +157,22 @@ blank-rests f first plan plain blank = record {
   pages = record {
     rows = fresh_image (shape_of plan DataRing) (bytes_in (page_at f) first plan DataRing) (HoldsRows plan (fresh_table plan)) (blank DataRing);
     index = by_index (has_index plan);
-    var = rw plain.no_var tt;
-    blobs = rw plain.no_var tt;
+    var = by_var (has_var plan);
+    blobs = no_blobs (has_var plan);
   };
 }
   where
     none : (a : Entry) → None ≡ Some a → ⊥
     none a e = cc
+
+    by_var : (b : Bool) → IfSome (cond b (Some fresh) None) (λ ring. IsRingImage (shape_of plan VarRing) ring (bytes_in (page_at f) first plan VarRing) (HoldsContent plan ring))
+    by_var true = fresh_image (shape_of plan VarRing) (bytes_in (page_at f) first plan VarRing) (HoldsContent plan fresh) (blank VarRing)
+    by_var false = tt
+
+    no_blobs : (b : Bool) → IfSome (cond b (Some fresh) None) (λ ring. (i : ℕ) (entry : Entry) (blob : List ℕ) → slice_get [] i ≡ Some entry → entry.kept.blob ≡ Some blob → 0 < length blob →
+        page_stands ring entry.page ≡ true → HoldsBlob plan ring (bytes_in (page_at f) first plan VarRing) entry blob)
+    no_blobs true = λ i entry blob e k some here. absurd (none entry e)
+    no_blobs false = tt
 
     by_index : (b : Bool) → IfSome (cond b (Some fresh) None) (λ ring. IsRingImage (shape_of plan IndexRing) ring (bytes_in (page_at f) first plan IndexRing) (HoldsBitmaps plan (fresh_table plan) ring))
     by_index true = fresh_image (shape_of plan IndexRing) (bytes_in (page_at f) first plan IndexRing) (HoldsBitmaps plan (fresh_table plan) fresh) (blank IndexRing)

@@ -33,8 +33,10 @@ use Rattle.fl_table.specs.Pages.{HoldsTable, bytes_in, place_in}
 use Rattle.fl_table.specs.Standing.{Stands}
 use Rattle.fl_table.specs.declared.table.Table as code
 use Rattle.fl_table.proofs.Holding.{lost-twice}
-use Rattle.fl_table.proofs.SealAnswers.{planned-plain, planned-shape}
-use Rattle.fl_table.proofs.Plain.{IsPlain, IsPlainTable, IsIndexed, plain-facts, facts-plain, plain-lose}
+use Rattle.fl_table.proofs.BlobTables.{HoldsVar}
+use Rattle.fl_table.proofs.Blobbing.{var-as, var-behind, var-same}
+use Rattle.fl_table.proofs.SealAnswers.{planned-shape}
+use Rattle.fl_table.proofs.Plain.{IsPlainTable, IsIndexed, AreInPages, blobbed-moved, table-parts, table-facts, plain-lose}
 use Rattle.fl_table.proofs.Indexing.{planned-some, planned-none, index-next}
 use Rattle.fl_table.proofs.Moved.{HoldsIndexed, indexed-moved, keeps-lose}
 
@@ -167,8 +169,8 @@ beside-facts plan table new b h index = record {
       (subst (λ (r : model.Ring). AreKept plan table.entries r.counts new.pending) (sym b.rows) (subst (λ n. AreKept plan table.entries table.rows.counts n) (sym b.pending) h.kept));
   few_pending = omega (arith, b.pending, h.few_pending);
   index = index;
-  var = b.var ∙ h.var;
-  fill = omega (arith, b.fill, h.fill);
+  blobs = blobbed-moved plan table new b.var (omega (arith, b.fill, h.blobs.fill)) (λ p e. p (b.pending ∙ e))
+      (subst (AreInPages table) (sym (ap (λ n. take n new.entries) (omega (arith, ap length b.entries, b.pending)) ∙ ap (take (length table.entries - table.pending)) b.entries)) h.blobs.blobs) h.blobs;
   number = subst (λ (r : model.Ring). r.next + (cond r.torn 1 0) ≤ 4294967292) (sym b.rows) h.number;
   number_pending = λ p. subst (λ (r : model.Ring). r.next ≤ spent_from) (sym b.rows) (h.number_pending (λ e. p (b.pending ∙ e)));
 }
@@ -178,6 +180,13 @@ pub rows-stand : (old new : ℕ → List ℕ) (first : ℕ) (plan : Plan) (r : S
 rows-stand old new first plan r some at stands n =
     let small = mod-lt n some in
     stands (place_in first plan DataRing n) (inl (omega (arith, at, small, add-mul first plan.data_blocks plan.geometry.block)))
+
+-- .. and those of variable data behind it
+pub var-stand : (bitmaps : Option Index) (old new : ℕ → List ℕ) (first : ℕ) (plan : Plan) → ArePlanned bitmaps (first + plan.data_blocks) plan → StandOutside bitmaps old new → (n : ℕ) → bytes_in new first plan VarRing n ≡ bytes_in old first plan VarRing n
+var-stand None old new first plan planned outside n = outside (place_in first plan VarRing n)
+var-stand (Some index) old new first plan planned outside n =
+    let at = planned-ring index (first + plan.data_blocks) plan planned in
+    var-behind old new first plan (memory.ring_shape index) (ap (λ (r : Shape). r.first) at) (ap (λ (r : Shape). r.blocks * r.per_block) at) outside n
 
 pub rows-same : (old new : ℕ → List ℕ) (first : ℕ) (plan : Plan) (table : Table) → ((n : ℕ) → bytes_in new first plan DataRing n ≡ bytes_in old first plan DataRing n) →
     IsRingImage (shape_of plan DataRing) table.rows (bytes_in old first plan DataRing) (HoldsRows plan table) → IsRingImage (shape_of plan DataRing) table.rows (bytes_in new first plan DataRing) (HoldsRows plan table)
@@ -205,15 +214,15 @@ rows-beside plan table new at b h =
     (subst (λ (r : model.Ring). IsRingImage (shape_of plan DataRing) r at (λ i count page. page ≡ committed (data_body plan (oldest r + i) (take count (drop (sum (take i r.counts)) table.entries))))) (sym b.rows) h)
 
 -- its pages on a flash
-pub holds-beside : (old new : ℕ → List ℕ) (first : ℕ) (plan : Plan) (table after : Table) → IsBeside table after → table.var ≡ None → ((n : ℕ) → bytes_in new first plan DataRing n ≡ bytes_in old first plan DataRing n) →
-    IsRingImage (shape_of plan DataRing) table.rows (bytes_in old first plan DataRing) (HoldsRows plan table) → HoldsIndexed new first plan after → HoldsTable new first plan after
-holds-beside old new first plan table after b none same rows indexed =
-    let no_var : after.var ≡ None = b.var ∙ none in
+pub holds-beside : (old new : ℕ → List ℕ) (first : ℕ) (plan : Plan) (table after : Table) → IsBeside table after → ((n : ℕ) → bytes_in new first plan DataRing n ≡ bytes_in old first plan DataRing n) →
+    ((n : ℕ) → bytes_in new first plan VarRing n ≡ bytes_in old first plan VarRing n) → HoldsTable old first plan table → HoldsIndexed new first plan after → HoldsTable new first plan after
+holds-beside old new first plan table after b same same_var h indexed =
+    let var = var-as new first plan table after b.var b.entries (var-same old new first plan table same_var (h.var, h.blobs)) in
     record {
-      rows = rows-beside plan table after (bytes_in new first plan DataRing) b (rows-same old new first plan table same rows);
+      rows = rows-beside plan table after (bytes_in new first plan DataRing) b (rows-same old new first plan table same h.rows);
       index = indexed;
-      var = rw no_var tt;
-      blobs = rw no_var tt;
+      var = var.0;
+      blobs = var.1;
     }
 
 append-nil : {X : Type 0} (xs : List X) → xs ++ [] ≡ xs
@@ -238,11 +247,8 @@ module _ (t : code.Table) (f new : FlashState) (first : ℕ) (plan : Plan) (tabl
   planned : memory.IsPlanned index (first + plan.data_blocks) plan
   planned = subst (λ (o : Option Index). ArePlanned o (first + plan.data_blocks) plan) some stands.planned.index
 
-  plain : IsPlain plan
-  plain = planned-plain t first plan stands.planned
-
   facts : IsPlainTable plan table
-  facts = plain-facts plan table plain stands.facts
+  facts = table-parts plan table stands.facts
 
   has : has_index plan ≡ true
   has = planned-some index (first + plan.data_blocks) plan planned
@@ -253,6 +259,9 @@ module _ (t : code.Table) (f new : FlashState) (first : ℕ) (plan : Plan) (tabl
       rows-stand (page_at f) (page_at new) first plan (memory.ring_shape index)
       (let k : 3 * plan.geometry.block ≤ plan.data_blocks * plan.geometry.block = mul-le-mul_right plan.geometry.block shape.blocks in omega (arith, k, shape.pages))
       (ap (λ (r : Shape). r.first) (planned-ring index (first + plan.data_blocks) plan planned)) outside
+
+  same_var : (n : ℕ) → bytes_in (page_at new) first plan VarRing n ≡ bytes_in (page_at f) first plan VarRing n
+  same_var = var-stand (Some index) (page_at f) (page_at new) first plan planned outside
 
   in_model : standing.Stands index f (first + plan.data_blocks) plan table
   in_model = subst (λ (o : Option Index). Stand o f (first + plan.data_blocks) plan table) some stands.bitmaps
@@ -315,8 +324,8 @@ module _ (t : code.Table) (f new : FlashState) (first : ℕ) (plan : Plan) (tabl
         answer = fault_ends h.now.end h.answer;
         counts = h.counts;
         rests = record {
-          settled = record { facts = facts-plain plan (lose h.now.state) plain lost; lost = lost-twice h.now.state };
-          pages = holds-beside (page_at f) (page_at new) first plan (lose table) (lose h.now.state) (lose-beside table h.now.state beside) facts.var same_rows stands.pages.rows
+          settled = record { facts = table-facts plan (lose h.now.state) lost; lost = lost-twice h.now.state };
+          pages = holds-beside (page_at f) (page_at new) first plan (lose table) (lose h.now.state) (lose-beside table h.now.state beside) same_rows same_var stands.pages
               (holds-indexed (page_at new) first plan (lose h.now.state) h.rests.ring h.rests.facts.ring_is h.rests.pages);
         };
       }
@@ -345,8 +354,8 @@ module _ (t : code.Table) (f new : FlashState) (first : ℕ) (plan : Plan) (tabl
         counts = h.counts;
         power = h.power;
         beside = beside;
-        facts = facts-plain plan after plain known;
-        pages = holds-beside (page_at f) (page_at new) first plan (lose table) (lose after) (lose-beside table after beside) facts.var same_rows stands.pages.rows
+        facts = table-facts plan after known;
+        pages = holds-beside (page_at f) (page_at new) first plan (lose table) (lose after) (lose-beside table after beside) same_rows same_var stands.pages
             (indexed-moved (page_at new) first plan after (lose after) known.index (keeps-lose after known.kept.counted) refl refl (holds-indexed (page_at new) first plan after ring s.in_ring.facts.ring_is s.in_ring.pages));
         bitmaps = s;
       }

@@ -1,22 +1,26 @@
 -- What the kept pages of a table read as.
-use Rattle.std.proofs.Common.{◌≡◌, ℕ, zero, suc, ◌+◌, ◌-◌, ◌*◌, ◌<◌, ◌≤◌, ◌⊎◌, Bool, true, false, cond, ◌==◌, Option, Some, None, option_map, List, [], ◌∷◌, length, map, take, drop, refl, sym, ◌∙◌, ap, subst, arith, inl, inr, IsTrue}
+use Rattle.std.proofs.Common.{◌≡◌, ℕ, zero, suc, ◌+◌, ◌-◌, ◌*◌, ◌^◌, ◌<◌, ◌≤◌, ◌⊎◌, Bool, true, false, cond, ◌==◌, Option, Some, None, IfSome, List, [], ◌∷◌, length, map, take, drop, refl, sym, ◌∙◌, ap, subst, arith, inl, inr}
 use Rattle.std.proofs.Math.Nat.{le-div_iff_mul-le, mul-le-mul_left}
 use Rattle.std.proofs.lemmas.Bool.{cases_lt}
-use Rattle.std.proofs.lemmas.List.{length-map, length-take-le, length-drop}
+use Rattle.std.proofs.Math.Seq.{take-add}
+use Rattle.fl_table.specs.BlobEnds.{blobs_end}
+use Rattle.fl_table.proofs.BlobEnds.{ends-append}
+use Rattle.std.proofs.lemmas.List.{map-append, length-map, length-take-le, length-drop, take_all}
 use Rattle.std.proofs.lemmas.List.Sums.{sum_by-cons, sum_by-take-le}
 use Rattle.std.specs.List.{slice_get, sum, sum_by, count_by, AllByRecursion}
 use Rattle.fl_mark.specs.Mark.{state_of_page}
 use Rattle.fl_mark.specs.declared.page_state.PageState.TheVariants.{Committed, Void}
 use Rattle.fl_mark.proofs.InModel.{model_state}
-use Rattle.fl_model.specs.Record.{Plan, row_layout, row_len, rows_per_page, has_var}
+use Rattle.fl_model.specs.Record.{Plan, row_layout, row_len, rows_per_page, content_per_page, has_var}
 use Rattle.fl_model.specs.Ring as model
 use Rattle.fl_model.specs.Row.{Row, IsStorable, stored_row}
-use Rattle.fl_model.specs.Table.{Table, Entry, DataRing, shape_of}
-use Rattle.fl_model.specs.Facts.{FitsPlan, BlobFits}
+use Rattle.fl_model.specs.Table.{Table, Entry, DataRing, shape_of, written}
+use Rattle.fl_model.specs.Facts.{FitsPlan, BlobFits, is_some_ring}
 use Rattle.fl_model.specs.Layout.{data_body, committed}
 use Rattle.fl_model.specs.Image.{IsRingImage, HoldsRows, rows_at}
-use Rattle.fl_model.proofs.Lists.{slice_get-some, slice_get-short, each-drop, each-take}
-use Rattle.fl_table.proofs.Plain.{IsPlain, IsPlainTable}
+use Rattle.fl_model.proofs.Lists.{slice_get-some, slice_get-short, slice_get-drop, slice_get-front, each-drop, each-take}
+use Rattle.fl_table.proofs.BlobRows.{stored-row, written-numbered}
+use Rattle.fl_table.proofs.Plain.{IsPlainTable}
 use Rattle.fl_page.specs.Page.{IsGoodPage, rows_in}
 use Rattle.fl_page.proofs.DataPages.{data_page}
 use Rattle.fl_ring.specs.Ring.{OnRing, place}
@@ -25,32 +29,10 @@ use Rattle.fl_schema.specs.Form.{layout_with}
 use Rattle.fl_schema.specs.declared.column.ColumnType.{ColumnType}
 use Rattle.fl_schema.specs.declared.schema.KeyWidth.{KeyWidth}
 use Rattle.fl_table.specs.Pages.{bytes_in}
-use Rattle.fl_table.specs.Reading.{keys_fault, last_in, AreRead, last_after, rows_after, voids_after}
+use Rattle.fl_table.specs.Reading.{keys_fault, last_in, AreRead, last_after, rows_after, voids_after, ends_after}
 use Rattle.fl_table.proofs.KeyOrder.{key_before, rising}
 use Rattle.fl_table.proofs.States.{shape_in, state_of, HaveSize, to-image, committed-end}
 use Rattle.fl_find.specs.Pages.{rows_on, rows_where}
-
--- a row of a table without variable data tells its bytes
-pub stored-entry : (plan : Plan) (entry : Entry) → IsPlain plan → FitsPlan plan entry → IsStorable (row_layout plan) (stored_row entry)
-stored-entry plan entry plain h = by_blob entry.kept.blob refl h.blob
-  where
-    no : true ≡ false → ⊥
-    no e = cc
-
-    is_true : (b : Bool) → IsTrue b → b ≡ true
-    is_true b t = t
-
-    row_of_blob : (o : Option (List ℕ)) → Row
-    row_of_blob o = record { key = entry.kept.key; values = entry.kept.values; blob = option_map (λ bytes. record { page = entry.page; offset = entry.offset; length = length bytes }) o }
-
-    by_blob : (o : Option (List ℕ)) → entry.kept.blob ≡ o → BlobFits plan entry o → IsStorable (row_layout plan) (stored_row entry)
-    by_blob None e b = subst (λ (o : Option (List ℕ)). IsStorable (row_layout plan) (row_of_blob o)) (sym e)
-        (record { fits = record { key = h.key; as_many = h.as_many; values = h.values; blob = tt }; bytes = tt })
-    by_blob (Some bytes) e b = absurd (no (sym (is_true (has_var plan) b.0) ∙ plain.no_var))
-
-pub all-stored : (plan : Plan) (entries : List Entry) → IsPlain plan → AllByRecursion (FitsPlan plan) entries → AllByRecursion (IsStorable (row_layout plan)) (map stored_row entries)
-all-stored plan [] plain h = tt
-all-stored plan (entry ∷ entries) plain h = (stored-entry plan entry plain h.0, all-stored plan entries plain h.1)
 
 each-at : {X : Type 0} (P : X → Type 0) (xs : List X) (i : ℕ) (x : X) → AllByRecursion P xs → slice_get xs i ≡ Some x → P x
 each-at {X} P [] i x h e = absurd (none e)
@@ -59,6 +41,32 @@ each-at {X} P [] i x h e = absurd (none e)
     none e = cc
 each-at P (y ∷ ys) zero x h e = let same : y ≡ x = cc in subst P same h.0
 each-at P (y ∷ ys) (suc i) x h e = each-at P ys i x h.1 e
+
+-- the blobs of these records begin on pages whose numbers fit
+abbrev pub AreNumbered : List Entry → Type 0
+AreNumbered entries = (i : ℕ) (entry : Entry) (blob : List ℕ) → slice_get entries i ≡ Some entry → entry.kept.blob ≡ Some blob → 0 < length blob → entry.page + 1 < 2 ^ 32
+
+-- so do those of a table without pending records
+pub table-numbered : (plan : Plan) (table : Table) → IsPlainTable plan table → table.pending ≡ 0 → AreNumbered table.entries
+table-numbered plan table facts none = λ i entry blob e is some.
+    let there : slice_get (written table) i ≡ Some entry = ap (λ (es : List Entry). slice_get es i) (take_all (length table.entries - table.pending) table.entries (omega (arith, none))) ∙ e in
+    by_ring entry.page table.var facts.blobs.has (has entry blob is (each-at (FitsPlan plan) table.entries i entry facts.kept.fit e).blob) (written-numbered plan table facts.blobs i entry blob there is some)
+  where
+    has : (entry : Entry) (blob : List ℕ) → entry.kept.blob ≡ Some blob → BlobFits plan entry entry.kept.blob → has_var plan ≡ true
+    has entry blob is fits = (subst (BlobFits plan entry) is fits).0
+
+    by_ring : (page : ℕ) (o : Option model.Ring) → is_some_ring o ≡ has_var plan → has_var plan ≡ true → IfSome o (λ ring. page + 1 < 2 ^ 32) → page + 1 < 2 ^ 32
+    by_ring page None has is h = absurd (no (has ∙ is))
+      where
+        no : false ≡ true → ⊥
+        no e = cc
+    by_ring page (Some ring) has is h = h
+
+-- rows that refer to blobs tell their bytes
+pub all-stored : (plan : Plan) (entries : List Entry) → plan.blob_limit ≤ 1500 → content_per_page plan < 65535 → AreNumbered entries → AllByRecursion (FitsPlan plan) entries → AllByRecursion (IsStorable (row_layout plan)) (map stored_row entries)
+all-stored plan [] limit wide numbered h = tt
+all-stored plan (entry ∷ entries) limit wide numbered h =
+    (stored-row plan entry h.0 limit wide (λ blob is some. numbered 0 entry blob refl is some), all-stored plan entries limit wide (λ i. numbered (suc i)) h.1)
 
 -- a sum over one more
 pub sum-next : {X : Type 0} (f : X → ℕ) (xs : List X) (i : ℕ) (x : X) → slice_get xs i ≡ Some x → sum_by f (take (suc i) xs) ≡ sum_by f (take i xs) + f x
@@ -77,7 +85,7 @@ sum-next f (y ∷ ys) (suc i) x e =
     let b = sum_by-cons f y (take i ys) in omega (arith, h, a, b)
 
 module _ (page : ℕ → List ℕ) (first : ℕ) (plan : Plan) (table : Table) (key : KeyWidth) (types : List ColumnType) (blobs : Bool) (same : layout_with key types blobs ≡ row_layout plan)
-    (plain : IsPlain plan) (facts : IsPlainTable plan table) (none : table.pending ≡ 0) (large : 64 ≤ plan.geometry.page) (room : row_len plan + 24 ≤ plan.geometry.page) (some_row : 1 ≤ row_len plan)
+    (limit : plan.blob_limit ≤ 1500) (facts : IsPlainTable plan table) (none : table.pending ≡ 0) (large : 64 ≤ plan.geometry.page) (room : row_len plan + 24 ≤ plan.geometry.page) (some_row : 1 ≤ row_len plan)
     (short : plan.geometry.page ≤ 4096) (sizes : HaveSize first plan page) (on : OnRing (shape_in first plan) page (state_of plan table)) where
   image : IsRingImage (shape_of plan DataRing) table.rows (bytes_in page first plan DataRing) (HoldsRows plan table)
   image = to-image page first plan table sizes large facts.rows on
@@ -119,7 +127,8 @@ module _ (page : ℕ → List ℕ) (first : ℕ) (plan : Plan) (table : Table) (
           let lt = slice_get-short table.rows.counts i c e in
           let sized = few i c e in
           let d = data_page key types blobs plan (model.oldest table.rows + i) (rows_at table i c) same
-          (all-stored plan (rows_at table i c) plain (each-take (FitsPlan plan) c (drop (sum (take i table.rows.counts)) table.entries) (each-drop (FitsPlan plan) (sum (take i table.rows.counts)) table.entries facts.kept.fit)))
+          (all-stored plan (rows_at table i c) limit (omega (arith, short)) (λ j entry blob e is some. table-numbered plan table facts none (sum (take i table.rows.counts) + j) entry blob
+          (sym (slice_get-drop (sum (take i table.rows.counts)) table.entries j) ∙ slice_get-front c (drop (sum (take i table.rows.counts)) table.entries) j entry e) is some) (each-take (FitsPlan plan) c (drop (sum (take i table.rows.counts)) table.entries) (each-drop (FitsPlan plan) (sum (take i table.rows.counts)) table.entries facts.kept.fit)))
           (omega (arith, lt, facts.rows.not_negative, facts.number)) (omega (arith, many, some)) (omega (arith, many, small c sized)) (omega (arith, ap (λ n. n * row_len plan) many, sized)) in
           let state : state_of_page (page (place (shape_in first plan) (model.oldest table.rows + i))) ≡ Committed =
           ap state_of_page (is ∙ committed-end (data_body plan (model.oldest table.rows + i) (rows_at table i c))) ∙ committed_state (data_body plan (model.oldest table.rows + i) (rows_at table i c)) in
@@ -153,6 +162,7 @@ module _ (page : ℕ → List ℕ) (first : ℕ) (plan : Plan) (table : Table) (
     pub last : last_after (row_layout plan) (λ number. page (place (shape_in first plan) number)) (model.oldest table.rows) n ≡ key_before table.entries (sum (take n table.rows.counts))
     pub rows : rows_after (row_layout plan) (λ number. page (place (shape_in first plan) number)) (model.oldest table.rows) n ≡ sum (take n table.rows.counts)
     pub voids : voids_after (row_layout plan) (λ number. page (place (shape_in first plan) number)) (model.oldest table.rows) n ≡ count_by (λ count. count == 0) (take n table.rows.counts)
+    pub ends : ends_after (row_layout plan) (λ number. page (place (shape_in first plan) number)) (model.oldest table.rows) n ≡ blobs_end 0 (map stored_row (take (sum (take n table.rows.counts)) table.entries))
 
   pub length-kept : (i c : ℕ) → slice_get table.rows.counts i ≡ Some c → length (rows_on (row_layout plan) (page (place (shape_in first plan) (model.oldest table.rows + i)))) ≡ c
   length-kept i c e = ap length (kept i c e).rows ∙ (length-map (rows_at table i c) stored_row ∙ as_many i c e)
@@ -163,11 +173,16 @@ module _ (page : ℕ → List ℕ) (first : ℕ) (plan : Plan) (table : Table) (
     last = ap (key_before table.entries) (sym (ap sum (take_none table.rows.counts)));
     rows = sym (ap sum (take_none table.rows.counts));
     voids = sym (ap (count_by (λ count. count == 0)) (take_none table.rows.counts));
+    ends = sym (ap (λ (cs : List ℕ). blobs_end 0 (map stored_row (take (sum cs) table.entries))) (take_none table.rows.counts) ∙ ap (λ (es : List Entry). blobs_end 0 (map stored_row es)) (no_entries table.entries));
   }
     where
       take_none : (zs : List ℕ) → take 0 zs ≡ []
       take_none [] = refl
       take_none (z ∷ zs) = refl
+
+      no_entries : (es : List Entry) → take 0 es ≡ []
+      no_entries [] = refl
+      no_entries (e ∷ es) = refl
   kept-read (suc n) le =
       let h = kept-read n (omega (arith, le)) in
       let at_n = slice_get-some table.rows.counts n (omega (arith, le)) in
@@ -188,6 +203,12 @@ module _ (page : ℕ → List ℕ) (first : ℕ) (plan : Plan) (table : Table) (
         last = ap (λ (l : Option ℕ). last_in l (rows_on (row_layout plan) (page (place (shape_in first plan) (model.oldest table.rows + n))))) h.last
             ∙ (ap (last_in (key_before table.entries (sum (take n table.rows.counts)))) k.rows ∙ (up.1 ∙ ap (key_before table.entries) (omega (arith, as_many n at_n.0 at_n.1, more))));
         rows = omega (arith, h.rows, many, more);
+        ends = ap (λ (rows : List Row). blobs_end (ends_after (row_layout plan) (λ number. page (place (shape_in first plan) number)) (model.oldest table.rows) n) rows) k.rows
+            ∙ (ap (λ m. blobs_end m (map stored_row (rows_at table n at_n.0))) h.ends
+            ∙ (sym (ends-append 0 (map stored_row (take (sum (take n table.rows.counts)) table.entries)) (map stored_row (rows_at table n at_n.0)))
+            ∙ (ap (blobs_end 0) (sym (map-append stored_row (take (sum (take n table.rows.counts)) table.entries) (rows_at table n at_n.0)))
+            ∙ (ap (λ (es : List Entry). blobs_end 0 (map stored_row es)) (sym (take-add (sum (take n table.rows.counts)) at_n.0 table.entries))
+            ∙ ap (λ m. blobs_end 0 (map stored_row (take m table.entries))) (sym more)))));
         voids = ap (λ m. m + cond (length (rows_on (row_layout plan) (page (place (shape_in first plan) (model.oldest table.rows + n)))) == 0) 1 0) h.voids
             ∙ (ap (λ m. count_by (λ count. count == 0) (take n table.rows.counts) + cond (m == 0) 1 0) many ∙ sym (sum-next (λ (m : ℕ). cond (m == 0) 1 0) table.rows.counts n at_n.0 at_n.1));
       }

@@ -14,7 +14,7 @@ use Rattle.fl_model.specs.Ring as rings
 use Rattle.fl_model.specs.Row.{stored_row}
 use Rattle.fl_model.specs.Table as model
 use Rattle.fl_model.specs.Table.{Entry, lose}
-use Rattle.fl_table.proofs.Plain.{IsPlain, IsPlainTable, plain-facts, plain-lose}
+use Rattle.fl_table.proofs.Plain.{IsPlainTable, table-parts, plain-lose}
 use Rattle.fl_page.specs.Header.{page_count}
 use Rattle.fl_page.specs.Page.{IsGoodPage, rows_in}
 use Rattle.fl_page.specs.declared.fault.ReadFault.{ReadFault}
@@ -30,7 +30,7 @@ use Rattle.fl_table.specs.declared.table.Table.{Table}
 use Rattle.fl_table.proofs.Holding.{plain-on}
 use Rattle.fl_table.proofs.KeptPages.{kept, length-kept, sum-next}
 use Rattle.fl_table.proofs.KeyRows.{length-rows_from}
-use Rattle.fl_table.proofs.SealAnswers.{planned-plain, planned-ring, planned-large, lies-size}
+use Rattle.fl_table.proofs.SealAnswers.{planned-ring, planned-large, lies-size}
 use Rattle.fl_table.proofs.States.{shape_in}
 use Rattle.fl_find.specs.Pages.{rows_on, rows_where}
 
@@ -64,11 +64,11 @@ module _ (t : Table) (f : FlashState) (first : ℕ) (plan : Plan) (table : model
   abbrev page : List ℕ
   page = page_at f (place (shape_in first plan) (rings.oldest table.rows + i))
 
-  plain : IsPlain plan
-  plain = planned-plain t first plan stands.planned
+  limit : plan.blob_limit ≤ 1500
+  limit = omega (arith, stands.planned.limit, t.blobs_fit)
 
   facts : IsPlainTable plan table
-  facts = plain-facts plan table plain stands.facts
+  facts = table-parts plan table stands.facts
 
   layout-is : layout_of t.schema ≡ row_layout plan
   layout-is = sym stands.planned.layout
@@ -93,11 +93,11 @@ module _ (t : Table) (f : FlashState) (first : ℕ) (plan : Plan) (table : model
       let some : 1 ≤ row_len plan = omega (arith, t.some_row, len-is) in
       let short : plan.geometry.page ≤ 4096 = omega (arith, t.served.page_greatest, size-is) in
       let on = plain-on (page_at f) first plan (lose table) sizes large lost stands.pages in
-      let k = kept (page_at f) first plan (lose table) t.schema.key (types_of t.schema) t.schema.blobs layout-is plain lost refl large room some short sizes on i c e in
+      let k = kept (page_at f) first plan (lose table) t.schema.key (types_of t.schema) t.schema.blobs layout-is limit lost refl large room some short sizes on i c e in
       record {
         good = k.good;
         rows = k.rows;
-        many = length-kept (page_at f) first plan (lose table) t.schema.key (types_of t.schema) t.schema.blobs layout-is plain lost refl large room some short sizes on i c e;
+        many = length-kept (page_at f) first plan (lose table) t.schema.key (types_of t.schema) t.schema.blobs layout-is limit lost refl large room some short sizes on i c e;
       }
 
   -- its rows where it is committed, and it is committed just where it has some

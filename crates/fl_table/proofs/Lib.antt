@@ -1,12 +1,23 @@
+pub mod HeldBlobs
+pub mod BlobSteps
+pub mod BlobMount
+pub mod BlobTables
+pub mod BlobEnds
 pub mod Plain
 pub mod Planning
 pub mod Moved
 pub mod Indexing
 pub mod IndexSeals
+pub mod BlobSeals
+pub mod Blobbing
+pub mod Settled
+pub mod BlobStands
 pub mod Following
+pub mod Outsides
 pub mod Gathering
 pub mod MountIndexed
 pub mod MountJoined
+pub mod BlobRows
 pub mod States
 pub mod Sealed
 pub mod Lifted
@@ -20,6 +31,8 @@ pub mod Sealings
 pub mod Writers
 pub mod SealAnswers
 pub mod Refusals
+pub mod Accepted
+pub mod Joining
 pub mod Putting
 pub mod PutAnswers
 pub mod KeyRows
@@ -35,6 +48,9 @@ pub mod StillStands
 pub mod MountGood
 pub mod MountRead
 pub mod MountEnded
+pub mod VarRepairs
+pub mod BlobsWithin
+pub mod MountVar
 pub mod MountCalls
 pub mod MountReads
 pub mod Pointed
@@ -43,3 +59,4 @@ pub mod PendingRows
 pub mod Finds
 pub mod VoidPages
 pub mod Slots
+pub mod Skips

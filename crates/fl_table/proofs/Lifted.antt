@@ -5,13 +5,16 @@ use Rattle.fl_flash.specs.declared.flash.FlashFault.{FlashFault}
 use Rattle.fl_flash.specs.declared.flash.FlashFault.TheVariants.{PowerLost, Media}
 use Rattle.fl_model.specs.Record.{Plan, has_index, entries_per_page}
 use Rattle.fl_model.specs.Ring as model
+use Rattle.std.specs.List.{sum}
 use Rattle.fl_model.specs.Table.{Table, RingName, DataRing, shape_of, with_ring, seal_buffer, pending_entries, lose, after_seal, is_dirty}
 use Rattle.fl_model.specs.Layout.{data_body}
 use Rattle.fl_model.specs.Work.{Kind, Body, Mark, VoidMark, Erase, effect, Device, PartEnd, Whole, CutIn, FailedIn, PartProgress}
 use Rattle.fl_model.specs.Within.{seal_within, effect_within, TablePerforms}
 use Rattle.fl_model.proofs.Performs.{performs-along, performs-map, performs-whole, EndsAlong}
 use Rattle.fl_model.proofs.Among.{seal-all_done}
-use Rattle.fl_table.proofs.Plain.{IsPlainTable, plain-body, plain-mark, plain-erase}
+use Rattle.fl_table.proofs.BlobTables.{HoldsVar}
+use Rattle.fl_table.proofs.Blobbing.{var-as, var-rest}
+use Rattle.fl_table.proofs.Plain.{IsPlainTable, AreInPages, plain-body, plain-mark, plain-erase}
 use Rattle.fl_table.proofs.Moved.{HoldsIndexed, indexed-moved, keeps-same, keeps-sealed}
 use Rattle.fl_ring.specs.Device.{SameDevice}
 use Rattle.fl_ring.specs.Operations.{change, seal_kinds}
@@ -30,6 +33,8 @@ pub record MakesBody (plan : Plan) (body : List ℕ) (table : Table) : Type 0 wh
   pub body_is : body ≡ data_body plan table.rows.next (pending_entries table)
   pub clean : table.rows.dirty ≡ false
   pub room : IsTrue (has_index plan) → table.waiting < entries_per_page plan
+  -- the blobs of the pending rows were sealed
+  pub settled : AreInPages table table.entries
 
 -- what is left of a seal's operations
 abbrev pub AreErases : List Kind → Type 0
@@ -53,11 +58,15 @@ HasCome plan body (Mark ∷ kinds) table = MakesBody plan body table × AreErase
 HasCome plan body (VoidMark ∷ kinds) table = ⊥
 HasCome plan body (Erase ∷ kinds) table = AreErases kinds
 
+-- what the other rings of a table hold
+abbrev pub HoldsOthers : (ℕ → List ℕ) → ℕ → Plan → Table → Type 0
+HoldsOthers page first plan table = HoldsIndexed page first plan table × HoldsVar page first plan table
+
 -- the ring's state is that of the table, of which these operations are left
 pub record IsRingOf (page : ℕ → List ℕ) (first : ℕ) (plan : Plan) (body : List ℕ) (kinds : List Kind) (s : RingState) (table : Table) : Type 0 where
   pub state : s ≡ state_of plan (lose table)
   pub facts : IsPlainTable plan table
-  pub indexed : HoldsIndexed page first plan table
+  pub others : HoldsOthers page first plan table
   pub come : HasCome plan body kinds table
 
 erases_come : (plan : Plan) (body : List ℕ) (kinds : List Kind) (table : Table) → AreErases kinds → HasCome plan body kinds table
@@ -82,8 +91,11 @@ step-along page first plan body shape Body kinds s table r =
     record {
       state = ap begun r.state ∙ state-begun plan table;
       facts = plain-body plan table r.facts m.some m.clean;
-      indexed = indexed-moved page first plan table (with_ring DataRing model.begun table) r.facts.index (keeps-same table (with_ring DataRing model.begun table) refl refl refl) refl refl r.indexed;
-      come = mark_comes plan body kinds (with_ring DataRing model.begun table) (record { some = m.some; body_is = m.body_is; clean = m.clean; room = m.room }) r.come.1;
+      others = (
+        indexed-moved page first plan table (with_ring DataRing model.begun table) r.facts.index (keeps-same table (with_ring DataRing model.begun table) refl refl refl) refl refl r.others.0,
+        var-as page first plan table (with_ring DataRing model.begun table) refl refl r.others.1,
+      );
+      come = mark_comes plan body kinds (with_ring DataRing model.begun table) (record { some = m.some; body_is = m.body_is; clean = m.clean; room = m.room; settled = m.settled }) r.come.1;
     }
 step-along page first plan body shape Mark kinds s table r =
     let m = r.come.0 in
@@ -91,9 +103,12 @@ step-along page first plan body shape Mark kinds s table r =
       state = ap (λ (x : RingState). sealed (shape_in first plan) x body) r.state
           ∙ (ap (sealed (shape_in first plan) (state_of plan (lose table))) m.body_is
           ∙ state-sealed first plan table shape r.facts.rows.not_negative r.facts.kept.counted (positive table.pending m.some));
-      facts = plain-mark plan table shape r.facts m.room m.some m.clean;
-      indexed = indexed-moved page first plan table (seal_buffer plan DataRing table) r.facts.index
-          (keeps-sealed (shape_of plan DataRing) table.pending table (seal_buffer plan DataRing table) shape r.facts.rows.not_negative refl refl) refl refl r.indexed;
+      facts = plain-mark plan table shape r.facts m.room m.some m.clean m.settled;
+      others = (
+        indexed-moved page first plan table (seal_buffer plan DataRing table) r.facts.index
+            (keeps-sealed (shape_of plan DataRing) table.pending table (seal_buffer plan DataRing table) shape r.facts.rows.not_negative refl refl) refl refl r.others.0,
+        var-rest page first plan table (seal_buffer plan DataRing table) (sum (model.given_up (shape_of plan DataRing) table.pending table.rows)) refl refl r.others.1,
+      );
       come = erases_come plan body kinds (seal_buffer plan DataRing table) r.come.1;
     }
   where
@@ -103,7 +118,10 @@ step-along page first plan body shape VoidMark kinds s table r = absurd r.come
 step-along page first plan body shape Erase kinds s table r = record {
   state = ap erased r.state ∙ state-erased plan table;
   facts = plain-erase plan table r.facts;
-  indexed = indexed-moved page first plan table (with_ring DataRing model.erased table) r.facts.index (keeps-same table (with_ring DataRing model.erased table) refl refl refl) refl refl r.indexed;
+  others = (
+    indexed-moved page first plan table (with_ring DataRing model.erased table) r.facts.index (keeps-same table (with_ring DataRing model.erased table) refl refl refl) refl refl r.others.0,
+    var-as page first plan table (with_ring DataRing model.erased table) refl refl r.others.1,
+  );
   come = erases_come plan body kinds (with_ring DataRing model.erased table) r.come;
 }
 
@@ -159,14 +177,14 @@ module _ (Q : Table → Type 0) (first : ℕ) (plan : Plan) (body : List ℕ) (R
 
 -- a seal of the pending rows
 pub seal-lifts : (page : ℕ → List ℕ) (first : ℕ) (plan : Plan) (body : List ℕ) (table : Table) (rose : Bool) (device : Device) (result : Result (Unit {0}) FlashFault) (new : FlashState) →
-    model.IsShape (shape_of plan DataRing) → IsPlainTable plan table → MakesBody plan body table → HoldsIndexed page first plan table →
+    model.IsShape (shape_of plan DataRing) → IsPlainTable plan table → MakesBody plan body table → HoldsOthers page first plan table →
     (h : Performed (shape_in first plan) (change (shape_in first plan) body) rose (seal_kinds (shape_in first plan) (state_of plan (lose table)) body) device (state_of plan (lose table)) result new) →
-    TablePerformed (HoldsIndexed page first plan) first plan (seal_within plan DataRing table) table rose device result new h.now.state
-seal-lifts page first plan body table rose device result new shape facts makes indexed h =
-    subst (λ (ops : List (RingName × Kind)). TablePerformed (HoldsIndexed page first plan) first plan ops table rose device result new h.now.state) (kinds_are (sealed (shape_in first plan) (state_of plan (lose table)) body).dirty refl)
-    (performed-lifts (HoldsIndexed page first plan) first plan body (IsRingOf page first plan body) (step-along page first plan body shape) (λ kinds s t r. (r.state, r.facts, r.indexed)) rose
+    TablePerformed (HoldsOthers page first plan) first plan (seal_within plan DataRing table) table rose device result new h.now.state
+seal-lifts page first plan body table rose device result new shape facts makes others h =
+    subst (λ (ops : List (RingName × Kind)). TablePerformed (HoldsOthers page first plan) first plan ops table rose device result new h.now.state) (kinds_are (sealed (shape_in first plan) (state_of plan (lose table)) body).dirty refl)
+    (performed-lifts (HoldsOthers page first plan) first plan body (IsRingOf page first plan body) (step-along page first plan body shape) (λ kinds s t r. (r.state, r.facts, r.others)) rose
     (seal_kinds (shape_in first plan) (state_of plan (lose table)) body) device (state_of plan (lose table)) table result new
-    (record { state = refl; facts = facts; indexed = indexed; come = (makes, erases (sealed (shape_in first plan) (state_of plan (lose table)) body).dirty) }) h)
+    (record { state = refl; facts = facts; others = others; come = (makes, erases (sealed (shape_in first plan) (state_of plan (lose table)) body).dirty) }) h)
   where
     erases : (b : Bool) → AreErases (cond b (Erase ∷ []) [])
     erases true = tt

@@ -1,9 +1,9 @@
 -- What a table in memory tells of the table of the model for which it stands.
-use Rattle.std.proofs.Common.{◌≡◌, ℕ, ◌+◌, ◌-◌, ◌%◌, ◌<◌, ◌≤◌, ◌==◌, Option, Some, option_map, unwrap_or, length, get_or, sym, ◌∙◌, ap, arith}
+use Rattle.std.proofs.Common.{◌≡◌, ℕ, ◌+◌, ◌-◌, ◌%◌, ◌<◌, ◌≤◌, ◌==◌, Option, Some, option_map, unwrap_or, map, length, get_or, sym, ◌∙◌, ap, arith}
 use Rattle.std.proofs.lemmas.List.{ext_get_or}
 use Rattle.std.proofs.lemmas.List.FromFn.{length-map-range_with_len, get_or-map-range_with_len}
 use Rattle.std.proofs.lemmas.Option.{get_or_from_slice_get}
-use Rattle.std.specs.List.{slice_get, sum, count_by}
+use Rattle.std.specs.List.{slice_get, sum, count_by, range_with_len}
 use Rattle.fl_flash.specs.Flash.{FlashState}
 use Rattle.fl_model.specs.Record.{Plan}
 use Rattle.fl_model.specs.Ring as rings
@@ -14,6 +14,7 @@ use Rattle.fl_ring.specs.declared.ring.Ring.{Ring}
 use Rattle.fl_table.specs.Look.{oldest_in, rows_noted, kept_counts, counts_in, counts_of}
 use Rattle.fl_table.specs.Memory.{next_in, pending_in}
 use Rattle.fl_table.specs.Standing.{Stands}
+use Rattle.fl_table.specs.declared.counts.TableCounts.{TableCounts}
 use Rattle.fl_table.specs.declared.table.Table.{Table}
 use Rattle.fl_table.proofs.SealAnswers.{counts-room, writer-count}
 
@@ -63,3 +64,14 @@ module _ (t : Table) (f : FlashState) (first : ℕ) (plan : Plan) (table : model
       ∙ (ap (λ (n : ℕ). record { rows = length table.entries; pending = n; pages = next_in t - oldest_in t; voids = count_by (λ count. count == 0) (kept_counts t) }) pending-is
       ∙ (ap (λ (n : ℕ). record { rows = length table.entries; pending = table.pending; pages = n; voids = count_by (λ count. count == 0) (kept_counts t) }) pages-is
       ∙ ap (λ (n : ℕ). record { rows = length table.entries; pending = table.pending; pages = length table.rows.counts; voids = n }) voids))
+
+-- what was counted over all kept pages
+pub counts-told : (t : Table) (counts : TableCounts) (n : ℕ) → n ≡ next_in t - oldest_in t → counts.rows ≡ sum (map (rows_noted t) (range_with_len (oldest_in t) n)) + pending_in t → counts.pending ≡ pending_in t → counts.pages ≡ next_in t - oldest_in t →
+    counts.voids ≡ count_by (λ count. count == 0) (map (rows_noted t) (range_with_len (oldest_in t) n)) → counts ≡ counts_in t
+counts-told t counts n last rows pending pages voids =
+    let with_rows : ℕ → TableCounts = λ k. record { rows = k; pending = counts.pending; pages = counts.pages; voids = counts.voids } in
+    let with_pending : ℕ → TableCounts = λ k. record { rows = sum (kept_counts t) + pending_in t; pending = k; pages = counts.pages; voids = counts.voids } in
+    let with_pages : ℕ → TableCounts = λ k. record { rows = sum (kept_counts t) + pending_in t; pending = pending_in t; pages = k; voids = counts.voids } in
+    let with_voids : ℕ → TableCounts = λ k. record { rows = sum (kept_counts t) + pending_in t; pending = pending_in t; pages = next_in t - oldest_in t; voids = k } in
+    ap with_rows (rows ∙ ap (λ k. sum (map (rows_noted t) (range_with_len (oldest_in t) k)) + pending_in t) last)
+    ∙ (ap with_pending pending ∙ (ap with_pages pages ∙ ap with_voids (voids ∙ ap (λ k. count_by (λ count. count == 0) (map (rows_noted t) (range_with_len (oldest_in t) k))) last)))

@@ -1,5 +1,5 @@
 -- What the calls of a mount say of its table.
-use Rattle.std.proofs.Common.{◌≡◌, ℕ, ◌-◌, ◌<◌, ◌≤◌, Bool, true, false, List, Some, refl, sym, ◌∙◌, ap, subst, arith, IsTrue, inl, inr}
+use Rattle.std.proofs.Common.{◌≡◌, ℕ, ◌-◌, ◌<◌, ◌≤◌, Bool, true, false, Option, List, refl, sym, ◌∙◌, ap, subst, arith, IsTrue, inl, inr}
 use Rattle.fl_base.specs.Causes.{Rose}
 use Rattle.fl_base.specs.declared.types.Geometry.{Geometry}
 use Rattle.fl_base.specs.declared.types.RingPlace.{RingPlace}
@@ -22,13 +22,14 @@ use Rattle.fl_ring.proofs.Founds.{same_pages}
 use Rattle.fl_ring.proofs.Readings.{same_page}
 use Rattle.fl_schema.specs.Schema.{layout_of}
 use Rattle.fl_table.specs.Causes.{IfFlash, IfPage, MountCausedBy, is_of_pages, of_ring}
-use Rattle.fl_model.specs.Table.{IndexRing}
+use Rattle.fl_model.specs.Table.{IndexRing, VarRing}
 use Rattle.fl_table.specs.Memory.{IsPlanned, IsSamePlan}
 use Rattle.fl_table.specs.Pages.{bytes_in, place_in}
+use Rattle.fl_table.proofs.Blobbing.{var-stands}
 use Rattle.fl_table.proofs.Moved.{index-stands}
 use Rattle.fl_table.proofs.SealAnswers.{planned-ring}
-use Rattle.fl_table.specs.Mounting.{ReadsRing, FindsRows, HasBadPage, RefusesRows}
-use Rattle.fl_table.specs.Reading.{AreRead, AreRefused, last_after, rows_after, voids_after, pages_of}
+use Rattle.fl_table.specs.Mounting.{ReadsRing, FindsData, HasBadPage, RefusesData}
+use Rattle.fl_table.specs.Reading.{AreRead, AreRefused, last_after, rows_after, voids_after, ends_after, pages_of}
 use Rattle.fl_table.specs.declared.counts.Mounted.{Mounted}
 use Rattle.fl_table.specs.declared.faults.MountFault.{MountFault}
 use Rattle.fl_table.specs.declared.faults.MountFault.TheVariants.{Flash, Ring as OfRing, BadPage, BadKeys, BadIndex, BadBlob}
@@ -42,16 +43,19 @@ same-shape old new f same geometry = ap (λ (p : RingPlace). shape_at p f.geomet
 pub risen-later : (old mid new : FlashState) (rose : Bool) (device : Device) → IsWatched old new rose device → Goes old mid → Rose mid.media.faults new.media.faults → IsTrue rose
 risen-later old mid new rose device w goes rises = w.risen (omega (arith, rises, goes.faults))
 
--- the index ring stands beside the mount of the data ring
-pub index-still : (t : Table) (f mid : FlashState) (first : ℕ) (plan : Plan) → IsPlanned t first plan → f.geometry ≡ t.geometry → OutsideStands (shape_at t.place f.geometry) (page_at f) (page_at mid) → (k : ℕ) →
-    bytes_in (page_at mid) first plan IndexRing k ≡ bytes_in (page_at f) first plan IndexRing k
-index-still t f mid first plan planned geometry outside =
-    index-stands (page_at f) (page_at mid) first plan
-    (subst (λ (r : Shape). OutsideStands r (page_at f) (page_at mid)) (ap (λ (x : Geometry). shape_at t.place x) geometry ∙ planned-ring t first plan planned) outside)
+-- the other rings stand beside the mount of the data ring
+abbrev pub OthersStill : FlashState → FlashState → ℕ → Plan → Type 0
+OthersStill f g first plan = (k : ℕ) → (bytes_in (page_at g) first plan IndexRing k ≡ bytes_in (page_at f) first plan IndexRing k) × (bytes_in (page_at g) first plan VarRing k ≡ bytes_in (page_at f) first plan VarRing k)
 
-pub index-read : (t : Table) (f mid g : FlashState) (n first : ℕ) (plan : Plan) → IsPlanned t first plan → f.geometry ≡ t.geometry → OnlyReads mid n g → OutsideStands (shape_at t.place f.geometry) (page_at f) (page_at mid) → (k : ℕ) →
-    bytes_in (page_at g) first plan IndexRing k ≡ bytes_in (page_at f) first plan IndexRing k
-index-read t f mid g n first plan planned geometry reads outside k = same_page mid g n (place_in first plan IndexRing k) reads ∙ index-still t f mid first plan planned geometry outside k
+pub index-still : (t : Table) (f mid : FlashState) (first : ℕ) (plan : Plan) → IsPlanned t first plan → f.geometry ≡ t.geometry → OutsideStands (shape_at t.place f.geometry) (page_at f) (page_at mid) → OthersStill f mid first plan
+index-still t f mid first plan planned geometry outside =
+    let stands = subst (λ (r : Shape). OutsideStands r (page_at f) (page_at mid)) (ap (λ (x : Geometry). shape_at t.place x) geometry ∙ planned-ring t first plan planned) outside in
+    λ k. (index-stands (page_at f) (page_at mid) first plan stands k, var-stands (page_at f) (page_at mid) first plan stands k)
+
+pub index-read : (t : Table) (f mid g : FlashState) (n first : ℕ) (plan : Plan) → IsPlanned t first plan → f.geometry ≡ t.geometry → OnlyReads mid n g → OutsideStands (shape_at t.place f.geometry) (page_at f) (page_at mid) → OthersStill f g first plan
+index-read t f mid g n first plan planned geometry reads outside k =
+    let still = index-still t f mid first plan planned geometry outside k in
+    (same_page mid g n (place_in first plan IndexRing k) reads ∙ still.0, same_page mid g n (place_in first plan VarRing k) reads ∙ still.1)
 
 -- the kept pages are read on a flash that a repair left
 module _ (old new : Table) (f mid g : FlashState) (n : ℕ) (same : IsSamePlan old new) (geometry : f.geometry ≡ old.geometry) (reads : OnlyReads mid n g) where
@@ -78,7 +82,7 @@ module _ (old new : Table) (f mid g : FlashState) (n : ℕ) (same : IsSamePlan o
           (now_read (λ page. AreRefused (layout_of new.schema) page (oldest_of ring) (next_of ring - oldest_of ring) fault) h);
     }
 
-    pub refuses-page : (e : MountFault) → is_of_pages e ≡ true → IsTrue mid.media.tells → IfFlash (λ fault. ReadFails mid fault g) e → IfPage (λ fault. IsTrue mid.media.tells → AreRefused (layout_of new.schema) (pages_of ring mid) (oldest_of ring) (next_of ring - oldest_of ring) fault) e → RefusesRows old f least e g
+    pub refuses-page : (e : MountFault) → is_of_pages e ≡ true → IsTrue mid.media.tells → IfFlash (λ fault. ReadFails mid fault g) e → IfPage (λ fault. IsTrue mid.media.tells → AreRefused (layout_of new.schema) (pages_of ring mid) (oldest_of ring) (next_of ring - oldest_of ring) fault) e → RefusesData old f least e g
     unfolding reads-ring
     refuses-page (Flash fault) only told fails h = inr (record { ring = ring; ring_reads = reads-ring; fails = fails })
     refuses-page (OfRing fault) only told fails h = absurd (cc only)
@@ -87,32 +91,32 @@ module _ (old new : Table) (f mid g : FlashState) (n : ℕ) (same : IsSamePlan o
     refuses-page (BadIndex end next) only told fails h = absurd (cc only)
     refuses-page (BadBlob number next) only told fails h = absurd (cc only)
 
-    pub finds-pages : (mounted : Mounted) (now : Table) → now.ring ≡ Some ring → AreRead (layout_of new.schema) (pages_of ring mid) (oldest_of ring) (next_of ring - oldest_of ring) →
+    pub finds-data : (mounted : Mounted) (last : Option ℕ) (end : ℕ) → AreRead (layout_of new.schema) (pages_of ring mid) (oldest_of ring) (next_of ring - oldest_of ring) →
         mounted ≡ record {
           rows = rows_after (layout_of new.schema) (pages_of ring mid) (oldest_of ring) (next_of ring - oldest_of ring);
           pages = next_of ring - oldest_of ring;
           voids = voids_after (layout_of new.schema) (pages_of ring mid) (oldest_of ring) (next_of ring - oldest_of ring);
-        } → now.last_key ≡ last_after (layout_of new.schema) (pages_of ring mid) (oldest_of ring) (next_of ring - oldest_of ring) → FindsRows old f least mounted now g
-    finds-pages mounted now ring_is read is last =
-        let m = next_of ring - oldest_of ring in
+        } → last ≡ last_after (layout_of new.schema) (pages_of ring mid) (oldest_of ring) (next_of ring - oldest_of ring) →
+        end ≡ ends_after (layout_of new.schema) (pages_of ring mid) (oldest_of ring) (next_of ring - oldest_of ring) → FindsData old f least ring mounted last end g
+    finds-data mounted last end read is last_is end_is =
         record {
-          ring = ring;
-          ring_is = ring_is;
           ring_reads = reads-ring;
           read = subst (λ (l : RowLayout). AreRead l (pages_of ring g) (oldest_of ring) (next_of ring - oldest_of ring)) same.layout (now_read (λ page. AreRead (layout_of new.schema) page (oldest_of ring) (next_of ring - oldest_of ring)) read);
           mounted_is = subst (λ (l : RowLayout). mounted ≡ record { rows = rows_after l (pages_of ring g) (oldest_of ring) (next_of ring - oldest_of ring); pages = next_of ring - oldest_of ring; voids = voids_after l (pages_of ring g) (oldest_of ring) (next_of ring - oldest_of ring) }) same.layout
               (now_read (λ page. mounted ≡ record { rows = rows_after (layout_of new.schema) page (oldest_of ring) (next_of ring - oldest_of ring); pages = next_of ring - oldest_of ring; voids = voids_after (layout_of new.schema) page (oldest_of ring) (next_of ring - oldest_of ring) }) is);
-          last = subst (λ (l : RowLayout). now.last_key ≡ last_after l (pages_of ring g) (oldest_of ring) (next_of ring - oldest_of ring)) same.layout
-              (now_read (λ page. now.last_key ≡ last_after (layout_of new.schema) page (oldest_of ring) (next_of ring - oldest_of ring)) last);
+          last_is = subst (λ (l : RowLayout). last ≡ last_after l (pages_of ring g) (oldest_of ring) (next_of ring - oldest_of ring)) same.layout
+              (now_read (λ page. last ≡ last_after (layout_of new.schema) page (oldest_of ring) (next_of ring - oldest_of ring)) last_is);
+          end_is = subst (λ (l : RowLayout). end ≡ ends_after l (pages_of ring g) (oldest_of ring) (next_of ring - oldest_of ring)) same.layout
+              (now_read (λ page. end ≡ ends_after (layout_of new.schema) page (oldest_of ring) (next_of ring - oldest_of ring)) end_is);
         }
 
 -- the ring was refused
 pub refuses-ring : (old new : Table) (f g : FlashState) (least : ℕ) (e : RingFault) → IsSamePlan old new → f.geometry ≡ old.geometry → FoundFault f (shape_at new.place f.geometry) least e → FailsAs f (shape_at new.place f.geometry) least e g →
-    RefusesRows old f least (of_ring e) g
+    RefusesData old f least (of_ring e) g
 refuses-ring old new f g least e same geometry found fails =
     by_fault e (subst (λ (r : Shape). FoundFault f r least e) (same-shape old new f same geometry) found) (subst (λ (r : Shape). FailsAs f r least e g) (same-shape old new f same geometry) fails)
   where
-    by_fault : (e : RingFault) → FoundFault f (shape_at old.place old.geometry) least e → FailsAs f (shape_at old.place old.geometry) least e g → RefusesRows old f least (of_ring e) g
+    by_fault : (e : RingFault) → FoundFault f (shape_at old.place old.geometry) least e → FailsAs f (shape_at old.place old.geometry) least e g → RefusesData old f least (of_ring e) g
     by_fault (ring.Flash fault) found fails = inl fails
     by_fault (ring.BadHead heads) found fails = record { found = found; reads = fails }
     by_fault (ring.BadGap page) found fails = record { found = found; reads = fails }
@@ -121,7 +125,7 @@ refuses-ring old new f g least e same geometry found fails =
 
 -- the ring was found, and the index ends behind it
 pub refuses-end : (old new : Table) (f g : FlashState) (least next : ℕ) (ring : Ring) → IsSamePlan old new → f.geometry ≡ old.geometry → HasNumbers f (shape_at new.place f.geometry) least ring g → next ≡ next_of ring → next < least →
-    RefusesRows old f least (BadIndex least next) g
+    RefusesData old f least (BadIndex least next) g
 refuses-end old new f g least next ring same geometry numbers is beyond = record {
   ring = ring;
   numbers = subst (λ (r : Shape). HasNumbers f r least ring g) (same-shape old new f same geometry) numbers;

@@ -9,14 +9,17 @@ use Rattle.fl_flash.specs.declared.flash.FlashFault.TheVariants.{PowerLost, Medi
 use Rattle.fl_model.specs.Record.{Plan, RowLayout, row_layout, row_len, layout_len, has_index, entries_per_page}
 use Rattle.fl_model.specs.Ring as model
 use Rattle.fl_model.specs.Row.{stored_row}
-use Rattle.fl_model.specs.Table.{Table, Entry, DataRing, IndexRing, shape_of, pending_entries, lose}
+use Rattle.fl_model.specs.Table.{Table, Entry, DataRing, IndexRing, VarRing, shape_of, pending_entries, lose}
 use Rattle.fl_model.specs.Layout.{bitmap_of}
-use Rattle.fl_model.specs.Mount.{renumber, ready, index_end}
+use Rattle.fl_model.specs.Mount.{renumber, ready, index_end, blob_end}
 use Rattle.fl_model.specs.Facts.{IsTable}
 use Rattle.fl_model.specs.Work.{Device, PartProgress}
 use Rattle.fl_model.specs.Within.{TableMounts, TableStopped, TableUnread}
 use Rattle.fl_model.proofs.Lists.{slice_get-short}
-use Rattle.fl_table.proofs.Plain.{IsPlain, IsPlainTable, indexed-as, plain-lose, plain-facts, facts-plain}
+use Rattle.fl_table.proofs.BlobTables.{HoldsVar}
+use Rattle.fl_table.proofs.Blobbing.{var-front, var-moved, var-same}
+use Rattle.fl_table.proofs.MountCalls.{OthersStill}
+use Rattle.fl_table.proofs.Plain.{IsPlainTable, indexed-as, blobbed-moved, plain-lose, table-parts, table-facts}
 use Rattle.fl_table.proofs.Moved.{HoldsIndexed, KeepsPages, has-index, indexed-moved, indexed-same, keeps-lost, keeps-same, ring-moved}
 use Rattle.fl_page.specs.Writer.{Gathers}
 use Rattle.fl_ring.specs.Device.{ArmsAs, SameDevice}
@@ -34,8 +37,8 @@ use Rattle.fl_ring.specs.declared.ring.Ring.{Ring}
 use Rattle.fl_ring.proofs.Founds.{same_pages}
 use Rattle.fl_schema.specs.Schema.{layout_of, types_of}
 use Rattle.fl_table.specs.Causes.{of_ring, IfFlash, IfPage, is_of_pages}
-use Rattle.fl_table.specs.Memory.{IsPlanned}
-use Rattle.fl_table.specs.Outcomes.{FaultEnds, MountsBadly, RingsEnd, mounted_of}
+use Rattle.fl_table.specs.Memory.{IsPlanned, HoldsInMemory}
+use Rattle.fl_table.specs.Outcomes.{FaultEnds, MountsBadly, DataEnds, mounted_of}
 use Rattle.fl_model.specs.Spline.{points_of}
 use Rattle.fl_bitmap.specs.Widths.{is_bits}
 use Rattle.fl_index.specs.declared.index.Index.{Index}
@@ -50,9 +53,7 @@ use Rattle.fl_table.proofs.Gathering.{gather-waits, page-bitmap}
 use Rattle.fl_table.proofs.Indexing.{planned-none, planned-some}
 use Rattle.fl_table.specs.Pages.{Rests, bytes_in}
 use Rattle.fl_find.specs.Index.{IndexOf}
-use Rattle.fl_find.proofs.Points.{mounts-points}
-use Rattle.fl_table.specs.Reading.{AreRefused, AreNoted, last_after, rows_after, voids_after, pages_of, points_after, HaveBitmaps, GatherUpTo}
-use Rattle.fl_table.specs.Standing.{Stands}
+use Rattle.fl_table.specs.Reading.{AreRefused, AreNoted, last_after, rows_after, voids_after, ends_after, pages_of, points_after, HaveBitmaps, GatherUpTo}
 use Rattle.fl_table.specs.declared.counts.Mounted.{Mounted}
 use Rattle.fl_table.specs.declared.faults.MountFault.{MountFault}
 use Rattle.fl_table.specs.declared.faults.MountFault.TheVariants as mount
@@ -64,13 +65,13 @@ use Rattle.fl_table.proofs.MountGood.{ring-renumbered, numbered-facts, numbered-
 use Rattle.fl_table.proofs.MountLifted.{RowsMount, mount-lifts, mount-fails}
 use Rattle.fl_table.proofs.MountRead.{HoldRows, hold-rows, not-refused}
 use Rattle.fl_table.proofs.Repaired.{IsIdle, IsRepaired, idle-lost, lost-idle}
-use Rattle.fl_table.proofs.SealAnswers.{planned-plain, planned-shape, planned-large, planned-few, lies-size, counts-room}
+use Rattle.fl_table.proofs.SealAnswers.{planned-shape, planned-large, planned-few, lies-size, counts-room}
 use Rattle.fl_table.proofs.Sealings.{fault-ends}
 use Rattle.fl_table.proofs.States.{shape_in, state_of, state-oldest, HaveSize, to-image}
 
 -- what the mount of the data ring is told of its table
 pub record IsMounting (first : ℕ) (plan : Plan) (table : Table) (old : FlashState) : Type 0 where
-  pub plain : IsPlain plan
+  pub limit : plan.blob_limit ≤ 1500
   pub shape : model.IsShape (shape_of plan DataRing)
   pub large : 64 ≤ plan.geometry.page
   pub few : IsTrue (has_index plan) → plan.data_blocks * plan.geometry.block + 6 ≤ 65536
@@ -78,14 +79,15 @@ pub record IsMounting (first : ℕ) (plan : Plan) (table : Table) (old : FlashSt
   pub idle : IsIdle table
   pub on : OnRing (shape_in first plan) (page_at old) (state_of plan table)
   pub indexed : HoldsIndexed (page_at old) first plan table
+  pub var : HoldsVar (page_at old) first plan table
 
 pub mounting-of : (t : code.Table) (f : FlashState) (first : ℕ) (plan : Plan) (table : Table) → IsPlanned t first plan → f.geometry ≡ t.geometry → t.place.first_block + t.place.blocks ≤ f.blocks → f.start + extent f.geometry f.blocks ≤ length f.media.content → Rests f first plan table →
     IsMounting first plan table f
 mounting-of t f first plan table planned geometry within reaches rests =
-    let facts = plain-facts plan table (planned-plain t first plan planned) rests.settled.facts in
+    let facts = table-parts plan table rests.settled.facts in
     let large = planned-large t first plan planned in
     record {
-      plain = planned-plain t first plan planned;
+      limit = omega (arith, planned.limit, t.blobs_fit);
       shape = planned-shape t first plan planned;
       large = large;
       few = planned-few t first plan planned;
@@ -93,12 +95,10 @@ mounting-of t f first plan table planned geometry within reaches rests =
       idle = lost-idle table rests.settled.lost;
       on = plain-on (page_at f) first plan table (lies-size t f first plan planned geometry within reaches) large facts rests.pages;
       indexed = rests.pages.index;
+      var = (rests.pages.var, rests.pages.blobs);
     }
 
 module _ (first : ℕ) (plan : Plan) (table : Table) (rose : Bool) (device : Device) (old : FlashState) (is : IsMounting first plan table old) where
-  plain : IsPlain plan
-  plain = is.plain
-
   shape : model.IsShape (shape_of plan DataRing)
   shape = is.shape
 
@@ -110,6 +110,9 @@ module _ (first : ℕ) (plan : Plan) (table : Table) (rose : Bool) (device : Dev
 
   idle : IsIdle table
   idle = is.idle
+
+  limited : plan.blob_limit ≤ 1500
+  limited = is.limit
 
   numbered : Table
   numbered = renumber plan DataRing table
@@ -130,9 +133,13 @@ module _ (first : ℕ) (plan : Plan) (table : Table) (rose : Bool) (device : Dev
       (indexed-moved (page_at old) first plan (renumber plan DataRing table) now known.index r.keeps r.index r.firsts
       (indexed-moved (page_at old) first plan table (renumber plan DataRing table) facts.index keeps refl refl is.indexed))
 
+  -- .. and its variable data
+  still_var : (now : Table) (new : FlashState) → IsRepaired (renumber plan DataRing table) now → ((n : ℕ) → bytes_in (page_at new) first plan VarRing n ≡ bytes_in (page_at old) first plan VarRing n) → HoldsVar (page_at new) first plan now
+  still_var now new r still = var-same (page_at old) (page_at new) first plan now still (var-moved (page_at old) first plan table now r.var r.from is.var)
+
   -- the mount of the ring failed
-  pub ring-fails : (e : RingFault) (t : code.Table) (new : FlashState) → HaveSize first plan (page_at new) → ((n : ℕ) → bytes_in (page_at new) first plan IndexRing n ≡ bytes_in (page_at old) first plan IndexRing n) →
-      ring_mount.MountEnds (shape_in first plan) rose device (renumbered (shape_in first plan) (index_end plan table) (state_of plan table)) (Err e) new → RingsEnd first plan (DataRing ∷ []) table rose device (Err (of_ring e)) t new
+  pub ring-fails : (e : RingFault) (t : code.Table) (new : FlashState) → HaveSize first plan (page_at new) → OthersStill old new first plan →
+      ring_mount.MountEnds (shape_in first plan) rose device (renumbered (shape_in first plan) (index_end plan table) (state_of plan table)) (Err e) new → DataEnds first plan table rose device (Err (of_ring e)) t new
   ring-fails e t new sizes still h =
       by_fault e (subst (λ (s : RingState). ring_mount.MountEnds (shape_in first plan) rose device s (Err e) new) same_state h)
     where
@@ -141,14 +148,14 @@ module _ (first : ℕ) (plan : Plan) (table : Table) (rose : Bool) (device : Dev
       did_not now fault (inl p) = inl (p.0, fault-ends now.end fault new p.1)
       did_not now fault (inr p) = inr p
 
-      by_fault : (e : RingFault) → ring_mount.MountEnds (shape_in first plan) rose device (state_of plan (renumber plan DataRing table)) (Err e) new → RingsEnd first plan (DataRing ∷ []) table rose device (Err (of_ring e)) t new
+      by_fault : (e : RingFault) → ring_mount.MountEnds (shape_in first plan) rose device (state_of plan (renumber plan DataRing table)) (Err e) new → DataEnds first plan table rose device (Err (of_ring e)) t new
       by_fault (ring.Flash fault) m =
           let l = mount-fails first plan table rose device new shape known (numbered-idle first plan table shape large is.few facts idle (page_at old) is.on) fault m in
           record {
             now = l.now;
             did = did_not l.now fault l.did;
             counts = l.counts;
-            rests = subst (λ (x : Table). Rests new first plan x) (sym (idle-lost l.now.state l.repaired.idle)) (plain-rests new first plan l.now.state plain sizes large l.facts l.on (still_indexed l.now.state new l.repaired still));
+            rests = subst (λ (x : Table). Rests new first plan x) (sym (idle-lost l.now.state l.repaired.idle)) (plain-rests new first plan l.now.state sizes large l.facts l.on (still_indexed l.now.state new l.repaired (λ n. (still n).0)) (still_var l.now.state new l.repaired (λ n. (still n).1)));
           }
       by_fault (ring.BadHead heads) m = absurd m
       by_fault (ring.BadGap page) m = absurd m
@@ -180,7 +187,7 @@ module _ (first : ℕ) (plan : Plan) (table : Table) (rose : Bool) (device : Dev
 
   -- and then the kept pages are read
   module _ (ring : Ring) (mid new : FlashState) (n : ℕ) (l : RowsMount first plan table rose device ring mid) (reads : OnlyReads mid n new) (sizes : HaveSize first plan (page_at new))
-      (still : (n : ℕ) → bytes_in (page_at new) first plan IndexRing n ≡ bytes_in (page_at old) first plan IndexRing n) where
+      (still : OthersStill old new first plan) where
     on_now : OnRing (shape_in first plan) (page_at new) (state_of plan (lose l.now.state))
     on_now = subst (λ (page : ℕ → List ℕ). OnRing (shape_in first plan) page (state_of plan (lose l.now.state))) (sym (same_pages mid new n reads)) l.on
 
@@ -191,8 +198,8 @@ module _ (first : ℕ) (plan : Plan) (table : Table) (rose : Bool) (device : Dev
       erases = l.counts.erases ∙ sym reads.erases;
     }
 
-    rests_now : Rests new first plan l.now.state
-    rests_now = subst (λ (x : Table). Rests new first plan x) (sym (idle-lost l.now.state l.repaired.idle)) (plain-rests new first plan l.now.state plain sizes large l.facts on_now (still_indexed l.now.state new l.repaired still))
+    pub rests_now : Rests new first plan l.now.state
+    rests_now = subst (λ (x : Table). Rests new first plan x) (sym (idle-lost l.now.state l.repaired.idle)) (plain-rests new first plan l.now.state sizes large l.facts on_now (still_indexed l.now.state new l.repaired (λ n. (still n).0)) (still_var l.now.state new l.repaired (λ n. (still n).1)))
 
     pub reads-fail : (fault : FlashFault) → ReadFails mid fault new → (Rose mid.media.faults new.media.faults → IsTrue rose) → MountsBadly first plan (DataRing ∷ []) table rose device fault new
     reads-fail PowerLost off risen = absurd (not_both l.power off)
@@ -218,7 +225,7 @@ module _ (first : ℕ) (plan : Plan) (table : Table) (rose : Bool) (device : Dev
         let mid_sizes : HaveSize first plan (page_at mid) = subst (λ (page : ℕ → List ℕ). HaveSize first plan page) (same_pages mid new n reads) sizes in
         let size : t.geometry.page ≡ plan.geometry.page = ap (λ g. g.page) (sym planned.geometry) in
         let len : row_len plan ≡ layout_len (layout_of t.schema) = ap (λ (x : RowLayout). layout_len x) planned.layout in
-        let h = hold-rows (page_at mid) first plan st t.schema.key (types_of t.schema) t.schema.blobs (sym planned.layout) plain l.facts l.repaired.idle.pending large
+        let h = hold-rows (page_at mid) first plan st t.schema.key (types_of t.schema) t.schema.blobs (sym planned.layout) limited l.facts l.repaired.idle.pending large
         (omega (arith, len, size, t.room_for_row)) (omega (arith, len, t.some_row)) (omega (arith, size, t.served.page_greatest)) mid_sizes on in
         subst (λ (x : RowLayout). HoldRows l.now.state x (pages_of ring mid) (oldest_of ring) (next_of ring - oldest_of ring)) planned.layout
         (subst (λ (r : Shape). HoldRows l.now.state (row_layout plan) (λ number. page_at mid (place_at r number)) (oldest_of ring) (next_of ring - oldest_of ring)) (sym is)
@@ -227,7 +234,7 @@ module _ (first : ℕ) (plan : Plan) (table : Table) (rose : Bool) (device : Dev
 
     -- no page is refused
     pub reads-end : (t t' : code.Table) (e : MountFault) → IsPlanned t first plan → place.shape_of ring ≡ shape_in first plan → (Rose mid.media.faults new.media.faults → IsTrue rose) → is_of_pages e ≡ true → IfFlash (λ fault. ReadFails mid fault new) e →
-        IsTrue mid.media.tells → IfPage (λ fault. IsTrue mid.media.tells → AreRefused (layout_of t.schema) (pages_of ring mid) (oldest_of ring) (next_of ring - oldest_of ring) fault) e → RingsEnd first plan (DataRing ∷ []) table rose device (Err e) t' new
+        IsTrue mid.media.tells → IfPage (λ fault. IsTrue mid.media.tells → AreRefused (layout_of t.schema) (pages_of ring mid) (oldest_of ring) (next_of ring - oldest_of ring) fault) e → DataEnds first plan table rose device (Err e) t' new
     reads-end t t' (mount.Flash fault) planned is risen only fails told refused = reads-fail fault fails risen
     reads-end t t' (mount.BadPage bad) planned is risen only fails told refused = absurd (not-refused _ _ _ _ (mount.BadPage bad) (reads-hold t planned is).read (refused told))
     reads-end t t' (mount.BadKeys page last first_key) planned is risen only fails told refused = absurd (not-refused _ _ _ _ (mount.BadKeys page last first_key) (reads-hold t planned is).read (refused told))
@@ -265,23 +272,21 @@ module _ (first : ℕ) (plan : Plan) (table : Table) (rose : Bool) (device : Dev
       few_pending = l.facts.few_pending;
       index = indexed-as plan l.now.state l.now.state.entries l.now.state.rows l.now.state.pending l.now.state.fill (ready plan l.now.state).waiting (points_of l.now.state) l.facts.index
           (λ t. few_wait (has_index plan)) (late_wait (has_index plan)) (λ p. p) l.facts.index.number_listed;
-      var = l.facts.var;
-      fill = l.facts.fill;
+      blobs = blobbed-moved plan l.now.state (ready plan l.now.state) refl l.facts.blobs.fill (λ p. p) l.facts.blobs.blobs l.facts.blobs;
       number = l.facts.number;
       number_pending = l.facts.number_pending;
     }
 
-    ready_facts : IsTable plan (ready plan l.now.state)
-    ready_facts = facts-plain plan (ready plan l.now.state) plain ready_plain
+    pub ready_facts : IsTable plan (ready plan l.now.state)
+    ready_facts = table-facts plan (ready plan l.now.state) ready_plain
 
-    -- the table that was started
-    pub started-stands : (t : code.Table) → IsPlanned t first plan → place.shape_of ring ≡ shape_in first plan → t.ring ≡ Some ring → ((layout : RowLayout) → Gathers layout [] t.writer) → t.bitmap ≡ 0 →
+    -- what the table holds in memory then
+    pub started-memory : (t : code.Table) → IsPlanned t first plan → place.shape_of ring ≡ shape_in first plan → ((layout : RowLayout) → Gathers layout [] t.writer) → t.bitmap ≡ 0 →
         t.last_key ≡ last_after (layout_of t.schema) (pages_of ring mid) (oldest_of ring) (next_of ring - oldest_of ring) →
         (next_of ring - oldest_of ring ≤ length t.counts.items → AreNoted (layout_of t.schema) (pages_of ring mid) (oldest_of ring) (next_of ring - oldest_of ring) t.counts.items) →
         IndexOf plan.error (points_after (layout_of t.schema) (pages_of ring mid) (oldest_of ring) (next_of ring - oldest_of ring)) t.index →
-        t.voids ≡ voids_after (layout_of t.schema) (pages_of ring mid) (oldest_of ring) (next_of ring - oldest_of ring) →
-        Stand t.bitmaps new (first + plan.data_blocks) plan (ready plan l.now.state) → Stands t new first plan (ready plan l.now.state)
-    started-stands t planned is ring_is empty bitmap last noted index voids stand =
+        t.voids ≡ voids_after (layout_of t.schema) (pages_of ring mid) (oldest_of ring) (next_of ring - oldest_of ring) → HoldsInMemory t ring plan (ready plan l.now.state)
+    started-memory t planned is empty bitmap last noted index voids =
         let st = l.now.state in
         let h = reads-hold t planned is in
         let old : oldest_of ring ≡ model.oldest st.rows = l.stands.oldest ∙ state-oldest plan (lose l.now.state) in
@@ -290,31 +295,22 @@ module _ (first : ℕ) (plan : Plan) (table : Table) (rose : Bool) (device : Dev
         let fits = few-kept plan st shape l.facts.rows in
         let are = noted (omega (arith, many, fits, room)) in
         record {
-          planned = planned;
-          facts = ready_facts;
-          whole = l.whole;
-          clean = l.clean;
-          pages = plain-holds (page_at new) first plan (lose (ready plan l.now.state)) sizes large (plain-lose plan (ready plan l.now.state) ready_plain) on_now
-              (indexed-moved (page_at new) first plan l.now.state (lose (ready plan l.now.state)) l.facts.index (keeps-lost l.now.state (lose (ready plan l.now.state)) l.facts.kept.counted refl refl) refl refl (still_indexed l.now.state new l.repaired still));
-          memory = record {
-            ring = ring;
-            ring_is = ring_is;
-            next = l.stands.next;
-            oldest = old;
-            gathers = subst (λ (es : List Entry). Gathers (layout_of t.schema) (map stored_row es) t.writer) (sym nothing_pending) (empty (layout_of t.schema));
-            bitmap = bitmap ∙ sym (ap (bitmap_of plan) nothing_pending ∙ no_values (plan.bits == 0));
-            last = last ∙ h.last;
-            counts = λ i c e.
-                ap (λ (k : ℕ). get_or t.counts.items (k % (plan.data_blocks * plan.geometry.block)) 0) (let s : model.oldest st.rows + i ≡ oldest_of ring + i = omega (arith, old) in s)
-                ∙ (ap (λ (k : ℕ). get_or t.counts.items ((oldest_of ring + i) % k) 0) (sym room)
-                ∙ (are i (omega (arith, many, slice_get-short st.rows.counts i c e)) ∙ h.each i c e));
-            voids = voids ∙ h.voids;
-            index = subst (λ (points : List (ℕ × ℕ)). IndexOf plan.error points t.index) h.points index;
-            no_fill = l.repaired.idle.fill;
-          };
-          bitmaps = stand;
-          points = mounts-points plan l.now.state;
+          next = l.stands.next;
+          oldest = old;
+          gathers = subst (λ (es : List Entry). Gathers (layout_of t.schema) (map stored_row es) t.writer) (sym nothing_pending) (empty (layout_of t.schema));
+          bitmap = bitmap ∙ sym (ap (bitmap_of plan) nothing_pending ∙ no_values (plan.bits == 0));
+          last = last ∙ h.last;
+          counts = λ i c e.
+              ap (λ (k : ℕ). get_or t.counts.items (k % (plan.data_blocks * plan.geometry.block)) 0) (let s : model.oldest st.rows + i ≡ oldest_of ring + i = omega (arith, old) in s)
+              ∙ (ap (λ (k : ℕ). get_or t.counts.items ((oldest_of ring + i) % k) 0) (sym room)
+              ∙ (are i (omega (arith, many, slice_get-short st.rows.counts i c e)) ∙ h.each i c e));
+          voids = voids ∙ h.voids;
+          index = subst (λ (points : List (ℕ × ℕ)). IndexOf plan.error points t.index) h.points index;
         }
+
+    -- the blobs of its rows end there
+    pub ends-there : (t : code.Table) (end : ℕ) → IsPlanned t first plan → place.shape_of ring ≡ shape_in first plan → end ≡ ends_after (layout_of t.schema) (pages_of ring mid) (oldest_of ring) (next_of ring - oldest_of ring) → end ≡ blob_end l.now.state
+    ends-there t end planned is e = e ∙ (reads-hold t planned is).ends
 
     -- what it answers
     pub mount-answer : (t : code.Table) (mounted : Mounted) → IsPlanned t first plan → place.shape_of ring ≡ shape_in first plan → mounted ≡ record {
@@ -362,7 +358,7 @@ module _ (first : ℕ) (plan : Plan) (table : Table) (rose : Bool) (device : Dev
         let first_is : wait ≡ st.rows.next - min (st.rows.next - max (index_end plan st) (model.oldest st.rows)) (entries_per_page plan) = omega (arith, there, end, ended, old_is, next_is, per) in
         let s0 = memories.ring-same begun now old D plan table same' still' (memories.ring-same was begun old D plan table same kept stands) in
         let s1 = ring-moved now old old D plan table (renumber plan DataRing table) s0 keeps refl (has-index plan (renumber plan DataRing table) s0.ring s0.facts.ring_is known (omega (arith, idle.waiting))) (λ k. refl) in
-        let s2 = ring-moved now old new D plan (renumber plan DataRing table) st s1 l.repaired.keeps l.repaired.firsts (has-index plan st s1.ring (l.repaired.index ∙ s1.facts.ring_is) l.facts (omega (arith, l.repaired.idle.waiting))) still in
+        let s2 = ring-moved now old new D plan (renumber plan DataRing table) st s1 l.repaired.keeps l.repaired.firsts (has-index plan st s1.ring (l.repaired.index ∙ s1.facts.ring_is) l.facts (omega (arith, l.repaired.idle.waiting))) (λ n. (still n).0) in
         let s3 = ring-moved now new new D plan st (ready plan st) s2 (keeps-same st (ready plan st) refl refl refl) refl (has-index plan (ready plan st) s2.ring s2.facts.ring_is ready_plain (few_wait (has_index plan))) (λ k. refl) in
         let w : Waits now plan (ready plan st) wait (next_of ring - wait) =
         gather-waits (Some begun) (Some now) (pages_of ring mid) (next_of ring) wait plan (ready plan st) unused at (waits plan (ready plan st)) (reads-bitmaps is (planned-bits was D plan planned)) gathers in

@@ -18,14 +18,14 @@ use Rattle.fl_model.specs.Table.{Table, RingName, DataRing, IndexRing, VarRing, 
 use Rattle.fl_model.specs.Work.{Kind, Body, Mark, VoidMark, Erase, Device, PartEnd, Whole, CutIn, FailedIn, PartProgress}
 use Rattle.fl_model.specs.Within.{repair_within, effect_within, all_done, TablePerforms, TableUnreads, TableGoesOn, TableMounts, TableMountEnd, TableMounted, TableStopped, TableUnread}
 use Rattle.fl_model.proofs.Plain.{sealed-next, sealed-torn}
-use Rattle.fl_table.specs.Outcomes.{FaultEnds, MountsBadly, RingsEnd, MountEnds}
+use Rattle.fl_table.specs.Outcomes.{FaultEnds, MountsBadly, RingsEnd, MountEnds, var_rings}
 use Rattle.fl_table.specs.Pages.{Rests, bytes_in}
 use Rattle.fl_table.specs.declared.counts.Mounted.{Mounted}
 use Rattle.fl_table.specs.declared.faults.MountFault.{MountFault}
 use Rattle.fl_table.specs.declared.faults.MountFault.TheVariants as mount
 use Rattle.fl_table.specs.declared.table.Table as code
 use Rattle.fl_table.proofs.IndexSeals.{IsBeside, IsNumberedTo, IsFront, front-left, erased-number, indexed-of, beside-facts, holds-beside, holds-indexed}
-use Rattle.fl_table.proofs.Plain.{IsPlain, IsPlainTable, facts-plain, least-below}
+use Rattle.fl_table.proofs.Plain.{IsPlainTable, table-facts, least-below}
 use Rattle.fl_table.proofs.Repaired.{IsIdle, idle-lost}
 
 -- the repairs of an index ring that are left
@@ -120,8 +120,9 @@ lower_number shape (Some r) some h k = by_test (list_any (nat_lt 0) r.counts)
     by_test false = let low = least-below (shape.blocks * shape.pages) r.next (0 + length r.counts) some (omega (arith, h.not_negative)) in omega (arith, low, k)
 
 -- a table at rest, of which the index ring is mounted
-module _ (old new : FlashState) (first : ℕ) (plan : Plan) (table : Table) (rose : Bool) (device : Device) (plain : IsPlain plan) (has : has_index plan ≡ true) (some : 0 < plan.index_blocks * plan.geometry.block)
-    (facts : IsPlainTable plan table) (idle : IsIdle table) (rests : Rests old first plan table) (same_rows : (n : ℕ) → bytes_in (page_at new) first plan DataRing n ≡ bytes_in (page_at old) first plan DataRing n) where
+module _ (old new : FlashState) (first : ℕ) (plan : Plan) (table : Table) (rose : Bool) (device : Device) (has : has_index plan ≡ true) (some : 0 < plan.index_blocks * plan.geometry.block)
+    (facts : IsPlainTable plan table) (idle : IsIdle table) (rests : Rests old first plan table) (same_rows : (n : ℕ) → bytes_in (page_at new) first plan DataRing n ≡ bytes_in (page_at old) first plan DataRing n)
+    (same_var : (n : ℕ) → bytes_in (page_at new) first plan VarRing n ≡ bytes_in (page_at old) first plan VarRing n) where
   -- the table rests on what the repairs left
   pub left-rests : (left : Table) (ring : model.Ring) → IsFront (effect_within plan) (repair_within plan IndexRing (renumber plan IndexRing table)) (renumber plan IndexRing table) left → HasIndex plan left ring →
       standing.HoldsIndex (page_at new) (first + plan.data_blocks) plan left ring → Rests new first plan left
@@ -140,12 +141,12 @@ module _ (old new : FlashState) (first : ℕ) (plan : Plan) (table : Table) (ros
       (facts.index.number_listed (omega (arith, ap oldest b.rows, lt, is.end)) (omega (arith, ap (λ (r : model.Ring). length r.counts) b.rows, more))))) in
       let now : IsIdle left = record { pending = b.pending ∙ idle.pending; fill = b.fill ∙ idle.fill; waiting = is.waiting ∙ idle.waiting; points = b.points ∙ idle.points } in
       record {
-        settled = record { facts = facts-plain plan left plain after; lost = idle-lost left now };
-        pages = holds-beside (page_at old) (page_at new) first plan table left b facts.var same_rows rests.pages.rows (holds-indexed (page_at new) first plan left ring known.ring_is image);
+        settled = record { facts = table-facts plan left after; lost = idle-lost left now };
+        pages = holds-beside (page_at old) (page_at new) first plan table left b same_rows same_var rests.pages (holds-indexed (page_at new) first plan left ring known.ring_is image);
       }
 
-  two_rings : rings_of plan ≡ IndexRing ∷ DataRing ∷ []
-  two_rings = rw (has, plain.no_var) refl
+  two_rings : rings_of plan ≡ IndexRing ∷ DataRing ∷ var_rings plan
+  two_rings = ap (λ (b : Bool). (cond b (IndexRing ∷ []) []) ++ DataRing ∷ [] ++ var_rings plan) has
 
   -- the mount of the index ring failed
   pub index-fails : (fault : FlashFault) → outcomes.MountsBadly (first + plan.data_blocks) plan table rose device fault new → MountsBadly first plan (rings_of plan) table rose device fault new
@@ -157,14 +158,14 @@ module _ (old new : FlashState) (first : ℕ) (plan : Plan) (table : Table) (ros
   }
     where
       stops : (now : PartProgress Table) (e : PartEnd Table) → now.end ≡ e → outcomes.FaultEnds e fault new →
-          TableGoesOn now.end now (TableStopped now) (TableMounts plan rose (DataRing ∷ []) now.device now.state (TableStopped now)) × FaultEnds e fault new
+          TableGoesOn now.end now (TableStopped now) (TableMounts plan rose (DataRing ∷ var_rings plan) now.device now.state (TableStopped now)) × FaultEnds e fault new
       stops now Whole k a = absurd a
       stops now (CutIn b) k a = (rw k refl, a)
       stops now (FailedIn b) k a = (rw k refl, a)
 
       by_did : (TablePerforms plan rose (repair_within plan IndexRing (renumber plan IndexRing table)) device (renumber plan IndexRing table) h.now × outcomes.FaultEnds h.now.end fault new)
           ⊎ (TableUnreads plan rose (repair_within plan IndexRing (renumber plan IndexRing table)) device (renumber plan IndexRing table) h.now × (fault ≡ Media)) →
-          (TableMounts plan rose (IndexRing ∷ DataRing ∷ []) device table (TableStopped h.now) × FaultEnds h.now.end fault new) ⊎ (TableMounts plan rose (IndexRing ∷ DataRing ∷ []) device table (TableUnread h.now) × (fault ≡ Media))
+          (TableMounts plan rose (IndexRing ∷ DataRing ∷ var_rings plan) device table (TableStopped h.now) × FaultEnds h.now.end fault new) ⊎ (TableMounts plan rose (IndexRing ∷ DataRing ∷ var_rings plan) device table (TableUnread h.now) × (fault ≡ Media))
       by_did (inl p) = let s = stops h.now h.now.end refl p.1 in inl (inr (h.now, p.0, s.0), s.1)
       by_did (inr u) = inr (inl (h.now, u.0, refl), u.1)
 
@@ -183,18 +184,18 @@ module _ (old new : FlashState) (first : ℕ) (plan : Plan) (table : Table) (ros
       h.stands.facts h.stands.pages
 
   pub then-rows : (end : Option ℕ) (now : Index) (h : outcomes.MountsWell (first + plan.data_blocks) plan table rose device end now new) (result : Result Mounted MountFault) (t : code.Table) (last : FlashState) →
-      RingsEnd first plan (DataRing ∷ []) h.now.state rose h.now.device result t last → MountEnds first plan table rose device result t last
+      RingsEnd first plan (DataRing ∷ var_rings plan) h.now.state rose h.now.device result t last → MountEnds first plan table rose device result t last
   then-rows end now h result t last k = by_result result k
     where
-      all : (how : TableMountEnd) → TableMounts plan rose (DataRing ∷ []) h.now.device h.now.state how → TableMounts plan rose (rings_of plan) device table how
+      all : (how : TableMountEnd) → TableMounts plan rose (DataRing ∷ var_rings plan) h.now.device h.now.state how → TableMounts plan rose (rings_of plan) device table how
       all how m = subst (λ (rings : List RingName). TableMounts plan rose rings device table how) (sym two_rings)
-          (inr (h.now, h.did, subst (λ (e : PartEnd Table). TableGoesOn e h.now how (TableMounts plan rose (DataRing ∷ []) h.now.device h.now.state how)) (sym h.whole) m))
+          (inr (h.now, h.did, subst (λ (e : PartEnd Table). TableGoesOn e h.now how (TableMounts plan rose (DataRing ∷ var_rings plan) h.now.device h.now.state how)) (sym h.whole) m))
 
-      by_result : (result : Result Mounted MountFault) → RingsEnd first plan (DataRing ∷ []) h.now.state rose h.now.device result t last → MountEnds first plan table rose device result t last
+      by_result : (result : Result Mounted MountFault) → RingsEnd first plan (DataRing ∷ var_rings plan) h.now.state rose h.now.device result t last → MountEnds first plan table rose device result t last
       by_result (Ok mounted) k = record { now = k.now; did = all (TableMounted k.now) k.did; counts = k.counts; power = k.power; stands = k.stands; answer = k.answer }
       by_result (Err (mount.Flash fault)) k = record { now = k.now; did = by_did k.did; counts = k.counts; rests = k.rests }
         where
-          by_did : (TableMounts plan rose (DataRing ∷ []) h.now.device h.now.state (TableStopped k.now) × FaultEnds k.now.end fault last) ⊎ (TableMounts plan rose (DataRing ∷ []) h.now.device h.now.state (TableUnread k.now) × (fault ≡ Media)) →
+          by_did : (TableMounts plan rose (DataRing ∷ var_rings plan) h.now.device h.now.state (TableStopped k.now) × FaultEnds k.now.end fault last) ⊎ (TableMounts plan rose (DataRing ∷ var_rings plan) h.now.device h.now.state (TableUnread k.now) × (fault ≡ Media)) →
               (TableMounts plan rose (rings_of plan) device table (TableStopped k.now) × FaultEnds k.now.end fault last) ⊎ (TableMounts plan rose (rings_of plan) device table (TableUnread k.now) × (fault ≡ Media))
           by_did (inl p) = inl (all (TableStopped k.now) p.0, p.1)
           by_did (inr p) = inr (all (TableUnread k.now) p.0, p.1)

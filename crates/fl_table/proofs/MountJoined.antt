@@ -1,5 +1,5 @@
 -- A mount is that of the index, and then that of the data ring.
-use Rattle.std.proofs.Common.{◌≡◌, ℕ, ◌+◌, ◌-◌, ◌*◌, ◌%◌, ◌<◌, ◌≤◌, Bool, true, false, cond, Option, Some, None, IfSome, option_map, unwrap_or, get_or, Result, Ok, Err, List, [], ◌∷◌, length, refl, sym, ◌∙◌, ap, subst, arith, ◌⊎◌, inl, inr, IsTrue}
+use Rattle.std.proofs.Common.{◌≡◌, ℕ, ◌+◌, ◌-◌, ◌*◌, ◌%◌, ◌<◌, ◌≤◌, Bool, true, false, cond, Option, Some, None, IfSome, option_map, unwrap_or, get_or, Result, Ok, Err, List, [], ◌∷◌, ◌++◌, length, refl, sym, ◌∙◌, ap, subst, arith, ◌⊎◌, inl, inr, IsTrue}
 use Rattle.std.proofs.Math.Nat.{mul-le-mul_right}
 use Rattle.fl_base.specs.declared.types.Geometry.{Geometry}
 use Rattle.fl_base.specs.declared.types.RingPlace.{RingPlace}
@@ -21,7 +21,7 @@ use Rattle.fl_table.proofs.Moved.{has-index}
 use Rattle.fl_model.specs.Mount.{rings_of, index_end}
 use Rattle.fl_model.specs.Record.{Plan, RowLayout, has_index, entries_per_page}
 use Rattle.fl_model.specs.Ring as model
-use Rattle.fl_model.specs.Table.{Table, RingName, DataRing, IndexRing, shape_of, full_pages}
+use Rattle.fl_model.specs.Table.{Table, RingName, DataRing, IndexRing, VarRing, shape_of, full_pages}
 use Rattle.fl_model.specs.Work.{Device}
 use Rattle.fl_ring.specs.Causes as ring_causes
 use Rattle.fl_ring.specs.Causes.{CausedBy}
@@ -37,23 +37,26 @@ use Rattle.fl_ring.specs.declared.fault.RingFault.TheVariants as ring
 use Rattle.fl_ring.specs.declared.ring.Ring.{Ring}
 use Rattle.fl_schema.specs.Schema.{layout_of}
 use Rattle.fl_table.specs.Bitmaps.{ArePlanned, AreSamePlan, AreSameRing, StandForRing, StandOutside, MountEndsOf, IsOutside}
+use Rattle.fl_table.specs.BlobEnds.{least_of}
+use Rattle.fl_table.specs.BlobMount.{FindsBlobs, RefusesWithin}
 use Rattle.fl_table.specs.Causes.{MountCausedBy, of_ring}
 use Rattle.fl_table.specs.Memory.{IsPlanned, IsSamePlan, ring_shape}
-use Rattle.fl_table.specs.Mounting.{FindsBitmaps, FindsRows, ReadsRing, HasBadPage, PagesUnread, HasBadRing, RefusesRows}
-use Rattle.fl_table.specs.Outcomes.{RingsEnd, MountEnds}
+use Rattle.fl_table.specs.Mounting.{FindsBitmaps, FindsRows, ReadsRing, HasBadPage, PagesUnread, HasBadRing, FindsData, RefusesData, RefusesRows}
+use Rattle.fl_table.specs.Outcomes.{RingsEnd, MountEnds, var_rings}
 use Rattle.fl_table.specs.Pages.{Rests, bytes_in}
-use Rattle.fl_table.specs.Reading.{AreRead, AreRefused, last_after, rows_after, voids_after, pages_of}
+use Rattle.fl_table.specs.Reading.{AreRead, AreRefused, last_after, rows_after, voids_after, ends_after, pages_of}
 use Rattle.fl_table.specs.declared.counts.Mounted.{Mounted as Found}
 use Rattle.fl_table.specs.declared.faults.MountFault.{MountFault}
 use Rattle.fl_table.specs.declared.faults.MountFault.TheVariants as mount
 use Rattle.fl_table.specs.declared.table.Table as code
 use Rattle.fl_table.proofs.Following.{cause-later}
 use Rattle.fl_table.proofs.Indexing.{planned-none, planned-some}
-use Rattle.fl_table.proofs.IndexSeals.{rows-stand}
+use Rattle.fl_table.proofs.IndexSeals.{rows-stand, var-stand}
+use Rattle.fl_var.specs.declared.var_data.VarData.{VarData}
 use Rattle.fl_table.proofs.MountIndexed.{index-fails, index-mounts, then-rows}
-use Rattle.fl_table.proofs.Plain.{IsPlain, IsPlainTable, plain-facts}
+use Rattle.fl_table.proofs.Plain.{IsPlainTable, table-parts}
 use Rattle.fl_table.proofs.Repaired.{lost-idle}
-use Rattle.fl_table.proofs.SealAnswers.{planned-plain, planned-shape}
+use Rattle.fl_table.proofs.SealAnswers.{planned-shape}
 
 -- a table without an index lists nothing
 none_listed : (plan : Plan) (table : Table) → has_index plan ≡ false → IsPlainTable plan table → index_end plan table ≡ 0
@@ -71,11 +74,8 @@ none_listed plan table none facts = by_firsts table.firsts (by_ring table.index 
     by_firsts (x ∷ xs) e = absurd (omega (arith, e))
 
 module _ (t : code.Table) (old new : FlashState) (first : ℕ) (plan : Plan) (table : Table) (rose : Bool) (device : Device) (planned : IsPlanned t first plan) (rests : Rests old first plan table) (watched : IsWatched old new rose device) where
-  plain : IsPlain plan
-  plain = planned-plain t first plan planned
-
   facts : IsPlainTable plan table
-  facts = plain-facts plan table plain rests.settled.facts
+  facts = table-parts plan table rests.settled.facts
 
   some_blocks : 0 < plan.data_blocks * plan.geometry.block
   some_blocks =
@@ -93,6 +93,9 @@ module _ (t : code.Table) (old new : FlashState) (first : ℕ) (plan : Plan) (ta
 
     same_rows : (n : ℕ) → bytes_in (page_at new) first plan DataRing n ≡ bytes_in (page_at old) first plan DataRing n
     same_rows = rows-stand (page_at old) (page_at new) first plan (memory.ring_shape index) some_blocks (ap (λ (r : Shape). r.first) (planned-ring index (first + plan.data_blocks) plan planned_index)) outside
+
+    same_var : (n : ℕ) → bytes_in (page_at new) first plan VarRing n ≡ bytes_in (page_at old) first plan VarRing n
+    same_var = var-stand (Some index) (page_at old) (page_at new) first plan planned_index outside
 
     has : has_index plan ≡ true
     has = planned-some index (first + plan.data_blocks) plan planned_index
@@ -123,7 +126,7 @@ module _ (t : code.Table) (old new : FlashState) (first : ℕ) (plan : Plan) (ta
   mount-fails (Some index) (Some now) e t' is outside h = by_fault e (h watched (planned_index index is outside) (rests_index index is outside))
     where
       by_fault : (e : RingFault) → outcomes.MountEnds (first + plan.data_blocks) plan table rose device (Err e) now new → MountEnds first plan table rose device (Err (of_ring e)) t' new
-      by_fault (ring.Flash fault) m = index-fails old new first plan table rose device plain (has index is outside) (some_pages index is outside) facts (lost-idle table rests.settled.lost) rests (same_rows index is outside) fault m
+      by_fault (ring.Flash fault) m = index-fails old new first plan table rose device (has index is outside) (some_pages index is outside) facts (lost-idle table rests.settled.lost) rests (same_rows index is outside) (same_var index is outside) fault m
       by_fault (ring.BadHead heads) m = absurd m
       by_fault (ring.BadGap page) m = absurd m
       by_fault (ring.BadPage page wanted found) m = absurd m
@@ -133,10 +136,10 @@ module _ (t : code.Table) (old new : FlashState) (first : ℕ) (plan : Plan) (ta
   pub mount-then : (bitmaps now : Option Index) (end : Option ℕ) (result : Result Found MountFault) (t' : code.Table) (last : FlashState) → t.bitmaps ≡ bitmaps → StandOutside bitmaps (page_at old) (page_at new) →
       MountEndsOf bitmaps old (first + plan.data_blocks) plan table rose device (Ok end) now new →
       ((x : Table) (later : Device) → new.is_on ≡ true → SameDevice new later → Rests new first plan x → StandForRing now new (first + plan.data_blocks) plan x → unwrap_or end 0 ≡ index_end plan x →
-      RingsEnd first plan (DataRing ∷ []) x rose later result t' last) → MountEnds first plan table rose device result t' last
+      RingsEnd first plan (DataRing ∷ var_rings plan) x rose later result t' last) → MountEnds first plan table rose device result t' last
   mount-then None now end result t' last is outside h go =
       let none = planned-none (first + plan.data_blocks) plan (subst (λ (o : Option Index). ArePlanned o (first + plan.data_blocks) plan) is planned.index) in
-      let one : rings_of plan ≡ DataRing ∷ [] = rw (none, plain.no_var) refl in
+      let one : rings_of plan ≡ DataRing ∷ var_rings plan = ap (λ (b : Bool). (cond b (IndexRing ∷ []) []) ++ DataRing ∷ [] ++ var_rings plan) none in
       subst (λ (rings : List RingName). RingsEnd first plan rings table rose device result t' last) (sym one)
       (go table device (ap (λ (f : FlashState). f.is_on) h.2 ∙ watched.on) (subst (λ (f : FlashState). SameDevice f device) (sym h.2) watched.counts) (subst (λ (f : FlashState). Rests f first plan table) (sym h.2) rests)
       (subst (λ (o : Option Index). StandForRing o new (first + plan.data_blocks) plan table) (sym h.1) tt) (ends h.0 ∙ sym (none_listed plan table none facts)))
@@ -146,8 +149,8 @@ module _ (t : code.Table) (old new : FlashState) (first : ℕ) (plan : Plan) (ta
   mount-then (Some index) None end result t' last is outside h go = absurd h
   mount-then (Some index) (Some now) end result t' last is outside h go =
       let m = h watched (planned_index index is outside) (rests_index index is outside) in
-      let at_rest = index-mounts old new first plan table rose device plain (has index is outside) (some_pages index is outside) facts (lost-idle table rests.settled.lost) rests (same_rows index is outside) end now m in
-      then-rows old new first plan table rose device plain (has index is outside) (some_pages index is outside) facts (lost-idle table rests.settled.lost) rests (same_rows index is outside) end now m result t' last
+      let at_rest = index-mounts old new first plan table rose device (has index is outside) (some_pages index is outside) facts (lost-idle table rests.settled.lost) rests (same_rows index is outside) (same_var index is outside) end now m in
+      then-rows old new first plan table rose device (has index is outside) (some_pages index is outside) facts (lost-idle table rests.settled.lost) rests (same_rows index is outside) (same_var index is outside) end now m result t' last
       (go m.now.state m.now.device m.power m.counts at_rest m.stands (ap (λ (o : Option ℕ). unwrap_or o 0) m.answer))
 
 -- the index is the same where its ring is
@@ -177,18 +180,28 @@ reads_as t t1 f new least ring same h = record {
   reads = h.reads;
 }
 
-pub finds-as : (t t1 : code.Table) (f : FlashState) (was least : ℕ) (mounted : Found) (now : code.Table) (new : FlashState) → FindsRows t1 f was mounted now new → IsSamePlan t t1 → was ≡ least → FindsRows t f least mounted now new
-finds-as t t1 f was least mounted now new h same e = subst (λ (n : ℕ). FindsRows t f n mounted now new) e (record {
+data_as : (t t1 : code.Table) (f : FlashState) (least : ℕ) (ring : Ring) (mounted : Found) (last : Option ℕ) (end : ℕ) (new : FlashState) → IsSamePlan t t1 → FindsData t1 f least ring mounted last end new → FindsData t f least ring mounted last end new
+data_as t t1 f least ring mounted last end new same h = record {
+  ring_reads = reads_as t t1 f new least ring same h.ring_reads;
+  read = subst (λ (l : RowLayout). AreRead l (pages_of ring new) (oldest_of ring) (next_of ring - oldest_of ring)) same.layout h.read;
+  mounted_is = h.mounted_is ∙ ap (λ (l : RowLayout). record {
+    rows = rows_after l (pages_of ring new) (oldest_of ring) (next_of ring - oldest_of ring);
+    pages = next_of ring - oldest_of ring;
+    voids = voids_after l (pages_of ring new) (oldest_of ring) (next_of ring - oldest_of ring);
+  }) same.layout;
+  last_is = h.last_is ∙ ap (λ (l : RowLayout). last_after l (pages_of ring new) (oldest_of ring) (next_of ring - oldest_of ring)) same.layout;
+  end_is = h.end_is ∙ ap (λ (l : RowLayout). ends_after l (pages_of ring new) (oldest_of ring) (next_of ring - oldest_of ring)) same.layout;
+}
+
+pub finds-as : (t t1 : code.Table) (f : FlashState) (was least : ℕ) (mounted : Found) (now : code.Table) (new : FlashState) → FindsRows t1 f was mounted now new → IsSamePlan t t1 → t1.blobs ≡ t.blobs → was ≡ least → FindsRows t f least mounted now new
+finds-as t t1 f was least mounted now new h same blobs e = subst (λ (n : ℕ). FindsRows t f n mounted now new) e (record {
   ring = h.ring;
   ring_is = h.ring_is;
-  ring_reads = reads_as t t1 f new was h.ring same h.ring_reads;
-  read = subst (λ (l : RowLayout). AreRead l (pages_of h.ring new) (oldest_of h.ring) (next_of h.ring - oldest_of h.ring)) same.layout h.read;
-  mounted_is = h.mounted_is ∙ ap (λ (l : RowLayout). record {
-    rows = rows_after l (pages_of h.ring new) (oldest_of h.ring) (next_of h.ring - oldest_of h.ring);
-    pages = next_of h.ring - oldest_of h.ring;
-    voids = voids_after l (pages_of h.ring new) (oldest_of h.ring) (next_of h.ring - oldest_of h.ring);
-  }) same.layout;
-  last = h.last ∙ ap (λ (l : RowLayout). last_after l (pages_of h.ring new) (oldest_of h.ring) (next_of h.ring - oldest_of h.ring)) same.layout;
+  end = h.end;
+  between = h.between;
+  pages = data_as t t1 f was h.ring mounted now.last_key h.end h.between same h.pages;
+  blobs = subst (λ (o : Option VarData). FindsBlobs o h.between (least_of h.end) now.blobs new) blobs h.blobs;
+  below = h.below;
 })
 
 bad_page_as : (t t1 : code.Table) (f : FlashState) (least : ℕ) (fault : MountFault) (new : FlashState) → IsSamePlan t t1 → HasBadPage t1 f least fault new → HasBadPage t f least fault new
@@ -198,7 +211,7 @@ bad_page_as t t1 f least fault new same h = record {
   refused = subst (λ (l : RowLayout). AreRefused l (pages_of h.ring new) (oldest_of h.ring) (next_of h.ring - oldest_of h.ring) fault) same.layout h.refused;
 }
 
-refuses_as : (t t1 : code.Table) (f : FlashState) (least : ℕ) (fault : MountFault) (new : FlashState) → IsSamePlan t t1 → RefusesRows t1 f least fault new → RefusesRows t f least fault new
+refuses_as : (t t1 : code.Table) (f : FlashState) (least : ℕ) (fault : MountFault) (new : FlashState) → IsSamePlan t t1 → RefusesData t1 f least fault new → RefusesData t f least fault new
 unfolding reads_as
 refuses_as t t1 f least (mount.Flash fault) new same (inl h) = inl (subst (λ (r : Shape). FailsAs f r least (ring.Flash fault) new) (shape_as t t1 same) h)
 refuses_as t t1 f least (mount.Flash fault) new same (inr h) = inr (record { ring = h.ring; ring_reads = reads_as t t1 f new least h.ring same h.ring_reads; fails = h.fails })
@@ -217,8 +230,20 @@ refuses_as t t1 f least (mount.BadIndex end next) new same h = record {
 }
 refuses_as t t1 f least (mount.BadBlob page next) new same h = h
 
-pub refuses-by : (t t1 : code.Table) (f : FlashState) (was least : ℕ) (fault : MountFault) (new : FlashState) → RefusesRows t1 f was fault new → IsSamePlan t t1 → was ≡ least → RefusesRows t f least fault new
-refuses-by t t1 f was least fault new h same e = subst (λ (n : ℕ). RefusesRows t f n fault new) e (refuses_as t t1 f was fault new same h)
+pub refuses-by : (t t1 : code.Table) (f : FlashState) (was least : ℕ) (fault : MountFault) (new : FlashState) → RefusesRows t1 f was fault new → IsSamePlan t t1 → t1.blobs ≡ t.blobs → was ≡ least → RefusesRows t f least fault new
+refuses-by t t1 f was least fault new h same blobs e = subst (λ (n : ℕ). RefusesRows t f n fault new) e (by_part h)
+  where
+    by_part : RefusesRows t1 f was fault new → RefusesRows t f was fault new
+    by_part (inl h) = inl (refuses_as t t1 f was fault new same h)
+    by_part (inr b) = inr (record {
+      ring = b.ring;
+      mounted = b.mounted;
+      last = b.last;
+      end = b.end;
+      between = b.between;
+      pages = data_as t t1 f was b.ring b.mounted b.last b.end b.between same b.pages;
+      why = subst (λ (o : Option VarData). RefusesWithin o b.between b.end fault new) blobs b.why;
+    })
 
 -- why a later part of a mount failed
 pub mount-cause-later : (old mid new : FlashState) → Goes old mid → (old.is_on ≡ true → mid.is_on ≡ true) → (e : MountFault) → MountCausedBy mid e new → MountCausedBy old e new

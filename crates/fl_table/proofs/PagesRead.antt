@@ -5,7 +5,8 @@ use Rattle.std.proofs.lemmas.Bool.{cases_lt, eqb-true}
 use Rattle.fl_model.specs.Record.{RowLayout}
 use Rattle.fl_ring.proofs.Modulo.{apart}
 use Rattle.fl_table.specs.Causes.{IfPage}
-use Rattle.fl_table.specs.Reading.{last_in, IsRead, IsRefused, AreRead, AreRefused, last_after, rows_after, voids_after, point_of, points_after, AreNoted}
+use Rattle.fl_table.specs.BlobEnds.{blobs_end}
+use Rattle.fl_table.specs.Reading.{last_in, IsRead, IsRefused, AreRead, AreRefused, last_after, rows_after, voids_after, point_of, points_after, ends_after, AreNoted}
 use Rattle.fl_table.proofs.PointsRead.{further-read}
 use Rattle.fl_find.specs.Index.{IndexOf}
 use Rattle.fl_find.specs.Pages.{first_key, rows_on}
@@ -57,6 +58,10 @@ module _ (layout : RowLayout) (page : ℕ → List ℕ) (number n at m : ℕ) (h
   pub last-more : (last after : Option ℕ) → last ≡ last_after layout page number n → after ≡ last_in last (rows_on layout bytes) → after ≡ last_after layout page number m
   last-more last after e is =
       is ∙ (ap (λ (l : Option ℕ). last_in l (rows_on layout bytes)) e ∙ (ap (λ (b : List ℕ). last_in (last_after layout page number n) (rows_on layout b)) at_here ∙ ap (last_after layout page number) (sym more)))
+
+  pub ends-more : (so_far after : ℕ) → so_far ≡ ends_after layout page number n → after ≡ blobs_end so_far (rows_on layout bytes) → after ≡ ends_after layout page number m
+  ends-more so_far after e is =
+      is ∙ (ap (λ k. blobs_end k (rows_on layout bytes)) e ∙ (ap (λ (b : List ℕ). blobs_end (ends_after layout page number n) (rows_on layout b)) at_here ∙ ap (ends_after layout page number) (sym more)))
 
   pub points-more : (last first : Option ℕ) (error : ℕ) (index new : LearnedIndex 64 64) → last ≡ last_after layout page number n → AreRead layout page number n → IsRead layout at bytes last → first ≡ first_key (rows_on layout bytes) →
       IndexOf error (points_after layout page number n) index →

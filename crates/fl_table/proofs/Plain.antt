@@ -1,24 +1,23 @@
--- A table without variable data keeps its facts.
-use Rattle.std.proofs.Common.{◌≡◌, ◌≢◌, ℕ, ◌+◌, ◌-◌, ◌*◌, ◌%◌, ◌<◌, ◌≤◌, ◌⊎◌, inl, inr, Bool, true, false, cond, ◌&&◌, ◌==◌, nat_lt, Option, Some, None, IfSome, List, [], ◌∷◌, ◌++◌, length, take, drop, refl, sym, ◌∙◌, ap, subst, arith, IsTrue, length-append, length-drop}
+-- The facts of a table, by its parts, and what each operation of its data ring keeps of them.
+use Rattle.std.proofs.Common.{◌≡◌, ◌≢◌, ℕ, ◌+◌, ◌-◌, ◌*◌, ◌%◌, ◌<◌, ◌≤◌, ◌⊎◌, inl, inr, Bool, true, false, cond, ◌&&◌, ◌==◌, nat_lt, Option, Some, None, IfSome, List, [], ◌∷◌, ◌++◌, length, take, drop, refl, sym, ◌∙◌, ap, subst, arith, IsTrue, append_assoc, length-append, length-drop}
 use Rattle.std.proofs.Math.Nat.{mod-lt, add-mod_right, mul-le-mul_right}
 use Rattle.std.proofs.lemmas.Bool.{eqb-true, cases_lt}
+use Rattle.std.proofs.lemmas.List.{take_all, take-append-le}
 use Rattle.std.specs.List.{slice_get, sum, list_any, AllByRecursion}
-use Rattle.fl_model.specs.Record.{Record, Plan, has_index, has_var, rows_per_page, entries_per_page, content_per_page}
+use Rattle.fl_model.specs.Record.{Plan, has_index, rows_per_page, entries_per_page, content_per_page}
 use Rattle.fl_model.specs.Ring.{Shape, IsShape, Ring, IsRing, oldest, sealed, given_up, is_full, extended, begun, erased}
-use Rattle.fl_model.specs.Table.{Table, Entry, RingName, DataRing, IndexRing, VarRing, shape_of, ring_of, with_ring, seal_page, seal_buffer, spent_from, lose, full_pages, table_seals, with_record, refusal_of}
+use Rattle.fl_model.specs.Table.{Table, Entry, RingName, DataRing, IndexRing, VarRing, shape_of, ring_of, with_ring, seal_page, seal_buffer, spent_from, lose, full_pages, table_seals, after_seals, written}
 use Rattle.fl_model.specs.Mount.{index_end, least_alike, renumber, at_least_of}
-use Rattle.fl_model.specs.Facts.{IsTable, BlobFits, is_some_ring, counts_in}
-use Rattle.fl_model.proofs.Kept.{AreKept, kept-lose, kept-record}
+use Rattle.fl_model.specs.Facts.{IsTable, is_some_ring, counts_in}
+use Rattle.fl_model.proofs.Lists.{slice_get-drop, slice_get-front}
+use Rattle.fl_model.proofs.Kept.{AreKept, kept-lose}
 use Rattle.fl_model.proofs.Plain.{sealed-next, sealed-torn, kept-sealed, entries_after}
-use Rattle.fl_model.proofs.Puts.{plain_entry, plain-put_entry, IsAccepted, accepted}
 use Rattle.fl_model.proofs.Rings.{ring-sealed}
+use Rattle.fl_table.proofs.BlobTables.{IsBlobbed, facts-blobbed}
 use Rattle.fl_ring.proofs.Modulo.{apart}
 use Rattle.fl_table.specs.Bitmaps.{bitmap_seals}
+use Rattle.fl_table.specs.Blobs.{blob_seals}
 use Rattle.fl_ring.proofs.Moved.{least_is_alike}
-
--- a plan of a table without variable data
-pub record IsPlain (plan : Plan) : Type 0 where
-  pub no_var : has_var plan ≡ false
 
 -- the facts of the index of a table
 pub record IsIndexed (plan : Plan) (table : Table) : Type 0 where
@@ -33,24 +32,19 @@ pub record IsIndexed (plan : Plan) (table : Table) : Type 0 where
   pub number_pending : (table.pending ≡ 0 → ⊥) → IfSome table.index (λ ring. ring.next ≤ spent_from + 64)
   pub number_listed : oldest table.rows < index_end plan table → 0 < length table.rows.counts → table.rows.next + (cond table.rows.torn 1 0) ≤ spent_from + 1
 
--- the facts of such a table
+-- the facts of a table
 pub record IsPlainTable (plan : Plan) (table : Table) : Type 0 where
   pub rows : IsRing (shape_of plan DataRing) table.rows
   pub kept : AreKept plan table.entries table.rows.counts table.pending
   pub few_pending : table.pending ≤ rows_per_page plan
   pub index : IsIndexed plan table
-  pub var : table.var ≡ None
-  pub fill : table.fill ≤ content_per_page plan
+  pub blobs : IsBlobbed plan table
   pub number : table.rows.next + (cond table.rows.torn 1 0) ≤ 4294967292
   pub number_pending : (table.pending ≡ 0 → ⊥) → table.rows.next ≤ spent_from
 
-no_ring : (o : Option Ring) → is_some_ring o ≡ false → o ≡ None
-no_ring None e = refl
-no_ring (Some ring) e = cc
-
 -- they are the facts of a table
-pub plain-facts : (plan : Plan) (table : Table) → IsPlain plan → IsTable plan table → IsPlainTable plan table
-plain-facts plan table plain h = record {
+pub table-parts : (plan : Plan) (table : Table) → IsTable plan table → IsPlainTable plan table
+table-parts plan table h = record {
   rows = h.rows;
   kept = record { fit = h.fit; counted = h.counted; few_rows = h.few_rows; ascending = h.ascending };
   few_pending = h.few_pending;
@@ -66,40 +60,69 @@ plain-facts plan table plain h = record {
     number_pending = λ p. (h.numbers_pending p).1;
     number_listed = h.numbers_listed;
   };
-  var = no_ring table.var (h.has_rings.1 ∙ plain.no_var);
-  fill = h.fill;
+  blobs = facts-blobbed plan table h;
   number = h.numbers DataRing;
   number_pending = λ p. (h.numbers_pending p).0;
 }
 
-pub facts-plain : (plan : Plan) (table : Table) → IsPlain plan → IsPlainTable plan table → IsTable plan table
-facts-plain plan table plain h = record {
+pub table-facts : (plan : Plan) (table : Table) → IsPlainTable plan table → IsTable plan table
+table-facts plan table h = record {
   rows = h.rows;
   index = h.index.ring;
-  var = rw h.var tt;
-  has_rings = (h.index.has, ap is_some_ring h.var ∙ sym plain.no_var);
+  var = h.blobs.ring;
+  has_rings = (h.index.has, h.blobs.has);
   index_counts = h.index.counts;
-  var_counts = rw h.var tt;
+  var_counts = h.blobs.counts;
   first_each = h.index.first_each;
   fit = h.kept.fit;
   counted = h.kept.counted;
   few_pending = h.few_pending;
   few_rows = h.kept.few_rows;
   ascending = h.kept.ascending;
-  fill = h.fill;
+  fill = h.blobs.fill;
   waiting = h.index.waiting;
   firsts = h.index.firsts;
   listed = h.index.listed;
-  blobs = λ i entry blob e k some. rw h.var tt;
+  blobs = h.blobs.blobs;
   numbers = numbers;
-  numbers_pending = λ p. (h.number_pending p, h.index.number_pending p, rw h.var tt);
+  numbers_pending = λ p. (h.number_pending p, h.index.number_pending p, h.blobs.number_pending p);
   numbers_listed = h.index.number_listed;
 }
   where
     numbers : (name : RingName) → IfSome (ring_of name table) (λ ring. ring.next + (cond ring.torn 1 0) ≤ 4294967292)
     numbers DataRing = h.number
     numbers IndexRing = h.index.number
-    numbers VarRing = rw h.var tt
+    numbers VarRing = h.blobs.number
+
+-- each blob of these records begins on a page of variable data that was given up, or is kept
+abbrev pub AreInPages : Table → List Entry → Type 0
+AreInPages table entries =
+    (i : ℕ) (entry : Entry) (blob : List ℕ) → slice_get entries i ≡ Some entry → entry.kept.blob ≡ Some blob → 0 < length blob →
+    IfSome table.var (λ ring. (entry.page < oldest ring) ⊎ ((oldest ring ≤ entry.page) × (slice_get ring.counts (entry.page - oldest ring) ≡ Some 1)))
+
+pages-front : (table : Table) (entries : List Entry) (n : ℕ) → AreInPages table entries → AreInPages table (take n entries)
+pages-front table entries n h = λ i entry blob e k some. h i entry blob (slice_get-front n entries i entry e) k some
+
+pages-rest : (table : Table) (entries : List Entry) (n : ℕ) → AreInPages table entries → AreInPages table (drop n entries)
+pages-rest table entries n h = λ i entry blob e k some. h (n + i) entry blob (sym (slice_get-drop n entries i) ∙ e) k some
+
+-- a record more is pending
+pub written-push : (table : Table) (last : Entry) → take (length (table.entries ++ last ∷ []) - (table.pending + 1)) (table.entries ++ last ∷ []) ≡ written table
+written-push table last =
+    let count : length (table.entries ++ last ∷ []) - (table.pending + 1) ≡ length table.entries - table.pending = omega (arith, length-append table.entries (last ∷ [])) in
+    ap (λ n. take n (table.entries ++ last ∷ [])) count ∙ take-append-le (length table.entries - table.pending) table.entries (last ∷ []) (omega arith)
+
+-- the variable data are the same where other parts of the table change
+pub blobbed-moved : (plan : Plan) (table new : Table) → new.var ≡ table.var → new.fill ≤ content_per_page plan → ((new.pending ≡ 0 → ⊥) → table.pending ≡ 0 → ⊥) → AreInPages table (written new) → IsBlobbed plan table → IsBlobbed plan new
+blobbed-moved plan table new var fill pending pages h = record {
+  has = ap is_some_ring var ∙ h.has;
+  ring = subst (λ (o : Option Ring). IfSome o (IsRing (shape_of plan VarRing))) (sym var) h.ring;
+  counts = subst (λ (o : Option Ring). AllByRecursion (λ count. (count ≡ 0) ⊎ (count ≡ 1)) (counts_in o)) (sym var) h.counts;
+  fill = fill;
+  blobs = λ i entry blob e k some. subst (λ (o : Option Ring). IfSome o (λ ring. (entry.page < oldest ring) ⊎ ((oldest ring ≤ entry.page) × (slice_get ring.counts (entry.page - oldest ring) ≡ Some 1)))) (sym var) (pages i entry blob e k some);
+  number = subst (λ (o : Option Ring). IfSome o (λ ring. ring.next + (cond ring.torn 1 0) ≤ 4294967292)) (sym var) h.number;
+  number_pending = λ p. subst (λ (o : Option Ring). IfSome o (λ ring. ring.next ≤ spent_from + 64)) (sym var) (h.number_pending (pending p));
+}
 
 -- the index is the same where other parts of the table change
 pub indexed-as : (plan : Plan) (table : Table) (entries : List Entry) (rows : Ring) (pending fill waiting : ℕ) (points : List (ℕ × ℕ)) → IsIndexed plan table →
@@ -135,8 +158,7 @@ plain-body plan table h some clean = record {
   few_pending = h.few_pending;
   index = indexed-as plan table table.entries (begun table.rows) table.pending table.fill table.waiting table.points h.index h.index.waiting h.index.listed (λ p. p)
       (λ lt more. let few : table.rows.next ≤ spent_from = h.number_pending some in omega (arith, few));
-  var = h.var;
-  fill = h.fill;
+  blobs = blobbed-moved plan table (with_ring DataRing begun table) refl h.blobs.fill (λ p. p) h.blobs.blobs h.blobs;
   number = let few : table.rows.next ≤ spent_from = h.number_pending some in omega (arith, few);
   number_pending = h.number_pending;
 }
@@ -162,8 +184,7 @@ plain-erase plan table h = record {
   kept = h.kept;
   few_pending = h.few_pending;
   index = indexed-as plan table table.entries (erased table.rows) table.pending table.fill table.waiting table.points h.index h.index.waiting h.index.listed (λ p. p) h.index.number_listed;
-  var = h.var;
-  fill = h.fill;
+  blobs = blobbed-moved plan table (with_ring DataRing erased table) refl h.blobs.fill (λ p. p) h.blobs.blobs h.blobs;
   number = h.number;
   number_pending = h.number_pending;
 }
@@ -197,8 +218,8 @@ waits_few false waiting most h t = omega arith
 
 -- the pending rows are sealed
 pub plain-mark : (plan : Plan) (table : Table) → IsShape (shape_of plan DataRing) → IsPlainTable plan table → (IsTrue (has_index plan) → table.waiting < entries_per_page plan) → (table.pending ≡ 0 → ⊥) → table.rows.dirty ≡ false →
-    IsPlainTable plan (seal_buffer plan DataRing table)
-plain-mark plan table shape h room some clean =
+    AreInPages table table.entries → IsPlainTable plan (seal_buffer plan DataRing table)
+plain-mark plan table shape h room some clean settled =
     let ring = sealed (shape_of plan DataRing) table.pending table.rows in
     let after = seal_buffer plan DataRing table in
     let next : ring.next ≡ table.rows.next + 1 = sealed-next (shape_of plan DataRing) table.pending table.rows in
@@ -211,8 +232,7 @@ plain-mark plan table shape h room some clean =
       few_pending = omega arith;
       index = indexed-as plan table after.entries ring 0 table.fill after.waiting after.points h.index (waits_few (has_index plan) table.waiting (entries_per_page plan) room)
           (omega (arith, h.index.listed, next, one)) (λ p. absurd (p refl)) (λ lt kept. rw (torn, next) (omega (arith, few)));
-      var = h.var;
-      fill = h.fill;
+      blobs = blobbed-moved plan table after refl h.blobs.fill (λ none. absurd (none refl)) (pages-front table after.entries (length after.entries - 0) (pages-rest table table.entries (sum (given_up (shape_of plan DataRing) table.pending table.rows)) settled)) h.blobs;
       number = rw (torn, next) (omega (arith, few));
       number_pending = λ none. absurd (none refl);
     }
@@ -237,8 +257,8 @@ plain-void plan table shape h none torn clean =
           let was = h.index.number_listed (omega (arith, lt, older)) (omega (arith, lt, older, h.index.listed)) in
           let was_one : table.rows.next + 1 ≤ spent_from + 1 = subst (λ b. table.rows.next + (cond b 1 0) ≤ spent_from + 1) torn was in
           rw (whole, next) (omega (arith, was_one)));
-      var = h.var;
-      fill = h.fill;
+      blobs = blobbed-moved plan table after refl h.blobs.fill (λ p. p) (pages-front table after.entries (length after.entries - table.pending) (pages-rest table table.entries (sum (given_up (shape_of plan DataRing) 0 table.rows))
+          (subst (AreInPages table) (take_all (length table.entries - table.pending) table.entries (omega (arith, none))) h.blobs.blobs))) h.blobs;
       number = rw (whole, next) (omega (arith, few));
       number_pending = λ some. absurd (some none);
     }
@@ -250,61 +270,26 @@ plain-lose plan table h = record {
   kept = kept-lose plan table.entries table.rows.counts table.pending h.kept;
   few_pending = omega arith;
   index = indexed-as plan table (lose table).entries table.rows 0 0 0 [] h.index (λ t. omega arith) (omega (arith, h.index.listed)) (λ p. absurd (p refl)) h.index.number_listed;
-  var = h.var;
-  fill = omega arith;
+  blobs = blobbed-moved plan table (lose table) refl (omega arith) (λ p. absurd (p refl)) (pages-front table (lose table).entries (length (lose table).entries - 0) h.blobs.blobs) h.blobs;
   number = h.number;
   number_pending = λ some. absurd (some refl);
 }
 
--- a record joins the pending ones
-pub plain-record : (plan : Plan) (table : Table) (item : Record) → IsPlainTable plan table → table.pending < rows_per_page plan → IsAccepted plan table item → table.rows.next ≤ spent_from →
-    IfSome table.index (λ ring. ring.next ≤ spent_from + 64) → IsPlainTable plan (with_record plan item table table)
-plain-record plan table item h room ok left index_left =
-    rw (plain-put_entry plan item table table ok.no_blob) (record {
-      rows = h.rows;
-      kept = kept-record plan table.entries table.rows.counts table.pending (plain_entry item) h.kept
-          (record { key = ok.key; as_many = ok.as_many; values = ok.values; blob = subst (BlobFits plan (plain_entry item)) (sym ok.no_blob) (refl, refl) }) ok.above;
-      few_pending = omega (arith, room);
-      index = record {
-        has = h.index.has;
-        ring = h.index.ring;
-        counts = h.index.counts;
-        first_each = h.index.first_each;
-        firsts = h.index.firsts;
-        waiting = h.index.waiting;
-        listed = h.index.listed;
-        number = h.index.number;
-        number_pending = λ p. index_left;
-        number_listed = h.index.number_listed;
-      };
-      var = h.var;
-      fill = h.fill;
-      number = h.number;
-      number_pending = λ some. left;
-    })
-
--- what a table refuses doesn't hang on whether it has an index
-pub plain-accepted : (plan : Plan) (table : Table) (item : Record) → IsPlain plan → refusal_of plan table item ≡ None → IsAccepted plan table item × (table.rows.next < spent_from)
-plain-accepted plan table item plain h =
-    let a = accepted (record plan { index_blocks = 0 }) table item (record { no_index = refl; no_var = plain.no_var }) h in
-    (record { above = a.0.above; key = a.0.key; as_many = a.0.as_many; values = a.0.values; no_blob = a.0.no_blob }, a.1)
-
--- the seals of such a table
-pub plain-table_seals : (plan : Plan) (table : Table) → table.fill ≡ 0 → (table.pending ≡ 0 → ⊥) → table_seals plan table ≡ bitmap_seals plan table ++ DataRing ∷ []
-plain-table_seals plan table empty some = by_test (table.pending == 0) refl
+-- the seals of a table with pending rows
+pub some-table_seals : (plan : Plan) (table : Table) → (table.pending ≡ 0 → ⊥) → table_seals plan table ≡ bitmap_seals plan table ++ (blob_seals (after_seals plan (bitmap_seals plan table) table) ++ DataRing ∷ [])
+some-table_seals plan table some =
+    by_test (table.pending == 0) refl
+    ∙ (ap (λ n. bitmap_seals plan table ++ (cond (nat_lt 0 n) (VarRing ∷ []) []) ++ DataRing ∷ []) (same_fill (has_index plan && (table.waiting == entries_per_page plan)))
+    ∙ append_assoc (bitmap_seals plan table) (blob_seals (after_seals plan (bitmap_seals plan table) table)) (DataRing ∷ []))
   where
-    seals : (cond (has_index plan && (table.waiting == entries_per_page plan)) (IndexRing ∷ []) []) ++ (cond (nat_lt 0 table.fill) (VarRing ∷ []) []) ++ DataRing ∷ []
-        ≡ (cond (has_index plan && (table.waiting == entries_per_page plan)) (IndexRing ∷ []) []) ++ DataRing ∷ []
-    seals = rw empty (by_index (has_index plan && (table.waiting == entries_per_page plan)))
-      where
-        by_index : (b : Bool) → (cond b (IndexRing ∷ []) []) ++ (cond (nat_lt 0 0) (VarRing ∷ []) []) ++ DataRing ∷ [] ≡ (cond b (IndexRing ∷ []) []) ++ DataRing ∷ []
-        by_index true = refl
-        by_index false = refl
+    same_fill : (b : Bool) → table.fill ≡ (after_seals plan (cond b (IndexRing ∷ []) []) table).fill
+    same_fill true = refl
+    same_fill false = refl
 
     by_test : (t : Bool) → (table.pending == 0) ≡ t → cond t [] ((cond (has_index plan && (table.waiting == entries_per_page plan)) (IndexRing ∷ []) []) ++ (cond (nat_lt 0 table.fill) (VarRing ∷ []) []) ++ DataRing ∷ [])
-        ≡ (cond (has_index plan && (table.waiting == entries_per_page plan)) (IndexRing ∷ []) []) ++ DataRing ∷ []
+        ≡ (cond (has_index plan && (table.waiting == entries_per_page plan)) (IndexRing ∷ []) []) ++ (cond (nat_lt 0 table.fill) (VarRing ∷ []) []) ++ DataRing ∷ []
     by_test true e = absurd (some (eqb-true table.pending 0 e))
-    by_test false e = seals
+    by_test false e = refl
 
 -- the next number of a ring whose pages are all void goes up by no more than the ring's room
 least_near : (room next least : ℕ) → 0 < room → next < least → least < next + room → least_alike room next least ≤ next + room
@@ -373,8 +358,7 @@ plain-renumber plan table shape most few h ring none idle = by_test (list_any (n
       few_pending = h.few_pending;
       index = indexed-as plan table table.entries (record table.rows { next = next_alike plan table }) table.pending table.fill table.waiting table.points h.index h.index.waiting (omega (arith, least, idle)) (λ p. p)
           (λ lt more. absurd (omega (arith, lt, least)));
-      var = h.var;
-      fill = h.fill;
+      blobs = blobbed-moved plan table (record table { rows = record table.rows { next = next_alike plan table } }) refl h.blobs.fill (λ p. p) h.blobs.blobs h.blobs;
       number = number;
       number_pending = λ some. absurd (some none);
     }

@@ -1,34 +1,39 @@
 -- How a put ends, by what it refused and what it put.
-use Rattle.std.proofs.Common.{◌≡◌, ℕ, ◌+◌, ◌-◌, ◌/◌, ◌≤◌, Bool, Option, Some, None, is_some, option_map, Ok, Err, List, length, refl, sym, ◌∙◌, ap, subst, arith}
+use Rattle.std.proofs.Common.{◌≡◌, ℕ, ◌+◌, ◌-◌, ◌/◌, ◌≤◌, Bool, true, false, ◌&&◌, Option, Some, None, option_map, Ok, Err, List, length, refl, sym, ◌∙◌, ap, subst, arith}
 use Rattle.std.proofs.Math.IntN.{ℤ}
 use Rattle.std.proofs.Math.Nat.{le-div_iff_mul-le}
 use Rattle.fl_flash.specs.Flash.{FlashState}
 use Rattle.fl_flash.specs.declared.flash.FlashFault.{FlashFault}
-use Rattle.fl_model.specs.Record.{Plan, RowLayout, layout_len, row_len, rows_per_page}
+use Rattle.fl_model.specs.Record.{Record, Plan, RowLayout, layout_len, row_len, rows_per_page}
 use Rattle.fl_model.specs.Table as model
-use Rattle.fl_model.specs.Table.{Table, Refusal, BadKey, BadColumns, BadValue, BadBlob, refusal_of, make_room_seals, after_seals, put_seals, put_record, with_record, spent_from}
+use Rattle.fl_model.specs.Table.{Table, Refusal, BadKey, BadColumns, BadValue, BadBlob, refusal_of, make_room_seals, after_seals}
 use Rattle.fl_model.specs.Within.{seals_within}
 use Rattle.fl_model.specs.Work.{Device}
-use Rattle.fl_table.proofs.Plain.{plain-facts, plain-accepted}
+use Rattle.fl_table.proofs.Accepted.{accepted}
+use Rattle.fl_table.proofs.Plain.{table-parts}
 use Rattle.fl_schema.specs.Schema.{layout_of}
 use Rattle.fl_table.specs.Accepting.{IsAcceptedBy}
-use Rattle.fl_table.specs.Outcomes.{Finishes, Breaks, PutEnds}
+use Rattle.fl_table.specs.Outcomes.{Finishes, Breaks, JoinEnds, PutEnds}
 use Rattle.fl_table.specs.Refusal.{put_refusal}
 use Rattle.fl_table.specs.Standing.{Stands}
 use Rattle.fl_table.specs.declared.table.Table as code
 use Rattle.fl_table.specs.declared.faults.PutRefusal.{PutRefusal}
 use Rattle.fl_table.specs.declared.faults.PutRefusal.TheVariants as put
-use Rattle.fl_table.proofs.Putting.{has-room, put-breaks, put-finishes, room-accepts}
+use Rattle.fl_table.proofs.Putting.{has-room, put-stops, put-breaks, put-finishes, room-accepts}
 use Rattle.fl_table.proofs.Refusals.{answered, answer_of, not-refused}
-use Rattle.fl_table.proofs.SealAnswers.{planned-plain, planned-shape}
+use Rattle.fl_table.proofs.SealAnswers.{planned-shape}
 
-pub is_some-map : {A B : Type 0} (g : A → B) (o : Option A) → is_some (option_map g o) ≡ is_some o
-is_some-map g None = refl
-is_some-map g (Some a) = refl
+pub map-twice : {A B C : Type 0} (g : A → B) (h : B → C) (o : Option A) → option_map h (option_map g o) ≡ option_map (λ a. h (g a)) o
+map-twice g h None = refl
+map-twice g h (Some a) = refl
+
+pub and-true : (b : Bool) → (b && true) ≡ b
+and-true true = refl
+and-true false = refl
 
 -- a refused record
 pub refused-ends : (t : code.Table) (f : FlashState) (first : ℕ) (plan : Plan) (table : Table) (key : ℕ) (values : List ℤ) (blob : Option (List ℕ)) (rose : Bool) (device : Device) → Stands t f first plan table →
-    (refusal : PutRefusal) → put_refusal t key values (is_some blob) ≡ Some refusal → (after : code.Table) (new : FlashState) → PutEnds first plan (record { key = key; values = values; blob = blob }) table rose device (Err refusal) after new
+    (refusal : PutRefusal) → put_refusal t key values (option_map (λ (xs : List ℕ). length xs) blob) ≡ Some refusal → (after : code.Table) (new : FlashState) → PutEnds first plan (record { key = key; values = values; blob = blob }) table rose device (Err refusal) after new
 refused-ends t f first plan table key values blob rose device s refusal e after new =
     let a = answered t f first plan table key values blob s refusal e in
     rw a.2 (by_refusal a.0 a.1)
@@ -41,14 +46,12 @@ refused-ends t f first plan table key values blob rose device s refusal e after 
     by_refusal (BadBlob limit) k = k
     by_refusal model.Spent k = k
 
--- an operation of its pages failed
+-- an operation of the pages that make room failed
 pub broken-ends : (t : code.Table) (f : FlashState) (first : ℕ) (plan : Plan) (table : Table) (key : ℕ) (values : List ℤ) (blob : Option (List ℕ)) (rose : Bool) (device : Device) → Stands t f first plan table →
-    put_refusal t key values (is_some blob) ≡ None → (fault : FlashFault) (after : code.Table) (new : FlashState) → Breaks first plan (seals_within plan (make_room_seals plan table) table) table rose device fault new →
+    put_refusal t key values (option_map (λ (xs : List ℕ). length xs) blob) ≡ None → (fault : FlashFault) (after : code.Table) (new : FlashState) → Breaks first plan (seals_within plan (make_room_seals plan table) table) table rose device fault new →
     PutEnds first plan (record { key = key; values = values; blob = blob }) table rose device (Err (put.Flash fault)) after new
 broken-ends t f first plan table key values blob rose device s e fault after new h =
-    let none = not-refused t f first plan table key values blob s e in
-    let ok = plain-accepted plan table (record { key = key; values = values; blob = blob }) (planned-plain t first plan s.planned) none in
-    (none, put-breaks first plan (record { key = key; values = values; blob = blob }) table rose device fault new ok.0.no_blob h)
+    (not-refused t f first plan table key values blob s e, put-stops first plan (record { key = key; values = values; blob = blob }) table rose device fault new h)
 
 -- a page has room for a row
 some-rows : (t : code.Table) (f : FlashState) (first : ℕ) (plan : Plan) (table : Table) → Stands t f first plan table → 1 ≤ rows_per_page plan
@@ -58,21 +61,22 @@ some-rows t f first plan table s =
     let fits : 1 ≤ (t.geometry.page - 24) / layout_len (layout_of t.schema) = (le-div_iff_mul-le {x = 1} {y = t.geometry.page - 24} t.some_row).1 (omega (arith, t.room_for_row)) in
     omega (arith, fits, per_page)
 
--- it was put
-pub put-ends : (t : code.Table) (f : FlashState) (first : ℕ) (plan : Plan) (table : Table) (key : ℕ) (values : List ℤ) (blob : Option (List ℕ)) (rose : Bool) (device : Device) → Stands t f first plan table →
-    put_refusal t key values (is_some blob) ≡ None → (room after : code.Table) (new : FlashState) →
-    Finishes first plan (seals_within plan (make_room_seals plan table) table) table (after_seals plan (make_room_seals plan table) table) rose device room new →
-    room.writer.end + layout_len (layout_of room.schema) ≤ length room.writer.body →
-    ((before : Table) → Stands room new first plan before → IsAcceptedBy plan before key values → Stands after new first plan (with_record plan (record { key = key; values = values; blob = None }) before before)) →
-    PutEnds first plan (record { key = key; values = values; blob = blob }) table rose device (Ok tt) after new
-put-ends t f first plan table key values blob rose device s e room after new h left adds =
-    let none = not-refused t f first plan table key values blob s e in
-    let plain = planned-plain t first plan s.planned in
-    let ok = plain-accepted plan table (record { key = key; values = values; blob = blob }) plain none in
-    let before = after_seals plan (make_room_seals plan table) table in
-    let less = has-room room new first plan before h.stands left in
-    let by = room-accepts plan table (record { key = key; values = values; blob = blob }) (planned-shape t first plan s.planned) (plain-facts plan table plain s.facts) s.memory.no_fill (some-rows t f first plan table s) ok.0 ok.1 less in (
-      none,
-      put-finishes first plan (record { key = key; values = values; blob = blob }) table rose device room after new ok.0.no_blob h
-          (subst (λ (b : Option (List ℕ)). Stands after new first plan (with_record plan (record { key = key; values = values; blob = b }) before before)) (sym ok.0.no_blob) (adds before h.stands by)),
-    )
+-- room was made, and the record joins or not
+module _ (t : code.Table) (f : FlashState) (first : ℕ) (plan : Plan) (table : Table) (key : ℕ) (values : List ℤ) (blob : Option (List ℕ)) (rose : Bool) (device : Device) (s : Stands t f first plan table)
+    (e : put_refusal t key values (option_map (λ (xs : List ℕ). length xs) blob) ≡ None) (room : code.Table) (mid : FlashState)
+    (h : Finishes first plan (seals_within plan (make_room_seals plan table) table) table (after_seals plan (make_room_seals plan table) table) rose device room mid) where
+  abbrev item : Record
+  item = record { key = key; values = values; blob = blob }
+
+  pub accepts : room.writer.end + layout_len (layout_of room.schema) ≤ length room.writer.body → IsAcceptedBy plan (after_seals plan (make_room_seals plan table) table) key values blob
+  accepts left =
+      let ok = accepted plan table item (not-refused t f first plan table key values blob s e) in
+      room-accepts plan table item (planned-shape t first plan s.planned) (table-parts plan table s.facts) (some-rows t f first plan table s) ok (has-room room mid first plan (after_seals plan (make_room_seals plan table) table) h.stands left)
+
+  pub join-fails : (fault : FlashFault) (after : code.Table) (new : FlashState) → JoinEnds first plan item (after_seals plan (make_room_seals plan table) table) rose h.now.device (Err fault) after new →
+      PutEnds first plan (record { key = key; values = values; blob = blob }) table rose device (Err (put.Flash fault)) after new
+  join-fails fault after new k = (not-refused t f first plan table key values blob s e, put-breaks first plan item table rose device room mid h fault after new k)
+
+  pub put-ends : (after : code.Table) (new : FlashState) → JoinEnds first plan item (after_seals plan (make_room_seals plan table) table) rose h.now.device (Ok tt) after new →
+      PutEnds first plan (record { key = key; values = values; blob = blob }) table rose device (Ok tt) after new
+  put-ends after new k = (not-refused t f first plan table key values blob s e, put-finishes first plan item table rose device room mid h after new k)

@@ -11,10 +11,9 @@ use Rattle.fl_bitmap.specs.Bucket.{bucket_in}
 use Rattle.fl_bitmap.specs.Widths.{is_bits}
 use Rattle.fl_bitmap.specs.declared.buckets.Buckets.{Buckets}
 use Rattle.fl_flash.specs.Flash.{FlashState, page_at}
-use Rattle.fl_model.specs.Facts.{IsTable}
 use Rattle.fl_model.specs.Layout.{bitmap_of, bucket_of}
 use Rattle.fl_model.specs.Record.{Record, Plan, RowLayout, layout_len, row_len, rows_per_page, entries_per_page, has_index}
-use Rattle.fl_model.specs.Table.{Table, Entry, DataRing, IndexRing, RingName, shape_of, pending_entries, last_entry, with_record, lose, after_seal, after_seals, make_room_seals, table_seals, flushed, put_seals, put_record, spent_from}
+use Rattle.fl_model.specs.Table.{Table, Entry, DataRing, IndexRing, RingName, shape_of, blob_len, pending_entries, last_entry, after_seal, after_seals, place_seals, make_room_seals, table_seals, flushed, put_seals, put_record}
 use Rattle.fl_model.specs.Within.{seal_within, seals_within}
 use Rattle.fl_model.specs.Ring.{Ring, IsShape}
 use Rattle.fl_model.specs.Work.{Kind, Device, Whole}
@@ -22,22 +21,24 @@ use Rattle.fl_ring.specs.Device.{SameDevice}
 use Rattle.fl_model.proofs.Lists.{last_or-push}
 use Rattle.fl_model.proofs.Plain.{sealed-next}
 use Rattle.fl_model.proofs.Among.{after_seals-append}
-use Rattle.fl_table.specs.Bitmaps.{Stand, bitmap_seals, next_of as index_next}
-use Rattle.fl_table.proofs.Indexing.{index-number, stand-moved}
+use Rattle.fl_table.specs.Bitmaps.{bitmap_seals}
+use Rattle.fl_table.specs.Blobs.{blob_seals}
+use Rattle.fl_table.proofs.Accepted.{IsAccepted}
+use Rattle.fl_table.proofs.BlobSteps.{after-var}
+use Rattle.fl_table.proofs.BlobStands.{rest-var}
+use Rattle.fl_table.proofs.Following.{seals-stop, seals-then, finishes-then}
 use Rattle.fl_table.proofs.IndexSeals.{IsBeside}
-use Rattle.fl_table.proofs.Moved.{keeps-record}
-use Rattle.fl_table.proofs.Plain.{IsPlain, IsPlainTable, plain-facts, facts-plain, plain-record, plain-table_seals}
-use Rattle.fl_model.proofs.Puts.{plain_entry, IsAccepted, idle-table_seals, plain-put_seals, plain-put_record, full-room_seals, room-room_seals}
+use Rattle.fl_table.proofs.Plain.{IsPlainTable, table-parts, some-table_seals}
+use Rattle.fl_model.proofs.Puts.{idle-table_seals, full-room_seals, room-room_seals}
 use Rattle.fl_flash.specs.declared.flash.FlashFault.{FlashFault}
 use Rattle.fl_schema.specs.Schema.{layout_of}
 use Rattle.fl_table.specs.Accepting.{IsAcceptedBy}
 use Rattle.fl_table.specs.Memory.{HasBuckets, bitmap_with}
 use Rattle.fl_table.specs.Outcomes.{Finishes, Breaks}
-use Rattle.fl_table.specs.Pages.{HoldsTable}
 use Rattle.fl_table.specs.Standing.{Stands}
 use Rattle.fl_table.specs.declared.table.Table as code
 use Rattle.fl_table.proofs.Memories.{last-sealed}
-use Rattle.fl_table.proofs.SealAnswers.{planned-plain, writer-count}
+use Rattle.fl_table.proofs.SealAnswers.{writer-count}
 
 -- the bitmap of one more row
 pub bits-more : (plan : Plan) (buckets : Option Buckets) (entries : List Entry) (entry : Entry) → HasBuckets plan buckets →
@@ -75,40 +76,17 @@ bits-more plan (Some buckets) entries entry h =
         ap (λ n. bit_or (fold (λ bits e. bit_or bits (2 ^ bucket_of plan (unwrap_or (slice_get e.kept.values 0) (pos 0)))) 0 entries) (2 ^ n)) same
         ∙ sym (fold_push (λ (bits : ℕ) (e : Entry). bit_or bits (2 ^ bucket_of plan (unwrap_or (slice_get e.kept.values 0) (pos 0)))) 0 entries entry)
 
--- what a table is with one record more
-pub record IsAdded (t : code.Table) (f : FlashState) (first : ℕ) (plan : Plan) (table : Table) (entry : Entry) (after : Table) : Type 0 where
-  pub facts : IsTable plan after
-  pub pages : HoldsTable (page_at f) first plan (lose after)
-  pub pending : pending_entries after ≡ pending_entries table ++ entry ∷ []
-  pub last : last_entry after ≡ Some entry
-  pub bits : bitmap_with t.buckets t.bitmap (get_or entry.kept.values 0 (pos 0)) ≡ bitmap_of plan (pending_entries after)
-  pub bitmaps : Stand t.bitmaps f (first + plan.data_blocks) plan after
+-- the last and the pending records, with one more
+pub pending-more : (table after : Table) (entry : Entry) → after.entries ≡ table.entries ++ entry ∷ [] → after.pending ≡ table.pending + 1 → table.pending ≤ length table.entries → pending_entries after ≡ pending_entries table ++ entry ∷ []
+pending-more table after entry entries pending few =
+    let len = length-append table.entries (entry ∷ []) in
+    let cut : length (table.entries ++ entry ∷ []) - (table.pending + 1) ≡ length table.entries - table.pending = omega (arith, len, few) in
+    ap (λ (es : List Entry). drop (length es - after.pending) es) entries
+    ∙ (ap (λ n. drop (length (table.entries ++ entry ∷ []) - n) (table.entries ++ entry ∷ [])) pending
+    ∙ (ap (λ n. drop n (table.entries ++ entry ∷ [])) cut ∙ drop-append-le (length table.entries - table.pending) table.entries (entry ∷ []) (omega arith)))
 
-pub added : (t : code.Table) (f : FlashState) (first : ℕ) (plan : Plan) (table : Table) (key : ℕ) (values : List ℤ) → Stands t f first plan table → index_next t.bitmaps ≤ spent_from → IsAcceptedBy plan table key values →
-    let item : Record = record { key = key; values = values; blob = None } in IsAdded t f first plan table (plain_entry item) (with_record plan item table table)
-added t f first plan table key values s left ok =
-    let item : Record = record { key = key; values = values; blob = None } in
-    let plain = planned-plain t first plan s.planned in
-    let facts = plain-facts plan table plain s.facts in
-    let few : table.pending ≤ length table.entries = omega (arith, facts.kept.counted) in
-    let len = length-append table.entries (plain_entry item ∷ []) in
-    let cut : length (table.entries ++ plain_entry item ∷ []) - (table.pending + 1) ≡ length table.entries - table.pending = omega (arith, len, few) in
-    let written : take (length (table.entries ++ plain_entry item ∷ []) - (table.pending + 1)) (table.entries ++ plain_entry item ∷ []) ≡ take (length table.entries - table.pending) table.entries =
-    ap (λ n. take n (table.entries ++ plain_entry item ∷ [])) cut ∙ take-append-le (length table.entries - table.pending) table.entries (plain_entry item ∷ []) (omega arith) in
-    let waiting : drop (length (table.entries ++ plain_entry item ∷ []) - (table.pending + 1)) (table.entries ++ plain_entry item ∷ []) ≡ pending_entries table ++ plain_entry item ∷ [] =
-    ap (λ n. drop n (table.entries ++ plain_entry item ∷ [])) cut ∙ drop-append-le (length table.entries - table.pending) table.entries (plain_entry item ∷ []) (omega arith) in
-    let known = plain-record plan table item facts ok.room (record { above = ok.above; key = ok.fits; as_many = ok.as_many; values = ok.values_fit; no_blob = refl }) ok.left
-    (index-number t.bitmaps f (first + plan.data_blocks) plan table (spent_from + 64) s.planned.index facts.index s.bitmaps (omega (arith, left))) in
-    record {
-      facts = facts-plain plan (with_record plan item table table) plain known;
-      bitmaps = stand-moved t.bitmaps f f first plan table (with_record plan item table table)
-          (keeps-record table (with_record plan item table table) (plain_entry item ∷ []) (omega (arith, facts.kept.counted)) refl refl) refl refl refl refl facts known (λ n. refl) s.bitmaps;
-      pages = subst (λ (es : List Entry). HoldsTable (page_at f) first plan (record (lose table) { entries = es })) (sym written) s.pages;
-      pending = waiting;
-      last = last_or-push None table.entries (plain_entry item);
-      bits = ap (λ n. bitmap_with t.buckets n (get_or values 0 (pos 0))) s.memory.bitmap
-          ∙ (bits-more plan t.buckets (pending_entries table) (plain_entry item) s.planned.buckets ∙ ap (bitmap_of plan) (sym waiting));
-    }
+pub last-more : (table after : Table) (entry : Entry) → after.entries ≡ table.entries ++ entry ∷ [] → last_entry after ≡ Some entry
+last-more table after entry entries = ap (λ (es : List Entry). last_or None es) entries ∙ last_or-push None table.entries entry
 
 -- a page has room for one row more just where fewer rows are pending than it holds
 module _ (t : code.Table) (f : FlashState) (first : ℕ) (plan : Plan) (table : Table) (s : Stands t f first plan table) where
@@ -134,7 +112,7 @@ module _ (t : code.Table) (f : FlashState) (first : ℕ) (plan : Plan) (table : 
 
   pub is-full : length t.writer.body < t.writer.end + layout_len (layout_of t.schema) → table.pending ≡ rows_per_page plan
   is-full lt =
-      let facts = plain-facts plan table (planned-plain t first plan s.planned) s.facts in
+      let facts = table-parts plan table s.facts in
       elim (cases_lt table.pending (rows_per_page plan)) [
         | inl less ↦
             let fits : (table.pending + 1) * layout_len (layout_of t.schema) ≤ t.geometry.page - 24 = (le-div_iff_mul-le {x = table.pending + 1} {y = t.geometry.page - 24} t.some_row).0 (omega (arith, less, per_page)) in
@@ -173,22 +151,22 @@ flush-idle f first plan table rose device t none stands counts power =
     (no-seal plan table (table_seals plan table) (idle-table_seals plan table none)) (sym (ap (λ (rs : List RingName). after_seals plan rs table) (idle-table_seals plan table none)))
     (record { now = record { end = Whole; device = device; state = table }; did = (refl, refl, refl); whole = refl; counts = counts; power = power; stands = stands })
 
--- a put, whose pages are those of its room
-pub put-breaks : (first : ℕ) (plan : Plan) (item : Record) (table : Table) (rose : Bool) (device : Device) (fault : FlashFault) (new : FlashState) → item.blob ≡ None →
-    Breaks first plan (seals_within plan (make_room_seals plan table) table) table rose device fault new → Breaks first plan (seals_within plan (put_seals plan item table) table) table rose device fault new
-put-breaks first plan item table rose device fault new e h =
-    breaks-as first plan (seals_within plan (make_room_seals plan table) table) (seals_within plan (put_seals plan item table) table) table rose device fault new
-    (ap (λ (rs : List RingName). seals_within plan rs table) (sym (plain-put_seals plan table item e))) h
+-- a put, which makes room and then places its blob
+module _ (first : ℕ) (plan : Plan) (item : Record) (table : Table) (rose : Bool) (device : Device) where
+  abbrev roomed : Table
+  roomed = after_seals plan (make_room_seals plan table) table
 
-pub put-finishes : (first : ℕ) (plan : Plan) (item : Record) (table : Table) (rose : Bool) (device : Device) (room t : code.Table) (new : FlashState) → item.blob ≡ None →
-    Finishes first plan (seals_within plan (make_room_seals plan table) table) table (after_seals plan (make_room_seals plan table) table) rose device room new →
-    Stands t new first plan (let before = after_seals plan (make_room_seals plan table) table in with_record plan item before before) →
-    Finishes first plan (seals_within plan (put_seals plan item table) table) table (put_record plan item table) rose device t new
-put-finishes first plan item table rose device room t new e h stands =
-    finishes-as first plan (seals_within plan (make_room_seals plan table) table) (seals_within plan (put_seals plan item table) table) table
-    (let before = after_seals plan (make_room_seals plan table) table in with_record plan item before before) (put_record plan item table) rose device t new
-    (ap (λ (rs : List RingName). seals_within plan rs table) (sym (plain-put_seals plan table item e))) (sym (plain-put_record plan table item e))
-    (record { now = h.now; did = h.did; whole = h.whole; counts = h.counts; power = h.power; stands = stands })
+  pub put-stops : (fault : FlashFault) (new : FlashState) → Breaks first plan (seals_within plan (make_room_seals plan table) table) table rose device fault new → Breaks first plan (seals_within plan (put_seals plan item table) table) table rose device fault new
+  put-stops fault new h = seals-stop first plan (make_room_seals plan table) (place_seals plan (blob_len item) roomed) table rose device fault new h
+
+  module _ (room : code.Table) (mid : FlashState) (h : Finishes first plan (seals_within plan (make_room_seals plan table) table) table (after_seals plan (make_room_seals plan table) table) rose device room mid) where
+    pub put-breaks : (fault : FlashFault) (t : code.Table) (new : FlashState) → Breaks first plan (seals_within plan (place_seals plan (blob_len item) roomed) roomed) roomed rose h.now.device fault new →
+        Breaks first plan (seals_within plan (put_seals plan item table) table) table rose device fault new
+    put-breaks fault t new k = seals-then first plan (make_room_seals plan table) (place_seals plan (blob_len item) roomed) table rose device room mid (Err fault) t new h k
+
+    pub put-finishes : (t : code.Table) (new : FlashState) → Finishes first plan (seals_within plan (place_seals plan (blob_len item) roomed) roomed) roomed (put_record plan item table) rose h.now.device t new →
+        Finishes first plan (seals_within plan (put_seals plan item table) table) table (put_record plan item table) rose device t new
+    put-finishes t new k = finishes-then first plan (make_room_seals plan table) (place_seals plan (blob_len item) roomed) table (put_record plan item table) rose device room mid t new h k
 
 -- a seal of the waiting bitmaps leaves all else
 beside-bitmaps : (plan : Plan) (table : Table) → IsBeside table (after_seals plan (bitmap_seals plan table) table)
@@ -199,36 +177,44 @@ beside-bitmaps plan table = by_index (has_index plan && (table.waiting == entrie
     by_index false = record { entries = refl; rows = refl; var = refl; pending = refl; fill = refl; points = refl }
 
 -- the last record and the number of a table in which room was made
-pub room-accepts : (plan : Plan) (table : Table) (item : Record) → IsShape (shape_of plan DataRing) → IsPlainTable plan table → table.fill ≡ 0 → 1 ≤ rows_per_page plan → IsAccepted plan table item → table.rows.next < spent_from →
-    let before = after_seals plan (make_room_seals plan table) table in (before.pending < rows_per_page plan) → IsAcceptedBy plan before item.key item.values
-room-accepts plan table item shape facts empty some ok left room =
+pub room-accepts : (plan : Plan) (table : Table) (item : Record) → IsShape (shape_of plan DataRing) → IsPlainTable plan table → 1 ≤ rows_per_page plan → IsAccepted plan table item →
+    let before = after_seals plan (make_room_seals plan table) table in (before.pending < rows_per_page plan) → IsAcceptedBy plan before item.key item.values item.blob
+room-accepts plan table item shape facts some ok room =
     by_full (table.pending == rows_per_page plan) refl room
   where
-    full : table.pending ≡ rows_per_page plan → make_room_seals plan table ≡ bitmap_seals plan table ++ DataRing ∷ []
-    full e = full-room_seals plan table e ∙ plain-table_seals plan table empty (λ none. absurd (omega (arith, none, e, some)))
+    full : table.pending ≡ rows_per_page plan → make_room_seals plan table ≡ bitmap_seals plan table ++ (blob_seals (after_seals plan (bitmap_seals plan table) table) ++ DataRing ∷ [])
+    full e = full-room_seals plan table e ∙ some-table_seals plan table (λ none. absurd (omega (arith, none, e, some)))
 
     by_full : (b : Bool) → (table.pending == rows_per_page plan) ≡ b → (after_seals plan (make_room_seals plan table) table).pending < rows_per_page plan →
-        IsAcceptedBy plan (after_seals plan (make_room_seals plan table) table) item.key item.values
+        IsAcceptedBy plan (after_seals plan (make_room_seals plan table) table) item.key item.values item.blob
     by_full true e room =
         let is : table.pending ≡ rows_per_page plan = eqb-true table.pending (rows_per_page plan) e in
-        let mid = after_seals plan (bitmap_seals plan table) table in
+        let listed = after_seals plan (bitmap_seals plan table) table in
+        let mid = after_seals plan (blob_seals listed) listed in
         let beside = beside-bitmaps plan table in
-        let rows : sum mid.rows.counts ≡ sum table.rows.counts = ap (λ (r : Ring). sum r.counts) beside.rows in
-        let counted : sum mid.rows.counts + mid.pending ≡ length mid.entries = omega (arith, rows, beside.pending, ap length beside.entries, facts.kept.counted) in
+        let var = (after-var plan (blob_seals listed) listed (rest-var listed)).2 in
+        let entries : mid.entries ≡ table.entries = ap (λ (x : Table). x.entries) var ∙ beside.entries in
+        let rows : mid.rows ≡ table.rows = ap (λ (x : Table). x.rows) var ∙ beside.rows in
+        let pending : mid.pending ≡ table.pending = ap (λ (x : Table). x.pending) var ∙ beside.pending in
+        let counted : sum mid.rows.counts + mid.pending ≡ length mid.entries = omega (arith, ap (λ (r : Ring). sum r.counts) rows, pending, ap length entries, facts.kept.counted) in
         let next : (after_seal plan DataRing mid).rows.next ≡ mid.rows.next + 1 = sealed-next (shape_of plan DataRing) mid.pending mid.rows in
-        let last = last-sealed plan mid shape counted (omega (arith, is, some, beside.pending)) in
-        subst (λ (x : Table). IsAcceptedBy plan x item.key item.values) (sym (ap (λ (rs : List RingName). after_seals plan rs table) (full is) ∙ after_seals-append plan (bitmap_seals plan table) (DataRing ∷ []) table)) (record {
-          above = λ e' k. ok.above e' (ap (λ (es : List Entry). last_or None es) (sym beside.entries) ∙ (sym last ∙ k));
+        let last = last-sealed plan mid shape counted (omega (arith, is, some, pending)) in
+        let all : after_seals plan (make_room_seals plan table) table ≡ after_seal plan DataRing mid =
+        ap (λ (rs : List RingName). after_seals plan rs table) (full is)
+        ∙ (after_seals-append plan (bitmap_seals plan table) (blob_seals listed ++ DataRing ∷ []) table ∙ after_seals-append plan (blob_seals listed) (DataRing ∷ []) listed) in
+        subst (λ (x : Table). IsAcceptedBy plan x item.key item.values item.blob) (sym all) (record {
+          above = λ e' k. ok.above e' (ap (λ (es : List Entry). last_or None es) (sym entries) ∙ (sym last ∙ k));
           fits = ok.key;
           as_many = ok.as_many;
           values_fit = ok.values;
+          blob_fits = ok.blob;
           room = omega (arith, some);
-          left = omega (arith, next, ap (λ (r : Ring). r.next) beside.rows, left);
+          left = omega (arith, next, ap (λ (r : Ring). r.next) rows, ok.left);
         })
     by_full false e room =
         let less : table.pending < rows_per_page plan = elim (cases_lt table.pending (rows_per_page plan)) [ inl lt ↦ lt | inr more ↦ absurd (no (sym e ∙ eq-eqb table.pending (rows_per_page plan) (omega (arith, more, facts.few_pending)))) ] in
-        subst (λ (rs : List RingName). IsAcceptedBy plan (after_seals plan rs table) item.key item.values) (sym (room-room_seals plan table (λ is. absurd (omega (arith, is, less)))))
-        (record { above = ok.above; fits = ok.key; as_many = ok.as_many; values_fit = ok.values; room = less; left = omega (arith, left) })
+        subst (λ (rs : List RingName). IsAcceptedBy plan (after_seals plan rs table) item.key item.values item.blob) (sym (room-room_seals plan table (λ is. absurd (omega (arith, is, less)))))
+        (record { above = ok.above; fits = ok.key; as_many = ok.as_many; values_fit = ok.values; blob_fits = ok.blob; room = less; left = omega (arith, ok.left) })
       where
         no : false ≡ true → ⊥
         no x = cc

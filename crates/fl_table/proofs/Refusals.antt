@@ -1,5 +1,6 @@
 -- A table refuses as its model does.
-use Rattle.std.proofs.Common.{◌≡◌, ℕ, ◌+◌, Bool, true, false, cond, not, ◌&&◌, ◌||◌, ◌==◌, nat_le, nat_lt, Option, Some, None, is_some, option_map, unwrap_or, List, length, refl, sym, ◌∙◌, ap}
+use Rattle.std.proofs.Common.{◌≡◌, ℕ, ◌+◌, Bool, true, false, cond, not, ◌&&◌, ◌||◌, ◌==◌, nat_le, nat_lt, Option, Some, None, IfSome, Err, subst, is_some, option_map, unwrap_or, List, length, refl, sym, ◌∙◌, ap, arith, ◌<◌, ◌≤◌}
+use Rattle.std.proofs.lemmas.Bool.{ltb-false, leb-false}
 use Rattle.std.proofs.Math.IntN.{ℤ}
 use Rattle.fl_flash.specs.Flash.{FlashState}
 use Rattle.fl_model.specs.Record.{Record, Plan, RowLayout, row_layout, has_var, key_limit, greatest_key, first_misfit}
@@ -7,17 +8,21 @@ use Rattle.fl_model.specs.Table as model
 use Rattle.fl_model.specs.Table.{Table, Entry, Refusal, BadKey, BadColumns, BadValue, BadBlob, first_of as or_model, refuse_if, key_refusal, value_refusal, blob_refusal, refusal_of, is_spent, spent_from, last_entry, blob_len}
 use Rattle.fl_table.specs.Bitmaps as bitmaps
 use Rattle.fl_table.proofs.Indexing.{index-spent}
-use Rattle.fl_table.proofs.Plain.{plain-facts}
+use Rattle.fl_table.specs.Blobs as variable
+use Rattle.fl_table.specs.Blobs.{ArePlanned, HasFew}
+use Rattle.fl_table.proofs.Blobbing.{planned-some, planned-none, var-spent}
+use Rattle.fl_table.proofs.Plain.{table-parts}
+use Rattle.fl_var.specs.declared.var_data.VarData.{VarData}
 use Rattle.fl_ring.specs.Place.{next_of}
 use Rattle.fl_ring.specs.declared.ring.Ring.{Ring}
 use Rattle.fl_schema.specs.Schema.{layout_of}
-use Rattle.fl_table.specs.Memory.{is_running}
-use Rattle.fl_table.specs.Refusal.{or_else, refused_if, key_refused, value_refused, spent_refused, put_refusal}
+use Rattle.fl_table.specs.Memory.{is_running, next_in}
+use Rattle.fl_table.specs.Refusal.{or_else, refused_if, key_refused, value_refused, blob_refused, spent_refused, limit_in, put_refusal}
 use Rattle.fl_table.specs.Standing.{Stands}
 use Rattle.fl_table.specs.declared.table.Table as code
 use Rattle.fl_table.specs.declared.faults.PutRefusal.{PutRefusal}
-use Rattle.fl_table.specs.declared.faults.PutRefusal.TheVariants.{Key, Columns, Value, Blob, Spent, Stopped}
-use Rattle.fl_table.proofs.SealAnswers.{planned-plain}
+use Rattle.fl_table.specs.declared.faults.PutRefusal.TheVariants.{Key, Columns, Value, Blob, Spent, Stopped, Flash}
+use Rattle.fl_table.specs.Causes.{PutCausedBy, put_breaks}
 
 -- the answer to a refusal of the model
 abbrev pub answer_of : Refusal → PutRefusal
@@ -73,34 +78,39 @@ module _ (t : code.Table) (f : FlashState) (first : ℕ) (plan : Plan) (table : 
       by_limit true = refl
       by_limit false = columns (first_misfit 1 plan.columns values)
 
-  blob_same : refused_if (is_some blob) (Blob 0) ≡ answer (blob_refusal plan (record { key = key; values = values; blob = blob }))
-  blob_same = by_var (has_var plan) (planned-plain t first plan s.planned).no_var
+  has_blobs : has_var plan ≡ is_some t.blobs
+  has_blobs = by_blobs t.blobs s.planned.var
     where
-      by_blob : (o : Option (List ℕ)) (n : ℕ) → refused_if (is_some o) (Blob 0) ≡ answer (refuse_if (is_some o && (true || nat_lt 0 n)) (BadBlob 0))
-      by_blob None n = refl
-      by_blob (Some bytes) n = refl
+      by_blobs : (o : Option VarData) → ArePlanned o (first + plan.data_blocks + plan.index_blocks) plan → has_var plan ≡ is_some o
+      by_blobs None h = planned-none (first + plan.data_blocks + plan.index_blocks) plan h
+      by_blobs (Some v) h = planned-some v (first + plan.data_blocks + plan.index_blocks) plan h
 
-      by_var : (v : Bool) → v ≡ false → refused_if (is_some blob) (Blob 0) ≡ answer (refuse_if (is_some blob && (not v || nat_lt (cond v plan.blob_limit 0) (blob_len (record { key = key; values = values; blob = blob })))) (BadBlob (cond v plan.blob_limit 0)))
-      by_var true e = cc
-      by_var false e = by_blob blob (blob_len (record { key = key; values = values; blob = blob }))
+  blob_same : blob_refused t (option_map (λ (xs : List ℕ). length xs) blob) ≡ answer (blob_refusal plan (record { key = key; values = values; blob = blob }))
+  blob_same = by_blob blob
+    where
+      by_blob : (o : Option (List ℕ)) → blob_refused t (option_map (λ (xs : List ℕ). length xs) o) ≡ answer (blob_refusal plan (record { key = key; values = values; blob = o }))
+      by_blob None = refl
+      by_blob (Some bytes) =
+          if_so (not (is_some t.blobs) || nat_lt (limit_in t) (length bytes)) (BadBlob (limit_in t))
+          ∙ (ap (λ n. answer (refuse_if (not (is_some t.blobs) || nat_lt (cond (is_some t.blobs) n 0) (length bytes)) (BadBlob (cond (is_some t.blobs) n 0)))) (sym s.planned.limit)
+          ∙ ap (λ v. answer (refuse_if (not v || nat_lt (cond v plan.blob_limit 0) (length bytes)) (BadBlob (cond v plan.blob_limit 0)))) (sym has_blobs))
 
   spent_same : spent_refused t ≡ answer (refuse_if (is_spent table) model.Spent)
   spent_same =
-      let facts = plain-facts plan table (planned-plain t first plan s.planned) s.facts in
-      ap (λ (o : Option Ring). refused_if (unwrap_or (option_map (λ ring. nat_le spent_from (next_of ring)) o) false || nat_le spent_from (bitmaps.next_of t.bitmaps)) Spent) s.memory.ring_is
-      ∙ (ap (λ n. refused_if (nat_le spent_from n || nat_le spent_from (bitmaps.next_of t.bitmaps)) Spent) s.memory.next
-      ∙ (ap (λ b. refused_if (nat_le spent_from table.rows.next || b) Spent) (index-spent t.bitmaps f (first + plan.data_blocks) plan table s.planned.index facts.index s.bitmaps)
-      ∙ (rw facts.var (rest (nat_le spent_from table.rows.next) (unwrap_or (option_map (λ ring. nat_le spent_from ring.next) table.index) false)))))
-    where
-      rest : (a b : Bool) → refused_if (a || b) Spent ≡ answer (refuse_if (a || b || false) model.Spent)
-      rest true b = refl
-      rest false true = refl
-      rest false false = refl
+      let facts = table-parts plan table s.facts in
+      let index = nat_le spent_from (bitmaps.next_of t.bitmaps) in
+      let var = nat_le spent_from (variable.next_of t.blobs) in
+      ap (λ (o : Option Ring). refused_if (unwrap_or (option_map (λ ring. nat_le spent_from (next_of ring)) o) false || nat_le spent_from (bitmaps.next_of t.bitmaps) || nat_le spent_from (variable.next_of t.blobs)) Spent) s.memory.ring_is
+      ∙ (ap (λ n. refused_if (nat_le spent_from n || nat_le spent_from (bitmaps.next_of t.bitmaps) || nat_le spent_from (variable.next_of t.blobs)) Spent) s.memory.next
+      ∙ (ap (λ b. refused_if (nat_le spent_from table.rows.next || b || nat_le spent_from (variable.next_of t.blobs)) Spent) (index-spent t.bitmaps f (first + plan.data_blocks) plan table s.planned.index facts.index s.bitmaps)
+      ∙ (ap (λ b. refused_if (nat_le spent_from table.rows.next || unwrap_or (option_map (λ ring. nat_le spent_from ring.next) table.index) false || b) Spent)
+      (var-spent t.blobs f (first + plan.data_blocks + plan.index_blocks) plan table s.planned.var facts.blobs s.blobs)
+      ∙ if_so (is_spent table) model.Spent)))
 
-  pub refusals-agree : put_refusal t key values (is_some blob) ≡ answer (refusal_of plan table (record { key = key; values = values; blob = blob }))
+  pub refusals-agree : put_refusal t key values (option_map (λ (xs : List ℕ). length xs) blob) ≡ answer (refusal_of plan table (record { key = key; values = values; blob = blob }))
   refusals-agree =
       ap (λ b. or_else (refused_if (not b) Stopped) (or_else (key_refused t.last_key key) (or_else (refused_if (not (length values == length (layout_of t.schema).columns)) (Columns (length (layout_of t.schema).columns)))
-      (or_else (value_refused t key values) (or_else (refused_if (is_some blob) (Blob 0)) (spent_refused t)))))) runs
+      (or_else (value_refused t key values) (or_else (blob_refused t (option_map (λ (xs : List ℕ). length xs) blob)) (spent_refused t)))))) runs
       ∙ (rw (key_same, columns_same, value_same, blob_same, spent_same)
       (rw (either (blob_refusal plan (record { key = key; values = values; blob = blob })) (refuse_if (is_spent table) model.Spent))
       (rw (either (value_refusal plan (record { key = key; values = values; blob = blob })) (or_model (blob_refusal plan (record { key = key; values = values; blob = blob })) (refuse_if (is_spent table) model.Spent)))
@@ -108,7 +118,7 @@ module _ (t : code.Table) (f : FlashState) (first : ℕ) (plan : Plan) (table : 
       (either (key_refusal table key) (or_model (refuse_if (not (length values == length plan.columns)) (BadColumns (length plan.columns))) (or_model (value_refusal plan (record { key = key; values = values; blob = blob })) (or_model (blob_refusal plan (record { key = key; values = values; blob = blob })) (refuse_if (is_spent table) model.Spent)))))))))
 
   -- what is refused
-  pub answered : (refusal : PutRefusal) → put_refusal t key values (is_some blob) ≡ Some refusal →
+  pub answered : (refusal : PutRefusal) → put_refusal t key values (option_map (λ (xs : List ℕ). length xs) blob) ≡ Some refusal →
       (r : Refusal) × (refusal_of plan table (record { key = key; values = values; blob = blob }) ≡ Some r) × (refusal ≡ answer_of r)
   answered refusal e = by_model (refusal_of plan table (record { key = key; values = values; blob = blob })) refl (sym refusals-agree ∙ e)
     where
@@ -124,9 +134,108 @@ module _ (t : code.Table) (f : FlashState) (first : ℕ) (plan : Plan) (table : 
           same e = cc
 
   -- what isn't
-  pub not-refused : put_refusal t key values (is_some blob) ≡ None → refusal_of plan table (record { key = key; values = values; blob = blob }) ≡ None
+  pub not-refused : put_refusal t key values (option_map (λ (xs : List ℕ). length xs) blob) ≡ None → refusal_of plan table (record { key = key; values = values; blob = blob }) ≡ None
   not-refused e = by_model (refusal_of plan table (record { key = key; values = values; blob = blob })) (sym refusals-agree ∙ e)
     where
       by_model : (o : Option Refusal) → answer o ≡ None → o ≡ None
       by_model None e = refl
       by_model (Some r) e = cc
+
+-- ---- what the calls of a put are told, of memory alone
+
+neither : (a b : Option PutRefusal) → or_else a b ≡ None → (a ≡ None) × (b ≡ None)
+neither None b e = (refl, e)
+neither (Some r) b e = cc
+
+not_so : (b : Bool) (r : PutRefusal) → refused_if b r ≡ None → b ≡ false
+not_so true r e = cc
+not_so false r e = refl
+
+or_false : (a b : Bool) → (a || b) ≡ false → (a ≡ false) × (b ≡ false)
+or_false true b e = cc
+or_false false b e = (refl, e)
+
+module _ (t : code.Table) (key : ℕ) (values : List ℤ) (blob : Option ℕ) (e : put_refusal t key values blob ≡ None) where
+  last_two : (blob_refused t blob ≡ None) × (spent_refused t ≡ None)
+  last_two =
+      let a = neither (refused_if (not (is_running t)) Stopped) _ e in
+      let b = neither (key_refused t.last_key key) _ a.1 in
+      let c = neither (refused_if (not (length values == length (layout_of t.schema).columns)) (Columns (length (layout_of t.schema).columns))) _ b.1 in
+      let d = neither (value_refused t key values) _ c.1 in
+      neither (blob_refused t blob) (spent_refused t) d.1
+
+  pub not-spent : (next_in t < spent_from) × (bitmaps.next_of t.bitmaps < spent_from) × (variable.next_of t.blobs < spent_from)
+  not-spent =
+      let all = not_so _ Spent last_two.1 in
+      let a = or_false (unwrap_or (option_map (λ ring. nat_le spent_from (next_of ring)) t.ring) false || nat_le spent_from (bitmaps.next_of t.bitmaps)) (nat_le spent_from (variable.next_of t.blobs)) all in
+      let b = or_false (unwrap_or (option_map (λ ring. nat_le spent_from (next_of ring)) t.ring) false) (nat_le spent_from (bitmaps.next_of t.bitmaps)) a.0 in
+      (by_ring t.ring b.0, let n = leb-false spent_from (bitmaps.next_of t.bitmaps) b.1 in omega (arith, n), let n = leb-false spent_from (variable.next_of t.blobs) a.1 in omega (arith, n))
+    where
+      by_ring : (o : Option Ring) → unwrap_or (option_map (λ ring. nat_le spent_from (next_of ring)) o) false ≡ false → unwrap_or (option_map (λ ring. next_of ring) o) 0 < spent_from
+      by_ring None k = omega arith
+      by_ring (Some ring) k = let n = leb-false spent_from (next_of ring) k in omega (arith, n)
+
+  pub few-bytes : (len : ℕ) → blob ≡ Some len → len ≤ 1500
+  few-bytes len is =
+      let all : (not (is_some t.blobs) || nat_lt (limit_in t) len) ≡ false = not_so _ (Blob (limit_in t)) (ap (blob_refused t) (sym is) ∙ last_two.0) in
+      let n = ltb-false (limit_in t) len (or_false (not (is_some t.blobs)) (nat_lt (limit_in t) len) all).1 in
+      omega (arith, n, most (is_some t.blobs))
+    where
+      most : (b : Bool) → cond b t.blob_limit 0 ≤ 1500
+      most true = t.blobs_fit
+      most false = omega arith
+
+pub few-blob : (t : code.Table) (key : ℕ) (values : List ℤ) (blob : Option (List ℕ)) → put_refusal t key values (option_map (λ (xs : List ℕ). length xs) blob) ≡ None → HasFew blob
+few-blob t key values None e = tt
+few-blob t key values (Some bytes) e = few-bytes t key values (Some (length bytes)) e (length bytes) refl
+
+-- ---- a refusal of a record is no fault of the flash
+
+abbrev pub IsCalm : Option PutRefusal → Type 0
+IsCalm refusal = IfSome refusal (λ r. put_breaks (Err r) ≡ false)
+
+calm-either : (a b : Option PutRefusal) → IsCalm a → IsCalm b → IsCalm (or_else a b)
+calm-either None b h k = k
+calm-either (Some r) b h k = h
+
+calm-if : (b : Bool) (r : PutRefusal) → put_breaks (Err r) ≡ false → IsCalm (refused_if b r)
+calm-if true r h = h
+calm-if false r h = tt
+
+module _ (t : code.Table) (key : ℕ) (values : List ℤ) where
+  calm-key : (o : Option ℕ) → IsCalm (key_refused o key)
+  calm-key None = tt
+  calm-key (Some last) = calm-if (nat_le key last) (Key last) refl
+
+  calm-value : IsCalm (value_refused t key values)
+  calm-value = by_limit (nat_lt (greatest_key (layout_of t.schema)) key)
+    where
+      columns : (o : Option ℕ) → IsCalm (option_map (λ column. Value column) o)
+      columns None = tt
+      columns (Some n) = refl
+
+      by_limit : (b : Bool) → IsCalm (cond b (Some (Value 0)) (option_map (λ column. Value column) (first_misfit 1 (layout_of t.schema).columns values)))
+      by_limit true = refl
+      by_limit false = columns (first_misfit 1 (layout_of t.schema).columns values)
+
+  calm-blob : (o : Option ℕ) → IsCalm (blob_refused t o)
+  calm-blob None = tt
+  calm-blob (Some len) = calm-if (not (is_some t.blobs) || nat_lt (limit_in t) len) (Blob (limit_in t)) refl
+
+  pub refusal-calm : (blob : Option ℕ) (r : PutRefusal) → put_refusal t key values blob ≡ Some r → put_breaks (Err r) ≡ false
+  refusal-calm blob r e =
+      subst IsCalm e (calm-either (refused_if (not (is_running t)) Stopped) _ (calm-if (not (is_running t)) Stopped refl)
+      (calm-either (key_refused t.last_key key) _ (calm-key t.last_key)
+      (calm-either (refused_if (not (length values == length (layout_of t.schema).columns)) (Columns (length (layout_of t.schema).columns))) _ (calm-if (not (length values == length (layout_of t.schema).columns)) (Columns (length (layout_of t.schema).columns)) refl)
+      (calm-either (value_refused t key values) _ calm-value
+      (calm-either (blob_refused t blob) (spent_refused t) (calm-blob blob)
+      (calm-if (unwrap_or (option_map (λ ring. nat_le spent_from (next_of ring)) t.ring) false || nat_le spent_from (bitmaps.next_of t.bitmaps) || nat_le spent_from (variable.next_of t.blobs)) Spent refl))))))
+
+pub calm-cause : (f : FlashState) (r : PutRefusal) → put_breaks (Err r) ≡ false → PutCausedBy f r f
+calm-cause f (Key last) e = refl
+calm-cause f (Columns wanted) e = refl
+calm-cause f (Value column) e = refl
+calm-cause f (Blob limit) e = refl
+calm-cause f Spent e = refl
+calm-cause f Stopped e = refl
+calm-cause f (Flash fault) e = cc

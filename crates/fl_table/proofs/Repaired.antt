@@ -1,8 +1,9 @@
 -- The mount of the data ring, in the words of its table.
-use Rattle.std.proofs.Common.{◌≡◌, ℕ, ◌+◌, ◌-◌, ◌*◌, ◌≤◌, Bool, true, false, cond, ◌||◌, ◌&&◌, nat_lt, Option, None, is_some, Result, List, [], ◌∷◌, ◌++◌, map, length, take, drop, refl, sym, ◌∙◌, ap, subst, arith, IsTrue}
+use Rattle.std.proofs.Common.{◌≡◌, ℕ, ◌+◌, ◌-◌, ◌*◌, ◌≤◌, Bool, true, false, cond, ◌||◌, ◌&&◌, nat_lt, Option, Some, None, is_some, Result, List, [], ◌∷◌, ◌++◌, map, length, take, drop, refl, sym, ◌∙◌, ap, subst, arith, IsTrue}
 use Rattle.std.proofs.lemmas.Bool.{ltb-true, ltb-false}
 use Rattle.std.proofs.lemmas.List.{take_all}
-use Rattle.std.specs.List.{list_any}
+use Rattle.std.specs.List.{list_any, slice_get, sum}
+use Rattle.fl_model.proofs.Lists.{slice_get-drop}
 use Rattle.fl_flash.specs.Flash.{FlashState}
 use Rattle.fl_flash.specs.declared.flash.FlashFault.{FlashFault}
 use Rattle.fl_model.specs.Record.{Plan}
@@ -106,6 +107,9 @@ pub record IsRepaired (table now : Table) : Type 0 where
   pub later : table.rows.next ≤ now.rows.next
   pub index : now.index ≡ table.index
   pub firsts : now.firsts ≡ table.firsts
+  pub var : now.var ≡ table.var
+  -- no record is new
+  pub from : (i : ℕ) (entry : Entry) → slice_get now.entries i ≡ Some entry → (j : ℕ) × (slice_get table.entries j ≡ Some entry)
 
 -- the repairs that are left
 abbrev pub RepairsCome : List Kind → Table → Type 0
@@ -150,6 +154,8 @@ repair-along begin first plan shape VoidMark kinds s table r =
         later = let next = sealed-next (shape_of plan DataRing) 0 table.rows in omega (arith, next, r.repaired.later);
         index = r.repaired.index;
         firsts = r.repaired.firsts;
+        var = r.repaired.var;
+        from = λ i entry e. r.repaired.from (sum (model.given_up (shape_of plan DataRing) 0 table.rows) + i) entry (sym (slice_get-drop (sum (model.given_up (shape_of plan DataRing) 0 table.rows)) table.entries i) ∙ e);
       };
       come = erases_come kinds after r.come.1;
     }
@@ -166,6 +172,8 @@ repair-along begin first plan shape Erase kinds s table r = record {
     later = r.repaired.later;
     index = r.repaired.index;
     firsts = r.repaired.firsts;
+    var = r.repaired.var;
+    from = r.repaired.from;
   };
   come = erases_come kinds (with_ring DataRing model.erased table) r.come;
 }
@@ -220,6 +228,6 @@ repair-lifts first plan table rose front others device result new shape facts id
     (record {
       state = ap (state_of plan) (idle-lost table idle);
       facts = facts;
-      repaired = record { idle = idle; keeps = keeps-same table table refl refl refl; later = omega arith; index = refl; firsts = refl };
+      repaired = record { idle = idle; keeps = keeps-same table table refl refl refl; later = omega arith; index = refl; firsts = refl; var = refl; from = λ i entry e. (i, e) };
       come = repairs_front front others table (subst (λ (ks : List Kind). RepairsCome ks table) split (repairs_come first plan table));
     }) h

@@ -9,7 +9,10 @@ use Rattle.fl_model.specs.Ring as model
 use Rattle.fl_model.specs.Row.{Row, stored_row}
 use Rattle.fl_model.specs.Layout.{data_body, rows_body, bitmap_of}
 use Rattle.fl_model.specs.Table.{Table, DataRing, shape_of, pending_entries, lose}
-use Rattle.fl_table.proofs.Plain.{IsPlain, plain-facts, plain-lose}
+use Rattle.fl_table.specs.Blobs.{AreEmpty}
+use Rattle.fl_table.proofs.Plain.{table-parts, plain-lose}
+use Rattle.fl_table.proofs.Blobbing as blobbing
+use Rattle.fl_table.proofs.Settled.{settled-pages, settled-holds}
 use Rattle.fl_table.proofs.Moved.{indexed-moved, keeps-found}
 use Rattle.fl_table.proofs.Indexing.{still-planned, plan-same, planned-none, room-left}
 use Rattle.fl_index.specs.declared.index.Index.{Index}
@@ -29,9 +32,6 @@ use Rattle.fl_table.specs.declared.table.Table as code
 use Rattle.fl_table.proofs.Holding.{plain-on, have-size}
 use Rattle.fl_table.proofs.Sealings.{IsSealing}
 use Rattle.fl_table.proofs.States.{shape_in, state_of, state-oldest, HaveSize}
-
-pub planned-plain : (t : code.Table) (first : ℕ) (plan : Plan) → IsPlanned t first plan → IsPlain plan
-planned-plain t first plan h = record { no_var = rw h.var refl }
 
 pub planned-shape : (t : code.Table) (first : ℕ) (plan : Plan) → IsPlanned t first plan → model.IsShape (shape_of plan DataRing)
 planned-shape t first plan h = record {
@@ -62,13 +62,14 @@ planned-same old new first plan h same = record {
   begins = ap (λ p. p.first_block) same.place ∙ h.begins;
   blocks = h.blocks ∙ sym (ap (λ p. p.blocks) same.place);
   index = still-planned old.bitmaps new.bitmaps (first + plan.data_blocks) plan h.index same.bitmaps;
-  var = h.var;
+  var = blobbing.still-planned old.blobs new.blobs (first + plan.data_blocks + plan.index_blocks) plan h.var same.blobs;
+  limit = h.limit ∙ sym same.limit;
   buckets = subst (HasBuckets plan) (sym same.buckets) h.buckets;
   error = h.error ∙ sym same.error;
 }
 
 pub plan-self : (t : code.Table) → IsSamePlan t t
-plan-self t = record { geometry = refl; layout = refl; place = refl; buckets = refl; error = refl; bitmaps = plan-same t.bitmaps }
+plan-self t = record { geometry = refl; layout = refl; place = refl; buckets = refl; error = refl; bitmaps = plan-same t.bitmaps; blobs = blobbing.plan-same t.blobs; limit = refl }
 
 pub counts-room : (t : code.Table) (first : ℕ) (plan : Plan) → IsPlanned t first plan → length t.counts.items ≡ plan.data_blocks * plan.geometry.block
 counts-room t first plan h = sym t.counts.ok.0 ∙ (t.counted ∙ rw (h.blocks, h.geometry) refl)
@@ -97,18 +98,16 @@ pending-length plan table counted = omega (arith, length-drop (length table.entr
 
 pub writer-count : (t : code.Table) (f : FlashState) (first : ℕ) (plan : Plan) (table : Table) → Stands t f first plan table → t.writer.count ≡ table.pending
 writer-count t f first plan table s =
-    let facts = plain-facts plan table (planned-plain t first plan s.planned) s.facts in
+    let facts = table-parts plan table s.facts in
     s.memory.gathers.count ∙ (length-map (pending_entries table) stored_row ∙ pending-length plan table facts.kept.counted)
 
 -- the body that they make
-pub sealing-of : (t : code.Table) (f : FlashState) (first : ℕ) (plan : Plan) (table : Table) (w : WriterState) → Stands t f first plan table → 1 ≤ t.writer.count → HaveRoom t.bitmaps →
+pub sealing-of : (t : code.Table) (f : FlashState) (first : ℕ) (plan : Plan) (table : Table) (w : WriterState) → Stands t f first plan table → 1 ≤ t.writer.count → HaveRoom t.bitmaps → AreEmpty t.blobs →
     ((layout : RowLayout) (rows : List Row) → Gathers layout rows t.writer → w.body ≡ rows_body (length t.writer.body) layout table.rows.next t.bitmap rows) → IsSealing (page_at f) first plan table w.body
-sealing-of t f first plan table w s some room body =
-    let plain = planned-plain t first plan s.planned in
-    let facts = plain-facts plan table plain s.facts in
+sealing-of t f first plan table w s some room empty body =
+    let facts = table-parts plan table s.facts in
     let count = writer-count t f first plan table s in
     record {
-      plain = plain;
       shape = planned-shape t first plan s.planned;
       large = planned-large t first plan s.planned;
       facts = facts;
@@ -117,8 +116,12 @@ sealing-of t f first plan table w s some room body =
         body_is = body (layout_of t.schema) (map stored_row (pending_entries table)) s.memory.gathers ∙ same (omega (arith, t.page, ap (λ g. g.page) s.planned.geometry)) (sym s.planned.layout) s.memory.bitmap;
         clean = s.clean;
         room = room-left t.bitmaps f (first + plan.data_blocks) plan table s.planned.index s.bitmaps room;
+        settled = settled-pages t.blobs f first plan table s.planned.var facts.blobs s.blobs empty;
       };
-      indexed = indexed-moved (page_at f) first plan (lose table) table (plain-lose plan table facts).index (keeps-found table facts.kept.counted) refl refl s.pages.index;
+      others = (
+        indexed-moved (page_at f) first plan (lose table) table (plain-lose plan table facts).index (keeps-found table facts.kept.counted) refl refl s.pages.index,
+        settled-holds t.blobs f first plan table s.planned.var facts.blobs s.blobs empty,
+      );
     }
   where
     same : length t.writer.body ≡ plan.geometry.page - 8 → layout_of t.schema ≡ row_layout plan → t.bitmap ≡ bitmap_of plan (pending_entries table) →
@@ -138,8 +141,7 @@ ring-next t f first plan table ring s is = subst (λ (r : Ring). r.next ≡ tabl
 pub seal-ready : (t : code.Table) (f : FlashState) (first : ℕ) (plan : Plan) (table : Table) (ring : Ring) → Stands t f first plan table → t.ring ≡ Some ring → place.shape_of ring ≡ shape_in first plan → HaveSize first plan (page_at f) →
     IsReady ring f (state_of plan (lose table))
 seal-ready t f first plan table ring s is shape sizes =
-    let plain = planned-plain t first plan s.planned in
-    let facts = plain-facts plan table plain s.facts in
+    let facts = table-parts plan table s.facts in
     let same : s.memory.ring ≡ ring = one_ring (sym s.memory.ring_is ∙ is) in
     let on = plain-on (page_at f) first plan (lose table) sizes (planned-large t first plan s.planned) (plain-lose plan table facts) s.pages in
     record {

@@ -13,7 +13,9 @@ use Rattle.fl_model.specs.Within.{seal_within, TablePerforms}
 use Rattle.fl_model.proofs.Plain.{sealed-torn}
 use Rattle.fl_ring.specs.Ring.{OutsideStands}
 use Rattle.fl_table.proofs.Moved.{HoldsIndexed, indexed-moved, indexed-same, index-stands, keeps-lose}
-use Rattle.fl_table.proofs.Plain.{IsPlain, IsPlainTable, facts-plain}
+use Rattle.fl_table.proofs.BlobTables.{HoldsVar}
+use Rattle.fl_table.proofs.Blobbing.{var-same, var-stands}
+use Rattle.fl_table.proofs.Plain.{IsPlainTable}
 use Rattle.fl_ring.specs.Device.{SameDevice}
 use Rattle.fl_ring.specs.Operations.{change, seal_kinds}
 use Rattle.fl_ring.specs.Place.{next_of, oldest_of, StandsFor}
@@ -23,7 +25,7 @@ use Rattle.fl_ring.specs.declared.ring.Ring.{Ring}
 use Rattle.fl_table.specs.Outcomes.{Breaks, FaultEnds}
 use Rattle.fl_table.specs.Pages.{HoldsTable}
 use Rattle.fl_table.proofs.Holding.{plain-rests}
-use Rattle.fl_table.proofs.Lifted.{MakesBody, TableAnswers, seal-lifts, seal-whole}
+use Rattle.fl_table.proofs.Lifted.{HoldsOthers, MakesBody, TableAnswers, seal-lifts, seal-whole}
 use Rattle.fl_table.proofs.Memories.{none-pending, last-sealed, counts-sealed}
 use Rattle.fl_table.proofs.States.{shape_in, state_of, state-oldest, HaveSize}
 
@@ -55,12 +57,11 @@ all-whole (FailedIn before) u new a = absurd (not_err Media a.0)
 
 -- what a seal is told of its table
 pub record IsSealing (old : ℕ → List ℕ) (first : ℕ) (plan : Plan) (table : Table) (body : List ℕ) : Type 0 where
-  pub plain : IsPlain plan
   pub shape : model.IsShape (shape_of plan DataRing)
   pub large : 64 ≤ plan.geometry.page
   pub facts : IsPlainTable plan table
   pub makes : MakesBody plan body table
-  pub indexed : HoldsIndexed old first plan table
+  pub others : HoldsOthers old first plan table
 
 -- what it leaves where all of it was done; `counts` are those of the pages before it, by their places
 pub record IsSealed (first : ℕ) (plan : Plan) (table : Table) (rose : Bool) (device : Device) (ring : Ring) (new : FlashState) (counts : List ℕ) : Type 0 where
@@ -82,22 +83,25 @@ pub record IsSealed (first : ℕ) (plan : Plan) (table : Table) (rose : Bool) (d
 
 module _ (first : ℕ) (plan : Plan) (table : Table) (body : List ℕ) (rose : Bool) (device : Device) (new : FlashState) (old : ℕ → List ℕ) (is : IsSealing old first plan table body) (sizes : HaveSize first plan (page_at new))
     (outside : OutsideStands (shape_in first plan) old (page_at new)) where
-  -- what the index lists stands
-  still_indexed : (t : Table) → HoldsIndexed old first plan t → HoldsIndexed (page_at new) first plan t
-  still_indexed t h = indexed-same old (page_at new) first plan t (index-stands old (page_at new) first plan outside) h
+  -- what the other rings hold stands
+  still_indexed : (t : Table) → HoldsOthers old first plan t → HoldsIndexed (page_at new) first plan t
+  still_indexed t h = indexed-same old (page_at new) first plan t (index-stands old (page_at new) first plan outside) h.0
+
+  still_var : (t : Table) → HoldsOthers old first plan t → HoldsVar (page_at new) first plan t
+  still_var t h = var-same old (page_at new) first plan t (var-stands old (page_at new) first plan outside) h.1
 
   -- an operation of it failed
   pub seal-breaks : (fault : FlashFault) →
       Performed (shape_in first plan) (change (shape_in first plan) body) rose (seal_kinds (shape_in first plan) (state_of plan (lose table)) body) device (state_of plan (lose table)) (Err fault) new →
       Breaks first plan (seal_within plan DataRing table) table rose device fault new
   seal-breaks fault h =
-      let l = seal-lifts old first plan body table rose device (Err fault) new is.shape is.facts is.makes is.indexed h in
+      let l = seal-lifts old first plan body table rose device (Err fault) new is.shape is.facts is.makes is.others h in
       record {
         now = l.now;
         did = l.did;
         answer = fault-ends l.now.end fault new l.answer;
         counts = l.counts;
-        rests = plain-rests new first plan l.now.state is.plain sizes is.large l.facts l.on (still_indexed l.now.state l.more);
+        rests = plain-rests new first plan l.now.state sizes is.large l.facts l.on (still_indexed l.now.state l.more) (still_var l.now.state l.more);
       }
 
   -- all were done
@@ -107,7 +111,7 @@ module _ (first : ℕ) (plan : Plan) (table : Table) (body : List ℕ) (rose : B
       ((i count : ℕ) → slice_get table.rows.counts i ≡ Some count → get_or counts ((model.oldest table.rows + i) % (plan.data_blocks * plan.geometry.block)) 0 ≡ count) →
       IsSealed first plan table rose device ring new counts
   seal-finishes u ring counts h stands room were =
-      let l = seal-lifts old first plan body table rose device (Ok u) new is.shape is.facts is.makes is.indexed h in
+      let l = seal-lifts old first plan body table rose device (Ok u) new is.shape is.facts is.makes is.others h in
       let all = all-whole l.now.end u new l.answer in
       let whole = seal-whole plan table rose device l.now l.did all.0 in
       let facts : IsPlainTable plan (after_seal plan DataRing table) = subst (λ (t : Table). IsPlainTable plan t) whole l.facts in
@@ -122,9 +126,9 @@ module _ (first : ℕ) (plan : Plan) (table : Table) (body : List ℕ) (rose : B
         power = all.1;
         facts = facts;
         untorn = sealed-torn (shape_of plan DataRing) table.pending table.rows;
-        pages = (plain-rests new first plan (after_seal plan DataRing table) is.plain sizes is.large facts
+        pages = (plain-rests new first plan (after_seal plan DataRing table) sizes is.large facts
             (subst (λ (t : Table). OnRing (shape_in first plan) (page_at new) (state_of plan (lose t))) whole l.on)
-            (still_indexed (after_seal plan DataRing table) (subst (λ (t : Table). HoldsIndexed old first plan t) whole l.more))).pages;
+            (still_indexed (after_seal plan DataRing table) (subst (λ (t : Table). HoldsOthers old first plan t) whole l.more)) (still_var (after_seal plan DataRing table) (subst (λ (t : Table). HoldsOthers old first plan t) whole l.more))).pages;
         next = stands.next ∙ ap (λ (s : RingState). s.next) left;
         oldest_is = stands.oldest ∙ (ap oldest left ∙ state-oldest plan (lose (after_seal plan DataRing table)));
         none = none;

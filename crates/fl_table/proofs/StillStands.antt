@@ -1,9 +1,9 @@
 -- Reads leave a table as it stands.
-use Rattle.std.proofs.Common.{◌≡◌, ℕ, ◌<◌, ◌^◌, ◌*◌, refl, sym, ◌∙◌, ap, subst, arith}
-use Rattle.fl_flash.specs.Flash.{FlashState, page_at, pages}
+use Rattle.std.proofs.Common.{◌≡◌, ℕ, ◌<◌, ◌^◌, ◌*◌, Bool, refl, sym, ◌∙◌, ap, subst, arith}
+use Rattle.fl_flash.specs.Flash.{FlashState, Goes, page_at, pages}
 use Rattle.fl_model.specs.Record.{Plan}
 use Rattle.fl_model.specs.Table as model
-use Rattle.fl_model.specs.Table.{IndexRing, lose}
+use Rattle.fl_model.specs.Table.{IndexRing, VarRing, lose}
 use Rattle.fl_ring.specs.Looking.{OnlyReads}
 use Rattle.fl_ring.proofs.Readings.{same_page}
 use Rattle.fl_table.specs.Memory.{LiesOn}
@@ -13,8 +13,8 @@ use Rattle.fl_table.specs.declared.table.Table.{Table}
 use Rattle.fl_table.proofs.Images.{holds-same}
 use Rattle.fl_table.proofs.Indexing.{lies-goes, stand-moved}
 use Rattle.fl_table.proofs.Moved.{keeps-same}
-use Rattle.fl_table.proofs.Plain.{IsPlainTable, plain-facts}
-use Rattle.fl_table.proofs.SealAnswers.{planned-plain}
+use Rattle.fl_table.proofs.Blobbing as blobbing
+use Rattle.fl_table.proofs.Plain.{IsPlainTable, table-parts}
 
 pub stands-still : (t : Table) (f g : FlashState) (n first : ℕ) (plan : Plan) (table : model.Table) → OnlyReads f n g → Stands t f first plan table → Stands t g first plan table
 stands-still t f g n first plan table reads stands = record {
@@ -25,26 +25,37 @@ stands-still t f g n first plan table reads stands = record {
   pages = holds-same (page_at f) (page_at g) first plan (lose table) (λ ring number. same_page f g n (place_in first plan ring number) reads) stands.pages;
   memory = stands.memory;
   bitmaps = stand-moved t.bitmaps f g first plan table table (keeps-same table table refl refl refl) refl refl refl refl facts facts (λ m. same_page f g n (place_in first plan IndexRing m) reads) stands.bitmaps;
+  blobs = blobbing.stand-moved t.blobs f g first plan table table (λ m. same_page f g n (place_in first plan VarRing m) reads) refl refl refl refl stands.blobs;
   points = stands.points;
 }
   where
     facts : IsPlainTable plan table
-    facts = plain-facts plan table (planned-plain t first plan stands.planned) stands.facts
+    facts = table-parts plan table stands.facts
 
-pub lies-still : (t : Table) (f g : FlashState) (n : ℕ) → OnlyReads f n g → LiesOn t f → LiesOn t g
-lies-still t f g n reads lies = record {
-  geometry = reads.goes.geometry ∙ lies.geometry;
-  within = omega (arith, lies.within, reads.goes.blocks);
+-- where it lies on a flash, it does on one of that size
+pub lies-moved : (t : Table) (f g : FlashState) → Goes f g → LiesOn t f → LiesOn t g
+lies-moved t f g goes lies = record {
+  geometry = goes.geometry ∙ lies.geometry;
+  within = omega (arith, lies.within, goes.blocks);
   few = subst (λ k. k < 2 ^ 32) (sym pages-same) lies.few;
   ring = λ ring is.
       let h = lies.ring ring is in
       record {
-        page = ap (λ x. x.page) reads.goes.geometry ∙ h.page;
-        block = ap (λ x. x.block) reads.goes.geometry ∙ h.block;
-        within = omega (arith, h.within, reads.goes.blocks);
+        page = ap (λ x. x.page) goes.geometry ∙ h.page;
+        block = ap (λ x. x.block) goes.geometry ∙ h.block;
+        within = omega (arith, h.within, goes.blocks);
       };
-  bitmaps = lies-goes t.bitmaps f g reads.goes lies.bitmaps;
+  bitmaps = lies-goes t.bitmaps f g goes lies.bitmaps;
+  blobs = blobbing.lies-goes t.blobs f g goes lies.blobs;
 }
   where
     pages-same : pages g ≡ pages f
-    pages-same = ap (λ k. k * g.geometry.block) reads.goes.blocks ∙ ap (λ x. f.blocks * x.block) reads.goes.geometry
+    pages-same = ap (λ k. k * g.geometry.block) goes.blocks ∙ ap (λ x. f.blocks * x.block) goes.geometry
+
+pub lies-still : (t : Table) (f g : FlashState) (n : ℕ) → OnlyReads f n g → LiesOn t f → LiesOn t g
+lies-still t f g n reads lies = lies-moved t f g reads.goes lies
+
+-- the power came on again
+pub lies-powered : (t : Table) (f : FlashState) (on : Bool) → LiesOn t f → LiesOn t (record f { is_on = on })
+lies-powered t f on lies =
+    lies-moved t f (record f { is_on = on }) (record { geometry = refl; blocks = refl; start = refl; origin = refl; tells = refl; size = refl; front = λ told. refl; back = λ told. refl; cuts = omega arith; faults = omega arith }) lies

@@ -1,8 +1,12 @@
 pub mod Pages
+pub mod Blobs
+pub mod BlobMount
+pub mod BlobEnds
 pub mod Bitmaps
 pub mod Memory
 pub mod Refusal
 pub mod Standing
+pub mod Skipping
 pub mod Accepting
 pub mod Outcomes
 pub mod Causes
@@ -10,4 +14,5 @@ pub mod Reading
 pub mod Mounting
 pub mod Look
 pub mod Kept
+pub mod BlobAt
 pub mod Finding

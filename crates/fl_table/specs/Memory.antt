@@ -20,6 +20,7 @@ use Rattle.fl_ring.specs.Place as place
 use Rattle.fl_ring.specs.Ring.{Shape}
 use Rattle.fl_schema.specs.Schema.{layout_of}
 use Rattle.fl_table.specs.Bitmaps.{ArePlanned, AreSamePlan, LieOn}
+use Rattle.fl_table.specs.Blobs as variable
 use Rattle.fl_table.specs.declared.table.Table.{Table}
 
 -- an operation failed since the last mount
@@ -67,7 +68,8 @@ pub record IsPlanned (t : Table) (first : ℕ) (plan : Plan) : Type 0 where
   pub begins : t.place.first_block ≡ first
   pub blocks : plan.data_blocks ≡ t.place.blocks
   pub index : ArePlanned t.bitmaps (first + plan.data_blocks) plan
-  pub var : plan.var_blocks ≡ 0
+  pub var : variable.ArePlanned t.blobs (first + plan.data_blocks + plan.index_blocks) plan
+  pub limit : plan.blob_limit ≡ t.blob_limit
   pub buckets : HasBuckets plan t.buckets
   pub error : plan.error ≡ error_in t.index
 
@@ -79,6 +81,8 @@ pub record IsSamePlan (old new : Table) : Type 0 where
   pub buckets : new.buckets ≡ old.buckets
   pub error : error_in new.index ≡ error_in old.index
   pub bitmaps : AreSamePlan old.bitmaps new.bitmaps
+  pub blobs : variable.AreSamePlan old.blobs new.blobs
+  pub limit : new.blob_limit ≡ old.blob_limit
 
 -- nothing is in memory, as before the first mount
 pub record IsForgotten (t : Table) : Type 0 where
@@ -96,6 +100,24 @@ pub record LiesOn (t : Table) (f : FlashState) : Type 0 where
   pub few : pages f < 2 ^ 32
   pub ring : ForSome t.ring (λ r. place.LiesOn r f)
   pub bitmaps : LieOn t.bitmaps f
+  pub blobs : variable.LieOn t.blobs f
+
+-- two tables of the model whose data pages, index and points are the same
+pub record IsSameBeside (table new : model.Table) : Type 0 where
+  pub rows : new.rows ≡ table.rows
+  pub points : new.points ≡ table.points
+
+-- what a table with this ring holds in memory of a table of the model, beside its pages
+pub record HoldsInMemory (t : Table) (ring : Ring) (plan : Plan) (table : model.Table) : Type 0 where
+  pub next : next_of ring ≡ table.rows.next
+  pub oldest : oldest_of ring ≡ rings.oldest table.rows
+  pub gathers : Gathers (layout_of t.schema) (map stored_row (pending_entries table)) t.writer
+  pub bitmap : t.bitmap ≡ bitmap_of plan (pending_entries table)
+  pub last : t.last_key ≡ option_map (λ entry. entry.kept.key) (last_entry table)
+  pub counts : (i count : ℕ) → slice_get table.rows.counts i ≡ Some count →
+      slice_index t.counts.items ((rings.oldest table.rows + i) % (plan.data_blocks * plan.geometry.block)) ≡ count
+  pub voids : t.voids ≡ voids_of table
+  pub index : IndexOf plan.error table.points t.index
 
 -- a running table holds in memory what a table of the model has beside its pages
 pub record InMemory (t : Table) (plan : Plan) (table : model.Table) : Type 0 where
@@ -110,4 +132,3 @@ pub record InMemory (t : Table) (plan : Plan) (table : model.Table) : Type 0 whe
       slice_index t.counts.items ((rings.oldest table.rows + i) % (plan.data_blocks * plan.geometry.block)) ≡ count
   pub voids : t.voids ≡ voids_of table
   pub index : IndexOf plan.error table.points t.index
-  pub no_fill : table.fill ≡ 0

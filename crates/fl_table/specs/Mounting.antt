@@ -15,13 +15,17 @@ use Rattle.fl_index.specs.Finding.{FindsIndex, RefusesIndex}
 use Rattle.fl_index.specs.declared.index.Index.{Index}
 use Rattle.fl_ring.specs.Ring.{room}
 use Rattle.fl_table.specs.Bitmaps.{room_of, rings_of, IsOutside}
+use Rattle.fl_table.specs.Blobs as variable
+use Rattle.fl_var.specs.Memory.{var_shape}
 use Rattle.fl_table.specs.Causes.{of_ring}
 use Rattle.fl_table.specs.Memory.{ring_shape}
 use Rattle.fl_table.specs.declared.table.Table.{Table}
 use Rattle.fl_table.specs.declared.faults.MountFault.{MountFault}
 use Rattle.fl_table.specs.declared.faults.MountFault.TheVariants as mount
 use Rattle.fl_table.specs.declared.counts.Mounted.{Mounted}
-use Rattle.fl_table.specs.Reading.{AreRead, AreRefused, last_after, rows_after, voids_after, pages_of}
+use Rattle.fl_table.specs.BlobEnds.{least_of}
+use Rattle.fl_table.specs.BlobMount.{FindsBlobs, RefusesWithin, AreBelow}
+use Rattle.fl_table.specs.Reading.{AreRead, AreRefused, last_after, rows_after, voids_after, ends_after, pages_of}
 
 -- at most so many reads
 pub record FewReads (n : ℕ) (old new : FlashState) : Type 0 where
@@ -35,10 +39,10 @@ pub record FewRepairs (rings : ℕ) (old new : FlashState) : Type 0 where
 
 -- how many rings a table has, and how many pages they have
 abbrev pub rings_in : Table → ℕ
-rings_in t = rings_of t.bitmaps + 1
+rings_in t = rings_of t.bitmaps + variable.rings_of t.blobs + 1
 
 abbrev pub pages_in : Table → ℕ
-pages_in t = room (ring_shape t) + room_of t.bitmaps
+pages_in t = room (ring_shape t) + room_of t.bitmaps + variable.room_of t.blobs
 
 -- The index was found and repaired, where the table has one; it is this one now, and ends at this number.
 abbrev pub FindsBitmaps : Option Index → FlashState → Option ℕ → Option Index → FlashState → Type 0
@@ -64,10 +68,8 @@ pub record ReadsRing (t : Table) (old : FlashState) (least : ℕ) (ring : Ring) 
   pub within : least ≤ next_of ring
   pub reads : OnlyReads repaired (next_of ring - oldest_of ring) new
 
--- each kept page may stand where it does
-pub record FindsRows (t : Table) (old : FlashState) (least : ℕ) (mounted : Mounted) (now : Table) (new : FlashState) : Type 0 where
-  pub ring : Ring
-  pub ring_is : now.ring ≡ Some ring
+-- each kept page may stand where it does, and the blobs of their rows end there
+pub record FindsData (t : Table) (old : FlashState) (least : ℕ) (ring : Ring) (mounted : Mounted) (last : Option ℕ) (end : ℕ) (new : FlashState) : Type 0 where
   pub ring_reads : ReadsRing t old least ring new
   pub read : AreRead (layout_of t.schema) (pages_of ring new) (oldest_of ring) (next_of ring - oldest_of ring)
   pub mounted_is : mounted ≡ record {
@@ -75,7 +77,18 @@ pub record FindsRows (t : Table) (old : FlashState) (least : ℕ) (mounted : Mou
     pages = next_of ring - oldest_of ring;
     voids = voids_after (layout_of t.schema) (pages_of ring new) (oldest_of ring) (next_of ring - oldest_of ring);
   }
-  pub last : now.last_key ≡ last_after (layout_of t.schema) (pages_of ring new) (oldest_of ring) (next_of ring - oldest_of ring)
+  pub last_is : last ≡ last_after (layout_of t.schema) (pages_of ring new) (oldest_of ring) (next_of ring - oldest_of ring)
+  pub end_is : end ≡ ends_after (layout_of t.schema) (pages_of ring new) (oldest_of ring) (next_of ring - oldest_of ring)
+
+-- .. and the variable data were found then, where the table has any: each blob begins before their next page
+pub record FindsRows (t : Table) (old : FlashState) (least : ℕ) (mounted : Mounted) (now : Table) (new : FlashState) : Type 0 where
+  pub ring : Ring
+  pub ring_is : now.ring ≡ Some ring
+  pub end : ℕ
+  pub between : FlashState
+  pub pages : FindsData t old least ring mounted now.last_key end between
+  pub blobs : FindsBlobs t.blobs between (least_of end) now.blobs new
+  pub below : AreBelow end now.blobs
 
 -- .. behind the index, which was found before
 pub record FindsPages (t : Table) (old : FlashState) (mounted : Mounted) (now : Table) (new : FlashState) : Type 0 where
@@ -110,16 +123,29 @@ pub record HasBadEnd (t : Table) (old : FlashState) (least end next : ℕ) (new 
   pub beyond : next < end
 
 -- why the mount of the data ring and the read of its pages fail, and what was done
-abbrev pub RefusesRows : Table → FlashState → ℕ → MountFault → FlashState → Type 0
-RefusesRows t old least (mount.Flash fault) new = FailsAs old (ring_shape t) least (ring.Flash fault) new ⊎ PagesUnread t old least fault new
-RefusesRows t old least (mount.Ring fault) new = HasBadRing t old least fault new
-RefusesRows t old least (mount.BadPage bad) new = HasBadPage t old least (mount.BadPage bad) new
-RefusesRows t old least (mount.BadKeys page last first) new = HasBadPage t old least (mount.BadKeys page last first) new
-RefusesRows t old least (mount.BadIndex end next) new = HasBadEnd t old least end next new
-RefusesRows t old least (mount.BadBlob page next) new = ⊥
+abbrev pub RefusesData : Table → FlashState → ℕ → MountFault → FlashState → Type 0
+RefusesData t old least (mount.Flash fault) new = FailsAs old (ring_shape t) least (ring.Flash fault) new ⊎ PagesUnread t old least fault new
+RefusesData t old least (mount.Ring fault) new = HasBadRing t old least fault new
+RefusesData t old least (mount.BadPage bad) new = HasBadPage t old least (mount.BadPage bad) new
+RefusesData t old least (mount.BadKeys page last first) new = HasBadPage t old least (mount.BadKeys page last first) new
+RefusesData t old least (mount.BadIndex end next) new = HasBadEnd t old least end next new
+RefusesData t old least (mount.BadBlob page next) new = ⊥
 
--- why a mount fails: the index is refused, or it is found, and the data pages aren't. A table without variable data
--- isn't refused for that.
+-- the data pages were found, and the variable data are refused
+pub record BlobsRefused (t : Table) (old : FlashState) (least : ℕ) (fault : MountFault) (new : FlashState) : Type 0 where
+  pub ring : Ring
+  pub mounted : Mounted
+  pub last : Option ℕ
+  pub end : ℕ
+  pub between : FlashState
+  pub pages : FindsData t old least ring mounted last end between
+  pub why : RefusesWithin t.blobs between end fault new
+
+-- why the mount of the data ring and of the variable data fails
+abbrev pub RefusesRows : Table → FlashState → ℕ → MountFault → FlashState → Type 0
+RefusesRows t old least fault new = RefusesData t old least fault new ⊎ BlobsRefused t old least fault new
+
+-- why a mount fails: the index is refused, or it is found, and the data pages or the variable data aren't
 abbrev pub RefusesPages : Table → FlashState → MountFault → FlashState → Type 0
 RefusesPages t old fault new =
     ((e : RingFault) × (fault ≡ of_ring e) × RefusesBitmaps t.bitmaps old e new)
@@ -127,4 +153,9 @@ RefusesPages t old fault new =
 
 -- each flash page outside a table's rings stands
 abbrev pub OutsideStands : Table → (ℕ → List ℕ) → (ℕ → List ℕ) → Type 0
-OutsideStands t old new = (page : ℕ) → IsOutside (ring_shape t) page → IfSome t.bitmaps (λ index. IsOutside (memory.ring_shape index) page) → new page ≡ old page
+OutsideStands t old new =
+    (page : ℕ) → IsOutside (ring_shape t) page → IfSome t.bitmaps (λ index. IsOutside (memory.ring_shape index) page) → IfSome t.blobs (λ var. IsOutside (var_shape var) page) → new page ≡ old page
+
+-- .. those outside the data ring and the ring of variable data
+abbrev pub RowsStandOutside : Table → (ℕ → List ℕ) → (ℕ → List ℕ) → Type 0
+RowsStandOutside t old new = (page : ℕ) → IsOutside (ring_shape t) page → IfSome t.blobs (λ var. IsOutside (var_shape var) page) → new page ≡ old page

@@ -1,16 +1,16 @@
 -- How the calls of a table end, over a flash that stands for a table of the model.
-use Rattle.std.specs.Prelude.{◌≡◌, ℕ, Bool, true, false, ◌⊎◌, Some, None, Result, Ok, Err, List, length}
+use Rattle.std.specs.Prelude.{◌≡◌, ℕ, ◌+◌, Bool, true, false, ◌⊎◌, Some, None, Result, Ok, Err, List, [], ◌∷◌, length, if◌then◌else◌}
 use Rattle.fl_flash.specs.Flash.{FlashState}
 use Rattle.fl_flash.specs.declared.flash.FlashFault.{FlashFault}
 use Rattle.fl_flash.specs.declared.flash.FlashFault.TheVariants.{PowerLost, Media}
 use Rattle.fl_ring.specs.Device.{SameDevice}
-use Rattle.fl_model.specs.Record.{Record, Plan}
+use Rattle.fl_model.specs.Record.{Record, Plan, has_var}
 use Rattle.fl_model.specs.Table as model
-use Rattle.fl_model.specs.Table.{RingName, after_seals, refusal_of, put_seals, put_record, table_seals, flushed, lose}
+use Rattle.fl_model.specs.Table.{RingName, DataRing, VarRing, after_seals, blob_len, place_seals, refusal_of, put_seals, put_record, table_seals, flushed, lose}
 use Rattle.fl_model.specs.Spline.{voids_of}
 use Rattle.fl_model.specs.Work.{Kind, Device, PartEnd, Whole, CutIn, FailedIn, PartProgress}
 use Rattle.fl_model.specs.Within.{TablePerforms, seals_within, TableMounted, TableStopped, TableUnread, TableMounts}
-use Rattle.fl_model.specs.Mount.{rings_of, ready}
+use Rattle.fl_model.specs.Mount.{rings_of, ready, blob_end}
 use Rattle.fl_table.specs.declared.table.Table.{Table}
 use Rattle.fl_table.specs.declared.faults.PutRefusal.{PutRefusal}
 use Rattle.fl_table.specs.declared.faults.PutRefusal.TheVariants as put
@@ -19,6 +19,11 @@ use Rattle.fl_table.specs.declared.faults.FlushFault.TheVariants as flush
 use Rattle.fl_table.specs.declared.faults.MountFault.{MountFault}
 use Rattle.fl_table.specs.declared.faults.MountFault.TheVariants as mount
 use Rattle.fl_table.specs.declared.counts.Mounted.{Mounted}
+use Rattle.fl_table.specs.declared.mount.FoundRows.{FoundRows}
+use Rattle.fl_model.specs.Facts.{IsTable}
+use Rattle.fl_table.specs.Bitmaps.{Stand}
+use Rattle.fl_table.specs.Memory.{IsPlanned, HoldsInMemory}
+use Rattle.fl_table.specs.Blobs.{table_with}
 use Rattle.fl_table.specs.Pages.{Rests}
 use Rattle.fl_table.specs.Standing.{Stands}
 
@@ -50,6 +55,12 @@ abbrev pub SealsEnd : ℕ → Plan → List RingName → model.Table → Bool �
 SealsEnd first plan rings table rose device (Ok done) t new =
     Finishes first plan (seals_within plan rings table) table (after_seals plan rings table) rose device t new
 SealsEnd first plan rings table rose device (Err fault) t new = Breaks first plan (seals_within plan rings table) table rose device fault new
+
+-- the blob of a record was placed, where it has one, and the record joined the table
+abbrev pub JoinEnds : ℕ → Plan → Record → model.Table → Bool → Device → Result (Unit {0}) FlashFault → Table → FlashState → Type 0
+JoinEnds first plan item table rose device (Ok done) t new =
+    Finishes first plan (seals_within plan (place_seals plan (blob_len item) table) table) table (table_with plan item table) rose device t new
+JoinEnds first plan item table rose device (Err fault) t new = Breaks first plan (seals_within plan (place_seals plan (blob_len item) table) table) table rose device fault new
 
 -- a put of an accepted record, by the refusal that it answers
 abbrev pub PutEnds : ℕ → Plan → Record → model.Table → Bool → Device → Result (Unit {0}) PutRefusal → Table → FlashState → Type 0
@@ -93,6 +104,35 @@ pub record MountsBadly (first : ℕ) (plan : Plan) (rings : List RingName) (tabl
       ⊎ (TableMounts plan rose rings device table (TableUnread now) × (fault ≡ Media))
   pub counts : SameDevice new now.device
   pub rests : Rests new first plan now.state
+
+-- The data ring was mounted and its pages were read: this is known of the table then, whose variable data aren't mounted.
+pub record DataWell (first : ℕ) (plan : Plan) (table : model.Table) (rose : Bool) (device : Device) (found : FoundRows) (t : Table) (new : FlashState) : Type 0 where
+  pub now : PartProgress model.Table
+  pub did : TableMounts plan rose (DataRing ∷ []) device table (TableMounted now)
+  pub counts : SameDevice new now.device
+  pub power : new.is_on ≡ true
+  pub rests : Rests new first plan now.state
+  pub whole : now.state.rows.torn ≡ false
+  pub clean : now.state.rows.dirty ≡ false
+  pub planned : IsPlanned t first plan
+  pub facts : IsTable plan (ready plan now.state)
+  pub memory : HoldsInMemory t found.ring plan (ready plan now.state)
+  pub bitmaps : Stand t.bitmaps new (first + plan.data_blocks) plan (ready plan now.state)
+  pub answer : found.mounted ≡ mounted_of (ready plan now.state)
+  pub end_is : found.blob_end ≡ blob_end now.state
+
+abbrev pub DataEnds : ℕ → Plan → model.Table → Bool → Device → Result FoundRows MountFault → Table → FlashState → Type 0
+DataEnds first plan table rose device (Ok found) t new = DataWell first plan table rose device found t new
+DataEnds first plan table rose device (Err (mount.Flash fault)) t new = MountsBadly first plan (DataRing ∷ []) table rose device fault new
+DataEnds first plan table rose device (Err (mount.Ring fault)) t new = ⊥
+DataEnds first plan table rose device (Err (mount.BadPage bad)) t new = ⊥
+DataEnds first plan table rose device (Err (mount.BadKeys page last key)) t new = ⊥
+DataEnds first plan table rose device (Err (mount.BadIndex end next)) t new = ⊥
+DataEnds first plan table rose device (Err (mount.BadBlob page next)) t new = ⊥
+
+-- the ring of variable data, where a plan has one
+abbrev pub var_rings : Plan → List RingName
+var_rings plan = if has_var plan then VarRing ∷ [] else []
 
 -- the mount of these rings of a table, in order
 abbrev pub RingsEnd : ℕ → Plan → List RingName → model.Table → Bool → Device → Result Mounted MountFault → Table → FlashState → Type 0

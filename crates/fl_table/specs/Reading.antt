@@ -18,6 +18,7 @@ use Rattle.fl_page.specs.Page.{IsGoodPage, bad_page, rows_in}
 use Rattle.fl_ring.specs.Place.{shape_of}
 use Rattle.fl_ring.specs.Ring.{place}
 use Rattle.fl_ring.specs.declared.ring.Ring.{Ring}
+use Rattle.fl_table.specs.BlobEnds.{blobs_end}
 use Rattle.fl_table.specs.declared.faults.MountFault.{MountFault}
 use Rattle.fl_table.specs.declared.faults.MountFault.TheVariants.{BadPage, BadKeys}
 
@@ -88,6 +89,11 @@ point_of number rows = unwrap_or (option_map (λ key. (key, number) ∷ []) (fir
 abbrev pub points_after : RowLayout → (ℕ → List ℕ) → ℕ → ℕ → List (ℕ × ℕ)
 points_after layout page number zero = []
 points_after layout page number (suc n) = points_after layout page number n ++ point_of (number + n) (rows_on layout (page (number + n)))
+
+-- one more than the greatest page at which a blob of so many pages' rows begins, and 0 where none has a page
+abbrev pub ends_after : RowLayout → (ℕ → List ℕ) → ℕ → ℕ → ℕ
+ends_after layout page number zero = 0
+ends_after layout page number (suc n) = blobs_end (ends_after layout page number n) (rows_on layout (page (number + n)))
 
 -- how many rows each page has is noted at its place
 abbrev pub AreNoted : RowLayout → (ℕ → List ℕ) → ℕ → ℕ → List ℕ → Type 0

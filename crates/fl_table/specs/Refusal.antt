@@ -1,11 +1,12 @@
 -- Why a table in memory refuses a record.
-use Rattle.std.specs.Prelude.{◌≡◌, ℕ, Bool, false, not, ◌||◌, nat_le, nat_lt, ◌==◌, ℤ, Option, Some, None, option_map, unwrap_or, Result, Ok, Err, List, length, if◌then◌else◌}
+use Rattle.std.specs.Prelude.{◌≡◌, ℕ, Bool, false, is_some, not, ◌||◌, nat_le, nat_lt, ◌==◌, ℤ, Option, Some, None, option_map, unwrap_or, Result, Ok, Err, List, length, if◌then◌else◌}
 use Rattle.fl_model.specs.Record.{first_misfit, greatest_key}
 use Rattle.fl_model.specs.Table.{spent_from}
 use Rattle.fl_ring.specs.Place.{next_of}
 use Rattle.fl_schema.specs.Schema.{layout_of}
 use Rattle.fl_table.specs.declared.table.Table.{Table}
 use Rattle.fl_table.specs.Bitmaps as bitmaps
+use Rattle.fl_table.specs.Blobs as variable
 use Rattle.fl_table.specs.Memory.{is_running}
 use Rattle.fl_table.specs.declared.faults.PutRefusal.{PutRefusal}
 use Rattle.fl_table.specs.declared.faults.PutRefusal.TheVariants.{Key, Columns, Value, Blob, Spent, Stopped, Flash}
@@ -29,16 +30,25 @@ value_refused t key values =
 
 abbrev pub spent_refused : Table → Option PutRefusal
 spent_refused t =
-    refused_if (unwrap_or (option_map (λ ring. nat_le spent_from (next_of ring)) t.ring) false || nat_le spent_from (bitmaps.next_of t.bitmaps)) Spent
+    refused_if (unwrap_or (option_map (λ ring. nat_le spent_from (next_of ring)) t.ring) false || nat_le spent_from (bitmaps.next_of t.bitmaps) || nat_le spent_from (variable.next_of t.blobs)) Spent
 
--- the first refusal that applies to a record with these values, and with a blob or without one
-abbrev pub put_refusal : Table → ℕ → List ℤ → Bool → Option PutRefusal
+-- the greatest length of a blob
+abbrev pub limit_in : Table → ℕ
+limit_in t = if is_some t.blobs then t.blob_limit else 0
+
+-- a blob of this length, or none
+abbrev pub blob_refused : Table → Option ℕ → Option PutRefusal
+blob_refused t None = None
+blob_refused t (Some len) = refused_if (not (is_some t.blobs) || nat_lt (limit_in t) len) (Blob (limit_in t))
+
+-- the first refusal that applies to a record with these values, and with a blob of this length or without one
+abbrev pub put_refusal : Table → ℕ → List ℤ → Option ℕ → Option PutRefusal
 put_refusal t key values blob =
     or_else (refused_if (not (is_running t)) Stopped)
     (or_else (key_refused t.last_key key)
     (or_else (refused_if (not (length values == length (layout_of t.schema).columns)) (Columns (length (layout_of t.schema).columns)))
     (or_else (value_refused t key values)
-    (or_else (refused_if blob (Blob 0))
+    (or_else (blob_refused t blob)
     (spent_refused t)))))
 
 -- what is answered: the first refusal where one applies, else how the operations went

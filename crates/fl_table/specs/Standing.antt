@@ -8,6 +8,7 @@ use Rattle.fl_model.specs.Table.{lose, pending_entries, last_entry}
 use Rattle.fl_model.specs.Facts.{IsTable}
 use Rattle.fl_table.specs.declared.table.Table.{Table}
 use Rattle.fl_table.specs.Bitmaps.{Stand}
+use Rattle.fl_table.specs.Blobs as variable
 use Rattle.fl_table.specs.Pages.{HoldsTable}
 use Rattle.fl_table.specs.Memory.{InMemory, IsPlanned}
 
@@ -22,5 +23,7 @@ pub record Stands (t : Table) (f : FlashState) (first : ℕ) (plan : Plan) (tabl
   pub memory : InMemory t plan table
   -- the index ring, and the bitmaps that wait
   pub bitmaps : Stand t.bitmaps f (first + plan.data_blocks) plan table
+  -- the ring of variable data, and the bytes that wait
+  pub blobs : variable.Stand t.blobs f (first + plan.data_blocks + plan.index_blocks) plan table
   -- the index goes with the pages
   pub points : HasPoints table

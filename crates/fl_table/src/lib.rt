@@ -2,6 +2,11 @@
 #![tactic(auto)]
 
 mod bitmaps;
+mod blob_at;
+mod blob_end;
+#[cfg(test)]
+mod blob_tests;
+mod blobs;
 mod counts;
 mod faults;
 mod find;
@@ -16,6 +21,7 @@ mod reading;
 mod refusal;
 mod running;
 mod seal;
+mod skip;
 mod table;
 #[cfg(test)]
 mod tests;

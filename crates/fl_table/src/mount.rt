@@ -4,11 +4,20 @@ ghost use Rattle.fl_flash.specs.Flash.{Goes, page_at};
 ghost use Rattle.fl_table.specs.Causes.{MountCausedBy};
 
 use crate::bitmaps::{first_to_wait, mount_bitmaps, restart};
+use crate::blobs::mount_within;
 use crate::reading::read_pages;
 use crate::table::Table;
 use crate::{MountFault, Mounted};
 use fl_flash::{Flash, PageBuf};
 use fl_ring::Ring;
+
+/// The data ring, what its pages hold, and one more than the greatest page that a blob of them names.
+#[derive(Drop)]
+pub(crate) struct FoundRows {
+    pub(crate) ring: Ring,
+    pub(crate) mounted: Mounted,
+    pub(crate) blob_end: u64,
+}
 
 impl Table {
     ghost use Rattle.std.specs.Prelude.{ℕ, Bool};
@@ -18,18 +27,23 @@ impl Table {
     ghost use Rattle.fl_model.specs.Table.{DataRing};
     ghost use Rattle.fl_ring.specs.Ring as rings;
     ghost use Rattle.fl_ring.specs.Ring.{room};
-    ghost use Rattle.fl_table.specs.Bitmaps.{AreIdle, AreRunning, AreSameRing, StandForRing};
+    ghost use Rattle.fl_ring.specs.Mounting.{shape_at};
+    ghost use Rattle.fl_ring.specs.Place as place;
+    ghost use Rattle.fl_ring.specs.Place.{next_of, shape_of};
+    ghost use Rattle.fl_table.specs.Bitmaps.{AreIdle, AreRunning, AreSameRing, EndAt, StandForRing};
+    ghost use Rattle.fl_table.specs.Blobs as variable;
     ghost use Rattle.fl_model.specs.Work.{Device};
     ghost use Rattle.fl_ring.specs.Step.{IsWatched};
     ghost use Rattle.fl_table.specs.Memory.{is_running, is_stopped, ring_shape, IsForgotten, IsPlanned, IsSamePlan, LiesOn};
     ghost use Rattle.fl_table.specs.Pages.{Rests};
-    ghost use Rattle.fl_table.specs.Outcomes.{MountEnds, RingsEnd};
-    ghost use Rattle.fl_table.specs.Mounting.{FewReads, FewRepairs, FindsPages, FindsRows, OutsideStands, RefusesPages, RefusesRows, pages_in, rings_in};
+    ghost use Rattle.fl_table.specs.Outcomes.{DataEnds, MountEnds, RingsEnd, var_rings};
+    ghost use Rattle.fl_table.specs.Mounting.{FewReads, FewRepairs, FindsData, FindsPages, FindsRows, OutsideStands, RefusesData, RefusesPages, RefusesRows, RowsStandOutside, pages_in, rings_in};
 
     // As it was before its first mount.
     fn forget(&mut self)
         ensures same { IsSamePlan self.old self.new }
         ensures bitmaps { self.new.bitmaps ≡ self.old.bitmaps }
+        ensures blobs { self.new.blobs ≡ self.old.blobs }
         ensures forgotten { IsForgotten self.new }
     {
         self.ring = None;
@@ -42,6 +56,68 @@ impl Table {
     }
 
     /// Mounts the data ring, whose void pages follow the end of the index, and reads its pages.
+    fn read_rows<F: Flash>(
+        &mut self,
+        end: u32,
+        flash: &mut F,
+        buf: &mut PageBuf,
+    ) -> Result<FoundRows, MountFault>
+        requires forgotten { IsForgotten self.old }
+        requires running { AreRunning self.old.bitmaps }
+        requires idle { AreIdle self.old.bitmaps }
+        requires lies { LiesOn self.old (F.state flash.old) }
+        requires room { length buf.old.bytes ≡ (F.state flash.old).geometry.page }
+        ensures goes { Goes (F.state flash.old) (F.state flash.new) }
+        ensures same { IsSamePlan self.old self.new }
+        ensures still { AreSameRing self.old.bitmaps self.new.bitmaps }
+        ensures blobs { self.new.blobs ≡ self.old.blobs }
+        ensures lies { LiesOn self.new (F.state flash.new) }
+        ensures room { length buf.new.bytes ≡ length buf.old.bytes }
+        ensures holds { buf.new.holds ≡ None }
+        ensures none { self.new.writer.count ≡ 0 }
+        ensures down { self.new.ring ≡ None }
+        ensures calm { is_stopped self.new ≡ false }
+        ensures running { AreRunning self.new.bitmaps }
+        ensures shape { IfOk result (λ rows. shape_of rows.ring ≡ shape_at self.old.place self.old.geometry) }
+        ensures follow { IfOk result (λ rows. EndAt self.new.bitmaps (next_of rows.ring)) }
+        ensures lies_ring { IfOk result (λ rows. place.LiesOn rows.ring (F.state flash.new)) }
+        ensures ends { (first : ℕ) → (plan : Plan) → (table : model.Table) → (rose : Bool) → (device : Device) → IsWatched (F.state flash.old) (F.state flash.new) rose device
+            → IsPlanned self.old first plan → Rests (F.state flash.old) first plan table → StandForRing self.old.bitmaps (F.state flash.old) (first + plan.data_blocks) plan table → end ≡ index_end plan table
+            → DataEnds first plan table rose device result self.new (F.state flash.new) }
+        ensures found { IfOk result (λ rows. IsTrue (F.state flash.old).media.tells → FindsData self.old (F.state flash.old) end rows.ring rows.mounted self.new.last_key rows.blob_end (F.state flash.new)) }
+        ensures refused { IfErr result (λ e. IsTrue (F.state flash.old).media.tells → RefusesData self.old (F.state flash.old) end e (F.state flash.new)) }
+        ensures outside { IsTrue (F.state flash.old).media.tells → rings.OutsideStands (ring_shape self.old) (page_at (F.state flash.old)) (page_at (F.state flash.new)) }
+        ensures reads { IsTrue (F.state flash.old).media.tells → FewReads (4 * room (ring_shape self.old)) (F.state flash.old) (F.state flash.new) }
+        ensures repairs { FewRepairs 1 (F.state flash.old) (F.state flash.new) }
+        ensures power { OnOk result ((F.state flash.old).is_on ≡ true → (F.state flash.new).is_on ≡ true) }
+        ensures cause { IfErr result (λ e. MountCausedBy (F.state flash.old) e (F.state flash.new)) }
+    {
+        let ring = Ring::mount(flash, self.place, end, buf)?;
+        let next = ring.next_number();
+        if end > next {
+            return Err(MountFault::BadIndex { end, next });
+        }
+        let first = first_to_wait(&self.bitmaps, end, ring.oldest(), next);
+        restart(&mut self.bitmaps, first);
+        let (mounted, last, blob_end) = read_pages(
+            &self.schema,
+            &ring,
+            &mut self.counts,
+            &mut self.index,
+            &mut self.bitmaps,
+            flash,
+            buf,
+        )?;
+        self.last_key = last;
+        self.voids = mounted.voids;
+        Ok(FoundRows {
+            ring,
+            mounted,
+            blob_end,
+        })
+    }
+
+    /// Mounts the data ring, and then the variable data, before whose next page each blob begins.
     fn mount_rows<F: Flash>(
         &mut self,
         end: u32,
@@ -61,36 +137,20 @@ impl Table {
         ensures holds { buf.new.holds ≡ None }
         ensures ends { (first : ℕ) → (plan : Plan) → (table : model.Table) → (rose : Bool) → (device : Device) → IsWatched (F.state flash.old) (F.state flash.new) rose device
             → IsPlanned self.old first plan → Rests (F.state flash.old) first plan table → StandForRing self.old.bitmaps (F.state flash.old) (first + plan.data_blocks) plan table → end ≡ index_end plan table
-            → RingsEnd first plan (DataRing ∷ []) table rose device result self.new (F.state flash.new) }
+            → RingsEnd first plan (DataRing ∷ var_rings plan) table rose device result self.new (F.state flash.new) }
         ensures mounted { is_running self.new ≡ is_ok result }
         ensures calm { is_stopped self.new ≡ false }
         ensures found { IfOk result (λ mounted. IsTrue (F.state flash.old).media.tells → FindsRows self.old (F.state flash.old) end mounted self.new (F.state flash.new)) }
         ensures refused { IfErr result (λ e. IsTrue (F.state flash.old).media.tells → RefusesRows self.old (F.state flash.old) end e (F.state flash.new)) }
-        ensures outside { IsTrue (F.state flash.old).media.tells → rings.OutsideStands (ring_shape self.old) (page_at (F.state flash.old)) (page_at (F.state flash.new)) }
-        ensures reads { IsTrue (F.state flash.old).media.tells → FewReads (4 * room (ring_shape self.old)) (F.state flash.old) (F.state flash.new) }
-        ensures repairs { FewRepairs 1 (F.state flash.old) (F.state flash.new) }
+        ensures outside { IsTrue (F.state flash.old).media.tells → RowsStandOutside self.old (page_at (F.state flash.old)) (page_at (F.state flash.new)) }
+        ensures reads { IsTrue (F.state flash.old).media.tells → FewReads (4 * (room (ring_shape self.old) + variable.room_of self.old.blobs)) (F.state flash.old) (F.state flash.new) }
+        ensures repairs { FewRepairs (1 + variable.rings_of self.old.blobs) (F.state flash.old) (F.state flash.new) }
         ensures cause { IfErr result (λ e. MountCausedBy (F.state flash.old) e (F.state flash.new)) }
     {
-        let ring = Ring::mount(flash, self.place, end, buf)?;
-        let next = ring.next_number();
-        if end > next {
-            return Err(MountFault::BadIndex { end, next });
-        }
-        let first = first_to_wait(&self.bitmaps, end, ring.oldest(), next);
-        restart(&mut self.bitmaps, first);
-        let (mounted, last) = read_pages(
-            &self.schema,
-            &ring,
-            &mut self.counts,
-            &mut self.index,
-            &mut self.bitmaps,
-            flash,
-            buf,
-        )?;
-        self.last_key = last;
-        self.voids = mounted.voids;
-        self.ring = Some(ring);
-        Ok(mounted)
+        let rows = self.read_rows(end, flash, buf)?;
+        mount_within(&mut self.blobs, flash, rows.blob_end, buf)?;
+        self.ring = Some(rows.ring);
+        Ok(rows.mounted)
     }
 
     /// Mounts the table: its rings are repaired, and each kept page is read once. After an error it isn't mounted.

@@ -1,15 +1,16 @@
 // A table of a configuration.
-ghost use Rattle.std.specs.Prelude.{◌≡◌, ◌≤◌, ◌<◌, ◌⊎◌, ◌+◌, ◌*◌, ◌^◌, None, Err, false, length, IfSome, IfOk, IfErr, OnOk};
+ghost use Rattle.std.specs.Prelude.{◌≡◌, ◌≤◌, ◌<◌, ◌⊎◌, ◌+◌, ◌*◌, ◌^◌, None, Err, false, is_some, nat_lt, length, IfSome, IfOk, IfErr, OnOk};
 ghost use Rattle.std.specs.Option.{ForSome};
 ghost use Rattle.fl_flash.specs.Flash.{FlashState, pages};
 ghost use Rattle.fl_plan.specs.Limits.{IsWithinLimits};
-ghost use Rattle.fl_plan.specs.Plan.{IsConfigOf};
+ghost use Rattle.fl_plan.specs.Plan.{IsConfigOf, blocks_in};
 ghost use Rattle.fl_plan.specs.Refusal.{config_fault, Tells};
 ghost use Rattle.fl_model.specs.Record.{layout_len};
 ghost use Rattle.fl_schema.specs.Form.{layout_with};
 ghost use Rattle.fl_schema.specs.Schema.{layout_of, types_of};
 ghost use Rattle.fl_model.specs.Record.{Plan};
 ghost use Rattle.fl_table.specs.Bitmaps.{ArePlanned, AreIdle, LieOn, next_after};
+ghost use Rattle.fl_table.specs.Blobs as variable;
 ghost use Rattle.fl_table.specs.Memory.{is_running, is_stopped, IsPlanned, LiesOn};
 
 use crate::table::Table;
@@ -18,19 +19,20 @@ use fl_index::Index;
 use fl_page::PageWriter;
 use fl_plan::{ConfigRefusal, TableConfig};
 use fl_schema::Schema;
+use fl_var::VarData;
 use std::alloc::Global;
 
 /// The schema of a configuration that isn't refused.
 fn schema_of(config: &TableConfig) -> Schema<8>
     requires fits { config_fault config.now ≡ None }
     requires limits { IsWithinLimits config.now }
-    requires var { config.now.var ≡ None }
-    ensures layout { layout_of result ≡ layout_with config.now.key config.now.columns.items false }
+    ensures layout { layout_of result ≡ layout_with config.now.key config.now.columns.items (nat_lt 0 (blocks_in config.now.var)) }
     ensures types { types_of result ≡ config.now.columns.items }
     ensures room { layout_len (layout_of result) + 24 ≤ config.now.geometry.page }
 {
     let room = config.geometry.page - 24;
-    let Ok(schema) = Schema::new(config.key, config.columns.as_slice(), false, room) else {
+    let blobs = config.var_blocks() > 0;
+    let Ok(schema) = Schema::new(config.key, config.columns.as_slice(), blobs, room) else {
         unreachable!()
     };
     schema
@@ -53,17 +55,31 @@ fn bitmaps_of(alloc: Global, config: &TableConfig) -> Result<Option<Index>, fl_b
     Ok(Some(index))
 }
 
+/// The variable data of a configuration that isn't refused.
+fn blobs_of(alloc: Global, config: &TableConfig) -> Result<Option<VarData>, fl_base::NoMemory>
+    requires fits { config_fault config.now ≡ None }
+    requires limits { IsWithinLimits config.now }
+    ensures planned { IfOk result (λ blobs. (plan : Plan) → IsConfigOf config.now plan → variable.ArePlanned blobs (config.now.rows.first_block + plan.data_blocks + plan.index_blocks) plan) }
+    ensures lie { IfOk result (λ blobs. (f : FlashState) → f.geometry ≡ config.now.geometry → IfSome config.now.var (λ place. place.first_block + place.blocks ≤ f.blocks) → pages f < 2 ^ 32 → variable.LieOn blobs f) }
+    ensures has { IfOk result (λ blobs. nat_lt 0 (blocks_in config.now.var) ≡ is_some blobs) }
+{
+    let Some(place) = config.var else {
+        return Ok(None);
+    };
+    let var = VarData::plan(alloc, config.geometry, place)?;
+    Ok(Some(var))
+}
+
 impl Table {
     ghost use Rattle.fl_model.specs.Record.{Plan};
     ghost use Rattle.fl_plan.specs.declared.refusal.ConfigRefusal.TheVariants.{NoMemory};
 
-    /// The table of a configuration without variable data. It isn't mounted.
+    /// The table of a configuration. It isn't mounted.
     pub fn plan(alloc: Global, config: &TableConfig) -> Result<Table, ConfigRefusal>
-        requires var { config.now.var ≡ None }
         ensures fits { OnOk result (config_fault config.now ≡ None) }
         ensures planned { IfOk result (λ t. (plan : Plan) → IsConfigOf config.now plan → IsPlanned t config.now.rows.first_block plan) }
         ensures lies { IfOk result (λ t. (f : FlashState) → f.geometry ≡ config.now.geometry → config.now.rows.first_block + config.now.rows.blocks ≤ f.blocks
-            → IfSome config.now.index (λ place. place.first_block + place.blocks ≤ f.blocks) → pages f < 2 ^ 32 → LiesOn t f) }
+            → IfSome config.now.index (λ place. place.first_block + place.blocks ≤ f.blocks) → IfSome config.now.var (λ place. place.first_block + place.blocks ≤ f.blocks) → pages f < 2 ^ 32 → LiesOn t f) }
         ensures fresh { IfOk result (λ t. (is_running t ≡ false) × (is_stopped t ≡ false)) }
         ensures refused { IfErr result (λ refusal. (refusal ≡ NoMemory) ⊎ Tells {A = Table} (Err refusal) (config_fault config.now)) }
     {
@@ -73,6 +89,7 @@ impl Table {
             return Err(ConfigRefusal::NoMemory);
         };
         let bitmaps = bitmaps_of(alloc, config)?;
+        let blobs = blobs_of(alloc, config)?;
         Ok(Table {
             schema: schema_of(config),
             geometry: config.geometry,
@@ -87,6 +104,8 @@ impl Table {
             voids: 0,
             index: LearnedIndex::new(config.error),
             bitmaps,
+            blobs,
+            blob_limit: config.blob_limit,
         })
     }
 }

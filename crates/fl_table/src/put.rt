@@ -1,10 +1,12 @@
 // Puts and flushes.
-ghost use Rattle.std.specs.Prelude.{◌≡◌, ◌≤◌, ◌+◌, ◌<◌, true, false, length, IsTrue, OnOk, OnErr, IfErr, option_map};
+ghost use Rattle.std.specs.Prelude.{◌≡◌, ◌≤◌, ◌+◌, ◌<◌, ◌++◌, ◌∷◌, [], true, false, length, IsTrue, OnOk, OnErr, IfErr, option_map};
 ghost use Rattle.fl_flash.specs.Flash.{Goes, page_at};
 ghost use Rattle.fl_table.specs.Memory.{bitmap_with};
 
+use crate::blobs::place;
 use crate::table::Table;
 use crate::{FlushFault, PutRefusal};
+use fl_base::BlobRef;
 use fl_bitmap::Buckets;
 use fl_flash::{Flash, FlashFault};
 
@@ -21,21 +23,23 @@ fn with_value(buckets: Option<Buckets>, bitmap: u64, value: i64) -> u64
 impl Table {
     ghost use Rattle.std.specs.Prelude.{ℕ, Bool, None, is_some, ◌||◌, ◌&&◌, not, ◌↔◌, Ok, Err};
     ghost use Rattle.fl_model.specs.Record.{Plan, layout_len, rows_per_page};
-    ghost use Rattle.fl_model.specs.Row.{FitsRow};
+    ghost use Rattle.fl_model.specs.Row.{FitsRow, stored_row};
     ghost use Rattle.fl_model.specs.Table as model;
-    ghost use Rattle.fl_model.specs.Table.{make_room_seals, spent_from, with_record};
+    ghost use Rattle.fl_model.specs.Table.{Entry, make_room_seals, spent_from};
     ghost use Rattle.fl_model.specs.Work.{Device};
     ghost use Rattle.fl_ring.specs.Causes.{CausedBy};
     ghost use Rattle.fl_ring.specs.Step.{IsWatched};
     ghost use Rattle.fl_schema.specs.Schema.{layout_of};
     ghost use Rattle.fl_flash.specs.Flash.{FlashState};
     ghost use Rattle.fl_table.specs.Causes.{PutCausedBy, FlushCausedBy, RefusedSame, put_breaks, flush_breaks};
-    ghost use Rattle.fl_table.specs.Memory.{is_running, is_stopped, next_in, pending_in, HasRoom, IsSamePlan, LiesOn};
+    ghost use Rattle.fl_table.specs.Memory.{is_running, is_stopped, next_in, pending_in, HasBuckets, HasRoom, InMemory, IsSameBeside, IsSamePlan, LiesOn};
     ghost use Rattle.fl_table.specs.Refusal.{put_refusal, RefusesAs};
     ghost use Rattle.fl_table.specs.Standing.{Stands};
     ghost use Rattle.fl_table.specs.Bitmaps.{next_of as index_next};
+    ghost use Rattle.fl_table.specs.Blobs as variable;
+    ghost use Rattle.fl_table.specs.Blobs.{HasFew};
     ghost use Rattle.fl_table.specs.Mounting.{OutsideStands, rings_in};
-    ghost use Rattle.fl_table.specs.Outcomes.{SealsEnd, PutEnds, FlushEnds};
+    ghost use Rattle.fl_table.specs.Outcomes.{SealsEnd, JoinEnds, PutEnds, FlushEnds};
     ghost use Rattle.fl_table.specs.Accepting.{IsAcceptedBy};
 
     /// Seals the pending rows where a page is full of them.
@@ -52,6 +56,8 @@ impl Table {
         ensures running { OnOk result (is_running self.new ≡ true) }
         ensures next { OnOk result (next_in self.new ≤ next_in self.old + 1) }
         ensures index_next { OnOk result (index_next self.new.bitmaps ≤ index_next self.old.bitmaps + 1) }
+        ensures blob_next { OnOk result (variable.next_of self.new.blobs ≤ variable.next_of self.old.blobs + 1) }
+        ensures power { OnOk result ((F.state flash.old).is_on ≡ true → (F.state flash.new).is_on ≡ true) }
         ensures calm { OnOk result (is_stopped self.new ≡ is_stopped self.old) }
         ensures stopped { OnErr result ((is_running self.new ≡ false) × (is_stopped self.new ≡ true)) }
         ensures outside { IsTrue (F.state flash.old).media.tells → OutsideStands self.old (page_at (F.state flash.old)) (page_at (F.state flash.new)) }
@@ -65,25 +71,72 @@ impl Table {
         self.seal(flash)
     }
 
-    /// The record becomes the last one, and its row is pending.
-    fn add(&mut self, key: u64, values: &[i64])
-        requires fits { FitsRow (layout_of self.old.schema) (record { key = key; values = values.now; blob = None }) }
+    /// The record becomes the last one, and its row is pending, which refers to its blob.
+    fn add(&mut self, key: u64, values: &[i64], blob: Option<BlobRef>)
+        requires fits { FitsRow (layout_of self.old.schema) (record { key = key; values = values.now; blob = blob }) }
         requires room { HasRoom self.old }
         requires left { next_in self.old ≤ spent_from }
         requires index_left { index_next self.old.bitmaps ≤ spent_from }
+        requires blobs_left { variable.next_after self.old.blobs ≤ spent_from + 64 }
         ensures same { IsSamePlan self.old self.new }
         ensures ring { self.new.ring ≡ self.old.ring }
+        ensures bitmaps { self.new.bitmaps ≡ self.old.bitmaps }
+        ensures blobs { self.new.blobs ≡ self.old.blobs }
         ensures lies { (f : FlashState) → LiesOn self.old f → LiesOn self.new f }
         ensures stopped { is_stopped self.new ≡ is_stopped self.old }
-        ensures stands { (f : FlashState) → (first : ℕ) → (plan : Plan) → (table : model.Table) → Stands self.old f first plan table → IsAcceptedBy plan table key values.now
-            → Stands self.new f first plan (with_record plan (record { key = key; values = values.now; blob = None }) table table) }
+        ensures memory { (plan : Plan) → (table after : model.Table) → (entry : Entry) → InMemory self.old plan table → IsSameBeside table after → after.entries ≡ table.entries ++ entry ∷ [] → after.pending ≡ table.pending + 1 → table.pending ≤ length table.entries →
+            HasBuckets plan self.old.buckets → stored_row entry ≡ record { key = key; values = values.now; blob = blob } → InMemory self.new plan after }
     {
-        self.writer.push_row(&self.schema, key, values, None);
+        self.writer.push_row(&self.schema, key, values, blob);
         self.bitmap = with_value(self.buckets, self.bitmap, values[0]);
         self.last_key = Some(key);
     }
 
-    /// Puts a record. Its row is pending then, and is lost with the power until it is flushed or its page is full.
+    /// Places the record's blob, where it has one, and then the record becomes the last one, whose row is pending.
+    fn join<F: Flash>(
+        &mut self,
+        flash: &mut F,
+        key: u64,
+        values: &[i64],
+        blob: Option<&[u8]>,
+    ) -> Result<(), FlashFault>
+        requires running { is_running self.old ≡ true }
+        requires fits { FitsRow (layout_of self.old.schema) (record { key = key; values = values.now; blob = None }) }
+        requires few { HasFew (option_map (λ b. b.now) blob) }
+        requires room { HasRoom self.old }
+        requires left { next_in self.old ≤ spent_from }
+        requires index_left { index_next self.old.bitmaps ≤ spent_from }
+        requires blobs_left { variable.next_of self.old.blobs ≤ spent_from }
+        requires lies { LiesOn self.old (F.state flash.old) }
+        ensures goes { Goes (F.state flash.old) (F.state flash.new) }
+        ensures same { IsSamePlan self.old self.new }
+        ensures lies { LiesOn self.new (F.state flash.new) }
+        ensures ends { (first : ℕ) → (plan : Plan) → (table : model.Table) → (rose : Bool) → (device : Device) → IsWatched (F.state flash.old) (F.state flash.new) rose device
+            → Stands self.old (F.state flash.old) first plan table → IsAcceptedBy plan table key values.now (option_map (λ b. b.now) blob.entry)
+            → JoinEnds first plan (record { key = key; values = values.now; blob = option_map (λ b. b.now) blob.entry }) table rose device result self.new (F.state flash.new) }
+        ensures quiet { variable.pages_for self.old.blobs (option_map (λ b. b.now) blob.entry) ≡ 0 → (result ≡ Ok tt) × (F.state flash.new ≡ F.state flash.old) }
+        ensures running { OnOk result (is_running self.new ≡ true) }
+        ensures calm { OnOk result (is_stopped self.new ≡ is_stopped self.old) }
+        ensures stopped { OnErr result ((is_running self.new ≡ false) × (is_stopped self.new ≡ true)) }
+        ensures outside { IsTrue (F.state flash.old).media.tells → OutsideStands self.old (page_at (F.state flash.old)) (page_at (F.state flash.new)) }
+        ensures reads { (F.state flash.new).work.reads ≡ (F.state flash.old).work.reads }
+        ensures media_reads { (F.state flash.new).media.reads ≤ (F.state flash.old).media.reads + variable.pages_for self.old.blobs (option_map (λ b. b.now) blob.entry) }
+        ensures cause { IfErr result (λ e. CausedBy (F.state flash.old) e (F.state flash.new)) }
+    {
+        let at = match place(&mut self.blobs, flash, blob) {
+            Ok(at) => at,
+            Err(fault) => {
+                self.ring = None;
+                self.stopped = true;
+                return Err(fault);
+            }
+        };
+        self.add(key, values, at);
+        Ok(())
+    }
+
+    /// Puts a record. Its row is pending then, and is lost with the power until it is flushed or its page is full. The bytes
+    /// of its blob are copied into a buffer of their own, which is sealed as a page when more bytes come than it has room for.
     /// A refusal but `Flash` leaves all as it was. After `Flash` the table is stopped: it is to be mounted again.
     pub fn put<F: Flash>(
         &mut self,
@@ -99,21 +152,22 @@ impl Table {
         ensures ends { (first : ℕ) → (plan : Plan) → (table : model.Table) → (rose : Bool) → (device : Device) → IsWatched (F.state flash.old) (F.state flash.new) rose device
             → Stands self.old (F.state flash.old) first plan table
             → PutEnds first plan (record { key = key; values = values.now; blob = option_map (λ b. b.now) blob.entry }) table rose device result self.new (F.state flash.new) }
-        ensures exact { RefusesAs (put_refusal self.old key values.now (is_some blob.entry)) result }
+        ensures exact { RefusesAs (put_refusal self.old key values.now (option_map (λ b. length b.now) blob.entry)) result }
         ensures refused { IfErr result (λ e. RefusedSame self.old (F.state flash.old) e self.new (F.state flash.new)) }
         ensures stopped { is_stopped self.new ≡ (put_breaks result || is_stopped self.old) }
         ensures running { is_running self.new ≡ (is_running self.old && not (put_breaks result)) }
-        ensures quiet { put_refusal self.old key values.now (is_some blob.entry) ≡ None → HasRoom self.old → (result ≡ Ok tt) × (F.state flash.new ≡ F.state flash.old) }
+        ensures quiet { put_refusal self.old key values.now (option_map (λ b. length b.now) blob.entry) ≡ None → HasRoom self.old → variable.pages_for self.old.blobs (option_map (λ b. b.now) blob.entry) ≡ 0
+            → (result ≡ Ok tt) × (F.state flash.new ≡ F.state flash.old) }
         ensures reads { (F.state flash.new).work.reads ≡ (F.state flash.old).work.reads }
-        ensures media_reads { (F.state flash.new).media.reads ≤ (F.state flash.old).media.reads + rings_in self.old }
+        ensures media_reads { (F.state flash.new).media.reads ≤ (F.state flash.old).media.reads + rings_in self.old + variable.most_pages self.old.blobs (option_map (λ b. b.now) blob.entry) }
         ensures outside { IsTrue (F.state flash.old).media.tells → OutsideStands self.old (page_at (F.state flash.old)) (page_at (F.state flash.new)) }
         ensures cause { IfErr result (λ e. PutCausedBy (F.state flash.old) e (F.state flash.new)) }
     {
-        if let Some(refusal) = self.refusal(key, values, blob.is_some()) {
+        if let Some(refusal) = self.refusal(key, values, blob) {
             return Err(refusal);
         }
         self.make_room(flash)?;
-        self.add(key, values);
+        self.join(flash, key, values, blob)?;
         Ok(())
     }
 

@@ -11,10 +11,12 @@ ghost use Rattle.fl_page.specs.View.{page_of, layout_of_page, count_of, rows_of}
 ghost use Rattle.fl_schema.specs.Schema.{layout_of};
 ghost use Rattle.fl_spline.specs.Points.{IsFurther};
 ghost use Rattle.fl_table.specs.Causes.{IfFlash, IfPage, is_of_pages};
-ghost use Rattle.fl_table.specs.Reading.{last_in, keys_fault, IsRead, IsRefused, AreRead, AreRefused, last_after, rows_after, voids_after, points_after, AreNoted, pages_of, page_bitmap, bitmap_on, WaitFor, GatherUpTo, AreGathered};
+ghost use Rattle.fl_table.specs.Reading.{last_in, keys_fault, IsRead, IsRefused, AreRead, AreRefused, last_after, rows_after, voids_after, ends_after, points_after, AreNoted, pages_of, page_bitmap, bitmap_on, WaitFor, GatherUpTo, AreGathered};
 ghost use Rattle.fl_table.specs.Bitmaps.{AreSamePlan, AreSameRing};
+ghost use Rattle.fl_table.specs.BlobEnds.{blobs_end};
 
 use crate::bitmaps::note_bitmap;
+use crate::blob_end::blobs_end;
 use crate::seal::note;
 use crate::{MountFault, Mounted};
 use fl_base::get_u64;
@@ -26,13 +28,14 @@ use fl_page::PageView;
 use fl_ring::Ring;
 use fl_schema::Schema;
 
-/// How many rows a page has, their bitmap, the first key of them, and the last key up to them.
+/// How many rows a page has, their bitmap, the first key of them, and the last key and the end of the blobs up to them.
 #[derive(Clone, Copy)]
 pub(crate) struct PageRows {
     rows: u32,
     bitmap: u64,
     first: Option<u64>,
     last: Option<u64>,
+    blob_end: u64,
 }
 
 /// The rows of a page, whose keys rise from the last one on.
@@ -41,11 +44,13 @@ fn rows_of_view(
     bitmap: u64,
     number: u32,
     last: Option<u64>,
+    blob_end: u64,
 ) -> Result<PageRows, MountFault>
     requires { count_of view < 65536 }
     ensures rows { IfOk result (λ page. (keys_fault number last (rows_of view.entry) ≡ None) × (page.rows ≡ count_of view.entry) × (page.last ≡ last_in last (rows_of view.entry))) }
     ensures first { IfOk result (λ page. page.first ≡ first_key (rows_of view.entry)) }
     ensures bitmap { IfOk result (λ page. page.bitmap ≡ bitmap) }
+    ensures blob_end { IfOk result (λ page. page.blob_end ≡ blobs_end blob_end (rows_of view.entry)) }
     ensures fault { IfErr result (λ e. keys_fault number last (rows_of view.entry) ≡ Some e) }
 {
     let mut so_far = last;
@@ -67,6 +72,7 @@ fn rows_of_view(
         bitmap,
         first: Some(view.row(0).key()),
         last: so_far,
+        blob_end: blobs_end(&view, blob_end),
     })
 }
 
@@ -84,6 +90,7 @@ fn rows_in(
     bytes: &[u8],
     number: u32,
     last: Option<u64>,
+    blob_end: u64,
 ) -> Result<PageRows, MountFault>
     requires least { 24 ≤ length bytes.now }
     requires most { length bytes.now ≤ 4096 }
@@ -93,6 +100,7 @@ fn rows_in(
     ensures last { IfOk result (λ page. page.last ≡ last_in last (rows_on (layout_of schema.now) bytes.now)) }
     ensures first { IfOk result (λ page. page.first ≡ first_key (rows_on (layout_of schema.now) bytes.now)) }
     ensures bitmap { IfOk result (λ page. page.bitmap ≡ bitmap_on bytes.now) }
+    ensures blob_end { IfOk result (λ page. page.blob_end ≡ blobs_end blob_end (rows_on (layout_of schema.now) bytes.now)) }
     ensures fault { IfErr result (λ e. IsRefused (layout_of schema.now) number bytes.now last e) }
 {
     let PageState::Committed = state_of(bytes) else {
@@ -101,10 +109,11 @@ fn rows_in(
             bitmap: 0,
             first: None,
             last,
+            blob_end,
         });
     };
     match PageView::of(bytes, number, schema) {
-        Ok(view) => rows_of_view(view, bitmap_in(bytes), number, last),
+        Ok(view) => rows_of_view(view, bitmap_in(bytes), number, last, blob_end),
         Err(bad) => Err(MountFault::BadPage(bad)),
     }
 }
@@ -116,6 +125,7 @@ fn read_page<F: Flash>(
     at: u32,
     number: u32,
     last: Option<u64>,
+    blob_end: u64,
     buf: &mut PageBuf,
 ) -> Result<PageRows, MountFault>
     requires row { 1 ≤ layout_len (layout_of schema.now) }
@@ -129,6 +139,7 @@ fn read_page<F: Flash>(
     ensures last { IfOk result (λ page. IsTrue (F.state flash.old).media.tells → page.last ≡ last_in last (rows_on (layout_of schema.now) (page_at (F.state flash.old) at))) }
     ensures first { IfOk result (λ page. IsTrue (F.state flash.old).media.tells → page.first ≡ first_key (rows_on (layout_of schema.now) (page_at (F.state flash.old) at))) }
     ensures bitmap { IfOk result (λ page. IsTrue (F.state flash.old).media.tells → page.bitmap ≡ bitmap_on (page_at (F.state flash.old) at)) }
+    ensures blob_end { IfOk result (λ page. IsTrue (F.state flash.old).media.tells → page.blob_end ≡ blobs_end blob_end (rows_on (layout_of schema.now) (page_at (F.state flash.old) at))) }
     ensures few { IfOk result (λ page. page.rows < 65536) }
     ensures fault { IfErr result (IfPage (λ e. IsTrue (F.state flash.old).media.tells → IsRefused (layout_of schema.now) number (page_at (F.state flash.old) at) last e)) }
     ensures fails { IfErr result (IfFlash (λ e. ReadFails (F.state flash.old) e (F.state flash.new))) }
@@ -136,7 +147,7 @@ fn read_page<F: Flash>(
     ensures power { OnOk result ((F.state flash.new).is_on ≡ true) }
 {
     flash.read(at, buf)?;
-    let page = rows_in(schema, buf.bytes(), number, last);
+    let page = rows_in(schema, buf.bytes(), number, last, blob_end);
     buf.forget();
     page
 }
@@ -154,7 +165,8 @@ fn add_page(index: &mut LearnedIndex<64, 64>, first: Option<u64>, number: u32)
 }
 
 /// Reads the kept pages of a ring, from the oldest on, notes how many rows each has, adds those with rows to an index of
-/// no pages, and notes the bitmaps that wait, from that of the page on that is to wait first.
+/// no pages, and notes the bitmaps that wait, from that of the page on that is to wait first. It answers what it found, the
+/// last key, and one more than the greatest page that a blob names.
 pub(crate) fn read_pages<F: Flash>(
     schema: &Schema<8>,
     ring: &Ring,
@@ -163,7 +175,7 @@ pub(crate) fn read_pages<F: Flash>(
     bitmaps: &mut Option<Index>,
     flash: &mut F,
     buf: &mut PageBuf,
-) -> Result<(Mounted, Option<u64>), MountFault>
+) -> Result<(Mounted, Option<u64>, u64), MountFault>
     requires row { 1 ≤ layout_len (layout_of schema.now) }
     requires lies { LiesOn ring.now (F.state flash.old) }
     requires room { length buf.old.bytes ≡ (F.state flash.old).geometry.page }
@@ -192,6 +204,8 @@ pub(crate) fn read_pages<F: Flash>(
     }) }
     ensures last { IfOk result (λ found. IsTrue (F.state flash.old).media.tells →
         found.1 ≡ last_after (layout_of schema.now) (pages_of ring.now (F.state flash.old)) (oldest_of ring.now) (next_of ring.now - oldest_of ring.now)) }
+    ensures blob_end { IfOk result (λ found. IsTrue (F.state flash.old).media.tells →
+        found.2 ≡ ends_after (layout_of schema.now) (pages_of ring.now (F.state flash.old)) (oldest_of ring.now) (next_of ring.now - oldest_of ring.now)) }
     ensures fault { IfErr result (IfPage (λ e. IsTrue (F.state flash.old).media.tells →
         AreRefused (layout_of schema.now) (pages_of ring.now (F.state flash.old)) (oldest_of ring.now) (next_of ring.now - oldest_of ring.now) e)) }
     ensures fails { IfErr result (IfFlash (λ e. ReadFails (F.state flash.old) e (F.state flash.new))) }
@@ -206,16 +220,26 @@ pub(crate) fn read_pages<F: Flash>(
         voids: 0,
     };
     let mut last = None;
+    let mut blob_end = 0;
     for number in oldest..next {
-        let page = read_page(schema, flash, ring.place_of(number), number, last, buf)?;
+        let page = read_page(
+            schema,
+            flash,
+            ring.place_of(number),
+            number,
+            last,
+            blob_end,
+            buf,
+        )?;
         note(counts, number, page.rows);
         add_page(index, page.first, number);
         note_bitmap(bitmaps, number, page.bitmap);
         last = page.last;
+        blob_end = page.blob_end;
         mounted.rows += u64::from(page.rows);
         if page.rows == 0 {
             mounted.voids += 1;
         }
     }
-    Ok((mounted, last))
+    Ok((mounted, last, blob_end))
 }

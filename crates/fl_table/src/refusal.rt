@@ -10,10 +10,11 @@ use crate::table::Table;
 const SPENT_FROM: u32 = 4_294_901_760;
 
 impl Table {
-    ghost use Rattle.std.specs.Prelude.{not, length, ◌==◌};
+    ghost use Rattle.std.specs.Prelude.{not, length, ◌==◌, option_map};
     ghost use Rattle.fl_table.specs.Bitmaps.{next_of as index_next};
+    ghost use Rattle.fl_table.specs.Blobs.{next_of as blob_next};
     ghost use Rattle.fl_table.specs.Memory.{is_running};
-    ghost use Rattle.fl_table.specs.Refusal.{key_refused, value_refused, spent_refused, put_refusal};
+    ghost use Rattle.fl_table.specs.Refusal.{key_refused, value_refused, blob_refused, spent_refused, put_refusal};
 
     fn key_refused(&self, key: u64) -> Option<PutRefusal>
         ensures { result ≡ key_refused self.now.last_key key }
@@ -43,16 +44,43 @@ impl Table {
         }
     }
 
+    /// The number of the next page of variable data. A table without any answers 0.
+    fn next_blob_page(&self) -> u32
+        ensures { result ≡ blob_next self.now.blobs }
+    {
+        match &self.blobs {
+            Some(var) => var.next_number(),
+            None => 0,
+        }
+    }
+
+    fn blob_refused(&self, blob: Option<&[u8]>) -> Option<PutRefusal>
+        ensures { result ≡ blob_refused self.now (option_map (λ b. length b.now) blob.entry) }
+    {
+        let bytes = blob?;
+        if self.blobs.is_none() {
+            return Some(PutRefusal::Blob { limit: 0 });
+        }
+        let limit = self.blob_limit;
+        (bytes.len() > limit as usize).then_some(PutRefusal::Blob { limit })
+    }
+
     fn spent_refused(&self) -> Option<PutRefusal>
         ensures { result ≡ spent_refused self.now }
     {
-        let next = self.next_number().max(self.next_index_page());
+        let pages = self.next_number().max(self.next_index_page());
+        let next = pages.max(self.next_blob_page());
         (next >= SPENT_FROM).then_some(PutRefusal::Spent)
     }
 
     /// The first refusal of a record that applies, if one does.
-    pub(crate) fn refusal(&self, key: u64, values: &[i64], has_blob: bool) -> Option<PutRefusal>
-        ensures { result ≡ put_refusal self.now key values.now has_blob }
+    pub(crate) fn refusal(
+        &self,
+        key: u64,
+        values: &[i64],
+        blob: Option<&[u8]>,
+    ) -> Option<PutRefusal>
+        ensures { result ≡ put_refusal self.now key values.now (option_map (λ b. length b.now) blob.entry) }
     {
         if !self.is_running() {
             return Some(PutRefusal::Stopped);
@@ -71,8 +99,9 @@ impl Table {
         if refused.is_some() {
             return refused;
         }
-        if has_blob {
-            return Some(PutRefusal::Blob { limit: 0 });
+        let refused = self.blob_refused(blob);
+        if refused.is_some() {
+            return refused;
         }
         self.spent_refused()
     }

@@ -1,10 +1,11 @@
-// The seal of a table: a full list of bitmaps, and the pending rows.
+// The seal of a table: a full list of bitmaps, the bytes of blobs that wait, and the pending rows.
 ghost use Rattle.std.specs.Prelude.{◌≡◌, ◌≤◌, ◌+◌, ◌-◌, ◌<◌, ◌%◌, ◌==◌, [], ◌∷◌, true, false, length, map, count_by, slice_index, slice_set, IsTrue, OnOk, OnErr, IfErr};
 ghost use Rattle.std.specs.List.{range_with_len};
 ghost use Rattle.fl_flash.specs.Flash.{Goes, page_at};
 ghost use Rattle.fl_ring.specs.Causes.{CausedBy};
 
 use crate::bitmaps::{make_room, note_bitmap};
+use crate::blobs::seal_rest;
 use crate::table::Table;
 use fl_flash::{Flash, FlashFault};
 
@@ -18,11 +19,13 @@ impl Table {
     ghost use Rattle.fl_table.specs.Memory.{is_running, is_stopped, next_in, IsSamePlan, LiesOn};
     ghost use Rattle.fl_table.specs.Standing.{Stands};
     ghost use Rattle.fl_table.specs.Bitmaps.{HaveRoom, bitmap_seals, next_of as index_next, rings_of};
+    ghost use Rattle.fl_table.specs.Blobs as variable;
+    ghost use Rattle.fl_table.specs.Blobs.{AreEmpty, blob_seals};
     ghost use Rattle.fl_table.specs.Mounting.{OutsideStands, rings_in};
     ghost use Rattle.fl_table.specs.Outcomes.{SealsEnd};
 
-    /// Seals the table: the waiting bitmaps, where they fill an index page, and then the pending rows. After an error the
-    /// table is stopped.
+    /// Seals the table: the waiting bitmaps, where they fill an index page, the blob bytes that wait, and then the pending
+    /// rows, so that each row's blob stands before it. After an error the table is stopped.
     pub(crate) fn seal<F: Flash>(&mut self, flash: &mut F) -> Result<(), FlashFault>
         requires running { is_running self.old ≡ true }
         requires some { 1 ≤ self.old.writer.count }
@@ -36,14 +39,17 @@ impl Table {
         ensures running { OnOk result (is_running self.new ≡ true) }
         ensures next { OnOk result (next_in self.new ≡ next_in self.old + 1) }
         ensures index_next { OnOk result (index_next self.new.bitmaps ≤ index_next self.old.bitmaps + 1) }
+        ensures blob_next { OnOk result (variable.next_of self.new.blobs ≤ variable.next_of self.old.blobs + 1) }
         ensures calm { OnOk result (is_stopped self.new ≡ is_stopped self.old) }
         ensures stopped { OnErr result ((is_running self.new ≡ false) × (is_stopped self.new ≡ true)) }
         ensures outside { IsTrue (F.state flash.old).media.tells → OutsideStands self.old (page_at (F.state flash.old)) (page_at (F.state flash.new)) }
         ensures reads { (F.state flash.new).work.reads ≡ (F.state flash.old).work.reads }
         ensures media_reads { (F.state flash.new).media.reads ≤ (F.state flash.old).media.reads + rings_in self.old }
+        ensures power { OnOk result ((F.state flash.old).is_on ≡ true → (F.state flash.new).is_on ≡ true) }
         ensures cause { IfErr result (λ e. CausedBy (F.state flash.old) e (F.state flash.new)) }
     {
         self.seal_bitmaps(flash)?;
+        self.seal_blobs(flash)?;
         self.seal_rows(flash)
     }
 
@@ -59,6 +65,7 @@ impl Table {
             → Stands self.old (F.state flash.old) first plan table → SealsEnd first plan (bitmap_seals plan table) table rose device result self.new (F.state flash.new) }
         ensures room { OnOk result (HaveRoom self.new.bitmaps) }
         ensures some { self.new.writer.count ≡ self.old.writer.count }
+        ensures blobs { self.new.blobs ≡ self.old.blobs }
         ensures running { OnOk result (is_running self.new ≡ true) }
         ensures next { OnOk result (next_in self.new ≡ next_in self.old) }
         ensures index_next { OnOk result (index_next self.new.bitmaps ≤ index_next self.old.bitmaps + 1) }
@@ -78,11 +85,44 @@ impl Table {
         Ok(())
     }
 
+    /// Seals the blob bytes that wait, where there are any.
+    fn seal_blobs<F: Flash>(&mut self, flash: &mut F) -> Result<(), FlashFault>
+        requires running { is_running self.old ≡ true }
+        requires some { 1 ≤ self.old.writer.count }
+        requires lies { LiesOn self.old (F.state flash.old) }
+        ensures goes { Goes (F.state flash.old) (F.state flash.new) }
+        ensures same { IsSamePlan self.old self.new }
+        ensures lies { LiesOn self.new (F.state flash.new) }
+        ensures ends { (first : ℕ) → (plan : Plan) → (table : model.Table) → (rose : Bool) → (device : Device) → IsWatched (F.state flash.old) (F.state flash.new) rose device
+            → Stands self.old (F.state flash.old) first plan table → SealsEnd first plan (blob_seals table) table rose device result self.new (F.state flash.new) }
+        ensures empty { OnOk result (AreEmpty self.new.blobs) }
+        ensures some { self.new.writer.count ≡ self.old.writer.count }
+        ensures bitmaps { self.new.bitmaps ≡ self.old.bitmaps }
+        ensures running { OnOk result (is_running self.new ≡ true) }
+        ensures next { OnOk result (next_in self.new ≡ next_in self.old) }
+        ensures blob_next { OnOk result (variable.next_of self.new.blobs ≤ variable.next_of self.old.blobs + 1) }
+        ensures calm { OnOk result (is_stopped self.new ≡ is_stopped self.old) }
+        ensures stopped { OnErr result ((is_running self.new ≡ false) × (is_stopped self.new ≡ true)) }
+        ensures outside { IsTrue (F.state flash.old).media.tells → OutsideStands self.old (page_at (F.state flash.old)) (page_at (F.state flash.new)) }
+        ensures reads { (F.state flash.new).work.reads ≡ (F.state flash.old).work.reads }
+        ensures media_reads { (F.state flash.new).media.reads ≤ (F.state flash.old).media.reads + variable.rings_of self.old.blobs }
+        ensures power { OnOk result ((F.state flash.old).is_on ≡ true → (F.state flash.new).is_on ≡ true) }
+        ensures cause { IfErr result (λ e. CausedBy (F.state flash.old) e (F.state flash.new)) }
+    {
+        if let Err(fault) = seal_rest(&mut self.blobs, flash) {
+            self.ring = None;
+            self.stopped = true;
+            return Err(fault);
+        }
+        Ok(())
+    }
+
     /// Seals the pending rows as the next page, whose bitmap waits for the index then.
     fn seal_rows<F: Flash>(&mut self, flash: &mut F) -> Result<(), FlashFault>
         requires running { is_running self.old ≡ true }
         requires some { 1 ≤ self.old.writer.count }
         requires bitmaps { HaveRoom self.old.bitmaps }
+        requires blobs { AreEmpty self.old.blobs }
         requires lies { LiesOn self.old (F.state flash.old) }
         ensures goes { Goes (F.state flash.old) (F.state flash.new) }
         ensures same { IsSamePlan self.old self.new }
@@ -93,11 +133,13 @@ impl Table {
         ensures running { OnOk result (is_running self.new ≡ true) }
         ensures next { OnOk result (next_in self.new ≡ next_in self.old + 1) }
         ensures index_next { OnOk result (index_next self.new.bitmaps ≡ index_next self.old.bitmaps) }
+        ensures blobs { self.new.blobs ≡ self.old.blobs }
         ensures calm { OnOk result (is_stopped self.new ≡ is_stopped self.old) }
         ensures stopped { OnErr result ((is_running self.new ≡ false) × (is_stopped self.new ≡ true)) }
         ensures outside { IsTrue (F.state flash.old).media.tells → OutsideStands self.old (page_at (F.state flash.old)) (page_at (F.state flash.new)) }
         ensures reads { (F.state flash.new).work.reads ≡ (F.state flash.old).work.reads }
         ensures media_reads { (F.state flash.new).media.reads ≤ (F.state flash.old).media.reads + 1 }
+        ensures power { OnOk result ((F.state flash.old).is_on ≡ true → (F.state flash.new).is_on ≡ true) }
         ensures cause { IfErr result (λ e. CausedBy (F.state flash.old) e (F.state flash.new)) }
     {
         let Some(mut ring) = self.ring.take() else {

@@ -1,5 +1,5 @@
 // A table: its records in the pages of a ring, and those that wait in memory for their page.
-ghost use Rattle.std.specs.Prelude.{◌≡◌, ◌+◌, ◌*◌, ◌<◌, ◌≤◌, ◌-◌, true, false, is_some, length, drop, replicate, vec_len};
+ghost use Rattle.std.specs.Prelude.{◌≡◌, ◌+◌, ◌*◌, ◌<◌, ◌≤◌, ◌-◌, true, is_some, length, drop, replicate, vec_len};
 ghost use Rattle.std.specs.Option.{ForSome};
 ghost use Rattle.fl_flash.specs.Places.{IsGeometry};
 ghost use Rattle.fl_model.specs.Record.{layout_len};
@@ -8,6 +8,7 @@ ghost use Rattle.fl_schema.specs.Schema.{layout_of, types_of};
 ghost use Rattle.fl_ring.specs.Mounting.{shape_at};
 ghost use Rattle.fl_ring.specs.Place.{next_of, shape_of};
 ghost use Rattle.fl_table.specs.Bitmaps.{AreRunning, EndAt, next_after};
+ghost use Rattle.fl_table.specs.Blobs as variable;
 
 use fl_base::{Geometry, RingPlace};
 use fl_bitmap::Buckets;
@@ -16,6 +17,7 @@ use fl_index::Index;
 use fl_page::PageWriter;
 use fl_ring::Ring;
 use fl_schema::Schema;
+use fl_var::VarData;
 
 /// Records in ascending order of their keys. It is mounted before its first use; each call that takes a flash is
 /// given the one on which it was mounted.
@@ -42,6 +44,9 @@ pub struct Table {
     pub(crate) index: LearnedIndex<64, 64>,
     /// The bitmaps of sealed pages, where there is an index of them.
     pub(crate) bitmaps: Option<Index>,
+    /// The blobs of its records, where it keeps any, and the greatest length of one.
+    pub(crate) blobs: Option<VarData>,
+    pub(crate) blob_limit: u32,
     ghost served: { IsGeometry geometry },
     ghost some_blocks: { 3 ≤ place.blocks },
     ghost few_blocks: { place.blocks ≤ 16384 },
@@ -49,7 +54,8 @@ pub struct Table {
     ghost few_columns: { length (types_of schema) ≤ 8 },
     ghost some_row: { 1 ≤ layout_len (layout_of schema) },
     ghost room_for_row: { layout_len (layout_of schema) + 24 ≤ geometry.page },
-    ghost no_blobs: { (layout_of schema).blobs ≡ false },
+    ghost has_blobs: { (layout_of schema).blobs ≡ is_some blobs },
+    ghost blobs_fit: { blob_limit ≤ 1500 },
     ghost page: { length writer.body + 8 ≡ geometry.page },
     ghost rows_end: { writer.end ≡ 16 + writer.count * layout_len (layout_of schema) },
     ghost rows_room: { writer.end ≤ length writer.body },
@@ -61,4 +67,6 @@ pub struct Table {
     ghost running: { is_some ring ≡ true → AreRunning bitmaps },
     ghost follow: { ForSome ring (λ r. EndAt bitmaps (next_of r)) },
     ghost pages_left: { 1 ≤ writer.count → next_after bitmaps ≤ spent_from + 1 },
+    ghost blobs_running: { is_some ring ≡ true → variable.AreRunning blobs },
+    ghost blobs_left: { is_some ring ≡ true → 1 ≤ writer.count → variable.next_after blobs ≤ spent_from + 64 },
 }

@@ -3,6 +3,8 @@ ghost use Rattle.std.specs.Prelude.{◌≡◌, ◌≤◌, ◌<◌, ◌+◌, true
 ghost use Rattle.fl_flash.specs.Flash.{FlashState, Goes};
 ghost use Rattle.fl_table.specs.Memory.{LiesOn, is_running};
 
+mod indexed;
+
 use crate::{FlushFault, MountFault, Mounted, PutRefusal, Table};
 use arrayvec::ArrayVec;
 use fl_base::{CutKind, Geometry, NoMemory, RingPlace, Steps, put_u16, put_u32, put_u64};

@@ -26,7 +26,7 @@ pub struct PlainStore {
 }
 
 impl PlainStore {
-    pub fn new(alloc: Global) -> PlainStore {
+    pub(crate) fn new(alloc: Global) -> PlainStore {
         PlainStore {
             sealed: Vec::new(alloc),
             pending: Vec::new(alloc),
@@ -36,7 +36,7 @@ impl PlainStore {
     }
 
     /// The keys of the sealed records that aren't given up.
-    pub fn kept(&self, alloc: Global) -> Result<Vec<u64>, AllocError> {
+    pub(crate) fn kept(&self, alloc: Global) -> Result<Vec<u64>, AllocError> {
         let mut keys = Vec::new(alloc);
         for (key, page) in self.sealed.iter() {
             if *page >= self.oldest {
@@ -47,12 +47,12 @@ impl PlainStore {
     }
 
     /// What is pending is lost.
-    pub fn lose(&mut self) {
+    pub(crate) fn lose(&mut self) {
         self.pending.clear();
     }
 
     /// Puts a record. False says that the power went, and then the record isn't accepted.
-    pub fn put(&mut self, key: u64, cut: &mut Cut) -> Result<bool, AllocError> {
+    pub(crate) fn put(&mut self, key: u64, cut: &mut Cut) -> Result<bool, AllocError> {
         if self.pending.len() >= ROWS {
             if !self.seal(cut)? {
                 return Ok(false);
@@ -63,7 +63,7 @@ impl PlainStore {
     }
 
     /// Seals what is pending. False says that the power went.
-    pub fn flush(&mut self, cut: &mut Cut) -> Result<bool, AllocError> {
+    pub(crate) fn flush(&mut self, cut: &mut Cut) -> Result<bool, AllocError> {
         if self.pending.is_empty() {
             return Ok(true);
         }

@@ -21,7 +21,7 @@ pub struct Talk {
 
 impl Talk {
     /// A script that is configured and mounts.
-    pub fn new(alloc: Global) -> Result<Talk, Fail> {
+    pub(crate) fn new(alloc: Global) -> Result<Talk, Fail> {
         let mut talk = Talk {
             script: Vec::new(alloc),
             wanted: Vec::new(alloc),
@@ -31,7 +31,7 @@ impl Talk {
         Ok(talk)
     }
 
-    pub fn add(&mut self, command: &str, reply: &str) -> Result<(), Fail> {
+    pub(crate) fn add(&mut self, command: &str, reply: &str) -> Result<(), Fail> {
         self.script.extend_from_slice(command.as_bytes())?;
         self.script.push(b'\n')?;
         self.wanted.extend_from_slice(reply.as_bytes())?;
@@ -39,11 +39,11 @@ impl Talk {
         Ok(())
     }
 
-    pub fn add_outcome(&mut self, command: &str, stays_on: bool) -> Result<(), Fail> {
+    pub(crate) fn add_outcome(&mut self, command: &str, stays_on: bool) -> Result<(), Fail> {
         self.add(command, if stays_on { "ok" } else { "power lost" })
     }
 
-    pub fn add_cut(&mut self, alloc: Global, cut: &Cut) -> Result<(), Fail> {
+    pub(crate) fn add_cut(&mut self, alloc: Global, cut: &Cut) -> Result<(), Fail> {
         let left = cut.left;
         let line = match cut.kind {
             CutKind::Before => format!(in alloc; "cut {left} before")?,
@@ -55,7 +55,7 @@ impl Talk {
     }
 
     /// A mount, and a scan that lists the records kept.
-    pub fn add_mount(&mut self, alloc: Global, store: &PlainStore) -> Result<(), Fail> {
+    pub(crate) fn add_mount(&mut self, alloc: Global, store: &PlainStore) -> Result<(), Fail> {
         self.add("mount", "ok")?;
         self.script.extend_from_slice(b"scan t 0 99\n")?;
         let keys = store.kept(alloc)?;
@@ -70,7 +70,7 @@ impl Talk {
 }
 
 /// Whether a run of the script on a new image answers so.
-pub fn is_answered(alloc: Global, talk: Talk) -> Result<bool, Fail> {
+pub(crate) fn is_answered(alloc: Global, talk: Talk) -> Result<bool, Fail> {
     let mut words = Vec::new(alloc);
     words.push(String::from_str(alloc, "run")?)?;
     words.push(String::from_str(alloc, "image")?)?;

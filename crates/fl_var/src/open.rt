@@ -10,7 +10,7 @@ use fl_flash::{Flash, PageBuf};
 use fl_page::{BadPage, ReadFault};
 
 impl VarData {
-    ghost use Rattle.std.specs.Prelude.{ℕ, List, None, ◌/◌};
+    ghost use Rattle.std.specs.Prelude.{ℕ, List, [], None, ◌/◌};
     ghost use Rattle.fl_model.specs.Table as model;
     ghost use Rattle.fl_model.specs.Table.{Entry};
     ghost use Rattle.fl_model.specs.Record.{Plan};
@@ -19,7 +19,7 @@ impl VarData {
     ghost use Rattle.fl_var.specs.Blobs.{IsGone, IsBadFirst};
     ghost use Rattle.fl_var.specs.Memory.{is_mounted, LiesOn, next_in, room_in, present, image_in, page_in};
     ghost use Rattle.fl_var.specs.Placing.{HoldsBytes};
-    ghost use Rattle.fl_var.specs.Reading.{data_of, buffer_of, count_left, pages_left, Opens, Finds, IfUnread, IfBad};
+    ghost use Rattle.fl_var.specs.Reading.{data_of, buffer_of, chunk_of, count_left, pages_left, Opens, Finds, IfUnread, IfBad};
     ghost use Rattle.fl_var.specs.Standing.{Stands};
     ghost use Rattle.fl_page.specs.Header.{page_count};
 
@@ -80,6 +80,7 @@ impl VarData {
         ensures lies { LiesOn self.now (F.state flash.new) }
         ensures data { IfOk result (λ reader. IfSome reader (λ r. (data_of r ≡ self.now) × (count_left r ≡ at.length))) }
         ensures buffer { IfOk result (λ reader. IfSome reader (λ r. buffer_of r ≡ buf.entry.ghost_name)) }
+        ensures none { IfOk result (λ reader. IfSome reader (λ r. chunk_of r ≡ [])) }
         ensures few { IfOk result (λ reader. IfSome reader (λ r. pages_left r ≤ at.length / room_in self.now + 1)) }
         ensures opens { IsTrue (F.state flash.old).media.tells → Opens self.now (F.state flash.old) at result }
         ensures finds { (plan : Plan) (table : model.Table) (entry : Entry) (bytes : List ℕ) → IsTrue (F.state flash.old).media.tells → Stands self.now (F.state flash.old) plan table

@@ -168,6 +168,7 @@ impl VarData {
         ensures ends { (plan : Plan) → (table : model.Table) → (rose : Bool) → (device : Device) → IsWatched (F.state flash.old) (F.state flash.new) rose device
             → Stands self.old (F.state flash.old) plan table → RestEnds plan table rose device self.old (F.state flash.old) result self.new (F.state flash.new) }
         ensures quiet { waiting_in self.old ≡ [] → (result ≡ Ok tt) × (F.state flash.new ≡ F.state flash.old) }
+        ensures power { OnOk result ((F.state flash.old).is_on ≡ true → (F.state flash.new).is_on ≡ true) }
         ensures outside { IsTrue (F.state flash.old).media.tells → OutsideStands (var_shape self.old) (page_at (F.state flash.old)) (page_at (F.state flash.new)) }
         ensures reads { (F.state flash.new).work.reads ≡ (F.state flash.old).work.reads }
         ensures media_reads { (F.state flash.new).media.reads ≤ (F.state flash.old).media.reads + 1 }

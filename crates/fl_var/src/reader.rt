@@ -32,7 +32,7 @@ pub struct BlobReader<'s, 'b> {
 }
 
 impl<'s, 'b> BlobReader<'s, 'b> {
-    ghost use Rattle.std.specs.Prelude.{nat_lt, ◌++◌, IsTrue, IfOk, IfErr, OnOk};
+    ghost use Rattle.std.specs.Prelude.{nat_lt, [], ◌++◌, IsTrue, IfOk, IfErr, OnOk, OnErr};
     ghost use Rattle.fl_flash.specs.Flash.{FlashState};
     ghost use Rattle.fl_page.specs.Contents as contents;
     ghost use Rattle.fl_ring.specs.Looking.{OnlyReads};
@@ -111,6 +111,7 @@ impl<'s, 'b> BlobReader<'s, 'b> {
         ensures more { IfOk result (λ more. more ≡ nat_lt 0 (count_left self.old)) }
         ensures some { IfOk result (λ more. more ≡ true → 1 ≤ length (chunk_of self.new)) }
         ensures chunk { count_left self.old ≡ length (chunk_of self.new) + count_left self.new }
+        ensures none { OnErr result (chunk_of self.new ≡ []) }
         ensures steps { Reads self.old (F.state flash.old) → Steps result (bytes_left self.old (F.state flash.old)) (chunk_of self.new) (bytes_left self.new (F.state flash.new)) }
         ensures whole { Reads self.old (F.state flash.old) → IsWholeIn self.old (F.state flash.old) → NoneBad result × IsWholeIn self.new (F.state flash.new) }
         ensures few { Reads self.old (F.state flash.old) → IsWholeIn self.old (F.state flash.old) → OnOk result ((F.state flash.new).work.reads + pages_left self.new ≤ (F.state flash.old).work.reads + pages_left self.old) }
@@ -127,12 +128,12 @@ impl<'s, 'b> BlobReader<'s, 'b> {
         Ok(true)
     }
 
-    /// Gives the buffer back.
+    /// Gives the buffer back as it is.
     pub fn close(self)
-        ensures size { length self.exit.1.0.now.bytes ≡ length self.entry.buf.now.bytes }
+        ensures same { self.exit.1.0.now ≡ self.entry.buf.now }
     {}
 
-    /// The bytes that the last step gave: none where it answered false or failed.
+    /// The bytes that the last step gave: none before the first one, and where it answered false or failed.
     pub fn chunk(&self) -> &[u8]
         ensures { result.now ≡ chunk_of self.now }
     {

@@ -1,4 +1,4 @@
-// Scans and lookups whose pages aren't read.
+// Scans, joins and lookups whose pages aren't read.
 use super::*;
 
 /// A page that isn't read ends the reply behind the rows before it, and the session stays mounted. No page is read where
@@ -35,13 +35,24 @@ fn read_faults(rt: HostRuntime) -> Result<(), Fail> {
         ("scan t 2 9", "read fault"),
         ("scan t 2 9", "row 2 0\nrow 3 0\nend 2"),
     ];
+    let pairs: Talk = &[
+        ("join t t 3 9", "pair 3 0 0\nend 1"),
+        ("join t t 0 9", "read fault"),
+        ("join t t 0 9", "pair 1 0 0\npair 2 0 0\npair 3 0 0\nend 3"),
+    ];
     let lookup: Talk = &[
         ("get t 3", "row 3 0"),
         ("get t 1", "read fault"),
         ("get t 1", "row 1 0"),
     ];
     // The first page of a range is looked up, in two reads here where no page begins by its low key.
-    let cases = [(1, first), (4, second), (4, one_page), (1, lookup)];
+    let cases = [
+        (1, first),
+        (4, second),
+        (4, one_page),
+        (1, pairs),
+        (1, lookup),
+    ];
     for (i, (call, after)) in cases.iter().enumerate() {
         let mut media = empty_medium(alloc)?;
         media.fail_call(calls.saturating_add(*call));

@@ -7,4 +7,4 @@ pub returns : goal.returns
 returns c =
     IfOk-weaker c.plan.result _ _ (λ t lies f geometry blocks.
     let pages_is : pages f ≡ 3 * 2 = ap (λ n. n * f.geometry.block) blocks ∙ ap (λ g. 3 * g.block) geometry in
-    lies f geometry (omega (arith, blocks)) tt (omega (arith, pages_is))) c.plan.ensures.lies
+    lies f geometry (omega (arith, blocks)) tt tt (omega (arith, pages_is))) c.plan.ensures.lies

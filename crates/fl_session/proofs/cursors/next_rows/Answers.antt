@@ -1,19 +1,16 @@
 use Rattle.std.proofs.Common.{◌≡◌, false, List, ℕ, sym, subst}
-use Rattle.fl_model.specs.Record.{has_var}
 use Rattle.fl_page.specs.Contents.{contents_of}
 use Rattle.fl_script.specs.Written.{Written}
-use Rattle.fl_table.proofs.SealAnswers.{planned-plain}
 use Rattle.fl_session.proofs.Following.{nexts-given, nexts-fault, reads-within}
 use Rattle.fl_session.proofs.Resumed.{is-standing, left-there, nexts-by}
 use Rattle.fl_session.proofs.cursors.next_rows.Goals as goal
 
 pub returns-in-Ok-clause-nexts : goal.returns-in-Ok-clause-nexts
-returns-in-Ok-clause-nexts g c = λ first plan t tells on stands plain.
-    let none : has_var plan ≡ false = (planned-plain c.args.table.now first plan stands.planned).no_var in
+returns-in-Ok-clause-nexts g c = λ first plan t tells on stands none.
     let reaches = g.met.F.Flash.reaches c.args.flash.now in
     let told = c.resume-cursor.ensures.told (contents_of (g.F.Flash.state c.args.flash.now)) (is-standing c.args.table.now (g.F.Flash.state c.args.flash.now) first plan t tells reaches c.requires.lies stands) in
     let are = left-there c.args.table.now (g.F.Flash.state c.args.flash.now) first plan t tells reaches c.requires.lies stands c.resume-cursor.result c.resume-cursor.ensures.table in
-    let limit = c.resume-cursor.ensures.limit (g.F.Flash.state c.args.flash.now) first plan t tells reaches c.requires.lies stands plain in
+    let limit = c.resume-cursor.ensures.limit (g.F.Flash.state c.args.flash.now) first plan t tells reaches c.requires.lies stands in
     let most = (c.give_rows-given.ensures.reads told).most in
     let within = reads-within plan t c.resume-cursor.result (contents_of (g.F.Flash.state c.args.flash.now)) _ _ c.resume-cursor.ensures.mark limit most in
     nexts-by c.resume-cursor.ensures.mark (sym c.park.ensures.mark)
@@ -21,12 +18,11 @@ returns-in-Ok-clause-nexts g c = λ first plan t tells on stands plain.
     c.in-Ok.given (c.in-Ok.ensures.gives told) (subst (λ (l : List ℕ). Written (g.K.Sink.written c.give_rows-given.new.out) (g.K.Sink.written c.write_reply.new.out) c.write_reply.result l) c.ending.ensures c.write_reply.ensures.text))
 
 pub returns-in-Err-clause-nexts : goal.returns-in-Err-clause-nexts
-returns-in-Err-clause-nexts g c = λ first plan t tells on stands plain.
-    let none : has_var plan ≡ false = (planned-plain c.args.table.now first plan stands.planned).no_var in
+returns-in-Err-clause-nexts g c = λ first plan t tells on stands none.
     let reaches = g.met.F.Flash.reaches c.args.flash.now in
     let told = c.resume-cursor.ensures.told (contents_of (g.F.Flash.state c.args.flash.now)) (is-standing c.args.table.now (g.F.Flash.state c.args.flash.now) first plan t tells reaches c.requires.lies stands) in
     let are = left-there c.args.table.now (g.F.Flash.state c.args.flash.now) first plan t tells reaches c.requires.lies stands c.resume-cursor.result c.resume-cursor.ensures.table in
-    let limit = c.resume-cursor.ensures.limit (g.F.Flash.state c.args.flash.now) first plan t tells reaches c.requires.lies stands plain in
+    let limit = c.resume-cursor.ensures.limit (g.F.Flash.state c.args.flash.now) first plan t tells reaches c.requires.lies stands in
     let most = (c.give_rows-given.ensures.reads told).most in
     let within = reads-within plan t c.resume-cursor.result (contents_of (g.F.Flash.state c.args.flash.now)) _ _ c.resume-cursor.ensures.mark limit most in
     nexts-by c.resume-cursor.ensures.mark (sym c.park.ensures.mark)

@@ -16,7 +16,7 @@ use Rattle.fl_session.proofs.listing.give_rows.Goals as goal
 pub loop-given-init : goal.loop-given-init
 loop-given-init g c = record {
   counts = OnlyReads-same _;
-  keeps = record { table = refl; rows_name = refl; rows_room = refl; index = refl };
+  keeps = record { table = refl; rows_name = refl; rows_room = refl; index_name = refl; index_room = refl };
   ready = c.requires.ready;
   upto = omega arith;
   later = omega arith;

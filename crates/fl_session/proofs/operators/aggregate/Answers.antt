@@ -1,8 +1,10 @@
-use Rattle.std.proofs.Common.{◌≡◌, ◌<◌, ◌^◌, None, List, length, map, sym, ◌∙◌, ap, subst, arith}
+use Rattle.std.proofs.Common.{◌≡◌, ◌<◌, ◌^◌, None, List, length, map, sym, ◌∙◌, ap, subst, arith, ◌≤◌}
 use Rattle.std.proofs.lemmas.List.{length-map}
 use Rattle.fl_cursor.specs.Cursor.{present_of, left_of, IsReady, IsTold}
+use Rattle.fl_cursor.specs.Reads.{most_of, least_of}
 use Rattle.fl_cursor.specs.declared.cursor.Cursor.{Cursor}
 use Rattle.fl_machine.specs.Step.{group_reply}
+use Rattle.fl_model.specs.Limits.{scan_limit, least_reads}
 use Rattle.fl_model.specs.Operators.{Group, aggregate}
 use Rattle.fl_model.specs.Query.{selected}
 use Rattle.fl_model.specs.Row.{Row, stored_row}
@@ -11,6 +13,7 @@ use Rattle.fl_ops.specs.Groups.{groups_left}
 use Rattle.fl_page.specs.Contents.{contents_of}
 use Rattle.fl_session.specs.Lines.{Counted}
 use Rattle.fl_session.proofs.Grouping.{grouped-records, groups-fewer}
+use Rattle.fl_session.proofs.CountedLines.{counted-wider}
 use Rattle.fl_session.proofs.CursorMoves.{lies-read}
 use Rattle.fl_session.proofs.Operating.{few-asked}
 use Rattle.fl_session.proofs.Resumed.{is-standing}
@@ -44,5 +47,11 @@ returns-clause-counted g c = λ first plan t tells on stands.
       length-map (map stored_row (selected c.args.range None t.entries)) record_of,
       few-asked c.args.table.now (g.F.Flash.state c.args.flash.now) first plan t c.args.range stands,
     ) in
-    subst (λ (gs : List Group). Counted (map group_reply gs) (g.K.Sink.written c.args.out.now) (g.K.Sink.written c.list_groups.new.out) (g.F.Flash.state c.args.flash.now).media.faults (g.F.Flash.state c.list_groups.new.flash).media.faults c.list_groups.result)
-    (groups ∙ grouped-records c.args.column c.args.width (selected c.args.range None t.entries)) (c.list_groups.ensures.counted told few on)
+    let limit = subst (λ (k : Cursor). most_of k (contents_of (g.F.Flash.state c.args.flash.now)) ≤ scan_limit 64 plan t c.args.range None c.args.range.low) (sym cursor)
+    (c.begin-cursor.ensures.limit (g.F.Flash.state c.args.flash.now) first plan t tells reaches c.requires.lies stands) in
+    let least = subst (λ (k : Cursor). least_reads plan t c.args.range None ≤ least_of k (contents_of (g.F.Flash.state c.args.flash.now))) (sym cursor)
+    (c.begin-cursor.ensures.least (g.F.Flash.state c.args.flash.now) first plan t tells reaches c.requires.lies stands) in
+    subst (λ (gs : List Group). Counted (map group_reply gs) (scan_limit 64 plan t c.args.range None c.args.range.low) (least_reads plan t c.args.range None) (g.K.Sink.written c.args.out.now) (g.K.Sink.written c.list_groups.new.out)
+    (g.F.Flash.state c.args.flash.now).media.faults (g.F.Flash.state c.list_groups.new.flash).media.faults (g.F.Flash.state c.args.flash.now).work.reads (g.F.Flash.state c.list_groups.new.flash).work.reads c.list_groups.result)
+    (groups ∙ grouped-records c.args.column c.args.width (selected c.args.range None t.entries))
+    (counted-wider _ _ _ (scan_limit 64 plan t c.args.range None c.args.range.low) (least_reads plan t c.args.range None) _ _ _ _ _ _ _ limit least (c.list_groups.ensures.counted told few on))

@@ -1,6 +1,8 @@
-use Rattle.std.proofs.Common.{◌≡◌, ◌<◌, ◌^◌, ℕ, ℤ, None, List, length, map, slice_index, sym, ◌∙◌, ap, subst, arith}
+use Rattle.std.proofs.Common.{◌≡◌, ◌<◌, ◌^◌, ℕ, ℤ, None, List, length, map, slice_index, sym, ◌∙◌, ap, subst, arith, ◌≤◌}
 use Rattle.fl_cursor.specs.Cursor.{table_of, left_of, IsTold}
+use Rattle.fl_cursor.specs.Reads.{most_of, least_of}
 use Rattle.fl_cursor.specs.declared.cursor.Cursor.{Cursor}
+use Rattle.fl_model.specs.Limits.{scan_limit, least_reads}
 use Rattle.fl_model.specs.Operators.{project}
 use Rattle.fl_model.specs.Query.{selected}
 use Rattle.fl_model.specs.Row.{Row, stored_row}
@@ -12,6 +14,7 @@ use Rattle.fl_table.specs.declared.table.Table.{Table}
 use Rattle.fl_words.specs.Reply as words
 use Rattle.fl_session.specs.Lines.{Counted}
 use Rattle.fl_session.proofs.Fields.{lacks-none}
+use Rattle.fl_session.proofs.CountedLines.{counted-wider}
 use Rattle.fl_session.proofs.CursorMoves.{lies-read}
 use Rattle.fl_session.proofs.Operating.{few-asked, projected-fields}
 use Rattle.fl_session.proofs.Resumed.{is-standing}
@@ -39,6 +42,12 @@ returns-clause-counted g c = λ first plan t tells on stands.
     let few : length (left_of c.new-rows.result.rows (contents_of (g.F.Flash.state c.args.flash.now))) < 2 ^ 63 =
     omega (arith, ap (λ (xs : List Row). length xs) left, few-asked c.args.table.now (g.F.Flash.state c.args.flash.now) first plan t c.args.range stands) in
     let columns : columns_of c.new-rows.result ≡ c.args.columns.now = c.new-rows.ensures.columns ∙ (c.as_slice.ensures.value ∙ c.places_of-places.ensures) in
-    subst (λ (rows : List (List ℤ)). Counted (map words.Fields rows) (g.K.Sink.written c.args.out.now) (g.K.Sink.written c.list_projected.new.out) (g.F.Flash.state c.args.flash.now).media.faults (g.F.Flash.state c.list_projected.new.flash).media.faults c.list_projected.result)
+    let limit = subst (λ (k : Cursor). most_of k (contents_of (g.F.Flash.state c.args.flash.now)) ≤ scan_limit 64 plan t c.args.range None c.args.range.low) (sym cursor)
+    (c.begin-cursor.ensures.limit (g.F.Flash.state c.args.flash.now) first plan t tells reaches c.requires.lies stands) in
+    let least = subst (λ (k : Cursor). least_reads plan t c.args.range None ≤ least_of k (contents_of (g.F.Flash.state c.args.flash.now))) (sym cursor)
+    (c.begin-cursor.ensures.least (g.F.Flash.state c.args.flash.now) first plan t tells reaches c.requires.lies stands) in
+    subst (λ (rows : List (List ℤ)). Counted (map words.Fields rows) (scan_limit 64 plan t c.args.range None c.args.range.low) (least_reads plan t c.args.range None) (g.K.Sink.written c.args.out.now) (g.K.Sink.written c.list_projected.new.out)
+    (g.F.Flash.state c.args.flash.now).media.faults (g.F.Flash.state c.list_projected.new.flash).media.faults (g.F.Flash.state c.args.flash.now).work.reads (g.F.Flash.state c.list_projected.new.flash).work.reads c.list_projected.result)
     (ap (λ (cs : List ℕ). project cs (records_of (left_of c.new-rows.result.rows (contents_of (g.F.Flash.state c.args.flash.now))))) columns
-    ∙ (ap (λ (rows : List Row). project c.args.columns.now (records_of rows)) left ∙ projected-fields c.args.columns.now (selected c.args.range None t.entries))) (c.list_projected.ensures.counted told few on)
+    ∙ (ap (λ (rows : List Row). project c.args.columns.now (records_of rows)) left ∙ projected-fields c.args.columns.now (selected c.args.range None t.entries)))
+    (counted-wider _ _ _ (scan_limit 64 plan t c.args.range None c.args.range.low) (least_reads plan t c.args.range None) _ _ _ _ _ _ _ limit least (c.list_projected.ensures.counted told few on))

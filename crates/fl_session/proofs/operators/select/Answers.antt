@@ -1,9 +1,11 @@
-use Rattle.std.proofs.Common.{rules, ℤ, ◌≡◌, ◌<◌, ◌^◌, None, List, length, map, filter, refl, sym, ◌∙◌, ap, subst, arith}
+use Rattle.std.proofs.Common.{rules, ℤ, ◌≡◌, ◌<◌, ◌^◌, None, List, length, map, filter, refl, sym, ◌∙◌, ap, subst, arith, ◌≤◌}
 use Rattle.std.proofs.lemmas.Int.{to_z-of_z}
 use Rattle.std.specs.Int.{w64}
 use Rattle.std.specs.Prelude.{FitsSigned}
 use Rattle.fl_cursor.specs.Cursor.{table_of, IsReady, IsTold, IsStanding, left_of}
+use Rattle.fl_cursor.specs.Reads.{most_of, least_of}
 use Rattle.fl_cursor.specs.declared.cursor.Cursor.{Cursor}
+use Rattle.fl_model.specs.Limits.{scan_limit, least_reads}
 use Rattle.fl_model.specs.Query.{selected}
 use Rattle.fl_model.specs.Row.{Row, stored_row}
 use Rattle.fl_ops.specs.Columns.{row_passes, Comparison}
@@ -11,11 +13,11 @@ use Rattle.fl_ops.specs.Select.{comparison_of}
 use Rattle.fl_page.specs.Contents.{contents_of}
 use Rattle.fl_table.specs.Look.{layout_in}
 use Rattle.fl_table.specs.declared.table.Table.{Table}
-use Rattle.fl_table.proofs.SealAnswers.{planned-plain}
 use Rattle.fl_words.specs.Reply.{Reply}
 use Rattle.fl_session.specs.Lines.{Counted}
 use Rattle.fl_session.specs.Rows.{row_reply}
 use Rattle.fl_session.proofs.Operating.{few-asked, selected-lines}
+use Rattle.fl_session.proofs.CountedLines.{counted-wider}
 use Rattle.fl_session.proofs.CursorMoves.{lies-read}
 use Rattle.fl_session.proofs.operators.select.Goals as goal
 
@@ -32,7 +34,7 @@ pub returns-clause-lies : goal.returns-clause-lies
 returns-clause-lies g c = lies-read _ _ _ c.list_selected.ensures.reads_only c.requires.lies
 
 pub returns-clause-counted : goal.returns-clause-counted
-returns-clause-counted g c = λ first plan t tells on stands.
+returns-clause-counted g c = λ first plan t tells on stands none.
     let held = contents_of (g.F.Flash.state c.args.flash.now) in
     let cursor : c.new-rows.result.rows ≡ c.begin-cursor.result = c.new-rows.ensures.rows in
     let reaches = g.met.F.Flash.reaches c.args.flash.now in
@@ -49,6 +51,11 @@ returns-clause-counted g c = λ first plan t tells on stands.
     (c.new-rows.ensures.comparison ∙ ap (λ (v : ℤ). record { column = c.args.comparison.column; op = c.args.comparison.op; value = v }) (to_z-of_z w64 c.args.comparison.value fits)) in
     let lines = ap (λ (k : Comparison). map row_reply (filter (row_passes k) (left_of c.new-rows.result.rows (contents_of (g.F.Flash.state c.args.flash.now))))) asked
     ∙ (ap (λ (xs : List Row). map row_reply (filter (row_passes (record { column = c.args.comparison.column; op = c.args.comparison.op; value = c.args.comparison.value })) xs)) left
-    ∙ selected-lines plan (record { column = c.args.comparison.column; op = c.args.comparison.op; value = c.args.comparison.value }) (selected c.args.range None t.entries) (planned-plain c.args.table.now first plan stands.planned).no_var) in
-    subst (λ (l : List Reply). Counted l (g.K.Sink.written c.args.out.now) (g.K.Sink.written c.list_selected.new.out) (g.F.Flash.state c.args.flash.now).media.faults (g.F.Flash.state c.list_selected.new.flash).media.faults c.list_selected.result) lines
-    (c.list_selected.ensures.counted told few on)
+    ∙ selected-lines plan (record { column = c.args.comparison.column; op = c.args.comparison.op; value = c.args.comparison.value }) (selected c.args.range None t.entries) none) in
+    let limit = subst (λ (k : Cursor). most_of k (contents_of (g.F.Flash.state c.args.flash.now)) ≤ scan_limit 64 plan t c.args.range None c.args.range.low) (sym cursor)
+    (c.begin-cursor.ensures.limit (g.F.Flash.state c.args.flash.now) first plan t tells reaches c.requires.lies stands) in
+    let least = subst (λ (k : Cursor). least_reads plan t c.args.range None ≤ least_of k (contents_of (g.F.Flash.state c.args.flash.now))) (sym cursor)
+    (c.begin-cursor.ensures.least (g.F.Flash.state c.args.flash.now) first plan t tells reaches c.requires.lies stands) in
+    subst (λ (l : List Reply). Counted l (scan_limit 64 plan t c.args.range None c.args.range.low) (least_reads plan t c.args.range None) (g.K.Sink.written c.args.out.now) (g.K.Sink.written c.list_selected.new.out)
+    (g.F.Flash.state c.args.flash.now).media.faults (g.F.Flash.state c.list_selected.new.flash).media.faults (g.F.Flash.state c.args.flash.now).work.reads (g.F.Flash.state c.list_selected.new.flash).work.reads c.list_selected.result) lines
+    (counted-wider _ _ _ (scan_limit 64 plan t c.args.range None c.args.range.low) (least_reads plan t c.args.range None) _ _ _ _ _ _ _ limit least (c.list_selected.ensures.counted told few on))

@@ -1,11 +1,68 @@
-use Rattle.std.proofs.Common.{◌≤◌, Ok, Option, sym, ◌∙◌, subst, arith}
+use Rattle.std.proofs.Common.{◌≡◌, ◌+◌, ◌≤◌, Ok, Option, refl, sym, ◌∙◌, subst, arith}
 use Rattle.std.proofs.lemmas.Result.{err_from_is_err_and}
+use Rattle.std.specs.Prelude.{IfNone}
 use Rattle.fl_page.specs.Contents.{Contents, contents_of}
-use Rattle.fl_page.proofs.Reading.{OnlyReads-then}
+use Rattle.fl_page.proofs.Reading.{OnlyReads-same, OnlyReads-then, OnlyReads-reads}
 use Rattle.fl_script.specs.declared.reply.Reply.{Reply}
 use Rattle.fl_session.specs.Lines.{LineSteps, IsFirstLine}
-use Rattle.fl_session.proofs.LinesListed.{front-next, front-failed}
+use Rattle.fl_session.proofs.LinesListed.{front-none, front-next, front-failed, front-count}
 use Rattle.fl_session.proofs.reply_lines.list_lines.Goals as goal
+
+pub loop-count-init : goal.loop-count-init
+loop-count-init g c = record {
+  reads_only = OnlyReads-same _;
+  names = refl;
+  ready = λ contents h. h;
+  later = omega arith;
+  told = λ t. t;
+  front = λ t. front-none _ _ _;
+  most = λ t. omega arith;
+  least = λ t below. omega arith;
+}
+
+pub returns-in_err-line-clause-reads : goal.returns-in_err-line-clause-reads
+returns-in_err-line-clause-reads g c = λ t few.
+    let same = c.loop-count.invariant.reads_only.contents in
+    let told = subst (λ (k : Contents). g.L.ReplyLines.told c.loop-count.lines k) (sym same) (c.loop-count.invariant.told t) in
+    let before = c.loop-count.invariant.most t in
+    let more = subst (λ (k : Contents). (g.F.Flash.state c.next_line.new.flash).work.reads + 0 ≤ (g.F.Flash.state c.loop-count.flash).work.reads + g.L.ReplyLines.most c.loop-count.lines k) same (c.in_err-line.ensures.most told) in
+    let p = err_from_is_err_and c.from_residual.result c.from_residual.ensures.1 in
+    rw (p.1, p.2) (record { within = omega (arith, before, more); some = tt })
+
+pub returns-in_default-clause-reads : goal.returns-in_default-clause-reads
+returns-in_default-clause-reads g c = λ t few.
+    let same = c.loop-count.invariant.reads_only.contents in
+    let told = subst (λ (k : Contents). g.L.ReplyLines.told c.loop-count.lines k) (sym same) (c.loop-count.invariant.told t) in
+    let before = c.loop-count.invariant.most t in
+    let more = subst (λ (k : Contents). (g.F.Flash.state c.next_line.new.flash).work.reads + g.L.ReplyLines.most c.next_line.new.self k ≤ (g.F.Flash.state c.loop-count.flash).work.reads + g.L.ReplyLines.most c.loop-count.lines k) same
+    (c.in_ok-line.ensures.most told) in
+    record {
+      within = omega (arith, before, more);
+      some = λ below.
+          let rises = OnlyReads-reads _ _ c.next_line.ensures.reads_only below in
+          let first = c.loop-count.invariant.least t (omega (arith, rises, below)) in
+          let some = subst (λ (k : Contents). (g.F.Flash.state c.loop-count.flash).work.reads + g.L.ReplyLines.least c.loop-count.lines k ≤ (g.F.Flash.state c.next_line.new.flash).work.reads + g.L.ReplyLines.least c.next_line.new.self k) same
+          (c.in_ok-line.ensures.least told below) in
+          let none = subst (λ (k : Contents). g.L.ReplyLines.least c.next_line.new.self k ≡ 0) same
+          (subst (λ (o : Option Reply). IfNone o (g.L.ReplyLines.least c.next_line.new.self (contents_of (g.F.Flash.state c.loop-count.flash)) ≡ 0)) c.in_default.is (c.in_ok-line.ensures.none_left told)) in
+          omega (arith, first, some, none);
+    }
+
+pub returns-in_err-write_reply-clause-reads : goal.returns-in_err-write_reply-clause-reads
+returns-in_err-write_reply-clause-reads g c = λ t few.
+    let same = c.loop-count.invariant.reads_only.contents in
+    let told = subst (λ (k : Contents). g.L.ReplyLines.told c.loop-count.lines k) (sym same) (c.loop-count.invariant.told t) in
+    let before = c.loop-count.invariant.most t in
+    let more = subst (λ (k : Contents). (g.F.Flash.state c.next_line.new.flash).work.reads + g.L.ReplyLines.most c.next_line.new.self k ≤ (g.F.Flash.state c.loop-count.flash).work.reads + g.L.ReplyLines.most c.loop-count.lines k) same
+    (c.in_ok-line.ensures.most told) in
+    let p = err_from_is_err_and c.from_residual-in_err-write_reply.result c.from_residual-in_err-write_reply.ensures.1 in
+    rw (p.1, p.2) (record { within = omega (arith, before, more); some = tt })
+
+pub returns-clause-reads : goal.returns-clause-reads
+returns-clause-reads g c = λ t few.
+    let before = c.loop-count.invariant.most t in
+    let count = front-count _ _ _ _ _ c.loop-count.count (c.loop-count.invariant.front t) in
+    record { within = omega (arith, before); some = λ below. absurd (omega (arith, few, count, c.loop-count-test.false)) }
 
 pub returns-in_err-line-clause-reads_only : goal.returns-in_err-line-clause-reads_only
 returns-in_err-line-clause-reads_only g c = OnlyReads-then _ _ _ c.loop-count.invariant.reads_only c.next_line.ensures.reads_only
@@ -45,4 +102,17 @@ loop-count-preserved g c =
           (subst (λ (o : Option Reply). LineSteps (Ok o) (g.L.ReplyLines.lines c.loop-count.lines (contents_of (g.F.Flash.state c.loop-count.flash))) (g.L.ReplyLines.lines c.next_line.new.self (contents_of (g.F.Flash.state c.loop-count.flash))))
           c.in-Some.is (c.in_ok-line.ensures.steps told)) in
           front-next _ _ _ c.in-Some.line _ _ _ _ c.loop-count.count (c.loop-count.invariant.front t) step c.in_ok-write_reply.ensures.text;
+      most = λ t.
+          let told = subst (λ (k : Contents). g.L.ReplyLines.told c.loop-count.lines k) (sym same) (c.loop-count.invariant.told t) in
+          let before = c.loop-count.invariant.most t in
+          let more = subst (λ (k : Contents). (g.F.Flash.state c.next_line.new.flash).work.reads + g.L.ReplyLines.most c.next_line.new.self k ≤ (g.F.Flash.state c.loop-count.flash).work.reads + g.L.ReplyLines.most c.loop-count.lines k) same
+          (c.in_ok-line.ensures.most told) in
+          omega (arith, before, more);
+      least = λ t below.
+          let told = subst (λ (k : Contents). g.L.ReplyLines.told c.loop-count.lines k) (sym same) (c.loop-count.invariant.told t) in
+          let rises = OnlyReads-reads _ _ c.next_line.ensures.reads_only below in
+          let first = c.loop-count.invariant.least t (omega (arith, rises, below)) in
+          let some = subst (λ (k : Contents). (g.F.Flash.state c.loop-count.flash).work.reads + g.L.ReplyLines.least c.loop-count.lines k ≤ (g.F.Flash.state c.next_line.new.flash).work.reads + g.L.ReplyLines.least c.next_line.new.self k) same
+          (c.in_ok-line.ensures.least told below) in
+          omega (arith, first, some);
     }

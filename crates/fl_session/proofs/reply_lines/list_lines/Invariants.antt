@@ -1,4 +1,4 @@
-use Rattle.std.proofs.Common.{◌≡◌, ◌≤◌}
+use Rattle.std.proofs.Common.{◌≡◌, ◌+◌, ◌-◌, ◌^◌, ◌<◌, ◌≤◌}
 use Rattle.fl_page.specs.Contents.{Contents, contents_of, OnlyReads}
 use Rattle.fl_session.proofs.LinesListed.{Fronted}
 use Rattle.fl_session.proofs.reply_lines.list_lines.Given as goal
@@ -15,4 +15,7 @@ invariant-loop-count g l =
       told : L.told l.fn.lines contents → L.told l.lines contents;
       front : L.told l.fn.lines contents →
           Fronted (L.lines l.fn.lines contents) (L.lines l.lines contents) (g.K.Sink.written l.fn.out) (g.K.Sink.written l.out) (g.F.Flash.state l.fn.flash).media.faults l.count;
+      most : L.told l.fn.lines contents → (g.F.Flash.state l.flash).work.reads + L.most l.lines contents ≤ (g.F.Flash.state l.fn.flash).work.reads + L.most l.fn.lines contents;
+      least : L.told l.fn.lines contents → (g.F.Flash.state l.flash).work.reads < 2 ^ 64 - 1 →
+          (g.F.Flash.state l.fn.flash).work.reads + L.least l.fn.lines contents ≤ (g.F.Flash.state l.flash).work.reads + L.least l.lines contents;
     }

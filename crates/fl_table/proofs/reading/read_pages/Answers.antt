@@ -10,7 +10,7 @@ use Rattle.fl_table.proofs.Gathering.{gathers-none, gather-first, gather-room, g
 use Rattle.fl_table.proofs.Indexing.{plan-then, ring-then}
 use Rattle.fl_ring.proofs.Exists.{page_exists}
 use Rattle.fl_ring.proofs.Readings.{more_reads, told_still, same_page}
-use Rattle.fl_table.proofs.PagesRead.{if-page, read-more, last-more, rows-more, voids-more, noted-more, points-more, refused-at, is-void, not-void, voids_few}
+use Rattle.fl_table.proofs.PagesRead.{if-page, read-more, last-more, ends-more, rows-more, voids-more, noted-more, points-more, refused-at, is-void, not-void, voids_few}
 use Rattle.fl_table.specs.declared.counts.Mounted.{Mounted}
 use Rattle.fl_table.proofs.reading.read_pages.Goals as goal
 use Rattle.fl_table.proofs.reading.read_pages.Goals.{then-page-eq0, else-page-eq0}
@@ -93,6 +93,7 @@ loop-number-preserved g c =
           (noted-more layout pages first n number m here more bytes same c.loop-number.counts page.rows (omega (arith, fits, inv.counts))
           (c.in_ok-page.ensures.rows (told_still old flash n inv.reads told)) (inv.noted (omega (arith, fits)) told));
       last = λ told. last-more layout pages first n number m here more bytes same c.loop-number.last page.last (inv.last told) (c.in_ok-page.ensures.last (told_still old flash n inv.reads told));
+      blob_end = λ told. ends-more layout pages first n number m here more bytes same c.loop-number.blob_end page.blob_end (inv.blob_end told) (c.in_ok-page.ensures.blob_end (told_still old flash n inv.reads told));
       pages = pages_is ∙ inv.pages;
       rows = λ told. rows_is ∙ rows-more layout pages first n number m here more bytes same page.rows c.loop-number.mounted.rows (inv.rows told) (c.in_ok-page.ensures.rows (told_still old flash n inv.reads told));
       voids = λ told. voids_is ∙ voids-more layout pages first n number m here more bytes same page.rows c.loop-number.mounted.voids (inv.voids told) (c.in_ok-page.ensures.rows (told_still old flash n inv.reads told));

@@ -3,7 +3,7 @@ use Rattle.fl_find.specs.Index.{error_in, IndexOf}
 use Rattle.fl_ring.specs.Looking.{OnlyReads}
 use Rattle.fl_ring.specs.Place.{oldest_of, next_of}
 use Rattle.fl_schema.specs.Schema.{layout_of}
-use Rattle.fl_table.specs.Reading.{AreRead, AreNoted, last_after, rows_after, voids_after, points_after, pages_of, GatherUpTo, AreGathered}
+use Rattle.fl_table.specs.Reading.{AreRead, AreNoted, last_after, rows_after, voids_after, points_after, ends_after, pages_of, GatherUpTo, AreGathered}
 use Rattle.fl_table.specs.Bitmaps.{AreSamePlan, AreSameRing}
 use Rattle.fl_table.proofs.reading.read_pages.Given as goal
 
@@ -23,6 +23,7 @@ invariant-loop-number g l = record {
   read : IsTrue (g.F.Flash.state l.initial.flash).media.tells → AreRead (layout_of l.schema) (pages_of l.ring (g.F.Flash.state l.initial.flash)) (oldest_of l.ring) (l.number - oldest_of l.ring);
   noted : l.number - oldest_of l.ring ≤ length l.initial.counts → IsTrue (g.F.Flash.state l.initial.flash).media.tells → AreNoted (layout_of l.schema) (pages_of l.ring (g.F.Flash.state l.initial.flash)) (oldest_of l.ring) (l.number - oldest_of l.ring) l.counts;
   last : IsTrue (g.F.Flash.state l.initial.flash).media.tells → l.last ≡ last_after (layout_of l.schema) (pages_of l.ring (g.F.Flash.state l.initial.flash)) (oldest_of l.ring) (l.number - oldest_of l.ring);
+  blob_end : IsTrue (g.F.Flash.state l.initial.flash).media.tells → l.blob_end ≡ ends_after (layout_of l.schema) (pages_of l.ring (g.F.Flash.state l.initial.flash)) (oldest_of l.ring) (l.number - oldest_of l.ring);
   pages : l.mounted.pages ≡ next_of l.ring - oldest_of l.ring;
   rows : IsTrue (g.F.Flash.state l.initial.flash).media.tells → l.mounted.rows ≡ rows_after (layout_of l.schema) (pages_of l.ring (g.F.Flash.state l.initial.flash)) (oldest_of l.ring) (l.number - oldest_of l.ring);
   voids : IsTrue (g.F.Flash.state l.initial.flash).media.tells → l.mounted.voids ≡ voids_after (layout_of l.schema) (pages_of l.ring (g.F.Flash.state l.initial.flash)) (oldest_of l.ring) (l.number - oldest_of l.ring);

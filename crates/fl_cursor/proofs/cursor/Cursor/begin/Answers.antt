@@ -1,4 +1,5 @@
 use Rattle.std.proofs.Common.{◌≡◌, ◌≤◌, ℕ, Option, None, map, filter, refl, sym, ◌∙◌, ap, subst}
+use Rattle.fl_flash.specs.Buffer.{BufferState}
 use Rattle.fl_model.specs.Limits.{least_reads}
 use Rattle.fl_model.specs.Query as query
 use Rattle.fl_model.specs.Row.{stored_row}
@@ -7,7 +8,7 @@ use Rattle.fl_page.specs.Steps.{Ascends}
 use Rattle.fl_table.specs.Look.{last_key_in}
 use Rattle.fl_table.specs.declared.table.Table.{Table}
 use Rattle.fl_cursor.specs.Asked.{asked_by, is_left}
-use Rattle.fl_cursor.specs.Cursor.{table_of, asked_of, place_of, IsStanding}
+use Rattle.fl_cursor.specs.Cursor.{table_of, asked_of, index_page, place_of, IsStanding}
 use Rattle.fl_cursor.specs.Listed.{rows_of}
 use Rattle.fl_cursor.specs.Reads.{least_from, IsBegun, IsBounded}
 use Rattle.fl_cursor.proofs.Least.{begun-least}
@@ -30,17 +31,17 @@ returns-clause-left c = λ f first plan t tells reaches lies stands.
     ∙ ap (map stored_row) (begins-selected range span t (subst (Ascends None) (standing-rows c.args.table.now (contents_of f) h) (standing-ascends c.args.table.now (contents_of f) h))))))
 
 pub returns-clause-limit : goal.returns-clause-limit
-returns-clause-limit c = λ f first plan t tells reaches lies stands plain.
-    c.resume.ensures.limit f first plan t tells reaches lies stands plain
+returns-clause-limit c = λ f first plan t tells reaches lies stands.
+    c.resume.ensures.limit f first plan t tells reaches lies stands
     (subst (λ (top : Option ℕ). IsBounded top c.args.range.high) (sym c.last_wanted-top.ensures.exact) (bounded-min c.args.range.high (last_key_in c.args.table.now)))
 
 pub returns-clause-least : goal.returns-clause-least
-returns-clause-least c = λ f first plan t tells reaches lies stands plain.
+returns-clause-least c = λ f first plan t tells reaches lies stands.
     let h : IsStanding c.args.table.now (contents_of f) = record { flash = f; same = refl; tells = tells; reaches = reaches; lies = lies; first = first; plan = plan; table = t; stands = stands } in
     let asked : asked_of c.resume.result ≡ query.begin c.args.range c.args.span t =
     ap asked_by c.resume.ensures.mark ∙ ap (λ (top : Option ℕ). record { range = c.args.range; span = c.args.span; after = None; top = top }) (c.last_wanted-top.ensures.stands f first plan t stands) in
     let begun : IsBegun (query.begin c.args.range c.args.span t) c.args.table.now (place_of c.resume.result) =
     subst (λ (a : query.Cursor). IsBegun a c.args.table.now (place_of c.resume.result)) (sym (ap asked_by c.resume.ensures.mark) ∙ asked) c.resume.ensures.begun in
-    subst (λ (a : query.Cursor). least_reads plan t c.args.range c.args.span ≤ least_from (table_of c.resume.result) (contents_of f) a (place_of c.resume.result)) (sym asked)
-    (subst (λ (tb : Table). least_reads plan t c.args.range c.args.span ≤ least_from tb (contents_of f) (query.begin c.args.range c.args.span t) (place_of c.resume.result)) (sym c.resume.ensures.table)
-    (begun-least c.args.table.now (contents_of f) h c.args.range c.args.span (place_of c.resume.result) plain begun))
+    subst (λ (a : query.Cursor). least_reads plan t c.args.range c.args.span ≤ least_from (table_of c.resume.result) (contents_of f) a (index_page c.resume.result) (place_of c.resume.result)) (sym asked)
+    (subst (λ (tb : Table). least_reads plan t c.args.range c.args.span ≤ least_from tb (contents_of f) (query.begin c.args.range c.args.span t) (index_page c.resume.result) (place_of c.resume.result)) (sym c.resume.ensures.table)
+    (begun-least c.args.table.now (contents_of f) h c.args.range c.args.span (index_page c.resume.result) (place_of c.resume.result) (ap (λ (b : BufferState). b.holds) c.resume.ensures.index_forget) begun))

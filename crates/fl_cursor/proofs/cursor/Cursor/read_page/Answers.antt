@@ -1,4 +1,4 @@
-use Rattle.std.proofs.Common.{rules, ◌≡◌, ◌<◌, refl, ◌∙◌, subst, arith}
+use Rattle.std.proofs.Common.{rules, ◌≡◌, ◌<◌, refl, ◌∙◌, subst, arith, Ok, true, false}
 use Rattle.std.proofs.lemmas.Result.{err_from_is_err_and}
 use Rattle.fl_mark.specs.Mark.{state_of_page}
 use Rattle.fl_mark.specs.declared.page_state.PageState.TheVariants.{Committed}
@@ -7,8 +7,12 @@ use Rattle.fl_page.specs.Page.{IsGoodPage}
 use Rattle.fl_table.specs.Look.{layout_in, rows_noted}
 use Rattle.fl_table.specs.Memory.{next_in}
 use Rattle.fl_cursor.specs.Cursor.{IsPlaced}
-use Rattle.fl_cursor.proofs.Stood.{standing-tells}
-use Rattle.fl_cursor.proofs.Turning.{pages-end, page-skipped, page-entered, page-void, page-fails}
+use Rattle.fl_cursor.proofs.Indexed.{looked, looked-as, page-bytes}
+use Rattle.fl_cursor.proofs.Turning.{pages-end, page-skipped, page-missed, page-entered, page-void, page-fails, look-fails}
+use Rattle.fl_page.proofs.Reading.{OnlyReads-then}
+use Rattle.std.proofs.lemmas.Result.{err_from_is_err_and}
+use Rattle.fl_mark.specs.Mark.{state_of_page}
+use Rattle.fl_mark.specs.declared.page_state.PageState.TheVariants.{Committed}
 use Rattle.fl_cursor.proofs.cursor.Cursor.read_page.Goals as goal
 
 pub returns-then-next-end-clause-goes : goal.returns-then-next-end-clause-goes
@@ -22,33 +26,80 @@ returns-then-rows_of-eq0-clause-goes g c =
     let none : rows_noted c.args.self.now.table.now c.args.next ≡ 0 = search rules in
     page-skipped c.args.self.now c.args.next c.requires.next placed.0 before (contents_of (g.F.Flash.state c.args.flash.now)) (g.F.Flash.state c.args.flash.now).work.reads none
 
+pub returns-in_err-may_have-clause-fails : goal.returns-in_err-may_have-clause-fails
+returns-in_err-may_have-clause-fails g c =
+    let placed = subst (IsPlaced c.args.self.now.table.now c.args.self.now.rows_buf.now.bytes) c.requires.next c.requires.ready.placed in
+    let before : c.args.next < next_in c.args.self.now.table.now = omega (arith, placed.1, c.if-next-end.false, c.requires.end) in
+    let some : rows_noted c.args.self.now.table.now c.args.next ≡ 0 → ⊥ = λ none. c.if-rows_of-eq0.false (c.rows_of.ensures.exact ∙ none) in
+    let p = err_from_is_err_and c.from_residual.result c.from_residual.ensures.1 in
+    let e = c.in_err-may_have.ensures in
+    let l = looked c.args.self.now c.args.next c.requires.next placed.0 before (g.F.Flash.state c.args.flash.now) (g.F.Flash.state c.may_have.new.flash) _ _ refl
+    e.room e.counts e.good e.fresh e.looks e.shows e.misses in
+    rw p.1 (look-fails c.args.self.now c.args.next c.requires.next placed.0 before (contents_of (g.F.Flash.state c.args.flash.now)) (g.F.Flash.state c.args.flash.now).work.reads _ some (g.F.Flash.state c.may_have.new.flash).work.reads _ l)
+
 pub returns-then-not-branch-clause-goes : goal.returns-then-not-branch-clause-goes
 returns-then-not-branch-clause-goes g c =
-    let t = c.args.self.now.table.now in
-    let f = g.F.Flash.state c.args.flash.now in
     let placed = subst (IsPlaced c.args.self.now.table.now c.args.self.now.rows_buf.now.bytes) c.requires.next c.requires.ready.placed in
     let before : c.args.next < next_in c.args.self.now.table.now = omega (arith, placed.1, c.if-next-end.false, c.requires.end) in
     let some : rows_noted c.args.self.now.table.now c.args.next ≡ 0 → ⊥ = λ none. c.if-rows_of-eq0.false (c.rows_of.ensures.exact ∙ none) in
-    let one = c.in_ok-read_page.ensures.one in
-    let other : state_of_page c.read_page.new.buf.bytes ≡ Committed → ⊥ = search rules in
-    page-void c.args.self.now c.args.next c.requires.next placed.0 before (contents_of (g.F.Flash.state c.args.flash.now)) (g.F.Flash.state c.args.flash.now).work.reads _ (g.F.Flash.state c.read_page.new.flash).work.reads refl
-    c.read_page.ensures.room some c.read_page.ensures.reads.reads (λ lt. omega (arith, one, lt)) (λ told. c.in_ok-read_page.ensures.page (standing-tells c.args.self.now.table.now (contents_of (g.F.Flash.state c.args.flash.now)) told.standing)) other
+    let missed : c.in_ok-may_have.field-0 ≡ false = search rules in
+    let e = c.in_ok-may_have.ensures in
+    let l = looked c.args.self.now c.args.next c.requires.next placed.0 before (g.F.Flash.state c.args.flash.now) (g.F.Flash.state c.may_have.new.flash) (Ok c.in_ok-may_have.field-0) _ refl
+    e.room e.counts e.good e.fresh e.looks e.shows e.misses in
+    page-missed c.args.self.now c.args.next c.requires.next placed.0 before (contents_of (g.F.Flash.state c.args.flash.now)) (g.F.Flash.state c.args.flash.now).work.reads _ some (g.F.Flash.state c.may_have.new.flash).work.reads
+    (looked-as missed l)
 
-pub returns-clause-goes : goal.returns-clause-goes
-returns-clause-goes g c =
-    let placed = subst (IsPlaced c.args.self.now.table.now c.args.self.now.rows_buf.now.bytes) c.requires.next c.requires.ready.placed in
-    let before : c.args.next < next_in c.args.self.now.table.now = omega (arith, placed.1, c.if-next-end.false, c.requires.end) in
-    let some : rows_noted c.args.self.now.table.now c.args.next ≡ 0 → ⊥ = λ none. c.if-rows_of-eq0.false (c.rows_of.ensures.exact ∙ none) in
-    let one = c.in_ok-read_page.ensures.one in
-    let good : IsGoodPage (layout_in c.args.self.now.table.now) c.args.next c.read_page.new.buf.bytes = search rules in
-    page-entered c.args.self.now c.args.next c.requires.next placed.0 before (contents_of (g.F.Flash.state c.args.flash.now)) (g.F.Flash.state c.args.flash.now).work.reads _ (g.F.Flash.state c.read_page.new.flash).work.reads refl
-    c.read_page.ensures.room some c.read_page.ensures.reads.reads (λ lt. omega (arith, one, lt)) (λ told. c.in_ok-read_page.ensures.page (standing-tells c.args.self.now.table.now (contents_of (g.F.Flash.state c.args.flash.now)) told.standing)) good
+pub returns-in_err-read_page-clause-reads_only : goal.returns-in_err-read_page-clause-reads_only
+returns-in_err-read_page-clause-reads_only g c = OnlyReads-then _ _ _ c.may_have.ensures.counts c.read_page.ensures.counts
+
+pub returns-then-not-branch-2-clause-reads_only : goal.returns-then-not-branch-2-clause-reads_only
+returns-then-not-branch-2-clause-reads_only g c = OnlyReads-then _ _ _ c.may_have.ensures.counts c.read_page.ensures.counts
+
+pub returns-clause-reads_only : goal.returns-clause-reads_only
+returns-clause-reads_only g c = OnlyReads-then _ _ _ c.may_have.ensures.counts c.read_page.ensures.counts
 
 pub returns-in_err-read_page-clause-fails : goal.returns-in_err-read_page-clause-fails
 returns-in_err-read_page-clause-fails g c =
     let placed = subst (IsPlaced c.args.self.now.table.now c.args.self.now.rows_buf.now.bytes) c.requires.next c.requires.ready.placed in
     let before : c.args.next < next_in c.args.self.now.table.now = omega (arith, placed.1, c.if-next-end.false, c.requires.end) in
     let some : rows_noted c.args.self.now.table.now c.args.next ≡ 0 → ⊥ = λ none. c.if-rows_of-eq0.false (c.rows_of.ensures.exact ∙ none) in
-    let p = err_from_is_err_and c.from_residual.result c.from_residual.ensures.1 in
-    rw p.1 (page-fails c.args.self.now c.args.next c.requires.next placed.0 before (contents_of (g.F.Flash.state c.args.flash.now)) (g.F.Flash.state c.args.flash.now).work.reads _ (g.F.Flash.state c.read_page.new.flash).work.reads refl
-    c.read_page.ensures.room some c.read_page.ensures.reads.reads)
+    let wanted : c.in_ok-may_have.field-0 ≡ true = search rules in
+    let p = err_from_is_err_and c.from_residual-in_err-read_page.result c.from_residual-in_err-read_page.ensures.1 in
+    let e = c.in_ok-may_have.ensures in
+    let l = looked c.args.self.now c.args.next c.requires.next placed.0 before (g.F.Flash.state c.args.flash.now) (g.F.Flash.state c.may_have.new.flash) (Ok c.in_ok-may_have.field-0) _ refl
+    e.room e.counts e.good e.fresh e.looks e.shows e.misses in
+    rw p.1 (page-fails c.args.self.now c.args.next c.requires.next placed.0 before (contents_of (g.F.Flash.state c.args.flash.now)) (g.F.Flash.state c.args.flash.now).work.reads _ some (g.F.Flash.state c.may_have.new.flash).work.reads
+    (looked-as wanted l)
+    _ (g.F.Flash.state c.read_page.new.flash).work.reads refl c.read_page.ensures.room c.read_page.ensures.reads.reads)
+
+pub returns-then-not-branch-2-clause-goes : goal.returns-then-not-branch-2-clause-goes
+returns-then-not-branch-2-clause-goes g c =
+    let placed = subst (IsPlaced c.args.self.now.table.now c.args.self.now.rows_buf.now.bytes) c.requires.next c.requires.ready.placed in
+    let before : c.args.next < next_in c.args.self.now.table.now = omega (arith, placed.1, c.if-next-end.false, c.requires.end) in
+    let some : rows_noted c.args.self.now.table.now c.args.next ≡ 0 → ⊥ = λ none. c.if-rows_of-eq0.false (c.rows_of.ensures.exact ∙ none) in
+    let wanted : c.in_ok-may_have.field-0 ≡ true = search rules in
+    let one = c.in_ok-read_page.ensures.one in
+    let other : state_of_page c.read_page.new.buf.bytes ≡ Committed → ⊥ = search rules in
+    let e = c.in_ok-may_have.ensures in
+    let l = looked c.args.self.now c.args.next c.requires.next placed.0 before (g.F.Flash.state c.args.flash.now) (g.F.Flash.state c.may_have.new.flash) (Ok c.in_ok-may_have.field-0) _ refl
+    e.room e.counts e.good e.fresh e.looks e.shows e.misses in
+    page-void c.args.self.now c.args.next c.requires.next placed.0 before (contents_of (g.F.Flash.state c.args.flash.now)) (g.F.Flash.state c.args.flash.now).work.reads _ some (g.F.Flash.state c.may_have.new.flash).work.reads
+    (looked-as wanted l)
+    _ (g.F.Flash.state c.read_page.new.flash).work.reads refl c.read_page.ensures.room c.read_page.ensures.reads.reads (λ lt. omega (arith, one, lt))
+    (λ told. page-bytes c.args.self.now.table.now c.args.next (g.F.Flash.state c.args.flash.now) (g.F.Flash.state c.may_have.new.flash) c.read_page.new.buf.bytes told.standing c.may_have.ensures.counts c.in_ok-read_page.ensures.page) other
+
+pub returns-clause-goes : goal.returns-clause-goes
+returns-clause-goes g c =
+    let placed = subst (IsPlaced c.args.self.now.table.now c.args.self.now.rows_buf.now.bytes) c.requires.next c.requires.ready.placed in
+    let before : c.args.next < next_in c.args.self.now.table.now = omega (arith, placed.1, c.if-next-end.false, c.requires.end) in
+    let some : rows_noted c.args.self.now.table.now c.args.next ≡ 0 → ⊥ = λ none. c.if-rows_of-eq0.false (c.rows_of.ensures.exact ∙ none) in
+    let wanted : c.in_ok-may_have.field-0 ≡ true = search rules in
+    let one = c.in_ok-read_page.ensures.one in
+    let good : IsGoodPage (layout_in c.args.self.now.table.now) c.args.next c.read_page.new.buf.bytes = search rules in
+    let e = c.in_ok-may_have.ensures in
+    let l = looked c.args.self.now c.args.next c.requires.next placed.0 before (g.F.Flash.state c.args.flash.now) (g.F.Flash.state c.may_have.new.flash) (Ok c.in_ok-may_have.field-0) _ refl
+    e.room e.counts e.good e.fresh e.looks e.shows e.misses in
+    page-entered c.args.self.now c.args.next c.requires.next placed.0 before (contents_of (g.F.Flash.state c.args.flash.now)) (g.F.Flash.state c.args.flash.now).work.reads _ some (g.F.Flash.state c.may_have.new.flash).work.reads
+    (looked-as wanted l)
+    _ (g.F.Flash.state c.read_page.new.flash).work.reads refl c.read_page.ensures.room c.read_page.ensures.reads.reads (λ lt. omega (arith, one, lt))
+    (λ told. page-bytes c.args.self.now.table.now c.args.next (g.F.Flash.state c.args.flash.now) (g.F.Flash.state c.may_have.new.flash) c.read_page.new.buf.bytes told.standing c.may_have.ensures.counts c.in_ok-read_page.ensures.page) good

@@ -1,12 +1,15 @@
-use Rattle.std.proofs.Common.{◌≡◌, ℕ, ◌-◌, Option, Some, IfSome, IsTrue, sym, ◌∙◌, ap, subst}
+use Rattle.std.proofs.Common.{◌≡◌, ◌⊎◌, inl, inr, ℕ, ◌-◌, cond, Option, Some, None, IfSome, IsTrue, List, sym, ◌∙◌, ap, subst, arith}
+use Rattle.fl_ring.specs.Place.{shape_of}
+use Rattle.fl_ring.specs.Ring.{place}
 use Rattle.fl_flash.specs.Flash.{page_at}
 use Rattle.fl_flash.specs.Media.{next_count}
 use Rattle.fl_index.specs.Page.{page_number}
 use Rattle.fl_ring.proofs.Readings.{same_page}
-use Rattle.fl_index.specs.Looking.{IsFresh, IfRead}
-use Rattle.fl_index.specs.Memory.{is_waiting, waiting_at, first_waiting, place_in}
+use Rattle.fl_index.specs.Looking.{looked_at, IsFound, IsFresh, IsHeld, IfRead}
+use Rattle.fl_index.specs.Memory.{is_waiting, waiting_at, first_waiting, listing_in, place_in}
+use Rattle.fl_index.proofs.Scans.{memory-least, bad-page, scan-most, scan-least}
 use Rattle.fl_index.proofs.Showing.{waits-shows, none-shows, page-is, found-shows}
-use Rattle.fl_index.proofs.Lookups.{some-of, none-of, read-any, listing-same, listing-here, looked-here, here-bytes, place-same, scans-on, ok-any}
+use Rattle.fl_index.proofs.Lookups.{some-of, none-of, read-any, listing-same, listing-here, looked-here, kept-here, held-is, here-bytes, place-same, scans-on, ok-any}
 use Rattle.fl_index.proofs.index.Index.bitmap_of.Goals as goal
 
 pub returns-in-Some-clause-stands : goal.returns-in-Some-clause-stands
@@ -51,7 +54,7 @@ returns-clause-scans g c = λ first plan table from told stands fresh scanning.
     let w = none-of (is_waiting t c.args.number) (waiting_at t (c.args.number - first_waiting t)) (sym c.waiting_bitmap.ensures ∙ c.in_default.is) in
     let listing = c.in-Some-listing.ensures.some.0 in
     let bytes = here-bytes t ring c.in-Some-ring.is c.args.number page w listing f c.args.buf.now c.hold.new.buf fresh (c.in_default-hold.ensures.page told) in
-    ok-any c.listed.result _ (scans-on t f first plan table stands c.args.number page c.args.buf.now c.hold.new.buf bytes (listing-here t ring c.in-Some-ring.is c.args.number page w listing) from f new scanning
+    ok-any c.listed.result _ (scans-on t f first plan table stands c.args.number page (listing-here t ring c.in-Some-ring.is c.args.number page w listing) c.args.buf.now c.hold.new.buf bytes from f new scanning
     c.in_default-hold.ensures.reads.reads (c.in_default-hold.ensures.holds ∙ ap (λ (n : ℕ). Some n) (place-same t ring c.in-Some-ring.is c.args.number page))
     (λ held. c.in_default-hold.ensures.held (held.place ∙ ap (λ (n : ℕ). Some n) (sym (place-same t ring c.in-Some-ring.is c.args.number page))) held.number_is))
 
@@ -80,3 +83,68 @@ returns-clause-fresh g c = λ told fresh number held.
   where
     one_place : (a b : ℕ) → ◌≡◌ {A = Option ℕ} (Some a) (Some b) → a ≡ b
     one_place a b e = cc
+
+pub returns-in_default-listing-clause-least : goal.returns-in_default-listing-clause-least
+returns-in_default-listing-clause-least g c = λ first plan table from numbers told stands fresh scanning later lt.
+    let t = c.args.self.now in
+    let w = none-of (is_waiting t c.args.number) (waiting_at t (c.args.number - first_waiting t)) (sym c.waiting_bitmap.ensures ∙ c.in_default.is) in
+    let none : looked_at c.args.self.now c.args.number ≡ None = ap (λ b. cond b None (listing_in c.args.self.now c.args.number)) w ∙ (listing-same t c.in-Some-ring.ring c.in-Some-ring.is c.args.number ∙ c.listing.ensures.none c.in_default-listing.is) in
+    memory-least t c.args.number from (g.F.Flash.state c.args.flash.now).work.reads numbers c.args.buf.now none scanning
+
+pub returns-in-Err-clause-most : goal.returns-in-Err-clause-most
+returns-in-Err-clause-most g c = λ first plan table from told stands fresh scanning.
+    let t = c.args.self.now in
+    let page = c.in-Some-listing.listing.page in
+    let ring = c.in-Some-ring.ring in
+    let w = none-of (is_waiting t c.args.number) (waiting_at t (c.args.number - first_waiting t)) (sym c.waiting_bitmap.ensures ∙ c.in_default.is) in
+    scan-most t (g.F.Flash.state c.args.flash.now) first plan table stands c.args.number page (listing-here t ring c.in-Some-ring.is c.args.number page w c.in-Some-listing.ensures.some.0)
+    from c.args.buf.now (g.F.Flash.state c.args.flash.now) (g.F.Flash.state c.hold.new.flash) scanning c.hold.ensures.reads.reads
+    (λ held. (c.hold.ensures.held (held.place ∙ ap (λ (n : ℕ). Some n) (sym (place-same t ring c.in-Some-ring.is c.args.number page))) held.number_is).0)
+
+pub returns-clause-most : goal.returns-clause-most
+returns-clause-most g c = λ first plan table from told stands fresh scanning.
+    let t = c.args.self.now in
+    let page = c.in-Some-listing.listing.page in
+    let ring = c.in-Some-ring.ring in
+    let w = none-of (is_waiting t c.args.number) (waiting_at t (c.args.number - first_waiting t)) (sym c.waiting_bitmap.ensures ∙ c.in_default.is) in
+    scan-most t (g.F.Flash.state c.args.flash.now) first plan table stands c.args.number page (listing-here t ring c.in-Some-ring.is c.args.number page w c.in-Some-listing.ensures.some.0)
+    from c.args.buf.now (g.F.Flash.state c.args.flash.now) (g.F.Flash.state c.hold.new.flash) scanning c.hold.ensures.reads.reads
+    (λ held. (c.hold.ensures.held (held.place ∙ ap (λ (n : ℕ). Some n) (sym (place-same t ring c.in-Some-ring.is c.args.number page))) held.number_is).0)
+
+pub returns-clause-least : goal.returns-clause-least
+returns-clause-least g c = λ first plan table from numbers told stands fresh scanning later lt.
+    let t = c.args.self.now in
+    let f = g.F.Flash.state c.args.flash.now in
+    let page = c.in-Some-listing.listing.page in
+    let ring = c.in-Some-ring.ring in
+    let w = none-of (is_waiting t c.args.number) (waiting_at t (c.args.number - first_waiting t)) (sym c.waiting_bitmap.ensures ∙ c.in_default.is) in
+    let listing = c.in-Some-listing.ensures.some.0 in
+    let here = listing-here t ring c.in-Some-ring.is c.args.number page w listing in
+    let bytes = here-bytes t ring c.in-Some-ring.is c.args.number page w listing f c.args.buf.now c.hold.new.buf fresh (c.in_default-hold.ensures.page told) in
+    let p = page-is t f first plan table stands c.args.number page here c.hold.new.buf.bytes bytes in
+    ok-any c.listed.result _
+    (scan-least t f first plan table stands c.args.number page here from c.args.buf.now c.hold.new.buf f (g.F.Flash.state c.hold.new.flash) numbers scanning (looked-here t ring c.in-Some-ring.is c.args.number page w listing) later
+    (λ other. let one = c.in_default-hold.ensures.read (λ holds number. other (held-is t ring c.in-Some-ring.is c.args.number page w listing f c.args.buf.now c.hold.new.buf holds number)) in omega (arith, one, lt))
+    (λ held. c.hold.ensures.held (held.place ∙ ap (λ (n : ℕ). Some n) (sym (place-same t ring c.in-Some-ring.is c.args.number page))) held.number_is)
+    (c.in_default-hold.ensures.holds ∙ ap (λ (n : ℕ). Some n) (place-same t ring c.in-Some-ring.is c.args.number page))
+    p.is.good.number_is)
+
+pub returns-clause-bad : goal.returns-clause-bad
+returns-clause-bad g c =
+    let t = c.args.self.now in
+    let f = g.F.Flash.state c.args.flash.now in
+    let page = c.in-Some-listing.listing.page in
+    let ring = c.in-Some-ring.ring in
+    let w = none-of (is_waiting t c.args.number) (waiting_at t (c.args.number - first_waiting t)) (sym c.waiting_bitmap.ensures ∙ c.in_default.is) in
+    let listing = c.in-Some-listing.ensures.some.0 in
+    let same = place-same t ring c.in-Some-ring.is c.args.number page in
+    bad-page t f c.args.number page c.args.buf.now c.hold.new.buf c.listed.result (kept-here t ring c.in-Some-ring.is c.args.number page w listing)
+    (subst (λ (bytes : List ℕ). IsFound c.args.self.now c.in-Some-listing.listing.page c.args.number bytes c.listed.result) c.bytes.ensures (c.listed.ensures.found c.args.number c.in-Some-listing.ensures.some.1))
+    (λ told. moved (place (shape_of c.in-Some-ring.ring) c.in-Some-listing.listing.page) same (c.in_default-hold.ensures.page told))
+  where
+    moved : (at : ℕ) → at ≡ place_in c.args.self.now c.in-Some-listing.listing.page → (c.hold.new.buf.bytes ≡ page_at (g.F.Flash.state c.args.flash.now) at) ⊎ ((c.args.buf.now.holds ≡ Some at) × (page_number c.args.buf.now.bytes ≡ c.in-Some-listing.listing.page) × (c.hold.new.buf ≡ c.args.buf.now)) →
+        (c.hold.new.buf.bytes ≡ page_at (g.F.Flash.state c.args.flash.now) (place_in c.args.self.now c.in-Some-listing.listing.page)) ⊎ (IsHeld c.args.self.now c.in-Some-listing.listing.page c.args.buf.now × (c.hold.new.buf ≡ c.args.buf.now))
+    moved at is (inl e) = inl (e ∙ ap (page_at (g.F.Flash.state c.args.flash.now)) is)
+    moved at is (inr h) =
+        let w = none-of (is_waiting c.args.self.now c.args.number) (waiting_at c.args.self.now (c.args.number - first_waiting c.args.self.now)) (sym c.waiting_bitmap.ensures ∙ c.in_default.is) in
+        inr (record { kept = kept-here c.args.self.now c.in-Some-ring.ring c.in-Some-ring.is c.args.number c.in-Some-listing.listing.page w c.in-Some-listing.ensures.some.0; place = h.0 ∙ ap (λ (n : ℕ). Some n) is; number_is = h.1 }, h.2)

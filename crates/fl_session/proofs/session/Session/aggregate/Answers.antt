@@ -16,20 +16,20 @@ use Rattle.fl_session.proofs.session.Session.aggregate.Goals as goal
 pub returns-in-Err-clause-step : goal.returns-in-Err-clause-step
 returns-in-Err-clause-step g c = λ config old h.
     operator-refused _ config old _ c.args.name _ _ _
-    (λ name. words.Agg name c.args.range c.args.column c.args.width) (c.args.column ∷ [])
+    (λ name. words.Agg name c.args.range c.args.column c.args.width) (c.args.column ∷ []) c.args.range
     (λ at. map group_reply (operators.aggregate c.args.column c.args.width (records_of c.args.range at))) _ _ _
-    (λ at moment is w. step-is config old moment (words.Agg at c.args.range c.args.column c.args.width) is w)
-    (λ moment read. read) (λ moment. tt) h c.in-Err.refusal c.in-Err.ensures c.write_reply.ensures.text
+    (λ at moment is w. step-is config old moment (words.Agg at c.args.range c.args.column c.args.width) is w) (λ now moment read. read)
+    (λ moment read. read) h c.in-Err.refusal c.in-Err.ensures c.write_reply.ensures.text
 
 pub returns-then-columns-column-clause-step : goal.returns-then-columns-column-clause-step
 returns-then-columns-column-clause-step g c = λ config old h.
     let beyond : length (layout_in c.index.result.now.table).columns < c.args.column = search rules in
     let here : slice_get c.args.self.now.tables.entries.items c.in-Ok.at ≡ Some c.index.result.now = reached-here c.args.self.now.tables.entries.items _ _ c.in-Ok.at c.index.result.now c.in-Ok.ensures c.index.ensures in
     operator-no_column _ config old _ c.args.name _ _ _
-    (λ name. words.Agg name c.args.range c.args.column c.args.width) (c.args.column ∷ [])
+    (λ name. words.Agg name c.args.range c.args.column c.args.width) (c.args.column ∷ []) c.args.range
     (λ at. map group_reply (operators.aggregate c.args.column c.args.width (records_of c.args.range at))) _ _ _
-    (λ at moment is w. step-is config old moment (words.Agg at c.args.range c.args.column c.args.width) is w)
-    c.in-Ok.at c.index.result.now (λ moment read. read) (λ moment. tt) h c.in-Ok.ensures here c.args.column (λ first plan planned. lacks-column c.index.result.now.table first plan _ beyond planned) c.write_reply-then-columns-column.ensures.text
+    (λ at moment is w. step-is config old moment (words.Agg at c.args.range c.args.column c.args.width) is w) (λ now moment read. read)
+    c.in-Ok.at c.index.result.now (λ moment read. read) h c.in-Ok.ensures here c.args.column (λ first plan planned. lacks-column c.index.result.now.table first plan _ beyond planned) c.write_reply-then-columns-column.ensures.text
 
 pub returns-clause-step : goal.returns-clause-step
 returns-clause-step g c = λ config old h.
@@ -39,12 +39,12 @@ returns-clause-step g c = λ config old h.
     let within : c.args.column ≤ length (layout_in c.index.result.now.table).columns = search rules in
     let here : slice_get c.args.self.now.tables.entries.items c.in-Ok.at ≡ Some c.index.result.now = reached-here c.args.self.now.tables.entries.items _ _ c.in-Ok.at c.index.result.now c.in-Ok.ensures c.index.ensures in
     operator-executes _ config old _ c.args.name _ _ _
-    (λ name. words.Agg name c.args.range c.args.column c.args.width) (c.args.column ∷ [])
+    (λ name. words.Agg name c.args.range c.args.column c.args.width) (c.args.column ∷ []) c.args.range
     (λ at. map group_reply (operators.aggregate c.args.column c.args.width (records_of c.args.range at))) _ _ _
-    (λ at moment is w. step-is config old moment (words.Agg at c.args.range c.args.column c.args.width) is w)
-    c.in-Ok.at c.index.result.now _ _ (λ moment read. read) (λ moment. tt) h c.in-Ok.ensures here c.aggregate.ensures.reads_only (has-read _ _ c.aggregate.ensures.reads_only _ small refl)
+    (λ at moment is w. step-is config old moment (words.Agg at c.args.range c.args.column c.args.width) is w) (λ now moment read. read)
+    c.in-Ok.at c.index.result.now _ _ (λ moment read. read) h c.in-Ok.ensures here c.aggregate.ensures.reads_only (has-read _ _ c.aggregate.ensures.reads_only _ small refl)
     (λ first plan planned. has-column c.index.result.now.table first plan _ within planned)
-    (λ first plan table tells on stands. c.aggregate.ensures.counted first plan table tells on stands)
+    (λ first plan table tells on stands none. c.aggregate.ensures.counted first plan table tells on stands)
 
 pub index-requires : goal.index-requires
 index-requires g c = reached-within c.args.self.now.tables.entries.items _ _ _ c.in-Ok.at c.args.self.now.tables.entries.ok.0 c.in-Ok.ensures

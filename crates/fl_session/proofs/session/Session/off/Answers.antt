@@ -11,4 +11,4 @@ returns-clause-step g c = λ config old h.
     answers-off config old _ _ _ (subst (λ f. SessionStands config c.args.self.now.tables.entries.items f false c.args.self.now.notes (stopped old)) (sym c.power_off.ensures) s)
 
 pub returns-clause-sound : goal.returns-clause-sound
-returns-clause-sound g c = sound-off _ _ _ _ _ _ c.args.self.now.notes c.power_off.ensures c.forget.ensures.rows c.forget.ensures.index c.requires
+returns-clause-sound g c = sound-off _ _ _ _ _ _ c.args.self.now.notes c.power_off.ensures c.forget.ensures.rows c.forget.ensures.index c.forget.ensures.right c.requires

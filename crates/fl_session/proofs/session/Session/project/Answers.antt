@@ -18,10 +18,10 @@ use Rattle.fl_session.proofs.session.Session.project.Goals as goal
 pub returns-in-Err-clause-step : goal.returns-in-Err-clause-step
 returns-in-Err-clause-step g c = λ config old h.
     operator-refused _ config old _ c.args.name _ _ _
-    (λ name. words.Project name c.args.range c.args.columns.now.items) c.args.columns.now.items
+    (λ name. words.Project name c.args.range c.args.columns.now.items) c.args.columns.now.items c.args.range
     (λ at. map reply.Fields (operators.project c.args.columns.now.items (records_of c.args.range at))) _ _ _
-    (λ at moment is w. step-is config old moment (words.Project at c.args.range c.args.columns.now.items) is w)
-    (λ moment read. read) (λ moment. tt) h c.in-Err.refusal c.in-Err.ensures c.write_reply.ensures.text
+    (λ at moment is w. step-is config old moment (words.Project at c.args.range c.args.columns.now.items) is w) (λ now moment read. read)
+    (λ moment read. read) h c.in-Err.refusal c.in-Err.ensures c.write_reply.ensures.text
 
 pub returns-in-Some-clause-step : goal.returns-in-Some-clause-step
 returns-in-Some-clause-step g c = λ config old h.
@@ -29,10 +29,10 @@ returns-in-Some-clause-step g c = λ config old h.
     let lacks : Some column ≡ lacked_column (layout_in c.index.result.now.table) c.args.columns.now.items = c.in-Some.ensures ∙ ap (lacked_column (layout_in c.index.result.now.table)) c.as_slice.ensures.value in
     let here : slice_get c.args.self.now.tables.entries.items c.in-Ok.at ≡ Some c.index.result.now = reached-here c.args.self.now.tables.entries.items _ _ c.in-Ok.at c.index.result.now c.in-Ok.ensures c.index.ensures in
     operator-no_column _ config old _ c.args.name _ _ _
-    (λ name. words.Project name c.args.range c.args.columns.now.items) c.args.columns.now.items
+    (λ name. words.Project name c.args.range c.args.columns.now.items) c.args.columns.now.items c.args.range
     (λ at. map reply.Fields (operators.project c.args.columns.now.items (records_of c.args.range at))) _ _ _
-    (λ at moment is w. step-is config old moment (words.Project at c.args.range c.args.columns.now.items) is w)
-    c.in-Ok.at c.index.result.now (λ moment read. read) (λ moment. tt) h c.in-Ok.ensures here column (λ first plan planned. lacked-column c.index.result.now.table first plan c.args.columns.now.items (Some column) lacks planned) c.write_reply-in-Some.ensures.text
+    (λ at moment is w. step-is config old moment (words.Project at c.args.range c.args.columns.now.items) is w) (λ now moment read. read)
+    c.in-Ok.at c.index.result.now (λ moment read. read) h c.in-Ok.ensures here column (λ first plan planned. lacked-column c.index.result.now.table first plan c.args.columns.now.items (Some column) lacks planned) c.write_reply-in-Some.ensures.text
 
 pub returns-clause-step : goal.returns-clause-step
 returns-clause-step g c = λ config old h.
@@ -42,12 +42,12 @@ returns-clause-step g c = λ config old h.
     let none : None ≡ lacked_column (layout_in c.index.result.now.table) c.args.columns.now.items = c.in_default.ensures ∙ ap (lacked_column (layout_in c.index.result.now.table)) c.as_slice.ensures.value in
     let here : slice_get c.args.self.now.tables.entries.items c.in-Ok.at ≡ Some c.index.result.now = reached-here c.args.self.now.tables.entries.items _ _ c.in-Ok.at c.index.result.now c.in-Ok.ensures c.index.ensures in
     operator-executes _ config old _ c.args.name _ _ _
-    (λ name. words.Project name c.args.range c.args.columns.now.items) c.args.columns.now.items
+    (λ name. words.Project name c.args.range c.args.columns.now.items) c.args.columns.now.items c.args.range
     (λ at. map reply.Fields (operators.project c.args.columns.now.items (records_of c.args.range at))) _ _ _
-    (λ at moment is w. step-is config old moment (words.Project at c.args.range c.args.columns.now.items) is w)
-    c.in-Ok.at c.index.result.now _ _ (λ moment read. read) (λ moment. tt) h c.in-Ok.ensures here c.project.ensures.reads_only (has-read _ _ c.project.ensures.reads_only _ small refl)
+    (λ at moment is w. step-is config old moment (words.Project at c.args.range c.args.columns.now.items) is w) (λ now moment read. read)
+    c.in-Ok.at c.index.result.now _ _ (λ moment read. read) h c.in-Ok.ensures here c.project.ensures.reads_only (has-read _ _ c.project.ensures.reads_only _ small refl)
     (λ first plan planned. lacked-column c.index.result.now.table first plan c.args.columns.now.items None none planned)
-    (λ first plan table tells on stands. rw c.as_slice-columns.ensures.value at (c.project.ensures.counted first plan table tells on stands))
+    (λ first plan table tells on stands none. rw c.as_slice-columns.ensures.value at (c.project.ensures.counted first plan table tells on stands))
 
 pub index-requires : goal.index-requires
 index-requires g c = reached-within c.args.self.now.tables.entries.items _ _ _ c.in-Ok.at c.args.self.now.tables.entries.ok.0 c.in-Ok.ensures

@@ -1,11 +1,6 @@
-use Rattle.std.proofs.Common.{◌+◌, arith, subst, sym}
-use Rattle.fl_session.proofs.TablesMade.{MadeSoFar, made-more, built-alone}
+use Rattle.std.proofs.Common.{◌+◌, subst, sym}
+use Rattle.fl_session.proofs.TablesMade.{MadeSoFar, made-more}
 use Rattle.fl_session.proofs.tables.Tables.plan.Goals as goal
-
-pub plan-requires : goal.plan-requires
-plan-requires c = record {
-  var = built-alone c.args.config.now.plans c.loop-i.i c.table.result.now c.requires.built (omega (arith, c.loop-i-test.true, c.tables-i-end.ensures.exact)) c.table.ensures.plan c.table.ensures.limits;
-}
 
 pub loop-i-preserved : goal.loop-i-preserved
 loop-i-preserved c = record {

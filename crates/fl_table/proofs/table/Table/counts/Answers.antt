@@ -1,9 +1,10 @@
 use Rattle.std.proofs.Common.{rules, ◌≡◌, ℕ, ◌+◌, ◌-◌, ◌==◌, cond, map, ap, ◌∙◌, arith}
 use Rattle.std.proofs.lemmas.List.FromFn.{sum_by-map-range_with_len_more}
 use Rattle.std.specs.List.{sum, count_by, range_with_len}
-use Rattle.fl_table.specs.Look.{oldest_in, rows_noted, counts_in}
+use Rattle.fl_table.specs.Look.{oldest_in, rows_noted}
+use Rattle.fl_table.specs.Memory.{next_in}
 use Rattle.fl_table.specs.declared.counts.TableCounts.{TableCounts}
-use Rattle.fl_table.proofs.Looks.{counts-is}
+use Rattle.fl_table.proofs.Looks.{counts-is, counts-told}
 use Rattle.fl_table.proofs.PagesRead.{is-void, not-void, voids_few}
 use Rattle.fl_table.proofs.table.Table.counts.Goals as goal
 use Rattle.fl_table.proofs.table.Table.counts.Goals.{then-rows-eq0, else-rows-eq0}
@@ -53,5 +54,6 @@ loop-number-preserved c =
 pub returns-clause-stands : goal.returns-clause-stands
 returns-clause-stands c = λ f first plan table stands.
     let t = c.args.self.now in
-    let exact : c.loop-number.counts ≡ counts_in t = search rules in
-    exact ∙ counts-is t f first plan table stands
+    let inv = c.loop-number.invariant in
+    let last : c.loop-number.number - oldest_in t ≡ next_in t - oldest_in t = search (rules, arith) in
+    counts-told t c.loop-number.counts (c.loop-number.number - oldest_in t) last inv.rows inv.pending inv.pages inv.voids ∙ counts-is t f first plan table stands

@@ -31,6 +31,7 @@ returns-then-not-is_full-clause-ends g c = λ first plan table rose device watch
           blocks = stands.planned.blocks;
           index = stands.planned.index;
           var = stands.planned.var;
+          limit = stands.planned.limit;
           buckets = stands.planned.buckets;
           error = stands.planned.error;
         };
@@ -49,9 +50,9 @@ returns-then-not-is_full-clause-ends g c = λ first plan table rose device watch
           counts = memory.counts;
           voids = memory.voids;
           index = memory.index;
-          no_fill = memory.no_fill;
         };
         bitmaps = stands.bitmaps;
+        blobs = stands.blobs;
         points = stands.points;
       };
     })

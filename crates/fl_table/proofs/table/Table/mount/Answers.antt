@@ -11,6 +11,7 @@ use Rattle.fl_table.specs.Bitmaps.{AreSamePlan, IsOutside, StandOutside}
 use Rattle.fl_table.specs.Mounting.{FindsBitmaps}
 use Rattle.fl_table.proofs.Following.{watched-front, watched-then}
 use Rattle.fl_table.proofs.MountJoined.{mount-fails, mount-then, still-found, finds-as, refuses-by, stand-outside}
+use Rattle.fl_table.proofs.Outsides.{blobs-outside}
 use Rattle.fl_table.proofs.SealAnswers.{planned-same}
 use Rattle.fl_table.proofs.table.Table.mount.Goals as goal
 
@@ -39,6 +40,8 @@ returns-clause-ends g c = λ first plan table rose device watched planned rests.
       buckets = c.forget.ensures.same.buckets;
       error = c.forget.ensures.same.error;
       bitmaps = subst (λ (o : Option Index). AreSamePlan o c.mount_bitmaps.new.bitmaps) c.forget.ensures.bitmaps c.in_ok-end.ensures.same;
+      blobs = c.forget.ensures.same.blobs;
+      limit = c.forget.ensures.same.limit;
     })) at_rest stands (c.unwrap_or.ensures ∙ end))
 
 pub returns-clause-found : goal.returns-clause-found
@@ -61,7 +64,9 @@ returns-clause-found g c =
         buckets = c.forget.ensures.same.buckets;
         error = c.forget.ensures.same.error;
         bitmaps = subst (λ (o : Option Index). AreSamePlan o c.mount_bitmaps.new.bitmaps) c.forget.ensures.bitmaps c.in_ok-end.ensures.same;
-      }) c.unwrap_or.ensures;
+        blobs = c.forget.ensures.same.blobs;
+        limit = c.forget.ensures.same.limit;
+      }) c.forget.ensures.blobs c.unwrap_or.ensures;
     }) c.mount_rows.ensures.found
 
 pub returns-clause-refused : goal.returns-clause-refused
@@ -82,15 +87,17 @@ returns-clause-refused g c =
         buckets = c.forget.ensures.same.buckets;
         error = c.forget.ensures.same.error;
         bitmaps = subst (λ (o : Option Index). AreSamePlan o c.mount_bitmaps.new.bitmaps) c.forget.ensures.bitmaps c.in_ok-end.ensures.same;
-      }) c.unwrap_or.ensures,
+        blobs = c.forget.ensures.same.blobs;
+        limit = c.forget.ensures.same.limit;
+      }) c.forget.ensures.blobs c.unwrap_or.ensures,
     )) c.mount_rows.ensures.refused
 
 pub returns-clause-outside : goal.returns-clause-outside
-returns-clause-outside g c = λ told page out index.
+returns-clause-outside g c = λ told page out index blobs.
     let t = c.args.self.now in
     let old = g.F.Flash.state c.args.flash.now in
     let mid = g.F.Flash.state c.mount_bitmaps.new.flash in
     let first = stand-outside t.bitmaps (page_at old) (page_at mid) page (subst (λ (o : Option Index). StandOutside o (page_at old) (page_at mid)) c.forget.ensures.bitmaps (c.in_ok-end.ensures.outside told)) index in
     let shape : shape_at c.forget.new.self.place c.forget.new.self.geometry ≡ shape_at t.place t.geometry =
     ap (λ (p : RingPlace). shape_at p c.forget.new.self.geometry) c.forget.ensures.same.place ∙ ap (λ (x : Geometry). shape_at t.place x) c.forget.ensures.same.geometry in
-    c.mount_rows.ensures.outside (subst IsTrue (sym c.in_ok-end.ensures.goes.tells) told) page (subst (λ (r : Shape). IsOutside r page) (sym shape) out) ∙ first
+    c.mount_rows.ensures.outside (subst IsTrue (sym c.in_ok-end.ensures.goes.tells) told) page (subst (λ (r : Shape). IsOutside r page) (sym shape) out) (blobs-outside t.blobs c.forget.new.self.blobs page c.forget.ensures.same.blobs blobs) ∙ first

@@ -1,285 +1,180 @@
-use Rattle.std.proofs.Common.{rules, true, false, Some, Option, IfSome, ◌≡◌, ◌+◌, ◌*◌, ◌-◌, ◌<◌, ◌≤◌, ℕ, List, [], Ok, Err, length, arith, refl, sym, ◌∙◌, ap, subst, IsTrue}
+use Rattle.std.proofs.Common.{◌≡◌, ◌+◌, ◌*◌, ◌≤◌, Some, Ok, Err, Option, IfSome, arith, refl, sym, ◌∙◌, ap, subst, IsTrue, inl, inr}
 use Rattle.std.proofs.lemmas.Result.{err_from_is_err_and}
-use Rattle.fl_find.specs.Index.{IndexOf}
-use Rattle.fl_ring.specs.Mounting.{shape_at}
 use Rattle.fl_flash.specs.Flash.{page_at}
-use Rattle.fl_ring.specs.Place.{next_of, oldest_of}
-use Rattle.fl_ring.specs.Ring.{Shape, OutsideStands}
-use Rattle.fl_ring.specs.declared.ring.Ring.{Ring}
-use Rattle.fl_table.specs.Bitmaps.{EndAt}
-use Rattle.fl_schema.specs.Schema.{layout_of}
-use Rattle.fl_table.specs.Reading.{AreNoted, pages_of}
-use Rattle.fl_table.specs.declared.counts.Mounted.{Mounted}
-use Rattle.fl_table.proofs.Following.{watched-front}
-use Rattle.fl_table.proofs.Gathering.{gathers-end, wait-for}
-use Rattle.fl_table.proofs.Indexing.{few-goes, lies-goes, none-is, none-there, plan-then, ring-then, still-few, still-lies, still-planned, still-running}
-use Rattle.fl_table.proofs.MountCalls.{same-shape, risen-later, outside-stands, index-still, index-read, refuses-ring, refuses-end, refuses-page, finds-pages, ring-cause, pages-cause}
-use Rattle.fl_table.proofs.MountEnded.{mounting-of, ring-fails, ring-ends, ring-mounts, reads-end, ends-within, same_device, started-stand, started-stands, mount-answer}
-use Rattle.fl_table.proofs.MountReads.{few-first, few-all}
-use Rattle.fl_table.proofs.SealAnswers.{plan-self, planned-ring, planned-same, lies-size, written-back}
+use Rattle.fl_find.proofs.Points.{mounts-points}
+use Rattle.fl_model.specs.Mount.{ready}
+use Rattle.fl_model.specs.Table as model
+use Rattle.fl_ring.proofs.Readings.{goes_more}
+use Rattle.fl_table.specs.Bitmaps.{IsOutside}
+use Rattle.fl_table.specs.BlobEnds.{least_of}
+use Rattle.fl_table.specs.BlobMount.{FindsBlobs, RefusesWithin}
+use Rattle.fl_table.specs.Blobs.{room_of, rings_of}
+use Rattle.fl_table.proofs.Outsides.{var-outside}
+use Rattle.fl_var.specs.Memory.{var_shape}
+use Rattle.fl_table.specs.Outcomes.{RingsEnd, DataEnds, var_rings}
+use Rattle.fl_table.proofs.Blobbing as blobbing
+use Rattle.fl_table.proofs.Following.{watched-front, watched-then}
+use Rattle.fl_table.proofs.MountJoined.{mount-cause-later}
+use Rattle.fl_table.proofs.MountVar.{data-fails, mounted-ends, rows-fail, rows-mount, with_var}
+use Rattle.fl_table.proofs.Plain.{table-facts}
 use Rattle.fl_table.proofs.table.Table.mount_rows.Goals as goal
+use Rattle.fl_var.specs.declared.var_data.VarData.{VarData}
 
-pub returns-in_err-ring-clause-ends : goal.returns-in_err-ring-clause-ends
-returns-in_err-ring-clause-ends g c = λ first plan table rose device watched planned rests stands end.
-    let t = c.args.self.now in
-    let old = g.F.Flash.state c.args.flash.now in
-    let new = g.F.Flash.state c.mount.new.flash in
-    let lies = c.requires.lies in
-    let ensures = c.in_err-ring.ensures in
-    let goes = ensures.beside.goes in
-    let is = mounting-of t old first plan table planned lies.geometry lies.within (g.met.F.Flash.reaches c.args.flash.now) rests in
-    let sizes = lies-size t new first plan planned (goes.geometry ∙ lies.geometry) (omega (arith, goes.blocks, lies.within)) (g.met.F.Flash.reaches c.mount.new.flash) in
-    let at = same-shape t t old (plan-self t) lies.geometry ∙ planned-ring t first plan planned in
-    let still = index-still t old new first plan planned lies.geometry (ensures.beside.outside watched.told) in
+pub returns-in_err-rows-clause-ends : goal.returns-in_err-rows-clause-ends
+returns-in_err-rows-clause-ends g c = λ first plan table rose device watched planned rests stands end.
     let p = err_from_is_err_and c.from_residual.result c.from_residual.ensures.1 in
-    rw (p.1, p.2) (ring-fails first plan table rose device old is c.in_err-ring.field-0.0 t new sizes still
-    (ring-ends first plan table rose device old is (shape_at t.place old.geometry) at c.args.end end new (Err c.in_err-ring.field-0.0) ensures.ends watched))
+    rw (p.1, p.2) (data-fails first plan table rose device c.in_err-rows.field-0.0 _ _ (g.F.Flash.state c.read_rows.new.flash) (c.in_err-rows.ensures.ends first plan table rose device watched planned rests stands end))
 
-pub returns-in_err-mounted-clause-ends : goal.returns-in_err-mounted-clause-ends
-returns-in_err-mounted-clause-ends g c = λ first plan table rose device watched planned rests stands end.
-    let t = c.args.self.now in
+pub returns-in_err-mount_within-clause-ends : goal.returns-in_err-mount_within-clause-ends
+returns-in_err-mount_within-clause-ends g c = λ first plan table rose device watched planned rests stands end.
     let old = g.F.Flash.state c.args.flash.now in
-    let mid = g.F.Flash.state c.mount.new.flash in
-    let new = g.F.Flash.state c.read_pages.new.flash in
-    let ring = c.in_ok-ring.ring in
-    let lies = c.requires.lies in
-    let first_goes = c.in_ok-ring.ensures.beside.goes in
-    let reads = c.in_err-mounted.ensures.reads in
-    let goes = reads.goes in
-    let is = mounting-of t old first plan table planned lies.geometry lies.within (g.met.F.Flash.reaches c.args.flash.now) rests in
-    let sizes = lies-size t new first plan planned (goes.geometry ∙ (first_goes.geometry ∙ lies.geometry)) (omega (arith, goes.blocks, first_goes.blocks, lies.within)) (g.met.F.Flash.reaches c.read_pages.new.flash) in
-    let at = same-shape t t old (plan-self t) lies.geometry ∙ planned-ring t first plan planned in
-    let still = index-read t old mid new (next_of ring - oldest_of ring) first plan planned lies.geometry reads (c.in_ok-ring.ensures.beside.outside watched.told) in
-    let l = ring-mounts first plan table rose device old is ring mid
-    (ring-ends first plan table rose device old is (shape_at t.place old.geometry) at c.args.end end mid (Ok ring) c.in_ok-ring.ensures.ends (watched-front old mid new rose device watched goes)) in
-    let p = err_from_is_err_and c.from_residual-in_err-mounted.result c.from_residual-in_err-mounted.ensures.1 in
-    rw (p.1, p.2) (reads-end first plan table rose device old is ring mid new (next_of ring - oldest_of ring) l reads sizes still t _ c.in_err-mounted.field-0.0
-    planned (c.in_ok-ring.ensures.shape ∙ at) (risen-later old mid new rose device watched first_goes) c.in_err-mounted.ensures.only c.in_err-mounted.ensures.fails (subst IsTrue (sym first_goes.tells) watched.told) c.in_err-mounted.ensures.fault)
-
-pub returns-in_err-mounted-clause-refused : goal.returns-in_err-mounted-clause-refused
-returns-in_err-mounted-clause-refused g c =
-    let t = c.args.self.now in
-    let old = g.F.Flash.state c.args.flash.now in
-    let mid = g.F.Flash.state c.mount.new.flash in
-    let new = g.F.Flash.state c.read_pages.new.flash in
-    let ring = c.in_ok-ring.ring in
-    let first_goes = c.in_ok-ring.ensures.beside.goes in
-    let p = err_from_is_err_and c.from_residual-in_err-mounted.result c.from_residual-in_err-mounted.ensures.1 in
-    rw (p.1, p.2) (λ told. refuses-page t t old mid new (next_of ring - oldest_of ring) (plan-self t) c.requires.lies.geometry c.in_err-mounted.ensures.reads ring c.args.end c.in_ok-ring.ensures.found (omega (arith, c.if-end-next.false, c.next_number-next.ensures)) refl c.in_err-mounted.field-0.0
-    c.in_err-mounted.ensures.only (subst IsTrue (sym first_goes.tells) told) c.in_err-mounted.ensures.fails c.in_err-mounted.ensures.fault)
-
-pub returns-in_err-mounted-clause-outside : goal.returns-in_err-mounted-clause-outside
-returns-in_err-mounted-clause-outside g c = λ told.
-    let t = c.args.self.now in
-    outside-stands t t (g.F.Flash.state c.args.flash.now) (g.F.Flash.state c.mount.new.flash) (g.F.Flash.state c.read_pages.new.flash) _ (plan-self t) c.requires.lies.geometry c.in_err-mounted.ensures.reads (c.in_ok-ring.ensures.beside.outside told)
-
-pub returns-clause-outside : goal.returns-clause-outside
-returns-clause-outside g c = λ told.
-    let t = c.args.self.now in
-    outside-stands t t (g.F.Flash.state c.args.flash.now) (g.F.Flash.state c.mount.new.flash) (g.F.Flash.state c.read_pages.new.flash) _ (plan-self t) c.requires.lies.geometry c.in_ok-mounted.ensures.reads (c.in_ok-ring.ensures.beside.outside told)
-
-pub returns-clause-found : goal.returns-clause-found
-returns-clause-found g c = λ told.
-    let t = c.args.self.now in
-    let old = g.F.Flash.state c.args.flash.now in
-    let mid = g.F.Flash.state c.mount.new.flash in
-    let new = g.F.Flash.state c.read_pages.new.flash in
-    let ring = c.in_ok-ring.ring in
-    let ensures = c.in_ok-mounted.ensures in
-    let still = subst IsTrue (sym c.in_ok-ring.ensures.beside.goes.tells) told in
-    finds-pages t t old mid new (next_of ring - oldest_of ring) (plan-self t) c.requires.lies.geometry ensures.reads ring c.args.end c.in_ok-ring.ensures.found (omega (arith, c.if-end-next.false, c.next_number-next.ensures)) refl c.in_ok-mounted.mounted _ refl
-    (ensures.read still) (ensures.mounted still) (ensures.last still)
+    let mid = g.F.Flash.state c.read_rows.new.flash in
+    let new = g.F.Flash.state c.mount_within.new.flash in
+    let goes = c.in_ok-rows.ensures.goes in
+    let w = c.in_ok-rows.ensures.ends first plan table rose device (watched-front old mid new rose device watched c.mount_within.ensures.goes) planned rests stands end in
+    let then = watched-then old mid new rose device w.now.device watched goes w.power w.counts in
+    let p = err_from_is_err_and c.from_residual-in_err-mount_within.result c.from_residual-in_err-mount_within.ensures.1 in
+    rw (p.1, p.2) (rows-fail c.read_rows.new.self mid new first plan table rose device c.in_ok-rows.rows w then c.read_rows.new.self.blobs c.mount_within.new.blobs c.in_err-mount_within.field-0.0 _ refl (c.in_err-mount_within.ensures.outside then.told)
+    (c.in_err-mount_within.ensures.ends (first + plan.data_blocks + plan.index_blocks) plan w.now.state rose w.now.device w.end_is))
 
 pub returns-clause-ends : goal.returns-clause-ends
 returns-clause-ends g c = λ first plan table rose device watched planned rests stands end.
-    let t = c.args.self.now in
+    let t = c.read_rows.new.self in
     let old = g.F.Flash.state c.args.flash.now in
-    let mid = g.F.Flash.state c.mount.new.flash in
-    let new = g.F.Flash.state c.read_pages.new.flash in
-    let ring = c.in_ok-ring.ring in
-    let lies = c.requires.lies in
-    let first_goes = c.in_ok-ring.ensures.beside.goes in
-    let ensures = c.in_ok-mounted.ensures in
-    let reads = ensures.reads in
-    let goes = reads.goes in
-    let told = subst IsTrue (sym first_goes.tells) watched.told in
-    let is = mounting-of t old first plan table planned lies.geometry lies.within (g.met.F.Flash.reaches c.args.flash.now) rests in
-    let sizes = lies-size t new first plan planned (goes.geometry ∙ (first_goes.geometry ∙ lies.geometry)) (omega (arith, goes.blocks, first_goes.blocks, lies.within)) (g.met.F.Flash.reaches c.read_pages.new.flash) in
-    let at = same-shape t t old (plan-self t) lies.geometry ∙ planned-ring t first plan planned in
-    let still = index-read t old mid new (next_of ring - oldest_of ring) first plan planned lies.geometry reads (c.in_ok-ring.ensures.beside.outside watched.told) in
-    let l = ring-mounts first plan table rose device old is ring mid
-    (ring-ends first plan table rose device old is (shape_at t.place old.geometry) at c.args.end end mid (Ok ring) c.in_ok-ring.ensures.ends (watched-front old mid new rose device watched goes)) in
-    let here = c.in_ok-ring.ensures.shape ∙ at in
-    let n = next_of ring - oldest_of ring in
-    let back = written-back t.counts.items c.read_pages.new.counts t.counts.len (ensures.counts ∙ ap length c.deref_mut.ensures.value) t.counts.ok.0 in
-    let forgotten = c.requires.forgotten in
+    let mid = g.F.Flash.state c.read_rows.new.flash in
+    let new = g.F.Flash.state c.mount_within.new.flash in
+    let goes = c.in_ok-rows.ensures.goes in
+    let w = c.in_ok-rows.ensures.ends first plan table rose device (watched-front old mid new rose device watched c.mount_within.ensures.goes) planned rests stands end in
+    let then = watched-then old mid new rose device w.now.device watched goes w.power w.counts in
+    let h = rows-mount t mid new first plan table rose device c.in_ok-rows.rows w then t.blobs c.mount_within.new.blobs c.in_ok-mount_within.field-0 refl (c.in_ok-mount_within.ensures.outside then.told)
+    (c.in_ok-mount_within.ensures.ends (first + plan.data_blocks + plan.index_blocks) plan w.now.state rose w.now.device w.end_is) in
+    let memory = w.memory in
+    let points = mounts-points plan w.now.state in
+    mounted-ends t _ new first plan table w.now.state rose device c.in_ok-rows.rows c.mount_within.new.blobs h w.answer (record {
+      planned = record {
+        geometry = w.planned.geometry;
+        layout = w.planned.layout;
+        begins = w.planned.begins;
+        blocks = w.planned.blocks;
+        index = w.planned.index;
+        var = blobbing.still-planned t.blobs c.mount_within.new.blobs (first + plan.data_blocks + plan.index_blocks) plan w.planned.var c.in_ok-mount_within.ensures.same;
+        limit = w.planned.limit;
+        buckets = w.planned.buckets;
+        error = w.planned.error;
+      };
+      facts = table-facts plan (with_var (ready plan w.now.state) h.ring h.fill) h.facts;
+      whole = w.whole;
+      clean = w.clean;
+      pages = h.pages;
+      memory = record {
+        ring = c.in_ok-rows.rows.ring;
+        ring_is = refl;
+        next = memory.next;
+        oldest = memory.oldest;
+        gathers = memory.gathers;
+        bitmap = memory.bitmap;
+        last = memory.last;
+        counts = memory.counts;
+        voids = memory.voids;
+        index = memory.index;
+      };
+      bitmaps = h.bitmaps;
+      blobs = h.blobs;
+      points = record { older = points.older; points = points.points; last = points.last };
+    })
+
+pub returns-clause-found : goal.returns-clause-found
+returns-clause-found g c = λ told.
+    let mid = g.F.Flash.state c.read_rows.new.flash in
+    let rows = c.in_ok-rows.rows in
     record {
-      now = l.now;
-      did = l.did;
-      counts = same_device first plan table rose device old is ring mid new n l reads sizes still;
-      power = reads.power ∙ l.power;
-      stands = started-stands first plan table rose device old is ring mid new n l reads sizes still _
-          (record {
-            geometry = planned.geometry;
-            layout = planned.layout;
-            begins = planned.begins;
-            blocks = planned.blocks;
-            index = still-planned t.bitmaps c.read_pages.new.bitmaps (first + plan.data_blocks) plan planned.index (plan-then t.bitmaps c.restart.new.bitmaps c.read_pages.new.bitmaps c.restart.ensures.same ensures.same);
-            var = planned.var;
-            buckets = planned.buckets;
-            error = planned.error ∙ sym ensures.error;
-          }) here refl
-          forgotten.empty forgotten.bits (ensures.last told)
-          (λ fits. subst (λ (cs : List ℕ). AreNoted (layout_of t.schema) (pages_of ring mid) (oldest_of ring) (next_of ring - oldest_of ring) cs) (sym back)
-          (ensures.noted (subst (λ k. next_of ring - oldest_of ring ≤ k) (ap length back ∙ ensures.counts) fits) told))
-          (ensures.index told plan.error (subst (λ e. IndexOf e [] t.index) (sym planned.error) forgotten.index))
-          (ap (λ (m : Mounted). m.voids) (ensures.mounted told))
-          (started-stand first plan table rose device old is ring mid new n l reads sizes still t.bitmaps c.restart.new.bitmaps c.read_pages.new.bitmaps c.args.end c.first_to_wait-first.result here planned.index stands end
-          (c.first_to_wait-first.ensures ∙ rw (c.oldest.ensures, c.next_number-next.ensures) refl) c.restart.ensures.same c.restart.ensures.still
-          c.restart.ensures.idle c.restart.ensures.next c.restart.ensures.waits ensures.same ensures.still (ensures.waits told));
-      answer = mount-answer first plan table rose device old is ring mid new n l reads sizes still t c.in_ok-mounted.mounted planned here (ensures.mounted told);
+      ring = rows.ring;
+      ring_is = refl;
+      end = rows.blob_end;
+      between = mid;
+      pages = c.in_ok-rows.ensures.found told;
+      blobs = subst (λ (o : Option VarData). FindsBlobs o mid (least_of rows.blob_end) c.mount_within.new.blobs (g.F.Flash.state c.mount_within.new.flash)) c.in_ok-rows.ensures.blobs c.in_ok-mount_within.ensures.found;
+      below = c.in_ok-mount_within.ensures.below;
     }
 
-pub returns-in_err-ring-clause-refused : goal.returns-in_err-ring-clause-refused
-returns-in_err-ring-clause-refused g c =
+pub returns-in_err-rows-clause-refused : goal.returns-in_err-rows-clause-refused
+returns-in_err-rows-clause-refused g c =
     let p = err_from_is_err_and c.from_residual.result c.from_residual.ensures.1 in
-    rw (p.1, p.2) (λ told. refuses-ring c.args.self.now c.args.self.now (g.F.Flash.state c.args.flash.now) (g.F.Flash.state c.mount.new.flash) c.args.end c.in_err-ring.field-0.0 (plan-self c.args.self.now) c.requires.lies.geometry
-    c.in_err-ring.ensures.fault c.in_err-ring.ensures.fails)
+    rw (p.1, p.2) (λ told. inl (c.in_err-rows.ensures.refused told))
 
-pub returns-in_err-ring-clause-reads : goal.returns-in_err-ring-clause-reads
-returns-in_err-ring-clause-reads g c = λ told.
-    few-first c.args.self.now c.args.self.now (g.F.Flash.state c.args.flash.now) (g.F.Flash.state c.mount.new.flash) (plan-self c.args.self.now) c.requires.lies.geometry c.in_err-ring.ensures.beside
+pub returns-in_err-mount_within-clause-refused : goal.returns-in_err-mount_within-clause-refused
+returns-in_err-mount_within-clause-refused g c =
+    let mid = g.F.Flash.state c.read_rows.new.flash in
+    let rows = c.in_ok-rows.rows in
+    let p = err_from_is_err_and c.from_residual-in_err-mount_within.result c.from_residual-in_err-mount_within.ensures.1 in
+    rw (p.1, p.2) (λ told. inr (record {
+      ring = rows.ring;
+      mounted = rows.mounted;
+      last = c.read_rows.new.self.last_key;
+      end = rows.blob_end;
+      between = mid;
+      pages = c.in_ok-rows.ensures.found told;
+      why = subst (λ (o : Option VarData). RefusesWithin o mid rows.blob_end c.in_err-mount_within.field-0.0 (g.F.Flash.state c.mount_within.new.flash)) c.in_ok-rows.ensures.blobs c.in_err-mount_within.ensures.refused;
+    }))
 
-pub returns-in_err-mounted-clause-reads : goal.returns-in_err-mounted-clause-reads
-returns-in_err-mounted-clause-reads g c = λ told.
-    few-all c.args.self.now c.args.self.now (g.F.Flash.state c.args.flash.now) (g.F.Flash.state c.mount.new.flash) (plan-self c.args.self.now) c.requires.lies.geometry c.in_ok-ring.ensures.beside
-    c.args.end c.in_ok-ring.ring (next_of c.in_ok-ring.ring - oldest_of c.in_ok-ring.ring) (g.F.Flash.state c.read_pages.new.flash) refl c.in_ok-ring.ensures.found c.in_err-mounted.ensures.reads told
+pub returns-in_err-rows-clause-outside : goal.returns-in_err-rows-clause-outside
+returns-in_err-rows-clause-outside g c = λ told page rows blobs. c.in_err-rows.ensures.outside told page rows
+
+pub returns-in_err-mount_within-clause-outside : goal.returns-in_err-mount_within-clause-outside
+returns-in_err-mount_within-clause-outside g c = λ told page rows blobs.
+    let mid_told = subst IsTrue (sym c.in_ok-rows.ensures.goes.tells) told in
+    var-outside c.read_rows.new.self.blobs (page_at (g.F.Flash.state c.read_rows.new.flash)) (page_at (g.F.Flash.state c.mount_within.new.flash)) page (c.in_err-mount_within.ensures.outside mid_told)
+    (subst (λ (o : Option VarData). IfSome o (λ var. IsOutside (var_shape var) page)) (sym c.in_ok-rows.ensures.blobs) blobs) ∙ c.in_ok-rows.ensures.outside told page rows
+
+pub returns-clause-outside : goal.returns-clause-outside
+returns-clause-outside g c = λ told page rows blobs.
+    let mid_told = subst IsTrue (sym c.in_ok-rows.ensures.goes.tells) told in
+    var-outside c.read_rows.new.self.blobs (page_at (g.F.Flash.state c.read_rows.new.flash)) (page_at (g.F.Flash.state c.mount_within.new.flash)) page (c.in_ok-mount_within.ensures.outside mid_told)
+    (subst (λ (o : Option VarData). IfSome o (λ var. IsOutside (var_shape var) page)) (sym c.in_ok-rows.ensures.blobs) blobs) ∙ c.in_ok-rows.ensures.outside told page rows
+
+pub returns-in_err-rows-clause-reads : goal.returns-in_err-rows-clause-reads
+returns-in_err-rows-clause-reads g c = λ told.
+    let few = c.in_err-rows.ensures.reads told in
+    record { reads = omega (arith, few.reads); media_reads = omega (arith, few.media_reads) }
+
+pub returns-in_err-mount_within-clause-reads : goal.returns-in_err-mount_within-clause-reads
+returns-in_err-mount_within-clause-reads g c = λ told.
+    let few = c.in_ok-rows.ensures.reads told in
+    let more = c.in_err-mount_within.ensures.reads in
+    let same = ap room_of c.in_ok-rows.ensures.blobs in
+    record { reads = omega (arith, few.reads, more.reads, same); media_reads = omega (arith, few.media_reads, more.media_reads, same) }
 
 pub returns-clause-reads : goal.returns-clause-reads
 returns-clause-reads g c = λ told.
-    few-all c.args.self.now c.args.self.now (g.F.Flash.state c.args.flash.now) (g.F.Flash.state c.mount.new.flash) (plan-self c.args.self.now) c.requires.lies.geometry c.in_ok-ring.ensures.beside
-    c.args.end c.in_ok-ring.ring (next_of c.in_ok-ring.ring - oldest_of c.in_ok-ring.ring) (g.F.Flash.state c.read_pages.new.flash) refl c.in_ok-ring.ensures.found c.in_ok-mounted.ensures.reads told
+    let few = c.in_ok-rows.ensures.reads told in
+    let more = c.in_ok-mount_within.ensures.reads in
+    let same = ap room_of c.in_ok-rows.ensures.blobs in
+    record { reads = omega (arith, few.reads, more.reads, same); media_reads = omega (arith, few.media_reads, more.media_reads, same) }
 
-pub returns-in_err-ring-clause-cause : goal.returns-in_err-ring-clause-cause
-returns-in_err-ring-clause-cause g c =
-    let p = err_from_is_err_and c.from_residual.result c.from_residual.ensures.1 in
-    rw (p.1, p.2) (ring-cause (g.F.Flash.state c.args.flash.now) (g.F.Flash.state c.mount.new.flash) c.in_err-ring.field-0.0 c.in_err-ring.ensures.cause)
+pub returns-in_err-mount_within-clause-repairs : goal.returns-in_err-mount_within-clause-repairs
+returns-in_err-mount_within-clause-repairs g c =
+    let few = c.in_ok-rows.ensures.repairs in
+    let more = c.in_err-mount_within.ensures.repairs in
+    let same = ap rings_of c.in_ok-rows.ensures.blobs in
+    record { programs = omega (arith, few.programs, more.programs, same); erases = omega (arith, few.erases, more.erases, same) }
 
-pub returns-in_err-mounted-clause-cause : goal.returns-in_err-mounted-clause-cause
-returns-in_err-mounted-clause-cause g c =
-    let p = err_from_is_err_and c.from_residual-in_err-mounted.result c.from_residual-in_err-mounted.ensures.1 in
-    rw (p.1, p.2) (pages-cause (g.F.Flash.state c.args.flash.now) (g.F.Flash.state c.mount.new.flash) (g.F.Flash.state c.read_pages.new.flash) c.in_ok-ring.ensures.beside.goes c.in_ok-ring.ensures.power
-    c.in_err-mounted.field-0.0 c.in_err-mounted.ensures.only c.in_err-mounted.ensures.fails)
+pub returns-clause-repairs : goal.returns-clause-repairs
+returns-clause-repairs g c =
+    let few = c.in_ok-rows.ensures.repairs in
+    let more = c.in_ok-mount_within.ensures.repairs in
+    let same = ap rings_of c.in_ok-rows.ensures.blobs in
+    record { programs = omega (arith, few.programs, more.programs, same); erases = omega (arith, few.erases, more.erases, same) }
 
-pub returns-then-end-next-clause-ends : goal.returns-then-end-next-clause-ends
-returns-then-end-next-clause-ends g c = λ first plan table rose device watched planned rests stands end.
-    let t = c.args.self.now in
-    let old = g.F.Flash.state c.args.flash.now in
-    let mid = g.F.Flash.state c.mount.new.flash in
-    let ring = c.in_ok-ring.ring in
-    let lies = c.requires.lies in
-    let is = mounting-of t old first plan table planned lies.geometry lies.within (g.met.F.Flash.reaches c.args.flash.now) rests in
-    let at = same-shape t t old (plan-self t) lies.geometry ∙ planned-ring t first plan planned in
-    let l = ring-mounts first plan table rose device old is ring mid
-    (ring-ends first plan table rose device old is (shape_at t.place old.geometry) at c.args.end end mid (Ok ring) c.in_ok-ring.ensures.ends watched) in
-    absurd (omega (arith, ends-within first plan table rose device old is ring mid l c.args.end end, c.if-end-next.true, c.next_number-next.ensures))
+pub returns-in_err-mount_within-clause-cause : goal.returns-in_err-mount_within-clause-cause
+returns-in_err-mount_within-clause-cause g c =
+    let p = err_from_is_err_and c.from_residual-in_err-mount_within.result c.from_residual-in_err-mount_within.ensures.1 in
+    rw (p.1, p.2) (mount-cause-later (g.F.Flash.state c.args.flash.now) (g.F.Flash.state c.read_rows.new.flash) (g.F.Flash.state c.mount_within.new.flash) c.in_ok-rows.ensures.goes c.in_ok-rows.ensures.power
+    c.in_err-mount_within.field-0.0 c.in_err-mount_within.ensures.cause)
 
-pub returns-then-end-next-clause-refused : goal.returns-then-end-next-clause-refused
-returns-then-end-next-clause-refused g c = λ told.
-    let t = c.args.self.now in
-    refuses-end t t (g.F.Flash.state c.args.flash.now) (g.F.Flash.state c.mount.new.flash) c.args.end c.next_number-next.result c.in_ok-ring.ring (plan-self t) c.requires.lies.geometry c.in_ok-ring.ensures.found c.next_number-next.ensures (omega (arith, c.if-end-next.true))
+pub returns-in_err-mount_within-clause-goes : goal.returns-in_err-mount_within-clause-goes
+returns-in_err-mount_within-clause-goes g c =
+    goes_more (g.F.Flash.state c.args.flash.now) (g.F.Flash.state c.read_rows.new.flash) (g.F.Flash.state c.mount_within.new.flash) c.in_ok-rows.ensures.goes c.in_err-mount_within.ensures.goes
 
-pub returns-then-end-next-clause-outside : goal.returns-then-end-next-clause-outside
-returns-then-end-next-clause-outside g c = λ told.
-    let t = c.args.self.now in
-    let old = g.F.Flash.state c.args.flash.now in
-    let mid = g.F.Flash.state c.mount.new.flash in
-    subst (λ (r : Shape). OutsideStands r (page_at old) (page_at mid)) (same-shape t t old (plan-self t) c.requires.lies.geometry) (c.in_ok-ring.ensures.beside.outside told)
-
-pub returns-then-end-next-clause-reads : goal.returns-then-end-next-clause-reads
-returns-then-end-next-clause-reads g c = λ told.
-    few-first c.args.self.now c.args.self.now (g.F.Flash.state c.args.flash.now) (g.F.Flash.state c.mount.new.flash) (plan-self c.args.self.now) c.requires.lies.geometry c.in_ok-ring.ensures.beside
-
-pub read_pages-requires-clause-bitmaps : goal.read_pages-requires-clause-bitmaps
-read_pages-requires-clause-bitmaps g c =
-    let ring = c.in_ok-ring.ring in
-    wait-for c.args.self.now.bitmaps c.restart.new.bitmaps c.args.end (oldest_of ring) (next_of ring) c.first_to_wait-first.result (c.first_to_wait-first.ensures ∙ rw (c.oldest.ensures, c.next_number-next.ensures) refl)
-    (omega (arith, c.if-end-next.false, c.next_number-next.ensures)) (omega (arith, ring.ordered)) c.restart.ensures.same c.restart.ensures.idle c.restart.ensures.next
-
-pub invariant_of-self : goal.invariant_of-self
-invariant_of-self g c =
-    let t = c.args.self.now in
-    record {
-      served = t.served;
-      some_blocks = t.some_blocks;
-      few_blocks = t.few_blocks;
-      some_columns = t.some_columns;
-      few_columns = t.few_columns;
-      some_row = t.some_row;
-      room_for_row = t.room_for_row;
-      no_blobs = t.no_blobs;
-      page = t.page;
-      rows_end = t.rows_end;
-      rows_room = t.rows_room;
-      blank_rest = t.blank_rest;
-      counted = t.counted;
-      lies = t.lies;
-      left = t.left;
-      few_pages = still-few (t.place.blocks * t.geometry.block + 6) t.bitmaps c.read_pages.new.bitmaps (plan-then t.bitmaps c.restart.new.bitmaps c.read_pages.new.bitmaps c.restart.ensures.same c.in_err-mounted.ensures.same) t.few_pages;
-      running = λ is. absurd (none-is t.ring c.requires.forgotten.down is);
-      follow = λ ring is. absurd (none-there t.ring ring c.requires.forgotten.down is);
-      pages_left = λ some. absurd (omega (arith, some, c.requires.forgotten.none));
-    }
-
-pub returns-in_err-mounted-clause-lies : goal.returns-in_err-mounted-clause-lies
-returns-in_err-mounted-clause-lies g c =
-    let t = c.args.self.now in
-    let old = g.F.Flash.state c.args.flash.now in
-    let mid = g.F.Flash.state c.mount.new.flash in
-    let new = g.F.Flash.state c.read_pages.new.flash in
-    let lies = c.requires.lies in
-    let first = c.in_ok-ring.ensures.beside.goes in
-    let then = c.in_err-mounted.ensures.reads.goes in
-    record {
-      geometry = then.geometry ∙ (first.geometry ∙ lies.geometry);
-      within = omega (arith, then.blocks, first.blocks, lies.within);
-      few = few-goes mid new then (few-goes old mid first lies.few);
-      ring = search rules;
-      bitmaps = still-lies t.bitmaps c.read_pages.new.bitmaps new (plan-then t.bitmaps c.restart.new.bitmaps c.read_pages.new.bitmaps c.restart.ensures.same c.in_err-mounted.ensures.same)
-          (ring-then t.bitmaps c.restart.new.bitmaps c.read_pages.new.bitmaps c.restart.ensures.still c.in_err-mounted.ensures.still) (lies-goes t.bitmaps mid new then (lies-goes t.bitmaps old mid first lies.bitmaps));
-    }
-
-pub invariant_of-self-2-clause-few_pages : goal.invariant_of-self-2-clause-few_pages
-invariant_of-self-2-clause-few_pages g c =
-    let t = c.args.self.now in
-    still-few (t.place.blocks * t.geometry.block + 6) t.bitmaps c.read_pages.new.bitmaps (plan-then t.bitmaps c.restart.new.bitmaps c.read_pages.new.bitmaps c.restart.ensures.same c.in_ok-mounted.ensures.same) t.few_pages
-
-pub invariant_of-self-2-clause-running : goal.invariant_of-self-2-clause-running
-invariant_of-self-2-clause-running g c = λ is.
-    let t = c.args.self.now in
-    still-running t.bitmaps c.read_pages.new.bitmaps (ring-then t.bitmaps c.restart.new.bitmaps c.read_pages.new.bitmaps c.restart.ensures.still c.in_ok-mounted.ensures.still) c.requires.running
-
-pub invariant_of-self-2-clause-follow : goal.invariant_of-self-2-clause-follow
-invariant_of-self-2-clause-follow g c = λ ring is.
-    let r = c.in_ok-ring.ring in
-    let waits = wait-for c.args.self.now.bitmaps c.restart.new.bitmaps c.args.end (oldest_of r) (next_of r) c.first_to_wait-first.result (c.first_to_wait-first.ensures ∙ rw (c.oldest.ensures, c.next_number-next.ensures) refl)
-    (omega (arith, c.if-end-next.false, c.next_number-next.ensures)) (omega (arith, r.ordered)) c.restart.ensures.same c.restart.ensures.idle c.restart.ensures.next in
-    subst (λ (o : Option Ring). IfSome o (λ x. EndAt c.read_pages.new.bitmaps (next_of x))) is (gathers-end c.restart.new.bitmaps c.read_pages.new.bitmaps (oldest_of r) (next_of r) waits c.in_ok-mounted.ensures.gathered)
-
-pub returns-clause-lies : goal.returns-clause-lies
-returns-clause-lies g c =
-    let t = c.args.self.now in
-    let old = g.F.Flash.state c.args.flash.now in
-    let mid = g.F.Flash.state c.mount.new.flash in
-    let new = g.F.Flash.state c.read_pages.new.flash in
-    let lies = c.requires.lies in
-    let first = c.in_ok-ring.ensures.beside.goes in
-    let then = c.in_ok-mounted.ensures.reads.goes in
-    record {
-      geometry = then.geometry ∙ (first.geometry ∙ lies.geometry);
-      within = omega (arith, then.blocks, first.blocks, lies.within);
-      few = few-goes mid new then (few-goes old mid first lies.few);
-      ring = search rules;
-      bitmaps = still-lies t.bitmaps c.read_pages.new.bitmaps new (plan-then t.bitmaps c.restart.new.bitmaps c.read_pages.new.bitmaps c.restart.ensures.same c.in_ok-mounted.ensures.same)
-          (ring-then t.bitmaps c.restart.new.bitmaps c.read_pages.new.bitmaps c.restart.ensures.still c.in_ok-mounted.ensures.still) (lies-goes t.bitmaps mid new then (lies-goes t.bitmaps old mid first lies.bitmaps));
-    }
+pub returns-clause-goes : goal.returns-clause-goes
+returns-clause-goes g c =
+    goes_more (g.F.Flash.state c.args.flash.now) (g.F.Flash.state c.read_rows.new.flash) (g.F.Flash.state c.mount_within.new.flash) c.in_ok-rows.ensures.goes c.in_ok-mount_within.ensures.goes

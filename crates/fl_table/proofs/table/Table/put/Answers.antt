@@ -1,7 +1,14 @@
-use Rattle.std.proofs.Common.{◌≡◌, ℕ, Bor, List, is_some, option_map, sym, ◌∙◌, ap}
+use Rattle.std.proofs.Common.{◌≡◌, ℕ, ◌+◌, ◌≤◌, Bor, List, None, length, option_map, not, ◌&&◌, ◌||◌, IsTrue, arith, sym, ◌∙◌, ap, subst}
 use Rattle.std.proofs.lemmas.Result.{err_from_is_err_and}
+use Rattle.fl_model.specs.Table.{after_seals, make_room_seals}
 use Rattle.fl_table.specs.Refusal.{put_refusal}
-use Rattle.fl_table.proofs.PutAnswers.{refused-ends, broken-ends, put-ends, is_some-map}
+use Rattle.fl_table.specs.Memory.{is_running, is_stopped}
+use Rattle.fl_table.proofs.Refusals.{calm-cause, few-blob, not-spent, refusal-calm}
+use Rattle.fl_flash.specs.Flash.{page_at}
+use Rattle.fl_table.proofs.Blobbing.{pages-most}
+use Rattle.fl_table.proofs.Outsides.{outside-then}
+use Rattle.fl_table.proofs.Following.{watched-front, watched-then}
+use Rattle.fl_table.proofs.PutAnswers.{accepts, and-true, broken-ends, join-fails, map-twice, put-ends, refused-ends}
 use Rattle.fl_table.proofs.table.Table.put.Goals as goal
 
 pub returns-in-Some-clause-ends : goal.returns-in-Some-clause-ends
@@ -9,31 +16,100 @@ returns-in-Some-clause-ends g c = λ first plan table rose device watched stands
     let t = c.args.self.now in
     let f = g.F.Flash.state c.args.flash.now in
     let bytes = option_map (λ (b : Bor (List ℕ)). b.now) c.args.blob in
-    let has : c.is_some.result ≡ is_some bytes = c.is_some.ensures ∙ sym (is_some-map (λ (b : Bor (List ℕ)). b.now) c.args.blob) in
+    let same = map-twice (λ (b : Bor (List ℕ)). b.now) (λ (xs : List ℕ). length xs) c.args.blob in
     refused-ends t f first plan table c.args.key c.args.values.now bytes rose device stands c.in-Some.refusal
-    (ap (put_refusal t c.args.key c.args.values.now) (sym has) ∙ (sym c.refusal.ensures ∙ c.in-Some.is)) t f
+    (ap (put_refusal t c.args.key c.args.values.now) same ∙ (sym c.refusal.ensures ∙ c.in-Some.is)) t f
 
 pub returns-in_err-make_room-clause-ends : goal.returns-in_err-make_room-clause-ends
 returns-in_err-make_room-clause-ends g c = λ first plan table rose device watched stands.
     let t = c.args.self.now in
     let f = g.F.Flash.state c.args.flash.now in
     let bytes = option_map (λ (b : Bor (List ℕ)). b.now) c.args.blob in
-    let has : c.is_some.result ≡ is_some bytes = c.is_some.ensures ∙ sym (is_some-map (λ (b : Bor (List ℕ)). b.now) c.args.blob) in
+    let same = map-twice (λ (b : Bor (List ℕ)). b.now) (λ (xs : List ℕ). length xs) c.args.blob in
     let p = err_from_is_err_and c.from_residual.result c.from_residual.ensures.1 in
     rw (p.1, p.2) (broken-ends t f first plan table c.args.key c.args.values.now bytes rose device stands
-    (ap (put_refusal t c.args.key c.args.values.now) (sym has) ∙ (sym c.refusal.ensures ∙ c.in_default.is)) c.in_err-make_room.field-0.0 c.make_room.new.self (g.F.Flash.state c.make_room.new.flash)
+    (ap (put_refusal t c.args.key c.args.values.now) same ∙ (sym c.refusal.ensures ∙ c.in_default.is)) c.in_err-make_room.field-0.0 c.make_room.new.self (g.F.Flash.state c.make_room.new.flash)
     (c.in_err-make_room.ensures.ends first plan table rose device watched stands))
+
+pub returns-in_err-join-clause-ends : goal.returns-in_err-join-clause-ends
+returns-in_err-join-clause-ends g c = λ first plan table rose device watched stands.
+    let t = c.args.self.now in
+    let f = g.F.Flash.state c.args.flash.now in
+    let mid = g.F.Flash.state c.make_room.new.flash in
+    let new = g.F.Flash.state c.join.new.flash in
+    let bytes = option_map (λ (b : Bor (List ℕ)). b.now) c.args.blob in
+    let same = map-twice (λ (b : Bor (List ℕ)). b.now) (λ (xs : List ℕ). length xs) c.args.blob in
+    let none : put_refusal t c.args.key c.args.values.now (option_map (λ (xs : List ℕ). length xs) (option_map (λ (b : Bor (List ℕ)). b.now) c.args.blob)) ≡ None =
+    ap (put_refusal t c.args.key c.args.values.now) same ∙ (sym c.refusal.ensures ∙ c.in_default.is) in
+    let h = c.in_ok-make_room.ensures.ends first plan table rose device (watched-front f mid new rose device watched c.join.ensures.goes) stands in
+    let ok = accepts t f first plan table c.args.key c.args.values.now bytes rose device stands none c.make_room.new.self mid h c.in_ok-make_room.ensures.room in
+    let k = c.in_err-join.ensures.ends first plan (after_seals plan (make_room_seals plan table) table) rose h.now.device (watched-then f mid new rose device h.now.device watched c.in_ok-make_room.ensures.goes h.power h.counts) h.stands ok in
+    let p = err_from_is_err_and c.from_residual-in_err-join.result c.from_residual-in_err-join.ensures.1 in
+    rw (p.1, p.2) (join-fails t f first plan table c.args.key c.args.values.now bytes rose device stands none c.make_room.new.self mid h c.in_err-join.field-0.0 c.join.new.self new k)
 
 pub returns-clause-ends : goal.returns-clause-ends
 returns-clause-ends g c = λ first plan table rose device watched stands.
     let t = c.args.self.now in
     let f = g.F.Flash.state c.args.flash.now in
-    let new = g.F.Flash.state c.make_room.new.flash in
+    let mid = g.F.Flash.state c.make_room.new.flash in
+    let new = g.F.Flash.state c.join.new.flash in
     let bytes = option_map (λ (b : Bor (List ℕ)). b.now) c.args.blob in
-    let has : c.is_some.result ≡ is_some bytes = c.is_some.ensures ∙ sym (is_some-map (λ (b : Bor (List ℕ)). b.now) c.args.blob) in
-    put-ends t f first plan table c.args.key c.args.values.now bytes rose device stands
-    (ap (put_refusal t c.args.key c.args.values.now) (sym has) ∙ (sym c.refusal.ensures ∙ c.in_default.is)) c.make_room.new.self c.add.new.self new
-    (c.in_ok-make_room.ensures.ends first plan table rose device watched stands) c.in_ok-make_room.ensures.room (c.add.ensures.stands new first plan)
+    let same = map-twice (λ (b : Bor (List ℕ)). b.now) (λ (xs : List ℕ). length xs) c.args.blob in
+    let none : put_refusal t c.args.key c.args.values.now (option_map (λ (xs : List ℕ). length xs) (option_map (λ (b : Bor (List ℕ)). b.now) c.args.blob)) ≡ None =
+    ap (put_refusal t c.args.key c.args.values.now) same ∙ (sym c.refusal.ensures ∙ c.in_default.is) in
+    let h = c.in_ok-make_room.ensures.ends first plan table rose device (watched-front f mid new rose device watched c.join.ensures.goes) stands in
+    let ok = accepts t f first plan table c.args.key c.args.values.now bytes rose device stands none c.make_room.new.self mid h c.in_ok-make_room.ensures.room in
+    put-ends t f first plan table c.args.key c.args.values.now bytes rose device stands none c.make_room.new.self mid h c.join.new.self new
+    (c.in_ok-join.ensures.ends first plan (after_seals plan (make_room_seals plan table) table) rose h.now.device (watched-then f mid new rose device h.now.device watched c.in_ok-make_room.ensures.goes h.power h.counts) h.stands ok)
 
-pub returns-clause-lies : goal.returns-clause-lies
-returns-clause-lies g c = c.add.ensures.lies (g.F.Flash.state c.make_room.new.flash) c.in_ok-make_room.ensures.lies
+pub join-requires-clause-few : goal.join-requires-clause-few
+join-requires-clause-few g c =
+    few-blob c.args.self.now c.args.key c.args.values.now (option_map (λ (b : Bor (List ℕ)). b.now) c.args.blob)
+    (ap (put_refusal c.args.self.now c.args.key c.args.values.now) (map-twice (λ (b : Bor (List ℕ)). b.now) (λ (xs : List ℕ). length xs) c.args.blob) ∙ (sym c.refusal.ensures ∙ c.in_default.is))
+
+pub join-requires-clause-left : goal.join-requires-clause-left
+join-requires-clause-left g c = omega (arith, (not-spent c.args.self.now c.args.key c.args.values.now _ (sym c.refusal.ensures ∙ c.in_default.is)).0, c.in_ok-make_room.ensures.next)
+
+pub join-requires-clause-index_left : goal.join-requires-clause-index_left
+join-requires-clause-index_left g c = omega (arith, (not-spent c.args.self.now c.args.key c.args.values.now _ (sym c.refusal.ensures ∙ c.in_default.is)).1, c.in_ok-make_room.ensures.index_next)
+
+pub join-requires-clause-blobs_left : goal.join-requires-clause-blobs_left
+join-requires-clause-blobs_left g c = omega (arith, (not-spent c.args.self.now c.args.key c.args.values.now _ (sym c.refusal.ensures ∙ c.in_default.is)).2, c.in_ok-make_room.ensures.blob_next)
+
+pub returns-in_err-join-clause-outside : goal.returns-in_err-join-clause-outside
+returns-in_err-join-clause-outside g c = λ told.
+    let old = g.F.Flash.state c.args.flash.now in
+    let mid = g.F.Flash.state c.make_room.new.flash in
+    outside-then c.args.self.now c.make_room.new.self (page_at old) (page_at mid) (page_at (g.F.Flash.state c.join.new.flash)) c.in_ok-make_room.ensures.same (c.in_ok-make_room.ensures.outside told)
+    (c.in_err-join.ensures.outside (subst IsTrue (sym c.in_ok-make_room.ensures.goes.tells) told))
+
+pub returns-clause-outside : goal.returns-clause-outside
+returns-clause-outside g c = λ told.
+    let old = g.F.Flash.state c.args.flash.now in
+    let mid = g.F.Flash.state c.make_room.new.flash in
+    outside-then c.args.self.now c.make_room.new.self (page_at old) (page_at mid) (page_at (g.F.Flash.state c.join.new.flash)) c.in_ok-make_room.ensures.same (c.in_ok-make_room.ensures.outside told)
+    (c.in_ok-join.ensures.outside (subst IsTrue (sym c.in_ok-make_room.ensures.goes.tells) told))
+
+pub returns-clause-media_reads : goal.returns-clause-media_reads
+returns-clause-media_reads g c =
+    let t = c.args.self.now in
+    omega (arith, c.in_ok-make_room.ensures.media_reads, c.in_ok-join.ensures.media_reads, pages-most t.blobs c.make_room.new.self.blobs (option_map (λ (b : Bor (List ℕ)). b.now) c.args.blob) c.in_ok-make_room.ensures.same.blobs)
+
+pub returns-in_err-join-clause-media_reads : goal.returns-in_err-join-clause-media_reads
+returns-in_err-join-clause-media_reads g c =
+    let t = c.args.self.now in
+    omega (arith, c.in_ok-make_room.ensures.media_reads, c.in_err-join.ensures.media_reads, pages-most t.blobs c.make_room.new.self.blobs (option_map (λ (b : Bor (List ℕ)). b.now) c.args.blob) c.in_ok-make_room.ensures.same.blobs)
+
+pub returns-in-Some-clause-stopped : goal.returns-in-Some-clause-stopped
+returns-in-Some-clause-stopped g c =
+    let t = c.args.self.now in
+    ap (λ b. b || is_stopped t) (sym (refusal-calm t c.args.key c.args.values.now _ c.in-Some.refusal (sym c.refusal.ensures ∙ c.in-Some.is)))
+
+pub returns-in-Some-clause-running : goal.returns-in-Some-clause-running
+returns-in-Some-clause-running g c =
+    let t = c.args.self.now in
+    sym (and-true (is_running t)) ∙ ap (λ b. is_running t && not b) (sym (refusal-calm t c.args.key c.args.values.now _ c.in-Some.refusal (sym c.refusal.ensures ∙ c.in-Some.is)))
+
+pub returns-in-Some-clause-cause : goal.returns-in-Some-clause-cause
+returns-in-Some-clause-cause g c =
+    calm-cause (g.F.Flash.state c.args.flash.now) c.in-Some.refusal (refusal-calm c.args.self.now c.args.key c.args.values.now _ c.in-Some.refusal (sym c.refusal.ensures ∙ c.in-Some.is))

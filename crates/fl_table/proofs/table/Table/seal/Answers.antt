@@ -1,10 +1,13 @@
-use Rattle.std.proofs.Common.{◌≡◌, ◌∷◌, [], ◌++◌, List, Err, arith, sym, subst}
+use Rattle.std.proofs.Common.{◌≡◌, ◌∷◌, [], ◌++◌, List, Err, IsTrue, arith, sym, subst}
 use Rattle.std.proofs.lemmas.Result.{err_from_is_err_and, IfErr-weaker}
 use Rattle.fl_model.specs.Table.{RingName, DataRing, after_seals}
 use Rattle.fl_table.specs.Bitmaps.{bitmap_seals}
+use Rattle.fl_table.specs.Blobs.{blob_seals}
 use Rattle.fl_table.specs.Outcomes.{SealsEnd}
 use Rattle.fl_table.proofs.Following.{cause-later, seals-stop, seals-then, watched-front, watched-then}
-use Rattle.fl_table.proofs.Plain.{plain-table_seals}
+use Rattle.fl_flash.specs.Flash.{page_at}
+use Rattle.fl_table.proofs.Outsides.{outside-then}
+use Rattle.fl_table.proofs.Plain.{some-table_seals}
 use Rattle.fl_table.proofs.SealAnswers.{writer-count}
 use Rattle.fl_table.proofs.table.Table.seal.Goals as goal
 
@@ -15,23 +18,76 @@ returns-in_err-seal_bitmaps-clause-ends g c = λ first plan table rose device wa
     let new = g.F.Flash.state c.seal_bitmaps.new.flash in
     let some : table.pending ≡ 0 → ⊥ = λ none. absurd (omega (arith, none, writer-count t f first plan table stands, c.requires.some)) in
     let p = err_from_is_err_and c.from_residual.result c.from_residual.ensures.1 in
-    rw (p.1, p.2) (subst (λ (rings : List RingName). SealsEnd first plan rings table rose device (Err c.in_err-seal_bitmaps.field-0.0) c.seal_bitmaps.new.self new) (sym (plain-table_seals plan table stands.memory.no_fill some))
-    (seals-stop first plan (bitmap_seals plan table) (DataRing ∷ []) table rose device c.in_err-seal_bitmaps.field-0.0 new (c.in_err-seal_bitmaps.ensures.ends first plan table rose device watched stands)))
+    rw (p.1, p.2) (subst (λ (rings : List RingName). SealsEnd first plan rings table rose device (Err c.in_err-seal_bitmaps.field-0.0) c.seal_bitmaps.new.self new) (sym (some-table_seals plan table some))
+    (seals-stop first plan (bitmap_seals plan table) (blob_seals (after_seals plan (bitmap_seals plan table) table) ++ DataRing ∷ []) table rose device c.in_err-seal_bitmaps.field-0.0 new (c.in_err-seal_bitmaps.ensures.ends first plan table rose device watched stands)))
+
+pub returns-in_err-seal_blobs-clause-ends : goal.returns-in_err-seal_blobs-clause-ends
+returns-in_err-seal_blobs-clause-ends g c = λ first plan table rose device watched stands.
+    let t = c.args.self.now in
+    let f = g.F.Flash.state c.args.flash.now in
+    let mid = g.F.Flash.state c.seal_bitmaps.new.flash in
+    let new = g.F.Flash.state c.seal_blobs.new.flash in
+    let some : table.pending ≡ 0 → ⊥ = λ none. absurd (omega (arith, none, writer-count t f first plan table stands, c.requires.some)) in
+    let goes = c.in_ok-seal_bitmaps.ensures.goes in
+    let h = c.in_ok-seal_bitmaps.ensures.ends first plan table rose device (watched-front f mid new rose device watched c.seal_blobs.ensures.goes) stands in
+    let after = after_seals plan (bitmap_seals plan table) table in
+    let k = c.in_err-seal_blobs.ensures.ends first plan after rose h.now.device (watched-then f mid new rose device h.now.device watched goes h.power h.counts) h.stands in
+    let p = err_from_is_err_and c.from_residual-in_err-seal_blobs.result c.from_residual-in_err-seal_blobs.ensures.1 in
+    rw (p.1, p.2) (subst (λ (rings : List RingName). SealsEnd first plan rings table rose device (Err c.in_err-seal_blobs.field-0.0) c.seal_blobs.new.self new) (sym (some-table_seals plan table some))
+    (seals-then first plan (bitmap_seals plan table) (blob_seals after ++ DataRing ∷ []) table rose device c.seal_bitmaps.new.self mid (Err c.in_err-seal_blobs.field-0.0) c.seal_blobs.new.self new h
+    (seals-stop first plan (blob_seals after) (DataRing ∷ []) after rose h.now.device c.in_err-seal_blobs.field-0.0 new k)))
 
 pub returns-clause-ends : goal.returns-clause-ends
 returns-clause-ends g c = λ first plan table rose device watched stands.
     let t = c.args.self.now in
     let f = g.F.Flash.state c.args.flash.now in
-    let mid = g.F.Flash.state c.seal_bitmaps.new.flash in
+    let first_flash = g.F.Flash.state c.seal_bitmaps.new.flash in
+    let mid = g.F.Flash.state c.seal_blobs.new.flash in
     let new = g.F.Flash.state c.seal_rows.new.flash in
     let some : table.pending ≡ 0 → ⊥ = λ none. absurd (omega (arith, none, writer-count t f first plan table stands, c.requires.some)) in
-    let goes = c.in_ok-seal_bitmaps.ensures.goes in
-    let h = c.in_ok-seal_bitmaps.ensures.ends first plan table rose device (watched-front f mid new rose device watched c.seal_rows.ensures.goes) stands in
-    subst (λ (rings : List RingName). SealsEnd first plan rings table rose device c.seal_rows.result c.seal_rows.new.self new) (sym (plain-table_seals plan table stands.memory.no_fill some))
-    (seals-then first plan (bitmap_seals plan table) (DataRing ∷ []) table rose device c.seal_bitmaps.new.self mid c.seal_rows.result c.seal_rows.new.self new h
-    (c.seal_rows.ensures.ends first plan (after_seals plan (bitmap_seals plan table) table) rose h.now.device (watched-then f mid new rose device h.now.device watched goes h.power h.counts) h.stands))
+    let to_mid = watched-front f mid new rose device watched c.seal_rows.ensures.goes in
+    let h = c.in_ok-seal_bitmaps.ensures.ends first plan table rose device (watched-front f first_flash mid rose device to_mid c.in_ok-seal_blobs.ensures.goes) stands in
+    let after = after_seals plan (bitmap_seals plan table) table in
+    let then = watched-then f first_flash mid rose device h.now.device to_mid c.in_ok-seal_bitmaps.ensures.goes h.power h.counts in
+    let b = c.in_ok-seal_blobs.ensures.ends first plan after rose h.now.device then h.stands in
+    let last = watched-then first_flash mid new rose h.now.device b.now.device
+    (watched-then f first_flash new rose device h.now.device watched c.in_ok-seal_bitmaps.ensures.goes h.power h.counts) c.in_ok-seal_blobs.ensures.goes b.power b.counts in
+    subst (λ (rings : List RingName). SealsEnd first plan rings table rose device c.seal_rows.result c.seal_rows.new.self new) (sym (some-table_seals plan table some))
+    (seals-then first plan (bitmap_seals plan table) (blob_seals after ++ DataRing ∷ []) table rose device c.seal_bitmaps.new.self first_flash c.seal_rows.result c.seal_rows.new.self new h
+    (seals-then first plan (blob_seals after) (DataRing ∷ []) after rose h.now.device c.seal_blobs.new.self mid c.seal_rows.result c.seal_rows.new.self new b
+    (c.seal_rows.ensures.ends first plan (after_seals plan (blob_seals after) after) rose b.now.device last b.stands)))
+
+pub returns-in_err-seal_blobs-clause-cause : goal.returns-in_err-seal_blobs-clause-cause
+returns-in_err-seal_blobs-clause-cause g c =
+    let p = err_from_is_err_and c.from_residual-in_err-seal_blobs.result c.from_residual-in_err-seal_blobs.ensures.1 in
+    rw (p.1, p.2) (cause-later (g.F.Flash.state c.args.flash.now) (g.F.Flash.state c.seal_bitmaps.new.flash) (g.F.Flash.state c.seal_blobs.new.flash) c.in_ok-seal_bitmaps.ensures.goes c.in_ok-seal_bitmaps.ensures.power
+    c.in_err-seal_blobs.field-0.0 c.in_err-seal_blobs.ensures.cause)
 
 pub returns-clause-cause : goal.returns-clause-cause
 returns-clause-cause g c =
+    let old = g.F.Flash.state c.args.flash.now in
+    let first = g.F.Flash.state c.seal_bitmaps.new.flash in
+    let mid = g.F.Flash.state c.seal_blobs.new.flash in
+    let new = g.F.Flash.state c.seal_rows.new.flash in
     IfErr-weaker c.seal_rows.result _ _
-    (λ e. cause-later (g.F.Flash.state c.args.flash.now) (g.F.Flash.state c.seal_bitmaps.new.flash) (g.F.Flash.state c.seal_rows.new.flash) c.in_ok-seal_bitmaps.ensures.goes c.in_ok-seal_bitmaps.ensures.power e) c.seal_rows.ensures.cause
+    (λ e caused. cause-later old first new c.in_ok-seal_bitmaps.ensures.goes c.in_ok-seal_bitmaps.ensures.power e
+    (cause-later first mid new c.in_ok-seal_blobs.ensures.goes c.in_ok-seal_blobs.ensures.power e caused)) c.seal_rows.ensures.cause
+
+pub returns-clause-outside : goal.returns-clause-outside
+returns-clause-outside g c = λ told.
+    let t = c.args.self.now in
+    let old = g.F.Flash.state c.args.flash.now in
+    let first = g.F.Flash.state c.seal_bitmaps.new.flash in
+    let mid = g.F.Flash.state c.seal_blobs.new.flash in
+    let new = g.F.Flash.state c.seal_rows.new.flash in
+    let first_told = subst IsTrue (sym c.in_ok-seal_bitmaps.ensures.goes.tells) told in
+    outside-then t c.seal_bitmaps.new.self (page_at old) (page_at first) (page_at new) c.in_ok-seal_bitmaps.ensures.same (c.in_ok-seal_bitmaps.ensures.outside told)
+    (outside-then c.seal_bitmaps.new.self c.seal_blobs.new.self (page_at first) (page_at mid) (page_at new) c.in_ok-seal_blobs.ensures.same (c.in_ok-seal_blobs.ensures.outside first_told)
+    (c.seal_rows.ensures.outside (subst IsTrue (sym c.in_ok-seal_blobs.ensures.goes.tells) first_told)))
+
+pub returns-in_err-seal_blobs-clause-outside : goal.returns-in_err-seal_blobs-clause-outside
+returns-in_err-seal_blobs-clause-outside g c = λ told.
+    let old = g.F.Flash.state c.args.flash.now in
+    let first = g.F.Flash.state c.seal_bitmaps.new.flash in
+    outside-then c.args.self.now c.seal_bitmaps.new.self (page_at old) (page_at first) (page_at (g.F.Flash.state c.seal_blobs.new.flash)) c.in_ok-seal_bitmaps.ensures.same (c.in_ok-seal_bitmaps.ensures.outside told)
+    (c.in_err-seal_blobs.ensures.outside (subst IsTrue (sym c.in_ok-seal_bitmaps.ensures.goes.tells) told))

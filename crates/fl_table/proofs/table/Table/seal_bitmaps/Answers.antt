@@ -1,6 +1,8 @@
 use Rattle.std.proofs.Common.{◌≡◌, ◌+◌, ◌*◌, ◌≤◌, Ok, Err, arith, refl}
+use Rattle.fl_flash.specs.Flash.{page_at}
 use Rattle.fl_table.specs.Bitmaps.{bitmap_seals}
-use Rattle.fl_table.proofs.IndexSeals.{bitmaps-end, made-finishes}
+use Rattle.fl_table.proofs.Blobbing.{stand-moved}
+use Rattle.fl_table.proofs.IndexSeals.{bitmaps-end, made-finishes, var-stand, with_index}
 use Rattle.fl_table.proofs.Indexing.{still-few, still-planned, made-running, made-end, made-after, broken-after}
 use Rattle.fl_table.proofs.SealAnswers.{writer-count}
 use Rattle.fl_table.proofs.table.Table.seal_bitmaps.Goals as goal
@@ -54,6 +56,7 @@ returns-clause-ends g c = λ first plan table rose device watched stands.
         blocks = stands.planned.blocks;
         index = still-planned t.bitmaps c.make_room.new.bitmaps (first + plan.data_blocks) plan stands.planned.index c.in_default.ensures.same;
         var = stands.planned.var;
+        limit = stands.planned.limit;
         buckets = stands.planned.buckets;
         error = stands.planned.error;
       };
@@ -72,8 +75,9 @@ returns-clause-ends g c = λ first plan table rose device watched stands.
         counts = memory.counts;
         voids = memory.voids;
         index = memory.index;
-        no_fill = memory.no_fill;
       };
       bitmaps = bitmaps;
+      blobs = stand-moved t.blobs f (g.F.Flash.state c.make_room.new.flash) first plan table (with_index table index waiting firsts)
+          (var-stand t.bitmaps (page_at f) (page_at (g.F.Flash.state c.make_room.new.flash)) first plan stands.planned.index (c.in_default.ensures.outside watched.told)) refl refl refl refl stands.blobs;
       points = record { older = stands.points.older; points = stands.points.points; last = stands.points.last };
     })

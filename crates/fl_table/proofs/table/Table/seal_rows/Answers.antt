@@ -4,7 +4,7 @@ use Rattle.fl_model.specs.Layout.{rows_body}
 use Rattle.fl_model.specs.Ring as rings
 use Rattle.fl_model.specs.Row.{stored_row}
 use Rattle.fl_model.specs.Table as model
-use Rattle.fl_model.specs.Table.{DataRing, after_seal, lose}
+use Rattle.fl_model.specs.Table.{DataRing, after_seal, lose, shape_of as shape_of_ring}
 use Rattle.fl_page.specs.Writer.{Gathers}
 use Rattle.fl_ring.specs.Operations.{change, seal_kinds}
 use Rattle.fl_ring.specs.Place.{next_of, shape_of, StandsFor}
@@ -16,13 +16,17 @@ use Rattle.fl_schema.specs.Schema.{layout_of, row_of}
 use Rattle.fl_table.proofs.States.{shape_in, state_of, HaveSize}
 use Rattle.fl_table.proofs.Writers.{rest-finish, rest-clear, gathers-none, few-rows, some-room}
 use Rattle.fl_table.proofs.Pointed.{first-key, index-sealed, points-sealed}
-use Rattle.fl_table.proofs.SealAnswers.{planned-plain, planned-ring, planned-shape, lies-size, sealing-of, seal-ready, writer-count, ring-next, counts-room, note-same, written-back}
+use Rattle.std.specs.List.{sum}
+use Rattle.fl_table.proofs.Blobbing as blobbing
+use Rattle.fl_table.proofs.Blobbing.{var-stands}
+use Rattle.fl_index.proofs.SealAnswers.{seal-on}
+use Rattle.fl_table.proofs.SealAnswers.{planned-ring, planned-shape, lies-size, sealing-of, seal-ready, writer-count, ring-next, counts-room, note-same, written-back}
 use Rattle.fl_table.proofs.VoidPages.{voids-told}
 use Rattle.fl_table.proofs.Sealings.{IsSealing, seal-breaks, seal-finishes}
 use Rattle.fl_table.proofs.Following.{ends-alone}
-use Rattle.fl_table.proofs.Indexing.{few-goes, lies-goes, still-few, still-lies, still-next, still-planned, still-running, noted-end, stand-sealed}
+use Rattle.fl_table.proofs.Indexing.{few-goes, lies-goes, plan-same, still-few, still-lies, still-next, still-planned, still-running, noted-end, stand-sealed}
 use Rattle.fl_table.proofs.Moved.{index-stands}
-use Rattle.fl_table.proofs.Plain.{plain-facts, facts-plain}
+use Rattle.fl_table.proofs.Plain.{table-parts, table-facts}
 use Rattle.fl_table.proofs.table.Table.seal_rows.Goals as goal
 
 pub invariant_of-self-clause-blank_rest : goal.invariant_of-self-clause-blank_rest
@@ -70,7 +74,7 @@ returns-in-Err-clause-ends g c = λ first plan table rose device watched stands.
     let sizes_now : HaveSize first plan (page_at new) = lies-size t new first plan stands.planned (goes.geometry ∙ lies.geometry) (omega (arith, goes.blocks, lies.within)) (g.met.F.Flash.reaches c.seal.new.flash) in
     let number : c.next_number-number.result ≡ table.rows.next = c.next_number-number.ensures ∙ ring-next t old first plan table ring stands has in
     let is : IsSealing (page_at old) first plan table c.finish.new.self.body =
-    sealing-of t old first plan table c.finish.new.self stands c.requires.some c.requires.bitmaps (λ layout rows gathers. c.finish.ensures.body layout rows gathers ∙ ap (λ n. rows_body (length t.writer.body) layout n t.bitmap rows) number) in
+    sealing-of t old first plan table c.finish.new.self stands c.requires.some c.requires.bitmaps c.requires.blobs (λ layout rows gathers. c.finish.ensures.body layout rows gathers ∙ ap (λ n. rows_body (length t.writer.body) layout n t.bitmap rows) number) in
     let outside : OutsideStands (shape_in first plan) (page_at old) (page_at new) = subst (λ (r : Shape). OutsideStands r (page_at old) (page_at new)) shape (c.seal.ensures.outside watched.told) in
     let s = state_of plan (lose table) in
     let body = c.finish.new.self.body in
@@ -95,7 +99,7 @@ returns-clause-ends g c = λ first plan table rose device watched stands.
     let sizes_now : HaveSize first plan (page_at new) = lies-size t new first plan stands.planned (goes.geometry ∙ lies.geometry) (omega (arith, goes.blocks, lies.within)) (g.met.F.Flash.reaches c.seal.new.flash) in
     let number : c.next_number-number.result ≡ table.rows.next = c.next_number-number.ensures ∙ ring-next t old first plan table ring stands has in
     let is : IsSealing (page_at old) first plan table c.finish.new.self.body =
-    sealing-of t old first plan table c.finish.new.self stands c.requires.some c.requires.bitmaps (λ layout rows gathers. c.finish.ensures.body layout rows gathers ∙ ap (λ n. rows_body (length t.writer.body) layout n t.bitmap rows) number) in
+    sealing-of t old first plan table c.finish.new.self stands c.requires.some c.requires.bitmaps c.requires.blobs (λ layout rows gathers. c.finish.ensures.body layout rows gathers ∙ ap (λ n. rows_body (length t.writer.body) layout n t.bitmap rows) number) in
     let outside : OutsideStands (shape_in first plan) (page_at old) (page_at new) = subst (λ (r : Shape). OutsideStands r (page_at old) (page_at new)) shape (c.seal.ensures.outside watched.told) in
     let s = state_of plan (lose table) in
     let body = c.finish.new.self.body in
@@ -118,7 +122,7 @@ returns-clause-ends g c = λ first plan table rose device watched stands.
     let memory = stands.memory in
     let first_key : model.first_pending table ≡ Some c.key-first_key.result =
     first-key table (row_of c.row.result) (c.row.ensures.row (map stored_row (model.pending_entries table)) memory.gathers) ∙ ap (λ k. Some k) (sym c.key-first_key.ensures) in
-    let facts = plain-facts plan table (planned-plain t first plan stands.planned) stands.facts in
+    let facts = table-parts plan table stands.facts in
     ends-alone first plan table rose device (Ok u) _ new (record {
       now = sealed.now;
       did = sealed.did;
@@ -133,10 +137,11 @@ returns-clause-ends g c = λ first plan table rose device watched stands.
           blocks = stands.planned.blocks;
           index = still-planned t.bitmaps c.note_bitmap.new.bitmaps (first + plan.data_blocks) plan stands.planned.index c.note_bitmap.ensures.same;
           var = stands.planned.var;
+          limit = stands.planned.limit;
           buckets = stands.planned.buckets;
           error = stands.planned.error ∙ sym c.add_further.ensures.error;
         };
-        facts = facts-plain plan (after_seal plan DataRing table) (planned-plain t first plan stands.planned) sealed.facts;
+        facts = table-facts plan (after_seal plan DataRing table) sealed.facts;
         whole = sealed.untorn;
         clean = refl;
         pages = sealed.pages;
@@ -153,22 +158,23 @@ returns-clause-ends g c = λ first plan table rose device watched stands.
           voids = voids-told t old first plan table stands ring c.deref.result.now c.oldest-oldest.result c.oldest.result c.voids_among-gone.result c.saturating_sub-self.result has c.oldest-oldest.ensures
               (c.oldest.ensures ∙ sealed.oldest_is) (planned-shape t first plan stands.planned) (omega (arith, c.requires.some, writer-count t old first plan table stands)) c.deref.ensures.value c.voids_among-gone.ensures c.saturating_sub-self.ensures;
           index = index-sealed plan table t.index c.add_further.new.self c.key-first_key.result c.next_number-number.result stands.facts stands.points memory.index first_key number c.add_further.ensures.points;
-          no_fill = memory.no_fill;
         };
         bitmaps = stand-sealed t.bitmaps c.note_bitmap.new.bitmaps old new first plan table c.next_number-number.result t.bitmap (planned-shape t first plan stands.planned) stands.planned.index facts sealed.facts
             (index-stands (page_at old) (page_at new) first plan outside) number stands.memory.bitmap c.note_bitmap.ensures.noted stands.bitmaps;
+        blobs = blobbing.stand-sealed t.blobs old new first plan table (after_seal plan DataRing table) (sum (rings.given_up (shape_of_ring plan DataRing) table.pending table.rows))
+            (var-stands (page_at old) (page_at new) first plan outside) refl refl refl c.requires.blobs stands.blobs;
         points = points-sealed plan table stands.facts (planned-shape t first plan stands.planned) stands.points (omega (arith, c.requires.some, writer-count t old first plan table stands));
       };
     })
 
 pub returns-in-Err-clause-outside : goal.returns-in-Err-clause-outside
-returns-in-Err-clause-outside g c = λ told page out index.
+returns-in-Err-clause-outside g c = λ told page out index blobs.
     let t = c.args.self.now in
     let has : t.ring ≡ Some c.in-Some.ring = sym c.take.ensures.value ∙ c.in-Some.is in
     subst (λ (r : Shape). OutsideStands r (page_at (g.F.Flash.state c.args.flash.now)) (page_at (g.F.Flash.state c.seal.new.flash))) (t.lies c.in-Some.ring has) (c.seal.ensures.outside told) page out
 
 pub returns-clause-outside : goal.returns-clause-outside
-returns-clause-outside g c = λ told page out index.
+returns-clause-outside g c = λ told page out index blobs.
     let t = c.args.self.now in
     let has : t.ring ≡ Some c.in-Some.ring = sym c.take.ensures.value ∙ c.in-Some.is in
     subst (λ (r : Shape). OutsideStands r (page_at (g.F.Flash.state c.args.flash.now)) (page_at (g.F.Flash.state c.seal.new.flash))) (t.lies c.in-Some.ring has) (c.seal.ensures.outside told) page out
@@ -185,6 +191,7 @@ returns-in-Err-clause-lies g c =
       few = few-goes old new goes lies.few;
       ring = search rules;
       bitmaps = lies-goes c.args.self.now.bitmaps old new goes lies.bitmaps;
+      blobs = blobbing.lies-goes c.args.self.now.blobs old new goes lies.blobs;
     }
 
 pub invariant_of-self-2-clause-few_pages : goal.invariant_of-self-2-clause-few_pages
@@ -218,7 +225,35 @@ returns-clause-lies g c =
       few = few-goes old new goes lies.few;
       ring = search rules;
       bitmaps = still-lies c.args.self.now.bitmaps c.note_bitmap.new.bitmaps new c.note_bitmap.ensures.same c.note_bitmap.ensures.still (lies-goes c.args.self.now.bitmaps old new goes lies.bitmaps);
+      blobs = blobbing.lies-goes c.args.self.now.blobs old new goes lies.blobs;
     }
 
 pub returns-clause-index_next : goal.returns-clause-index_next
 returns-clause-index_next g c = still-next c.args.self.now.bitmaps c.note_bitmap.new.bitmaps c.note_bitmap.ensures.still
+
+pub returns-clause-power : goal.returns-clause-power
+returns-clause-power g c = λ on. seal-on _ _ _ _ _ _ _ c.in_default-seal.ensures.calls
+
+pub returns-clause-same : goal.returns-clause-same
+returns-clause-same g c = record {
+  geometry = refl;
+  layout = refl;
+  place = refl;
+  buckets = refl;
+  error = c.add_further.ensures.error;
+  bitmaps = c.note_bitmap.ensures.same;
+  blobs = blobbing.plan-same c.args.self.now.blobs;
+  limit = refl;
+}
+
+pub returns-in-Err-clause-same : goal.returns-in-Err-clause-same
+returns-in-Err-clause-same g c = record {
+  geometry = refl;
+  layout = refl;
+  place = refl;
+  buckets = refl;
+  error = refl;
+  bitmaps = plan-same c.args.self.now.bitmaps;
+  blobs = blobbing.plan-same c.args.self.now.blobs;
+  limit = refl;
+}

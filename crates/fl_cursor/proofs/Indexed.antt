@@ -1,0 +1,145 @@
+-- A look at the index, for the page that comes next.
+use Rattle.std.proofs.Common.{◌≡◌, ◌⊎◌, inl, inr, ℕ, ◌+◌, ◌-◌, ◌^◌, ◌<◌, ◌≤◌, Bool, true, false, not, Option, Some, None, Result, Ok, Err, IfOk, IfErr, IsTrue, List, [], length, map, refl, sym, ◌∙◌, ap, subst, arith}
+use Rattle.std.specs.Borrow.{MutBor}
+use Rattle.std.specs.List.{slice_get, list_any}
+use Rattle.std.proofs.lemmas.Bool.{cases_lt}
+use Rattle.fl_base.specs.declared.types.KeyRange.{KeyRange}
+use Rattle.fl_base.specs.declared.types.Span.{Span}
+use Rattle.fl_flash.specs.Buffer.{BufferState}
+use Rattle.fl_flash.specs.Flash.{FlashState, page_at}
+use Rattle.fl_flash.specs.Places.{page_of}
+use Rattle.fl_index.specs.Looking as looking
+use Rattle.fl_index.specs.declared.index.Index.{Index}
+use Rattle.fl_model.specs.Image.{rows_at}
+use Rattle.fl_model.specs.Query.{selected}
+use Rattle.fl_model.specs.Record.{Plan}
+use Rattle.fl_model.specs.Ring as rings
+use Rattle.fl_model.specs.Row.{Row}
+use Rattle.fl_model.specs.Table as model
+use Rattle.fl_page.specs.Contents.{Contents, contents_of, OnlyReads}
+use Rattle.fl_page.proofs.Reading.{OnlyReads-reads}
+use Rattle.fl_page.specs.declared.fault.ReadFault.{ReadFault}
+use Rattle.fl_page.specs.declared.fault.ReadFault.TheVariants.{Flash, BadPage}
+use Rattle.fl_table.specs.Kept.{place_of}
+use Rattle.fl_table.specs.Look.{oldest_in, rows_noted}
+use Rattle.fl_table.specs.Memory.{next_in}
+use Rattle.fl_table.specs.Skipping.{AreFresh, AreScanning, HoldGood, IsBadIndex, LooksOn, ShowsPage}
+use Rattle.fl_table.specs.Standing.{Stands}
+use Rattle.fl_table.specs.declared.table.Table.{Table}
+use Rattle.fl_cursor.specs.Asked.{is_asked}
+use Rattle.fl_cursor.specs.Cursor.{table_of, asked_of, index_page, IsStanding, IsTold, IsLooking, AreFreshIn, AreBadIn, MayBeBad, IfBad}
+use Rattle.fl_cursor.specs.Listed.{bytes_at, rows_on}
+use Rattle.fl_cursor.specs.Reads.{is_missed}
+use Rattle.fl_cursor.specs.declared.cursor.Cursor.{Cursor}
+use Rattle.fl_cursor.specs.declared.place.Place.{Place}
+use Rattle.fl_cursor.specs.declared.place.Place.TheVariants.{Start, Pages, InPage, Pending, Ended}
+use Rattle.fl_cursor.proofs.Beginning.{stands-moved}
+use Rattle.fl_cursor.proofs.Passing.{NotLeft}
+use Rattle.fl_cursor.proofs.Stood.{standing-tells, at-number, back}
+use Rattle.fl_cursor.proofs.Turning.{Looked}
+use Rattle.fl_cursor.proofs.Wanted.{missed-wanted, rows-are, none-matches, unmatched-left, unmatched-asked}
+
+-- what a buffer holds, by a flash and by what that holds
+fresh-on : (bitmaps : Option Index) (f : FlashState) (buf : BufferState) → AreFreshIn bitmaps (contents_of f) buf → AreFresh bitmaps f buf
+fresh-on None f buf h = tt
+fresh-on (Some index) f buf h = h
+
+fresh-in : (bitmaps : Option Index) (f : FlashState) (buf : BufferState) → AreFresh bitmaps f buf → AreFreshIn bitmaps (contents_of f) buf
+fresh-in None f buf h = tt
+fresh-in (Some index) f buf h = h
+
+-- a buffer that holds no page
+pub fresh-none : (bitmaps : Option Index) (contents : Contents) (buf : BufferState) → buf.holds ≡ None → AreFreshIn bitmaps contents buf
+fresh-none None contents buf none = tt
+fresh-none (Some index) contents buf none = λ number held. absurd (no (sym none ∙ held.place))
+  where
+    no : {n : ℕ} → ◌≡◌ {A = Option ℕ} None (Some n) → ⊥
+    no e = cc
+
+pub good-none : (bitmaps : Option Index) (buf : BufferState) → buf.holds ≡ None → HoldGood bitmaps buf
+good-none None buf none = tt
+good-none (Some index) buf none = λ number held. absurd (no (sym none ∙ held.place))
+  where
+    no : {n : ℕ} → ◌≡◌ {A = Option ℕ} None (Some n) → ⊥
+    no e = cc
+
+pub scanning-none : (bitmaps : Option Index) (number : ℕ) (buf : BufferState) → buf.holds ≡ None → AreScanning bitmaps number buf
+scanning-none None number buf none = tt
+scanning-none (Some index) number buf none = inl (none, ap (looking.after_held _ _) none)
+
+pub looking-none : (bitmaps : Option Index) (place : Place) (buf : BufferState) → buf.holds ≡ None → IsLooking bitmaps place buf
+looking-none bitmaps Start buf none = scanning-none bitmaps 0 buf none
+looking-none bitmaps (Pages next) buf none = scanning-none bitmaps next buf none
+looking-none bitmaps (InPage number row) buf none = scanning-none bitmaps (number + 1) buf none
+looking-none bitmaps (Pending row) buf none = tt
+looking-none bitmaps Ended buf none = tt
+
+module _ (old : Cursor) (next : ℕ) (here_is : old.place ≡ Pages next) (from : oldest_in (table_of old) ≤ next) (before : next < next_in (table_of old)) (f new : FlashState) (result : Result Bool ReadFault) (index : MutBor BufferState) where
+  pub looked : index.ghost_name ≡ old.index_buf.ghost_name → length index.now.bytes ≡ length old.index_buf.now.bytes → OnlyReads f new → (HoldGood (table_of old).bitmaps (index_page old) → HoldGood (table_of old).bitmaps index.now) →
+      (IsTrue f.media.tells → AreFresh (table_of old).bitmaps f (index_page old) → AreFresh (table_of old).bitmaps new index.now) →
+      ((first : ℕ) (plan : Plan) (table : model.Table) → IsTrue f.media.tells → Stands (table_of old) f first plan table → AreFresh (table_of old).bitmaps f (index_page old) → AreScanning (table_of old).bitmaps next (index_page old) →
+      LooksOn (table_of old).bitmaps (asked_of old).span next (index_page old) f.work.reads result new.work.reads index.now) →
+      ((first : ℕ) (plan : Plan) (table : model.Table) (n rows : ℕ) → IsTrue f.media.tells → Stands (table_of old) f first plan table → AreFresh (table_of old).bitmaps f (index_page old) → next ≡ rings.oldest table.rows + n →
+      slice_get table.rows.counts n ≡ Some rows → 0 < rows → ShowsPage plan table (asked_of old).span next (rows_at table n rows) result) →
+      ((first : ℕ) (plan : Plan) (table : model.Table) (n rows : ℕ) (range : KeyRange) → IsTrue f.media.tells → Stands (table_of old) f first plan table → AreFresh (table_of old).bitmaps f (index_page old) → next ≡ rings.oldest table.rows + n →
+      slice_get table.rows.counts n ≡ Some rows → 0 < rows → result ≡ Ok false → selected range (asked_of old).span (rows_at table n rows) ≡ []) →
+      Looked old next (contents_of f) f.work.reads result new.work.reads index
+  looked named room counts good fresh looks shows misses = record {
+    named = named;
+    room = room;
+    good = good;
+    later = OnlyReads-reads f new counts;
+    fresh = λ told. subst (λ (k : Contents). AreFreshIn (table_of old).bitmaps k index.now) counts.contents (fresh-in (table_of old).bitmaps new index.now (fresh (tells told) (known told)));
+    looks = λ told. looks told.standing.first told.standing.plan told.standing.table (tells told) (stands told) (known told) (scanning told);
+    shows = λ told some. by_result told some result
+        (shows told.standing.first told.standing.plan told.standing.table (next - rings.oldest told.standing.table.rows) (rows_noted (table_of old) next) (tells told) (stands told) (known told)
+        (sym (back (table_of old) (contents_of f) told.standing next from)) (at-number (table_of old) (contents_of f) told.standing next from before) (not_zero (rows_noted (table_of old) next) some));
+    misses = λ told some missed.
+        let none = none-matches (asked_of old) (rows_at told.standing.table (next - rings.oldest told.standing.table.rows) (rows_noted (table_of old) next))
+        (misses told.standing.first told.standing.plan told.standing.table (next - rings.oldest told.standing.table.rows) (rows_noted (table_of old) next) (asked_of old).range (tells told) (stands told) (known told)
+        (sym (back (table_of old) (contents_of f) told.standing next from)) (at-number (table_of old) (contents_of f) told.standing next from before) (not_zero (rows_noted (table_of old) next) some) missed) in
+        let rows = rows-are (table_of old) (contents_of f) told.standing next from before in
+        let entries = rows_at told.standing.table (next - rings.oldest told.standing.table.rows) (rows_noted (table_of old) next) in
+        (subst (λ (xs : List Row). NotLeft (asked_of old) xs) (sym rows) (unmatched-left (asked_of old) entries none), ap (list_any (is_asked (asked_of old))) rows ∙ unmatched-asked (asked_of old) entries none);
+  }
+    where
+      tells : IsTold old (contents_of f) → IsTrue f.media.tells
+      tells told = standing-tells (table_of old) (contents_of f) told.standing
+
+      stands : (told : IsTold old (contents_of f)) → Stands (table_of old) f told.standing.first told.standing.plan told.standing.table
+      stands told = stands-moved (table_of old) f told.standing
+
+      known : IsTold old (contents_of f) → AreFresh (table_of old).bitmaps f (index_page old)
+      known told = fresh-on (table_of old).bitmaps f (index_page old) told.fresh
+
+      scanning : IsTold old (contents_of f) → AreScanning (table_of old).bitmaps next (index_page old)
+      scanning told = subst (λ (p : Place). IsLooking (table_of old).bitmaps p (index_page old)) here_is told.looking
+
+      not_zero : (n : ℕ) → (n ≡ 0 → ⊥) → 0 < n
+      not_zero n some = elim (cases_lt 0 n) [ inl lt ↦ lt | inr le ↦ absurd (some (omega (arith, le))) ]
+
+      by_result : (told : IsTold old (contents_of f)) → (rows_noted (table_of old) next ≡ 0 → ⊥) → (result : Result Bool ReadFault) →
+          ShowsPage told.standing.plan told.standing.table (asked_of old).span next (rows_at told.standing.table (next - rings.oldest told.standing.table.rows) (rows_noted (table_of old) next)) result →
+          IfOk result (λ may. is_missed (table_of old) (asked_of old).span next (rows_on (table_of old) (contents_of f) next) ≡ not may)
+      by_result told some (Ok may) shown = missed-wanted (table_of old) (contents_of f) told.standing next from before (asked_of old).span ∙ ap not (sym shown)
+      by_result told some (Err fault) shown = tt
+
+-- what was answered, by another name
+pub looked-as : {old : Cursor} {next reads mid : ℕ} {contents : Contents} {index : MutBor BufferState} {a b : Bool} → a ≡ b → Looked old next contents reads (Ok a) mid index → Looked old next contents reads (Ok b) mid index
+looked-as {old} {next} {reads} {mid} {contents} {index} e h = subst (λ x. Looked old next contents reads (Ok x) mid index) e h
+
+-- a bad index page that is answered
+pub bad-index : (t : Table) (f : FlashState) (buf : BufferState) (fault : ReadFault) → HoldGood t.bitmaps buf → looking.IfBad (λ bad. IsTrue f.media.tells → HoldGood t.bitmaps buf → IsBadIndex t.bitmaps f bad) fault →
+    IfBad (MayBeBad t (contents_of f)) fault
+bad-index t f buf (Flash fault) good h = tt
+bad-index t f buf (BadPage bad) good h = λ tells. inr (by_index t.bitmaps (h tells good))
+  where
+    by_index : (bitmaps : Option Index) → IsBadIndex bitmaps f bad → AreBadIn bitmaps (contents_of f) bad
+    by_index None e = e
+    by_index (Some index) e = record { from = e.from; before = e.before; committed = e.committed; not_good = e.not_good; told = e.told }
+
+-- the bytes that were read after the look
+pub page-bytes : (t : Table) (number : ℕ) (f new : FlashState) (bytes : List ℕ) → IsStanding t (contents_of f) → OnlyReads f new → (IsTrue new.media.tells → bytes ≡ page_at new (place_of t number)) → bytes ≡ bytes_at t (contents_of f) number
+page-bytes t number f new bytes standing counts read =
+    read (subst (λ (k : Contents). IsTrue k.tells) (sym counts.contents) (standing-tells t (contents_of f) standing))
+    ∙ ap (λ (k : Contents). page_of k.bytes k.start k.geometry.page (place_of t number)) counts.contents

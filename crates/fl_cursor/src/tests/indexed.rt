@@ -1,0 +1,124 @@
+// Cursors over a table with an index: which pages they read.
+ghost use Rattle.std.specs.Prelude.{◌≡◌, length, vec_len, IfOk};
+ghost use Rattle.fl_flash.specs.Flash.{FlashState};
+ghost use Rattle.fl_table.specs.Memory.{LiesOn};
+
+use super::*;
+use fl_bitmap::Buckets;
+
+// Three rows a page, in a ring of eight blocks, and behind it three blocks of index pages, each with room for the bitmaps
+// of five pages. Each value has a bucket of its own.
+fn indexed_table(alloc: Global) -> Result<Table, ConfigRefusal>
+    ensures { IfOk result (λ t. (f : FlashState) → f.geometry ≡ record { page = 64; block = 2 } → f.blocks ≡ 11 → LiesOn t f) }
+{
+    let mut columns = ArrayVec::new();
+    columns.push(ColumnType::I32);
+    let config = TableConfig {
+        geometry: GEOMETRY,
+        key: KeyWidth::Eight,
+        columns,
+        rows: RingPlace {
+            first_block: 0,
+            blocks: 8,
+        },
+        index: Some(RingPlace {
+            first_block: 8,
+            blocks: 3,
+        }),
+        var: None,
+        buckets: Some(Buckets {
+            bits: 64,
+            base: 0,
+            width: 1,
+        }),
+        error: 1,
+        blob_limit: 0,
+    };
+    Table::plan(alloc, &config)
+}
+
+// Twelve pages of one row each. The value is the key's last digit: 1, but 7 in the pages 3 and 8.
+const KEYS: [u64; 12] = [11, 21, 31, 47, 51, 61, 71, 81, 97, 101, 111, 121];
+
+fn fill<F: Flash>(store: &mut Store, flash: &mut F)
+    requires lies { LiesOn store.old.table (F.state flash.old) }
+    requires rows { length store.old.rows.bytes ≡ (F.state flash.old).geometry.page }
+    requires index { length store.old.index.bytes ≡ (F.state flash.old).geometry.page }
+    ensures geometry { (F.state flash.new).geometry ≡ (F.state flash.old).geometry }
+    ensures lies { LiesOn store.new.table (F.state flash.new) }
+    ensures rows { length store.new.rows.bytes ≡ length store.old.rows.bytes }
+    ensures index { length store.new.index.bytes ≡ length store.old.index.bytes }
+{
+    take(Mount, store, flash);
+    for key in KEYS {
+        take(Put(key), store, flash);
+        take(Flush, store, flash);
+    }
+}
+
+// What three steps of a scan of all keys from 11 on answer, and how often they read the flash.
+fn scan<F: Flash>(store: &mut Store, flash: &mut F, low: i64, high: i64) -> ([Answer; 3], u64)
+    requires lies { LiesOn store.old.table (F.state flash.old) }
+    requires rows { length store.old.rows.bytes ≡ (F.state flash.old).geometry.page }
+    requires index { length store.old.index.bytes ≡ (F.state flash.old).geometry.page }
+{
+    let before = flash.work().reads;
+    if !store.table.is_mounted() || store.table.is_stopped() {
+        return ([Answer::Refused; 3], 0);
+    }
+    let range = KeyRange {
+        low: 11,
+        high: u64::MAX,
+    };
+    let span = Some(Span { low, high });
+    let mut cursor = Cursor::begin(&store.table, range, span, &mut store.rows, &mut store.index);
+    let first = advance(&mut cursor, flash);
+    let second = advance(&mut cursor, flash);
+    let third = advance(&mut cursor, flash);
+    let reads = flash.work().reads.saturating_sub(before);
+    ([first, second, third], reads)
+}
+
+// Eleven blocks of two pages.
+fn blank_flash(alloc: Global) -> Result<Vec<u8>, NoMemory>
+    ensures { IfOk result (λ v. vec_len v ≡ 1408) }
+{
+    Ok(vec![in alloc; 255; 1408]?)
+}
+
+fn see(alloc: Global, low: i64, high: i64) -> Result<([Answer; 3], u64), ConfigRefusal> {
+    let bytes = blank_flash(alloc)?;
+    let mut media = MemMedia::new(alloc, bytes, 1408)?;
+    let mut store = Store {
+        table: indexed_table(alloc)?,
+        rows: PageBuf::new(alloc, 64)?,
+        index: PageBuf::new(alloc, 64)?,
+        mark: None,
+    };
+    let mut flash = SimFlash::new(alloc, &mut media, GEOMETRY, 11, 0)?;
+    fill(&mut store, &mut flash);
+    let seen = scan(&mut store, &mut flash, low, high);
+    let _media = flash.into_media();
+    Ok(seen)
+}
+
+// The lookup of key 11 reads pages 1 and 0. Both index pages are read, the bitmaps of pages 10 and 11 wait.
+#[test]
+fn a_scan_reads_the_pages_that_may_match(rt: HostRuntime) -> Result<(), Fail> {
+    // Pages 3 and 8.
+    assert_eq!(rt; see(rt.alloc(), 7, 7)?, ([Row(47), Row(97), End], 6));
+    // No page.
+    assert_eq!(rt; see(rt.alloc(), 2, 6)?, ([End, End, End], 4));
+    // The bucket 63 has all values from 63 on.
+    assert_eq!(rt; see(rt.alloc(), 63, 100)?, ([End, End, End], 4));
+    // No value lies in the span.
+    assert_eq!(rt; see(rt.alloc(), 8, 3)?, ([End, End, End], 4));
+    Ok(())
+}
+
+// The first row comes from page 0, which the lookup has read, and the next two from pages 1 and 2.
+#[test]
+fn a_scan_reads_an_index_page_once(rt: HostRuntime) -> Result<(), Fail> {
+    assert_eq!(rt; see(rt.alloc(), 1, 1)?, ([Row(11), Row(21), Row(31)], 5));
+    Ok(())
+}

@@ -1,0 +1,389 @@
+-- The totals rise by the operations of each command.
+use Rattle.std.proofs.Common.{◌≡◌, ℕ, zero, suc, ◌+◌, ◌<◌, Bool, true, false, cond, Option, Some, None, List, [], ◌∷◌, ◌++◌, ◌-◌, ◌^◌, append-nil, append_assoc, refl, sym, ap, subst, ◌∙◌, arith, inl, inr, MatchOption, MatchBool, IsTrue}
+use Rattle.std.specs.List.{slice_get}
+use Rattle.fl_base.specs.declared.types.CutKind.{CutKind}
+use Rattle.fl_model.specs.Record.{Plan, Record, Config}
+use Rattle.fl_model.specs.Table.{Table, RingName, Refusal, refusal_of, put_seals, put_record, table_seals}
+use Rattle.fl_model.specs.Work.{Kind, Body, Mark, VoidMark, Erase, Operation, Device, cut_now, counted, done, Progress, Outcome, Finished, CutShort, Failed, Performs, PerformsFirst, operations_of, changed_at}
+use Rattle.fl_model.specs.Within.{all_done}
+use Rattle.fl_model.specs.Mount.{Mounts, MountEnd, Mounted, Stopped, Unread, GoesOn, rings_from, renumbered_at, repairs_at}
+use Rattle.fl_words.specs.Command as command
+use Rattle.fl_words.specs.Command.{Command}
+use Rattle.fl_words.specs.Reply as reply
+use Rattle.fl_words.specs.Reply.{Reply}
+use Rattle.fl_machine.specs.Machine.{Machine, OpenCursor}
+use Rattle.fl_machine.specs.Step.{Moment, StepOf, Says, EndsAs, EndsMount, WithTable, Located, located, LoadsFrom, LoadsOn, NextStep, cursor_at, no_column, load_record, next_random, refused}
+use Rattle.fl_machine.specs.Operations.{programs_in, erases_in, unless_refused, of_table, load_operations, mount_operations, of_located, operations_by, Counts, CountsFront, CountsMoment, OperationsAreExact}
+
+-- nothing fails in a moment
+record IsWhole (m : Moment) : Type 0 where
+  rose : m.rose ≡ false
+  last : m.last ≡ None
+
+-- from a device on, a moment does a front of these operations, and all of them where nothing fails
+record Does (m : Moment) (device : Device) (operations : List Operation) : Type 0 where
+  front : CountsFront device operations m.after.device
+  whole : IsWhole m → Counts device operations m.after.device
+
+abbrev Counted : Machine → List Operation → Moment → Type 0
+Counted old operations m = Does m old.device operations
+
+zero-plus : (n : ℕ) → n ≡ n + 0
+zero-plus n = omega arith
+
+counts-none : (a b : Device) → b.programs ≡ a.programs → b.erases ≡ a.erases → Counts a [] b
+counts-none a b p e = record { programs = λ less. p ∙ zero-plus a.programs; erases = λ less. e ∙ zero-plus a.erases }
+
+programs-append : (xs ys : List Operation) → programs_in (xs ++ ys) ≡ programs_in xs + programs_in ys
+programs-append [] ys = omega arith
+programs-append (x ∷ xs) ys = omega (arith, programs-append xs ys)
+
+erases-append : (xs ys : List Operation) → erases_in (xs ++ ys) ≡ erases_in xs + erases_in ys
+erases-append [] ys = omega arith
+erases-append (x ∷ xs) ys = omega (arith, erases-append xs ys)
+
+-- counts that rise twice
+rises : (most a b c m n : ℕ) → (b < most → b ≡ a + m) → (c < most → c ≡ b + n) → c < most → c ≡ a + (m + n)
+rises most a b c m n f g less = omega (arith, g less, f (omega (arith, g less)))
+
+counts-more : (a b c : Device) (xs ys : List Operation) → Counts a xs b → Counts b ys c → Counts a (xs ++ ys) c
+counts-more a b c xs ys h k = record {
+  programs = λ less. rises _ a.programs b.programs c.programs (programs_in xs) (programs_in ys) h.programs k.programs less ∙ ap (λ n. a.programs + n) (sym (programs-append xs ys));
+  erases = λ less. rises _ a.erases b.erases c.erases (erases_in xs) (erases_in ys) h.erases k.erases less ∙ ap (λ n. a.erases + n) (sym (erases-append xs ys));
+}
+
+-- all operations are done, or some and then a front of others, or only a front
+does-all : (m : Moment) (device : Device) (operations : List Operation) → Counts device operations m.after.device → Does m device operations
+does-all m device operations h = record { front = record { front = operations; others = []; split = append-nil operations; counts = h }; whole = λ w. h }
+
+does-more : (m : Moment) (device mid : Device) (xs ys : List Operation) → Counts device xs mid → Does m mid ys → Does m device (xs ++ ys)
+does-more m device mid xs ys h k = record {
+  front = record {
+    front = xs ++ k.front.front;
+    others = k.front.others;
+    split = append_assoc xs k.front.front k.front.others ∙ ap (λ zs. xs ++ zs) k.front.split;
+    counts = counts-more device mid m.after.device xs k.front.front h k.front.counts;
+  };
+  whole = λ w. counts-more device mid m.after.device xs ys h (k.whole w);
+}
+
+does-front : (m : Moment) (device : Device) (xs ys : List Operation) → CountsFront device xs m.after.device → (IsWhole m → ⊥) → Does m device (xs ++ ys)
+does-front m device xs ys h broken = record {
+  front = record { front = h.front; others = h.others ++ ys; split = sym (append_assoc h.front h.others ys) ∙ ap (λ zs. zs ++ ys) h.split; counts = h.counts };
+  whole = λ w. absurd (broken w);
+}
+
+does-part : (m : Moment) (device : Device) (xs : List Operation) → CountsFront device xs m.after.device → (IsWhole m → ⊥) → Does m device xs
+does-part m device xs h broken = record { front = h; whole = λ w. absurd (broken w) }
+
+counts-one : (operation : Operation) (device : Device) → Counts device (operation ∷ []) (counted operation.kind device)
+counts-one operation device = by_kind operation.kind refl
+  where
+    by_kind : (kind : Kind) → operation.kind ≡ kind → Counts device (operation ∷ []) (counted operation.kind device)
+    by_kind Body e = rw e record { programs = λ less. omega arith; erases = λ less. omega arith }
+    by_kind Mark e = rw e record { programs = λ less. omega arith; erases = λ less. omega arith }
+    by_kind VoidMark e = rw e record { programs = λ less. omega arith; erases = λ less. omega arith }
+    by_kind Erase e = rw e record { programs = λ less. omega arith; erases = λ less. omega arith }
+
+cut-not-finished : (last : List Table) → CutShort last ≡ Finished → ⊥
+cut-not-finished last e = cc
+
+failed-not-finished : (last : List Table) → Failed last ≡ Finished → ⊥
+failed-not-finished last e = cc
+
+some-not-none : (m : Moment) (last : List Table) → m.last ≡ Some last → m.last ≡ None → ⊥
+some-not-none m last e k = differ (sym e ∙ k)
+  where
+    differ : Some last ≡ None → ⊥
+    differ e = cc
+
+-- operations that were all done
+record Did (plans : List Plan) (operations : List Operation) (device : Device) (tables : List Table) (end : Progress) : Type 0 where
+  counts : Counts device operations end.device
+  tables_are : end.tables ≡ all_done (done plans) operations tables
+
+performs-did : (plans : List Plan) (rose : Bool) (operations : List Operation) (device : Device) (tables : List Table) (end : Progress) →
+    Performs plans rose operations device tables end → end.outcome ≡ Finished → Did plans operations device tables end
+performs-did plans rose [] device tables end (outcome, d, ts) e = record { counts = counts-none device end.device (ap (λ (x : Device). x.programs) d) (ap (λ (x : Device). x.erases) d); tables_are = ts }
+performs-did plans rose (operation ∷ operations) device tables end h e =
+    by_cut (cut_now device) h (λ g. performs-did plans rose operations (counted operation.kind device) (done plans operation tables) end g e)
+  where
+    by_cut : (now : Option CutKind) → PerformsFirst plans rose now operation device tables end (Performs plans rose operations (counted operation.kind device) (done plans operation tables) end) →
+        (Performs plans rose operations (counted operation.kind device) (done plans operation tables) end → Did plans operations (counted operation.kind device) (done plans operation tables) end) →
+        Did plans (operation ∷ operations) device tables end
+    by_cut (Some kind) (outcome, d, leaves) go = absurd (cut-not-finished tables (sym outcome ∙ e))
+    by_cut None (inl (rose, outcome, d, leaves)) go = absurd (failed-not-finished tables (sym outcome ∙ e))
+    by_cut None (inr goes) go = let g = go goes in record {
+      counts = counts-more device (counted operation.kind device) end.device (operation ∷ []) operations (counts-one operation device) g.counts;
+      tables_are = g.tables_are;
+    }
+
+-- operations of which one may have failed
+performs-front : (plans : List Plan) (rose : Bool) (operations : List Operation) (device : Device) (tables : List Table) (end : Progress) →
+    Performs plans rose operations device tables end → CountsFront device operations end.device
+performs-front plans rose [] device tables end (outcome, d, ts) =
+    record { front = []; others = []; split = refl; counts = counts-none device end.device (ap (λ (x : Device). x.programs) d) (ap (λ (x : Device). x.erases) d) }
+performs-front plans rose (operation ∷ operations) device tables end h =
+    by_cut (cut_now device) h (λ g. performs-front plans rose operations (counted operation.kind device) (done plans operation tables) end g)
+  where
+    first : (d : Device) → d.programs ≡ (counted operation.kind device).programs → d.erases ≡ (counted operation.kind device).erases → CountsFront device (operation ∷ operations) d
+    first d p e = let one = counts-one operation device in record {
+      front = operation ∷ [];
+      others = operations;
+      split = refl;
+      counts = record { programs = λ less. p ∙ one.programs (subst (λ n. n < 2 ^ 64 - 1) p less); erases = λ less. e ∙ one.erases (subst (λ n. n < 2 ^ 64 - 1) e less) };
+    }
+
+    by_cut : (now : Option CutKind) → PerformsFirst plans rose now operation device tables end (Performs plans rose operations (counted operation.kind device) (done plans operation tables) end) →
+        (Performs plans rose operations (counted operation.kind device) (done plans operation tables) end → CountsFront (counted operation.kind device) operations end.device) →
+        CountsFront device (operation ∷ operations) end.device
+    by_cut (Some kind) (outcome, d, leaves) go = first end.device (ap (λ (x : Device). x.programs) d) (ap (λ (x : Device). x.erases) d)
+    by_cut None (inl (rose, outcome, d, leaves)) go = first end.device (ap (λ (x : Device). x.programs) d) (ap (λ (x : Device). x.erases) d)
+    by_cut None (inr goes) go = let g = go goes in record {
+      front = operation ∷ g.front;
+      others = g.others;
+      split = ap (λ xs. operation ∷ xs) g.split;
+      counts = counts-more device (counted operation.kind device) end.device (operation ∷ []) g.front (counts-one operation device) g.counts;
+    }
+
+-- a moment in which an operation failed
+stops-broken : (m : Moment) (before : List Table) → m.last ≡ Some before → IsWhole m → ⊥
+stops-broken m before e w = some-not-none m before e w.last
+
+front-to : (device : Device) (operations : List Operation) (a b : Device) → b ≡ a → CountsFront device operations a → CountsFront device operations b
+front-to device operations a b e h = subst (λ d. CountsFront device operations d) (sym e) h
+
+-- a command that does no operation
+says-none : (old : Machine) (m : Moment) (replies : List Reply) (new : Machine) → Says m replies new → new.device.programs ≡ old.device.programs → new.device.erases ≡ old.device.erases → Counted old [] m
+says-none old m replies new h p e =
+    does-all m old.device [] (counts-none old.device m.after.device (ap (λ (x : Machine). x.device.programs) h.after_is ∙ p) (ap (λ (x : Machine). x.device.erases) h.after_is ∙ e))
+
+after-none : (old : Machine) (m : Moment) (new : Machine) → m.after ≡ new → new.device ≡ old.device → Counted old [] m
+after-none old m new h d =
+    does-all m old.device []
+    (counts-none old.device m.after.device (ap (λ (x : Machine). x.device.programs) h ∙ ap (λ (x : Device). x.programs) d) (ap (λ (x : Machine). x.device.erases) h ∙ ap (λ (x : Device). x.erases) d))
+
+-- a command that is a list of operations
+operations-counted : (plans : List Plan) (old : Machine) (m : Moment) (operations : List Operation) (ok : List Reply) (new : Progress → Machine) → ((end : Progress) → (new end).device ≡ end.device) →
+    ((end : Progress) × Performs plans m.rose operations old.device old.tables end × EndsAs end.outcome old m end [] ok (new end)) → Counted old operations m
+operations-counted plans old m operations ok new same (end, did, ends) = by_outcome end.outcome refl ends
+  where
+    stopped_front : m.after.device ≡ end.device → CountsFront old.device operations m.after.device
+    stopped_front e = front-to old.device operations end.device m.after.device e (performs-front plans m.rose operations old.device old.tables end did)
+
+    by_outcome : (o : Outcome) → end.outcome ≡ o → EndsAs o old m end [] ok (new end) → Does m old.device operations
+    by_outcome Finished e h =
+        does-all m old.device operations
+        (subst (λ (d : Device). Counts old.device operations d) (sym (ap (λ (x : Machine). x.device) h.after_is ∙ same end)) (performs-did plans m.rose operations old.device old.tables end did e).counts)
+    by_outcome (CutShort before) e h = does-part m old.device operations (stopped_front (ap (λ (x : Machine). x.device) h.after_is)) (stops-broken m before h.last_is)
+    by_outcome (Failed before) e h = does-part m old.device operations (stopped_front (ap (λ (x : Machine). x.device) h.after_is)) (stops-broken m before h.last_is)
+
+put-counted : (config : Config) (old : Machine) (m : Moment) (item : Record) (at : Located) (o : Option Refusal) →
+    MatchOption o
+    ((end : Progress) × Performs config.plans m.rose (operations_of at.plan at.place (put_seals at.plan item at.table) at.table) old.device old.tables end
+    × EndsAs end.outcome old m end [] (reply.Done ∷ []) (record old { device = end.device; tables = changed_at at.place (put_record at.plan item) old.tables }))
+    (λ refusal. Says m (refused refusal ∷ []) old) →
+    Counted old (unless_refused o (operations_of at.plan at.place (put_seals at.plan item at.table) at.table)) m
+put-counted config old m item at (Some refusal) h = says-none old m (refused refusal ∷ []) old h refl refl
+put-counted config old m item at None h =
+    operations-counted config.plans old m (operations_of at.plan at.place (put_seals at.plan item at.table) at.table) (reply.Done ∷ [])
+    (λ end. record old { device = end.device; tables = changed_at at.place (put_record at.plan item) old.tables }) (λ end. refl) h
+
+-- the end of a load, behind which it does nothing
+load-ends : (m : Moment) (old : Machine) (device : Device) (tables : List Table) (replies : List Reply) → Says m replies (record old { device = device; tables = tables }) → Does m device []
+load-ends m old device tables replies h =
+    does-all m device [] (counts-none device m.after.device (ap (λ (x : Machine). x.device.programs) h.after_is) (ap (λ (x : Machine). x.device.erases) h.after_is))
+
+-- a load
+loads-counted : (config : Config) (old : Machine) (m : Moment) (plan : Plan) (place step seed turns i s loaded : ℕ) (device : Device) (tables : List Table) →
+    LoadsFrom config old m plan place step seed turns i s loaded device tables → Does m device (load_operations plan place step seed turns i s tables)
+loads-counted config old m plan place step seed zero i s loaded device tables h = load-ends m old device tables (reply.Loaded loaded ∷ []) h
+loads-counted config old m plan place step seed (suc turns) i s loaded device tables h =
+    by_table (slice_get tables place) h (λ d ts g. loads-counted config old m plan place step seed turns (i + 1) (next_random s) (loaded + 1) d ts g)
+  where
+    Goes : Device → List Table → Type 0
+    Goes d ts = LoadsFrom config old m plan place step seed turns (i + 1) (next_random s) (loaded + 1) d ts
+
+    others : List Table → List Operation
+    others ts = load_operations plan place step seed turns (i + 1) (next_random s) ts
+
+    by_outcome : (operations : List Operation) (after : List Table) (o : Outcome) (end : Progress) → end.outcome ≡ o → Performs config.plans m.rose operations device tables end →
+        LoadsOn o old m end loaded (Goes end.device after) → ((d : Device) (ts : List Table) → Goes d ts → Does m d (others ts)) → Does m device (operations ++ others after)
+    by_outcome operations after Finished end e did on go =
+        does-more m device end.device operations (others after) (performs-did config.plans m.rose operations device tables end did e).counts (go end.device after on)
+    by_outcome operations after (CutShort before) end e did on go =
+        does-front m device operations (others after) (front-to device operations end.device m.after.device (ap (λ (x : Machine). x.device) on.after_is) (performs-front config.plans m.rose operations device tables end did))
+        (stops-broken m before on.last_is)
+    by_outcome operations after (Failed before) end e did on go =
+        does-front m device operations (others after) (front-to device operations end.device m.after.device (ap (λ (x : Machine). x.device) on.after_is) (performs-front config.plans m.rose operations device tables end did))
+        (stops-broken m before on.last_is)
+
+    by_refusal : (table : Table) (item : Record) (o : Option Refusal) →
+        MatchOption o
+        ((end : Progress) × Performs config.plans m.rose (operations_of plan place (put_seals plan item table) table) device tables end
+        × LoadsOn end.outcome old m end loaded (Goes end.device (changed_at place (put_record plan item) tables)))
+        (λ refusal. Says m (reply.Loaded loaded ∷ refused refusal ∷ []) (record old { device = device; tables = tables })) →
+        ((d : Device) (ts : List Table) → Goes d ts → Does m d (others ts)) →
+        Does m device (unless_refused o (operations_of plan place (put_seals plan item table) table ++ others (changed_at place (put_record plan item) tables)))
+    by_refusal table item (Some refusal) h go = load-ends m old device tables (reply.Loaded loaded ∷ refused refusal ∷ []) h
+    by_refusal table item None (end, did, on) go =
+        by_outcome (operations_of plan place (put_seals plan item table) table) (changed_at place (put_record plan item) tables) end.outcome end refl did on go
+
+    by_table : (o : Option Table) →
+        MatchOption o (Says m [] (record old { device = device; tables = tables })) (λ table.
+        let item = load_record plan table step seed i s in
+        MatchOption (refusal_of plan table item)
+        ((end : Progress) × Performs config.plans m.rose (operations_of plan place (put_seals plan item table) table) device tables end
+        × LoadsOn end.outcome old m end loaded (Goes end.device (changed_at place (put_record plan item) tables)))
+        (λ refusal. Says m (reply.Loaded loaded ∷ refused refusal ∷ []) (record old { device = device; tables = tables }))) →
+        ((d : Device) (ts : List Table) → Goes d ts → Does m d (others ts)) →
+        Does m device (of_table o (λ table.
+        let item = load_record plan table step seed i s in
+        unless_refused (refusal_of plan table item) (operations_of plan place (put_seals plan item table) table ++ others (changed_at place (put_record plan item) tables))))
+    by_table None h go = load-ends m old device tables [] h
+    by_table (Some table) h go = by_refusal table (load_record plan table step seed i s) (refusal_of plan table (load_record plan table step seed i s)) h go
+
+-- a mount
+not-true : (b : Bool) → b ≡ false → IsTrue b → ⊥
+not-true b e h = cc
+
+rings-counted : (config : Config) (old : Machine) (m : Moment) (rings : List (ℕ × RingName)) (device : Device) (tables : List Table) (how : MountEnd) →
+    Mounts config.plans m.rose rings device tables how → EndsMount config old m how → Does m device (mount_operations config.plans rings tables)
+rings-counted config old m [] device tables how is ends = ended (subst (λ (x : MountEnd). EndsMount config old m x) is ends)
+  where
+    ended : EndsMount config old m (Mounted (record { outcome = Finished; device = device; tables = tables })) → Does m device []
+    ended h = does-all m device [] (counts-none device m.after.device (ap (λ (x : Machine). x.device.programs) h.after_is) (ap (λ (x : Machine). x.device.erases) h.after_is))
+rings-counted config old m (at ∷ rings) device tables how (inl (end, unread, is)) ends =
+    unread_end (subst (λ (x : MountEnd). EndsMount config old m x) is ends)
+  where
+    numbered : List Table
+    numbered = renumbered_at config.plans at tables
+
+    repairs : List Operation
+    repairs = repairs_at config.plans at numbered
+
+    unread_end : EndsMount config old m (Unread end) → Does m device (repairs ++ mount_operations config.plans rings (all_done (done config.plans) repairs numbered))
+    unread_end h =
+        does-front m device repairs (mount_operations config.plans rings (all_done (done config.plans) repairs numbered))
+        (front-to device repairs end.device m.after.device (ap (λ (x : Machine). x.device) h.after_is)
+        (record { front = unread.front; others = unread.others; split = sym unread.split; counts = (performs-did config.plans m.rose unread.front device numbered end unread.did unread.outcome).counts }))
+        (λ w. not-true m.rose w.rose unread.may_fail)
+rings-counted config old m (at ∷ rings) device tables how (inr (end, did, goes)) ends =
+    by_outcome end.outcome refl goes (λ g. rings-counted config old m rings end.device end.tables how g ends)
+  where
+    numbered : List Table
+    numbered = renumbered_at config.plans at tables
+
+    repairs : List Operation
+    repairs = repairs_at config.plans at numbered
+
+    others : List Operation
+    others = mount_operations config.plans rings (all_done (done config.plans) repairs numbered)
+
+    stopped_end : (o : Outcome) → end.outcome ≡ o → how ≡ Stopped end → EndsAs o old m end [] [] old
+    stopped_end o e is = subst (λ (x : Outcome). EndsAs x old m end [] [] old) e (subst (λ (x : MountEnd). EndsMount config old m x) is ends)
+
+    broken : (before : List Table) → m.after.device ≡ end.device → m.last ≡ Some before → Does m device (repairs ++ others)
+    broken before e last =
+        does-front m device repairs others (front-to device repairs end.device m.after.device e (performs-front config.plans m.rose repairs device numbered end did)) (stops-broken m before last)
+
+    by_outcome : (o : Outcome) → end.outcome ≡ o → GoesOn o end how (Mounts config.plans m.rose rings end.device end.tables how) →
+        (Mounts config.plans m.rose rings end.device end.tables how → Does m end.device (mount_operations config.plans rings end.tables)) → Does m device (repairs ++ others)
+    by_outcome Finished e g go =
+        let d = performs-did config.plans m.rose repairs device numbered end did e in
+        does-more m device end.device repairs others d.counts (subst (λ (ts : List Table). Does m end.device (mount_operations config.plans rings ts)) d.tables_are (go g))
+    by_outcome (CutShort before) e g go = let h = stopped_end (CutShort before) e g in broken before (ap (λ (x : Machine). x.device) h.after_is) h.last_is
+    by_outcome (Failed before) e g go = let h = stopped_end (Failed before) e g in broken before (ap (λ (x : Machine). x.device) h.after_is) h.last_is
+
+mount-counted : (config : Config) (old : Machine) (m : Moment) (b : Bool) →
+    MatchBool b (Says m (reply.AlreadyMounted ∷ []) old)
+    ((how : MountEnd) × Mounts config.plans m.rose (rings_from 0 config.plans) old.device old.tables how × EndsMount config old m how) →
+    Counted old (cond b [] (mount_operations config.plans (rings_from 0 config.plans) old.tables)) m
+mount-counted config old m true h = says-none old m (reply.AlreadyMounted ∷ []) old h refl refl
+mount-counted config old m false (how, did, ends) = rings-counted config old m (rings_from 0 config.plans) old.device old.tables how did ends
+
+-- a command on a table
+on-table : (config : Config) (old : Machine) (name : List ℕ) (m : Moment) (P : Located → Type 0) (f : Located → List Operation) → WithTable config old m name P →
+    ((at : Located) → P at → Counted old (f at) m) → Counted old (cond old.mounted (of_located (located config old name) f) []) m
+on-table config old name m P f h go = by_cases old.mounted (located config old name) h
+  where
+    by_cases : (b : Bool) (o : Option Located) → MatchBool b (MatchOption o (Says m (reply.NoTable ∷ []) old) P) (Says m (reply.NotMounted ∷ []) old) → Counted old (cond b (of_located o f) []) m
+    by_cases true None h = says-none old m (reply.NoTable ∷ []) old h refl refl
+    by_cases true (Some at) h = go at h
+    by_cases false o h = says-none old m (reply.NotMounted ∷ []) old h refl refl
+
+-- .. that does no operation
+off-table : (config : Config) (old : Machine) (name : List ℕ) (m : Moment) (P : Located → Type 0) → WithTable config old m name P → ((at : Located) → P at → Counted old [] m) → Counted old [] m
+off-table config old name m P h go = by_cases old.mounted (located config old name) h
+  where
+    by_cases : (b : Bool) (o : Option Located) → MatchBool b (MatchOption o (Says m (reply.NoTable ∷ []) old) P) (Says m (reply.NotMounted ∷ []) old) → Counted old [] m
+    by_cases true None h = says-none old m (reply.NoTable ∷ []) old h refl refl
+    by_cases true (Some at) h = go at h
+    by_cases false o h = says-none old m (reply.NotMounted ∷ []) old h refl refl
+
+on-columns : (old : Machine) (m : Moment) (o : Option ℕ) (P : Type 0) → MatchOption o P (λ column. Says m (reply.NoColumn column ∷ []) old) → (P → Counted old [] m) → Counted old [] m
+on-columns old m None P h go = go h
+on-columns old m (Some column) P h go = says-none old m (reply.NoColumn column ∷ []) old h refl refl
+
+on-cursor : (old : Machine) (n : ℕ) (m : Moment) (P : OpenCursor → Type 0) →
+    MatchBool old.mounted (MatchOption (cursor_at old n) (Says m (reply.NoCursor ∷ []) old) P) (Says m (reply.NotMounted ∷ []) old) →
+    ((open_cursor : OpenCursor) → P open_cursor → Counted old [] m) → Counted old [] m
+on-cursor old n m P h go = by_cases old.mounted (cursor_at old n) h
+  where
+    by_cases : (b : Bool) (o : Option OpenCursor) → MatchBool b (MatchOption o (Says m (reply.NoCursor ∷ []) old) P) (Says m (reply.NotMounted ∷ []) old) → Counted old [] m
+    by_cases true None h = says-none old m (reply.NoCursor ∷ []) old h refl refl
+    by_cases true (Some open_cursor) h = go open_cursor h
+    by_cases false o h = says-none old m (reply.NotMounted ∷ []) old h refl refl
+
+-- a cursor without a plan or a table gives nothing
+or-nothing : (old : Machine) (m : Moment) (p : Option Plan) (t : Option Table) (P : Plan → Table → Type 0) →
+    MatchOption p (Says m [] old) (λ plan. MatchOption t (Says m [] old) (λ table. P plan table)) → ((plan : Plan) (table : Table) → P plan table → Counted old [] m) → Counted old [] m
+or-nothing old m None t P h go = says-none old m [] old h refl refl
+or-nothing old m (Some plan) None P h go = says-none old m [] old h refl refl
+or-nothing old m (Some plan) (Some table) P h go = go plan table h
+
+next-none : (config : Config) (old : Machine) (m : Moment) (n count : ℕ) (open_cursor : OpenCursor) → NextStep config old m n count open_cursor → Counted old [] m
+next-none config old m n count open_cursor h =
+    or-nothing old m (slice_get config.plans open_cursor.table) (slice_get old.tables open_cursor.table) _ h
+    (λ plan table (last, (g, within, after, ends)). after-none old m _ after refl)
+
+-- each step
+step-counted : (config : Config) (old : Machine) (m : Moment) (c : Command) → StepOf config old m c → Counted old (operations_by config old c) m
+step-counted config old m command.Nothing h = says-none old m [] old h refl refl
+step-counted config old m command.Mount h = mount-counted config old m old.mounted h
+step-counted config old m command.Off h = says-none old m (reply.Done ∷ []) _ h refl refl
+step-counted config old m (command.Cut n kind) h = says-none old m (reply.Done ∷ []) _ h refl refl
+step-counted config old m (command.Put name key values blob) h =
+    let item : Record = record { key = key; values = values; blob = blob } in
+    on-table config old name m _ _ h (λ at p. put-counted config old m item at (refusal_of at.plan at.table item) p)
+step-counted config old m (command.Flush name) h =
+    on-table config old name m _ _ h
+    (λ at p. operations-counted config.plans old m (operations_of at.plan at.place (table_seals at.plan at.table) at.table) (reply.Done ∷ []) _ (λ end. refl) p)
+step-counted config old m (command.Get name key) h = off-table config old name m _ h (λ at p. after-none old m _ p.0 refl)
+step-counted config old m (command.Blob name key) h = off-table config old name m _ h (λ at p. after-none old m _ p.0 refl)
+step-counted config old m (command.Scan name range span) h = off-table config old name m _ h (λ at p. after-none old m _ p.0 refl)
+step-counted config old m (command.Open cursor name range span) h = off-table config old name m _ h (λ at p. says-none old m (reply.Done ∷ []) _ p refl refl)
+step-counted config old m (command.Next cursor count) h = on-cursor old cursor m _ h (λ open_cursor p. next-none config old m cursor count open_cursor p)
+step-counted config old m (command.Close cursor) h = on-cursor old cursor m _ h (λ open_cursor p. says-none old m (reply.Done ∷ []) _ p refl refl)
+step-counted config old m (command.Select name range column op value) h =
+    off-table config old name m _ h (λ at p. on-columns old m (no_column at.plan (column ∷ [])) _ p (λ q. after-none old m _ q.0 refl))
+step-counted config old m (command.Project name range columns) h =
+    off-table config old name m _ h (λ at p. on-columns old m (no_column at.plan columns) _ p (λ q. after-none old m _ q.0 refl))
+step-counted config old m (command.Agg name range column width) h =
+    off-table config old name m _ h (λ at p. on-columns old m (no_column at.plan (column ∷ [])) _ p (λ q. after-none old m _ q.0 refl))
+step-counted config old m (command.Join left right range) h =
+    off-table config old left m _ h (λ a p. off-table config old right m _ p (λ b q. after-none old m _ q.0 refl))
+step-counted config old m (command.Stat name) h = off-table config old name m _ h (λ at p. says-none old m _ old p refl refl)
+step-counted config old m command.Cost h = says-none old m _ old h refl refl
+step-counted config old m (command.Load name count step seed) h =
+    on-table config old name m _ _ h (λ at p. loads-counted config old m at.plan at.place step seed count 1 (next_random seed) 0 old.device old.tables p)
+step-counted config old m (command.Device page block) h = absurd h
+step-counted config old m (command.Table line) h = absurd h
+
+moment-counted : (config : Config) (old : Machine) (m : Moment) → StepOf config old m m.command → CountsMoment config old m
+moment-counted config old m step =
+    let h = step-counted config old m m.command step in record { front = h.front; whole = λ rose last. h.whole (record { rose = rose; last = last }) }
+
+pub exact : OperationsAreExact
+exact config old [] run = tt
+exact config old (m ∷ ms) (step, run) = (moment-counted config old m step, exact config m.after ms run)

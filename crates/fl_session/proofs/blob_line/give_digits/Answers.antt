@@ -1,0 +1,86 @@
+use Rattle.std.proofs.Common.{ℕ, true, false, List, refl, ◌∙◌, subst, arith}
+use Rattle.std.proofs.lemmas.Result.{err_from_is_err_and}
+use Rattle.fl_base.specs.Causes.{Appends, AppendsFront}
+use Rattle.fl_page.proofs.Reading.{OnlyReads-same, OnlyReads-then}
+use Rattle.fl_var.specs.Reading.{chunk_of}
+use Rattle.fl_words.specs.Reply.{hex_text}
+use Rattle.fl_session.proofs.BlobLines.{gave-none, gave-chunk, gave-failed, gave-all, gave-unread}
+use Rattle.fl_session.proofs.blob_line.give_digits.Goals as goal
+
+pub loop-reader-init : goal.loop-reader-init
+loop-reader-init g c = record {
+  counts = OnlyReads-same _;
+  lies = c.requires.lies;
+  same = refl;
+  buffer = refl;
+  later = omega arith;
+  gave = λ ready whole. gave-none c.args.reader.now (g.F.Flash.state c.args.flash.now) (g.K.Sink.written c.args.out.now) ready whole;
+}
+
+pub returns-in_err-step-clause-counts : goal.returns-in_err-step-clause-counts
+returns-in_err-step-clause-counts g c = OnlyReads-then _ _ _ c.loop-reader.invariant.counts c.in_err-step.ensures.counts
+
+pub returns-in_err-step-clause-reads : goal.returns-in_err-step-clause-reads
+returns-in_err-step-clause-reads g c = λ ready whole.
+    let so_far = c.loop-reader.invariant.gave ready whole in
+    omega (arith, so_far.few, c.in_err-step.ensures.most so_far.ready so_far.whole)
+
+pub returns-in_err-step-clause-gives : goal.returns-in_err-step-clause-gives
+returns-in_err-step-clause-gives g c = λ ready whole.
+    let so_far = c.loop-reader.invariant.gave ready whole in
+    let p = err_from_is_err_and c.from_residual.result c.from_residual.ensures.1 in
+    rw (p.1, p.2) (gave-unread c.args.reader.now c.loop-reader.reader c.step.new.self (g.F.Flash.state c.args.flash.now) (g.F.Flash.state c.loop-reader.flash) (g.F.Flash.state c.step.new.flash)
+    (g.K.Sink.written c.args.out.now) (g.K.Sink.written c.loop-reader.out) so_far c.in_err-step.field-0.0 (c.in_err-step.ensures.whole so_far.ready so_far.whole).0)
+
+pub loop-reader-preserved : goal.loop-reader-preserved
+loop-reader-preserved g c =
+    let inv = c.loop-reader.invariant in
+    let e = c.in_ok-step.ensures in
+    record {
+      counts = OnlyReads-then _ _ _ inv.counts e.counts;
+      lies = e.lies;
+      same = e.data ∙ inv.same;
+      buffer = e.buffer ∙ inv.buffer;
+      later = omega (arith, inv.later, c.in_ok-write_digits.ensures.cause.later);
+      gave = λ ready whole.
+          let so_far = inv.gave ready whole in
+          let steps = rw c.if-branch.true at (e.steps so_far.ready) in
+          let wrote : Appends (g.K.Sink.written c.loop-reader.out) (g.K.Sink.written c.write_digits.new.out) (hex_text (chunk_of c.step.new.self)) =
+          subst (λ (l : List ℕ). Appends (g.K.Sink.written c.loop-reader.out) (g.K.Sink.written c.write_digits.new.out) (hex_text l)) c.chunk.ensures c.in_ok-write_digits.ensures.text in
+          gave-chunk c.args.reader.now c.loop-reader.reader c.step.new.self (g.F.Flash.state c.args.flash.now) (g.F.Flash.state c.loop-reader.flash) (g.F.Flash.state c.step.new.flash)
+          (g.K.Sink.written c.args.out.now) (g.K.Sink.written c.loop-reader.out) so_far (chunk_of c.step.new.self) (g.K.Sink.written c.write_digits.new.out) steps.0 wrote
+          (e.ready so_far.ready) (e.whole so_far.ready so_far.whole).1 (e.few so_far.ready so_far.whole);
+    }
+
+pub returns-in_err-write_digits-clause-counts : goal.returns-in_err-write_digits-clause-counts
+returns-in_err-write_digits-clause-counts g c = OnlyReads-then _ _ _ c.loop-reader.invariant.counts c.in_ok-step.ensures.counts
+
+pub returns-in_err-write_digits-clause-reads : goal.returns-in_err-write_digits-clause-reads
+returns-in_err-write_digits-clause-reads g c = λ ready whole.
+    let so_far = c.loop-reader.invariant.gave ready whole in
+    omega (arith, so_far.few, c.in_ok-step.ensures.most so_far.ready so_far.whole)
+
+pub returns-in_err-write_digits-clause-gives : goal.returns-in_err-write_digits-clause-gives
+returns-in_err-write_digits-clause-gives g c = λ ready whole.
+    let so_far = c.loop-reader.invariant.gave ready whole in
+    let steps = rw c.if-branch.true at (c.in_ok-step.ensures.steps so_far.ready) in
+    let p = err_from_is_err_and c.from_residual-in_err-write_digits.result c.from_residual-in_err-write_digits.ensures.1 in
+    let wrote : AppendsFront (g.K.Sink.written c.loop-reader.out) (g.K.Sink.written c.write_digits.new.out) (hex_text (chunk_of c.step.new.self)) =
+    subst (λ (l : List ℕ). AppendsFront (g.K.Sink.written c.loop-reader.out) (g.K.Sink.written c.write_digits.new.out) (hex_text l)) c.chunk.ensures c.in_err-write_digits.ensures.text in
+    rw (p.1, p.2) (gave-failed c.args.reader.now c.loop-reader.reader c.step.new.self (g.F.Flash.state c.args.flash.now) (g.F.Flash.state c.loop-reader.flash) (g.F.Flash.state c.step.new.flash)
+    (g.K.Sink.written c.args.out.now) (g.K.Sink.written c.loop-reader.out) so_far (chunk_of c.step.new.self) (g.K.Sink.written c.write_digits.new.out) steps.0 wrote)
+
+pub returns-clause-counts : goal.returns-clause-counts
+returns-clause-counts g c = OnlyReads-then _ _ _ c.loop-reader.invariant.counts c.in_ok-step.ensures.counts
+
+pub returns-clause-reads : goal.returns-clause-reads
+returns-clause-reads g c = λ ready whole.
+    let so_far = c.loop-reader.invariant.gave ready whole in
+    omega (arith, so_far.few, c.in_ok-step.ensures.most so_far.ready so_far.whole)
+
+pub returns-clause-gives : goal.returns-clause-gives
+returns-clause-gives g c = λ ready whole.
+    let so_far = c.loop-reader.invariant.gave ready whole in
+    let steps = rw c.if-branch.false at (c.in_ok-step.ensures.steps so_far.ready) in
+    gave-all c.args.reader.now c.loop-reader.reader c.step.new.self (g.F.Flash.state c.args.flash.now) (g.F.Flash.state c.loop-reader.flash) (g.F.Flash.state c.step.new.flash)
+    (g.K.Sink.written c.args.out.now) (g.K.Sink.written c.loop-reader.out) so_far steps.0

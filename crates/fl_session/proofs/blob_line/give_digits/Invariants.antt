@@ -1,0 +1,20 @@
+use Rattle.std.proofs.Common.{◌≡◌, ◌≤◌}
+use Rattle.fl_page.specs.Contents.{OnlyReads}
+use Rattle.fl_var.specs.Memory.{LiesOn}
+use Rattle.fl_var.specs.Reading.{data_of, buffer_of, count_left, Reads, IsWholeIn}
+use Rattle.fl_session.proofs.BlobLines.{Gave}
+use Rattle.fl_session.proofs.blob_line.give_digits.Given as goal
+
+abbrev pub invariant-loop-reader : goal.invariant-loop-reader
+invariant-loop-reader g l = record {
+  counts : OnlyReads (g.F.Flash.state l.fn.flash) (g.F.Flash.state l.flash);
+  lies : LiesOn (data_of l.reader) (g.F.Flash.state l.flash);
+  same : data_of l.reader ≡ data_of l.fn.reader;
+  buffer : buffer_of l.reader ≡ buffer_of l.fn.reader;
+  later : g.K.Sink.faults l.fn.out ≤ g.K.Sink.faults l.out;
+  gave : Reads l.fn.reader (g.F.Flash.state l.fn.flash) → IsWholeIn l.fn.reader (g.F.Flash.state l.fn.flash) →
+      Gave l.fn.reader (g.F.Flash.state l.fn.flash) (g.K.Sink.written l.fn.out) l.reader (g.F.Flash.state l.flash) (g.K.Sink.written l.out);
+}
+
+abbrev pub decreases-loop-reader : goal.decreases-loop-reader
+decreases-loop-reader g l = count_left l.reader

@@ -1,0 +1,52 @@
+use Rattle.std.proofs.Common.{◌≡◌, ◌+◌, ◌<◌, ◌≤◌, ◌^◌, None, List, length, map, ◌∙◌, ap, subst, arith}
+use Rattle.std.proofs.lemmas.List.{length-map}
+use Rattle.fl_cursor.specs.Cursor.{left_of}
+use Rattle.fl_cursor.specs.Reads.{most_of}
+use Rattle.fl_machine.specs.Step.{pair_reply}
+use Rattle.fl_model.specs.Limits.{scan_limit}
+use Rattle.fl_model.specs.Operators.{key_join}
+use Rattle.fl_model.specs.Query.{selected}
+use Rattle.fl_model.specs.Row.{Row, stored_row}
+use Rattle.fl_ops.specs.Columns.{record_of, records_of}
+use Rattle.fl_page.specs.Contents.{contents_of}
+use Rattle.fl_words.specs.Reply.{Reply}
+use Rattle.fl_session.specs.Lines.{Counted}
+use Rattle.fl_session.specs.Paired.{pair_lines}
+use Rattle.fl_session.proofs.CountedLines.{counted-wider}
+use Rattle.fl_session.proofs.Operating.{few-asked}
+use Rattle.fl_session.proofs.Pairing.{joined-records, pairs-fewer}
+use Rattle.fl_session.proofs.Resumed.{is-standing}
+use Rattle.fl_session.proofs.operators.join.Goals as goal
+
+pub returns-clause-counted : goal.returns-clause-counted
+returns-clause-counted g c = λ first second a b t u tells on stands_left stands_right.
+    let reaches = g.met.F.Flash.reaches c.args.flash.now in
+    let told_left = c.begin-left_rows.ensures.told (contents_of (g.F.Flash.state c.args.flash.now)) (is-standing c.args.left.now (g.F.Flash.state c.args.flash.now) first a t tells reaches c.requires.left_lies stands_left) in
+    let told_right = c.begin-right_rows.ensures.told (contents_of (g.F.Flash.state c.args.flash.now)) (is-standing c.args.right.now (g.F.Flash.state c.args.flash.now) second b u tells reaches c.requires.right_lies stands_right) in
+    let left : left_of c.begin-left_rows.result (contents_of (g.F.Flash.state c.args.flash.now)) ≡ map stored_row (selected c.args.range None t.entries) =
+    c.begin-left_rows.ensures.left (g.F.Flash.state c.args.flash.now) first a t tells reaches c.requires.left_lies stands_left in
+    let right : left_of c.begin-right_rows.result (contents_of (g.F.Flash.state c.args.flash.now)) ≡ map stored_row (selected c.args.range None u.entries) =
+    c.begin-right_rows.ensures.left (g.F.Flash.state c.args.flash.now) second b u tells reaches c.requires.right_lies stands_right in
+    let lines : pair_lines (left_of c.begin-left_rows.result (contents_of (g.F.Flash.state c.args.flash.now))) (left_of c.begin-right_rows.result (contents_of (g.F.Flash.state c.args.flash.now)))
+    ≡ pair_lines (map stored_row (selected c.args.range None t.entries)) (map stored_row (selected c.args.range None u.entries)) =
+    ap (λ (rows : List Row). pair_lines rows (left_of c.begin-right_rows.result (contents_of (g.F.Flash.state c.args.flash.now)))) left ∙ ap (λ (rows : List Row). pair_lines (map stored_row (selected c.args.range None t.entries)) rows) right in
+    let few : length (pair_lines (left_of c.begin-left_rows.result (contents_of (g.F.Flash.state c.args.flash.now))) (left_of c.begin-right_rows.result (contents_of (g.F.Flash.state c.args.flash.now)))) < 2 ^ 63 =
+    omega (
+      arith,
+      ap (λ (l : List Reply). length l) lines,
+      length-map (key_join (records_of (map stored_row (selected c.args.range None t.entries))) (records_of (map stored_row (selected c.args.range None u.entries)))) pair_reply,
+      pairs-fewer (records_of (map stored_row (selected c.args.range None t.entries))) (records_of (map stored_row (selected c.args.range None u.entries))),
+      length-map (map stored_row (selected c.args.range None t.entries)) record_of,
+      few-asked c.args.left.now (g.F.Flash.state c.args.flash.now) first a t c.args.range stands_left,
+    ) in
+    let limit_left = c.begin-left_rows.ensures.limit (g.F.Flash.state c.args.flash.now) first a t tells reaches c.requires.left_lies stands_left in
+    let limit_right = c.begin-right_rows.ensures.limit (g.F.Flash.state c.args.flash.now) second b u tells reaches c.requires.right_lies stands_right in
+    let limit : most_of c.begin-left_rows.result (contents_of (g.F.Flash.state c.args.flash.now)) + most_of c.begin-right_rows.result (contents_of (g.F.Flash.state c.args.flash.now))
+    ≤ scan_limit 64 a t c.args.range None c.args.range.low + scan_limit 64 b u c.args.range None c.args.range.low = omega (arith, limit_left, limit_right) in
+    subst (λ (l : List Reply). Counted l (scan_limit 64 a t c.args.range None c.args.range.low + scan_limit 64 b u c.args.range None c.args.range.low) 0 (g.K.Sink.written c.args.out.now) (g.K.Sink.written c.answer_pairs.new.out)
+    (g.F.Flash.state c.args.flash.now).media.faults (g.F.Flash.state c.answer_pairs.new.flash).media.faults (g.F.Flash.state c.args.flash.now).work.reads (g.F.Flash.state c.answer_pairs.new.flash).work.reads c.answer_pairs.result)
+    (lines ∙ joined-records (selected c.args.range None t.entries) (selected c.args.range None u.entries))
+    (counted-wider _ _ _ (scan_limit 64 a t c.args.range None c.args.range.low + scan_limit 64 b u c.args.range None c.args.range.low) 0 _ _ _ _ _ _ _ limit (omega arith) (c.answer_pairs.ensures.counted told_left told_right few on))
+
+pub answer_pairs-requires-clause-right_ready : goal.answer_pairs-requires-clause-right_ready
+answer_pairs-requires-clause-right_ready g c = c.begin-right_rows.ensures.ready (g.F.Flash.state c.args.flash.now) c.requires.right_lies c.requires.room.2 c.requires.room.3

@@ -1,0 +1,110 @@
+use Rattle.std.proofs.Common.{◌+◌, ◌≤◌, Ok, Err, Option, sym, ◌∙◌, subst, arith}
+use Rattle.std.proofs.lemmas.Result.{err_from_is_err_and}
+use Rattle.fl_ops.proofs.Continuing.{Continues-then}
+use Rattle.fl_page.specs.Contents.{Contents, contents_of}
+use Rattle.fl_page.proofs.Reading.{OnlyReads-same, OnlyReads-then}
+use Rattle.fl_script.specs.declared.reply.Reply.{Reply}
+use Rattle.fl_session.specs.Lines.{LineSteps, IsFirstLine}
+use Rattle.fl_session.specs.Paired.{pair_lines}
+use Rattle.fl_session.proofs.Pairing.{continues-same}
+use Rattle.fl_session.proofs.LinesListed.{front-none, front-next, front-failed, front-unread}
+use Rattle.fl_session.proofs.pair_lines.list_pairs.Goals as goal
+
+pub loop-count-init : goal.loop-count-init
+loop-count-init g c = record {
+  reads_only = OnlyReads-same _;
+  left = continues-same _;
+  right = continues-same _;
+  later = omega arith;
+  front = λ t u. front-none _ _ _;
+  most = λ t u. omega arith;
+}
+
+pub returns-in_err-line-clause-lists : goal.returns-in_err-line-clause-lists
+returns-in_err-line-clause-lists g c = λ t u few on.
+    let same = c.loop-count.invariant.reads_only.contents in
+    let left = subst (λ (k : Contents). g.A.Rows.told c.loop-count.left k) (sym same) (c.loop-count.invariant.left.stays_told t) in
+    let right = subst (λ (k : Contents). g.B.Rows.told c.loop-count.right k) (sym same) (c.loop-count.invariant.right.stays_told u) in
+    let step = subst (λ (k : Contents). LineSteps (Err c.in_err-line.field-0.0) (pair_lines (g.A.Rows.left c.loop-count.left k) (g.B.Rows.left c.loop-count.right k)) (pair_lines (g.A.Rows.left c.next_line.new.left k) (g.B.Rows.left c.next_line.new.right k))) same (c.in_err-line.ensures.steps left right) in
+    let p = err_from_is_err_and c.from_residual.result c.from_residual.ensures.1 in
+    rw (p.1, p.2) (front-unread _ _ _ _ _ _ c.loop-count.count c.in_err-line.field-0.0 (g.F.Flash.state c.loop-count.flash) (g.F.Flash.state c.next_line.new.flash) (c.loop-count.invariant.front t u)
+    c.loop-count.invariant.reads_only.faults (c.loop-count.invariant.reads_only.power ∙ on) step c.in_err-line.ensures.cause)
+
+pub returns-in_err-line-clause-reads_only : goal.returns-in_err-line-clause-reads_only
+returns-in_err-line-clause-reads_only g c = OnlyReads-then _ _ _ c.loop-count.invariant.reads_only c.next_line.ensures.reads_only
+
+pub returns-in_default-clause-reads_only : goal.returns-in_default-clause-reads_only
+returns-in_default-clause-reads_only g c = OnlyReads-then _ _ _ c.loop-count.invariant.reads_only c.next_line.ensures.reads_only
+
+pub returns-in_err-write_reply-clause-reads_only : goal.returns-in_err-write_reply-clause-reads_only
+returns-in_err-write_reply-clause-reads_only g c = OnlyReads-then _ _ _ c.loop-count.invariant.reads_only c.next_line.ensures.reads_only
+
+pub returns-in_err-write_reply-clause-lists : goal.returns-in_err-write_reply-clause-lists
+returns-in_err-write_reply-clause-lists g c = λ t u few on.
+    let same = c.loop-count.invariant.reads_only.contents in
+    let left = subst (λ (k : Contents). g.A.Rows.told c.loop-count.left k) (sym same) (c.loop-count.invariant.left.stays_told t) in
+    let right = subst (λ (k : Contents). g.B.Rows.told c.loop-count.right k) (sym same) (c.loop-count.invariant.right.stays_told u) in
+    let step = subst (λ (k : Contents). IsFirstLine c.in-Some.line (pair_lines (g.A.Rows.left c.loop-count.left k) (g.B.Rows.left c.loop-count.right k)) (pair_lines (g.A.Rows.left c.next_line.new.left k) (g.B.Rows.left c.next_line.new.right k))) same
+    (subst (λ (o : Option Reply). LineSteps (Ok o) (pair_lines (g.A.Rows.left c.loop-count.left (contents_of (g.F.Flash.state c.loop-count.flash))) (g.B.Rows.left c.loop-count.right (contents_of (g.F.Flash.state c.loop-count.flash))))
+    (pair_lines (g.A.Rows.left c.next_line.new.left (contents_of (g.F.Flash.state c.loop-count.flash))) (g.B.Rows.left c.next_line.new.right (contents_of (g.F.Flash.state c.loop-count.flash))))) c.in-Some.is (c.in_ok-line.ensures.steps left right)) in
+    let p = err_from_is_err_and c.from_residual-in_err-write_reply.result c.from_residual-in_err-write_reply.ensures.1 in
+    let later : (g.F.Flash.state c.args.flash.now).media.faults ≤ (g.F.Flash.state c.next_line.new.flash).media.faults = omega (arith, c.loop-count.invariant.reads_only.faults, c.next_line.ensures.reads_only.faults) in
+    rw (p.1, p.2) (front-failed _ _ _ c.in-Some.line _ _ _ _ c.loop-count.count (c.loop-count.invariant.front t u) step _ _ later c.in_err-write_reply.ensures.text)
+
+pub loop-count-preserved : goal.loop-count-preserved
+loop-count-preserved g c =
+    let same = c.loop-count.invariant.reads_only.contents in
+    record {
+      reads_only = OnlyReads-then _ _ _ c.loop-count.invariant.reads_only c.next_line.ensures.reads_only;
+      left = Continues-then _ _ _ c.loop-count.invariant.left (rw c.loop-count.invariant.reads_only.contents at c.next_line.ensures.left);
+      right = Continues-then _ _ _ c.loop-count.invariant.right (rw c.loop-count.invariant.reads_only.contents at c.next_line.ensures.right);
+      later = omega (arith, c.loop-count.invariant.later, c.in_ok-write_reply.ensures.cause.later);
+      front = λ t u.
+          let left = subst (λ (k : Contents). g.A.Rows.told c.loop-count.left k) (sym same) (c.loop-count.invariant.left.stays_told t) in
+          let right = subst (λ (k : Contents). g.B.Rows.told c.loop-count.right k) (sym same) (c.loop-count.invariant.right.stays_told u) in
+          let step = subst (λ (k : Contents). IsFirstLine c.in-Some.line (pair_lines (g.A.Rows.left c.loop-count.left k) (g.B.Rows.left c.loop-count.right k)) (pair_lines (g.A.Rows.left c.next_line.new.left k) (g.B.Rows.left c.next_line.new.right k))) same
+          (subst (λ (o : Option Reply). LineSteps (Ok o) (pair_lines (g.A.Rows.left c.loop-count.left (contents_of (g.F.Flash.state c.loop-count.flash))) (g.B.Rows.left c.loop-count.right (contents_of (g.F.Flash.state c.loop-count.flash))))
+          (pair_lines (g.A.Rows.left c.next_line.new.left (contents_of (g.F.Flash.state c.loop-count.flash))) (g.B.Rows.left c.next_line.new.right (contents_of (g.F.Flash.state c.loop-count.flash))))) c.in-Some.is (c.in_ok-line.ensures.steps left right)) in
+          front-next _ _ _ c.in-Some.line _ _ _ _ c.loop-count.count (c.loop-count.invariant.front t u) step c.in_ok-write_reply.ensures.text;
+      most = λ t u.
+          let left = subst (λ (k : Contents). g.A.Rows.told c.loop-count.left k) (sym same) (c.loop-count.invariant.left.stays_told t) in
+          let right = subst (λ (k : Contents). g.B.Rows.told c.loop-count.right k) (sym same) (c.loop-count.invariant.right.stays_told u) in
+          let before = c.loop-count.invariant.most t u in
+          let more = subst (λ (k : Contents). (g.F.Flash.state c.next_line.new.flash).work.reads + (g.A.Rows.most c.next_line.new.left k + g.B.Rows.most c.next_line.new.right k) ≤ (g.F.Flash.state c.loop-count.flash).work.reads + (g.A.Rows.most c.loop-count.left k + g.B.Rows.most c.loop-count.right k)) same
+          (c.in_ok-line.ensures.most left right) in
+          omega (arith, before, more);
+    }
+
+pub returns-in_err-line-clause-most : goal.returns-in_err-line-clause-most
+returns-in_err-line-clause-most g c = λ t u.
+    let same = c.loop-count.invariant.reads_only.contents in
+    let left = subst (λ (k : Contents). g.A.Rows.told c.loop-count.left k) (sym same) (c.loop-count.invariant.left.stays_told t) in
+    let right = subst (λ (k : Contents). g.B.Rows.told c.loop-count.right k) (sym same) (c.loop-count.invariant.right.stays_told u) in
+    let before = c.loop-count.invariant.most t u in
+    let more = subst (λ (k : Contents). (g.F.Flash.state c.next_line.new.flash).work.reads + 0 ≤ (g.F.Flash.state c.loop-count.flash).work.reads + (g.A.Rows.most c.loop-count.left k + g.B.Rows.most c.loop-count.right k)) same (c.in_err-line.ensures.most left right) in
+    omega (arith, before, more)
+
+pub returns-in_default-clause-most : goal.returns-in_default-clause-most
+returns-in_default-clause-most g c = λ t u.
+    let same = c.loop-count.invariant.reads_only.contents in
+    let left = subst (λ (k : Contents). g.A.Rows.told c.loop-count.left k) (sym same) (c.loop-count.invariant.left.stays_told t) in
+    let right = subst (λ (k : Contents). g.B.Rows.told c.loop-count.right k) (sym same) (c.loop-count.invariant.right.stays_told u) in
+    let before = c.loop-count.invariant.most t u in
+    let more = subst (λ (k : Contents). (g.F.Flash.state c.next_line.new.flash).work.reads + (g.A.Rows.most c.next_line.new.left k + g.B.Rows.most c.next_line.new.right k) ≤ (g.F.Flash.state c.loop-count.flash).work.reads + (g.A.Rows.most c.loop-count.left k + g.B.Rows.most c.loop-count.right k)) same
+    (c.in_ok-line.ensures.most left right) in
+    omega (arith, before, more)
+
+pub returns-in_err-write_reply-clause-most : goal.returns-in_err-write_reply-clause-most
+returns-in_err-write_reply-clause-most g c = λ t u.
+    let same = c.loop-count.invariant.reads_only.contents in
+    let left = subst (λ (k : Contents). g.A.Rows.told c.loop-count.left k) (sym same) (c.loop-count.invariant.left.stays_told t) in
+    let right = subst (λ (k : Contents). g.B.Rows.told c.loop-count.right k) (sym same) (c.loop-count.invariant.right.stays_told u) in
+    let before = c.loop-count.invariant.most t u in
+    let more = subst (λ (k : Contents). (g.F.Flash.state c.next_line.new.flash).work.reads + (g.A.Rows.most c.next_line.new.left k + g.B.Rows.most c.next_line.new.right k) ≤ (g.F.Flash.state c.loop-count.flash).work.reads + (g.A.Rows.most c.loop-count.left k + g.B.Rows.most c.loop-count.right k)) same
+    (c.in_ok-line.ensures.most left right) in
+    omega (arith, before, more)
+
+pub returns-clause-most : goal.returns-clause-most
+returns-clause-most g c = λ t u.
+    let before = c.loop-count.invariant.most t u in
+    omega (arith, before)

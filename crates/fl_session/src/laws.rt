@@ -1,0 +1,8 @@
+// Laws on what the contracts of a session say.
+ghost use Rattle.fl_session.specs.Operations.{CommandsAreExact};
+
+/// Each command that a session executes, where the medium doesn't fail and no cut falls into an operation, programs and
+/// erases as often as its operations say, where the count isn't at its end, and leaves the medium that they leave.
+pub fn commands_are_exact()
+    ensures { CommandsAreExact }
+{}

@@ -1,0 +1,198 @@
+-- How the seal of the blob bytes that wait ends, for the whole of their table.
+use Rattle.std.proofs.Common.{◌≡◌, ℕ, ◌+◌, ◌-◌, ◌*◌, ◌<◌, ◌≤◌, ◌⊎◌, inl, inr, Bool, true, false, cond, ◌==◌, nat_lt, Option, Some, None, IfSome, Result, Ok, Err, List, [], ◌∷◌, length, take, drop, refl, sym, ◌∙◌, ap, subst, arith}
+use Rattle.std.specs.Prelude.{OnOk}
+use Rattle.std.specs.List.{slice_get}
+use Rattle.std.proofs.Math.Path.{fun_ext}
+use Rattle.std.proofs.Math.Nat.{mul-le-mul_right}
+use Rattle.std.proofs.lemmas.Bool.{ltb-true}
+use Rattle.fl_flash.specs.Flash.{FlashState, page_at}
+use Rattle.fl_flash.specs.declared.flash.FlashFault.{FlashFault}
+use Rattle.fl_index.specs.declared.index.Index.{Index}
+use Rattle.fl_model.specs.Facts.{IsTable, is_some_ring}
+use Rattle.fl_model.specs.Image.{IsRingImage, HoldsContent, HoldsBlob}
+use Rattle.fl_model.specs.Query.{page_stands}
+use Rattle.fl_model.specs.Record.{Plan, has_index}
+use Rattle.fl_model.specs.Ring as model
+use Rattle.fl_model.specs.Ring.{Ring, oldest}
+use Rattle.fl_model.specs.Table.{Table, Entry, RingName, DataRing, IndexRing, VarRing, shape_of, after_seals, written, lose, spent_from}
+use Rattle.fl_model.specs.Within.{seals_within, TablePerforms}
+use Rattle.fl_model.specs.Work.{Device, PartEnd, Whole, CutIn, FailedIn, PartProgress}
+use Rattle.fl_model.proofs.Lists.{slice_get-drop, slice_get-front}
+use Rattle.fl_ring.specs.Device.{SameDevice}
+use Rattle.fl_ring.specs.Step.{IsWatched}
+use Rattle.fl_table.specs.Bitmaps as bitmaps
+use Rattle.fl_table.specs.Blobs as variable
+use Rattle.fl_table.specs.Blobs.{ArePlanned, Stand, StandOutside, IsStanding, RestEndsOf, RestEnds, blob_seals, next_of, next_after}
+use Rattle.fl_table.specs.Memory.{IsPlanned}
+use Rattle.fl_table.specs.Outcomes.{Finishes, Breaks, FaultEnds}
+use Rattle.fl_table.specs.Pages.{HoldsTable, bytes_in}
+use Rattle.fl_table.specs.Standing.{Stands}
+use Rattle.fl_table.specs.declared.table.Table as code
+use Rattle.fl_table.proofs.BlobSeals.{IsBesideVar, before-var, blobs-break, blobs-finish}
+use Rattle.fl_table.proofs.BlobSteps.{AreVar, after-var}
+use Rattle.fl_table.proofs.Indexing.{stand-moved}
+use Rattle.fl_table.proofs.Moved.{KeepsPages, keeps-same}
+use Rattle.fl_table.proofs.Plain.{IsPlainTable, table-parts}
+use Rattle.fl_table.proofs.SealAnswers.{planned-shape}
+use Rattle.fl_var.specs.Memory.{next_in, page_in, var_shape, waiting_in}
+use Rattle.fl_var.specs.Placing as placing
+use Rattle.fl_var.specs.declared.var_data.VarData.{VarData}
+
+-- ---- the bytes that wait are sealed
+
+-- All was done: the variable data are these now, and all else is as it was.
+pub record IsRested (first : ℕ) (plan : Plan) (seals : List RingName) (table : Table) (rose : Bool) (device : Device) (left : Option VarData) (new : FlashState) : Type 0 where
+  pub now : PartProgress Table
+  pub did : TablePerforms plan rose (seals_within plan seals table) device table now
+  pub whole : now.end ≡ Whole
+  pub counts : SameDevice new now.device
+  pub power : new.is_on ≡ true
+  pub beside : IsBesideVar table (after_seals plan seals table)
+  pub facts : IsPlainTable plan (after_seals plan seals table)
+  pub pages : HoldsTable (page_at new) first plan (lose (after_seals plan seals table))
+  pub blobs : Stand left new (first + plan.data_blocks + plan.index_blocks) plan (after_seals plan seals table)
+
+abbrev pub RestedEnds : ℕ → Plan → List RingName → Table → Bool → Device → Result (Unit {0}) FlashFault → Option VarData → FlashState → Type 0
+RestedEnds first plan seals table rose device (Ok done) left new = IsRested first plan seals table rose device left new
+RestedEnds first plan seals table rose device (Err fault) left new = Breaks first plan (seals_within plan seals table) table rose device fault new
+
+pub rest-var : (table : Table) → AreVar (blob_seals table)
+rest-var table = by_fill (nat_lt 0 table.fill)
+  where
+    by_fill : (b : Bool) → AreVar (cond b (VarRing ∷ []) [])
+    by_fill true = tt
+    by_fill false = tt
+
+rest_few : (table : Table) → length (blob_seals table) ≤ 1
+rest_few table = by_fill (nat_lt 0 table.fill)
+  where
+    by_fill : (b : Bool) → length {A = RingName} (cond b (VarRing ∷ []) []) ≤ 1
+    by_fill true = omega arith
+    by_fill false = omega arith
+
+-- the rings have pages
+pub some-rows : (t : code.Table) (first : ℕ) (plan : Plan) (table : Table) (f : FlashState) → Stands t f first plan table → 0 < plan.data_blocks * plan.geometry.block
+some-rows t first plan table f s =
+    let shape = planned-shape t first plan s.planned in
+    let k : 3 * plan.geometry.block ≤ plan.data_blocks * plan.geometry.block = mul-le-mul_right plan.geometry.block shape.blocks in
+    omega (arith, k, shape.pages)
+
+pub index-pages : (t : code.Table) (first : ℕ) (plan : Plan) (table : Table) → IsPlanned t first plan → IsTable plan table → (r : Ring) → table.index ≡ Some r → 0 < plan.index_blocks * plan.geometry.block
+index-pages t first plan table planned facts r is =
+    let shape = planned-shape t first plan planned in
+    let has : nat_lt 0 plan.index_blocks ≡ true = sym (facts.has_rings.0) ∙ ap is_some_ring is in
+    let blocks = ltb-true 0 plan.index_blocks has in
+    let k : 1 * plan.geometry.block ≤ plan.index_blocks * plan.geometry.block = mul-le-mul_right plan.geometry.block (omega (arith, blocks)) in
+    omega (arith, k, shape.pages)
+
+pub some-index : (t : code.Table) (first : ℕ) (plan : Plan) (table : Table) (f : FlashState) → Stands t f first plan table → (r : Ring) → table.index ≡ Some r → 0 < plan.index_blocks * plan.geometry.block
+some-index t first plan table f s r is = index-pages t first plan table s.planned s.facts r is
+
+-- the fault of an operation
+fault_ends : (e : PartEnd Table) (fault : FlashFault) (new : FlashState) → placing.FaultEnds e fault new → FaultEnds e fault new
+fault_ends Whole fault new a = absurd a
+fault_ends (CutIn before) fault new a = a
+fault_ends (FailedIn before) fault new a = a
+
+module _ (t : code.Table) (f new : FlashState) (first : ℕ) (plan : Plan) (table : Table) (rose : Bool) (device : Device) (stands : Stands t f first plan table) (watched : IsWatched f new rose device) where
+  facts : IsPlainTable plan table
+  facts = table-parts plan table stands.facts
+
+  -- operations of variable data failed
+  pub var-breaks : (v : VarData) → t.blobs ≡ Some v → StandOutside (Some v) (page_at f) (page_at new) → (seals : List RingName) → AreVar seals → next_in v + 3 * length seals ≤ 4294967292 → (fault : FlashFault) →
+      variable.Breaks (first + plan.data_blocks + plan.index_blocks) plan seals table rose device fault v new → Breaks first plan (seals_within plan seals table) table rose device fault new
+  var-breaks v is outside seals are left fault b = record {
+    now = b.now;
+    did = b.did;
+    answer = fault_ends b.now.end fault new b.answer;
+    counts = b.counts;
+    rests = blobs-break v f new first plan table seals are facts (subst (λ (o : Option VarData). Stand o f (first + plan.data_blocks + plan.index_blocks) plan table) is stands.blobs) stands.pages outside
+        (some-rows t first plan table f stands) (some-index t first plan table f stands) left rose device fault b;
+  }
+
+  pub rest-done : (blobs : Option VarData) (result : Result (Unit {0}) FlashFault) (now : Option VarData) → t.blobs ≡ blobs → next_after blobs ≤ spent_from + 64 → StandOutside blobs (page_at f) (page_at new) → OnOk result (next_of now ≡ next_after blobs) →
+      RestEndsOf blobs f (first + plan.data_blocks + plan.index_blocks) plan table rose device result now new → RestedEnds first plan (blob_seals table) table rose device result now new
+  rest-done None result now is left outside next ends =
+      let fill : table.fill ≡ 0 = subst (λ (o : Option VarData). Stand o f (first + plan.data_blocks + plan.index_blocks) plan table) is stands.blobs in
+      let none : [] ≡ blob_seals table = sym (ap (λ n. cond (nat_lt 0 n) (VarRing ∷ []) []) fill) in
+      subst (λ (seals : List RingName). RestedEnds first plan seals table rose device result now new) none (rw (ends.0, ends.1, ends.2) (record {
+        now = record { end = Whole; device = device; state = table };
+        did = (refl, refl, refl);
+        whole = refl;
+        counts = watched.counts;
+        power = watched.on;
+        beside = (table.var, table.fill, refl);
+        facts = facts;
+        pages = stands.pages;
+        blobs = fill;
+      }))
+  rest-done (Some v) result None is left outside next ends = absurd ends
+  rest-done (Some v) result (Some w) is left outside next ends = by_result result next (ends watched standing)
+    where
+      standing : IsStanding v f (first + plan.data_blocks + plan.index_blocks) plan table
+      standing = subst (λ (o : Option VarData). Stand o f (first + plan.data_blocks + plan.index_blocks) plan table) is stands.blobs
+
+      low : next_in v ≤ spent_from + 64
+      low = by_fill (length (waiting_in v) == 0) left
+        where
+          by_fill : (b : Bool) → cond b (next_in v) (next_in v + 1) ≤ spent_from + 64 → next_in v ≤ spent_from + 64
+          by_fill true h = h
+          by_fill false h = omega (arith, h)
+
+      by_result : (result : Result (Unit {0}) FlashFault) → OnOk result (next_in w ≡ next_after (Some v)) → RestEnds (first + plan.data_blocks + plan.index_blocks) plan table rose device v result w new →
+          RestedEnds first plan (blob_seals table) table rose device result (Some w) new
+      by_result (Ok u) at s =
+          let beside = after-var plan (blob_seals table) table (rest-var table) in
+          let both = blobs-finish v w f new first plan table (after_seals plan (blob_seals table) table) beside facts standing.planned stands.pages outside (some-rows t first plan table f stands) (some-index t first plan table f stands)
+          s.finishes.stands (omega (arith, at, left)) in
+          record {
+            now = s.finishes.now;
+            did = s.finishes.did;
+            whole = s.finishes.whole;
+            counts = s.finishes.counts;
+            power = s.finishes.power;
+            beside = beside;
+            facts = both.0;
+            pages = both.1;
+            blobs = s.finishes.stands;
+          }
+      by_result (Err fault) at b = var-breaks v is outside (blob_seals table) (rest-var table) (omega (arith, low, rest_few table)) fault b
+
+-- the index pages lie before those of variable data
+pub index-before : (blobs : Option VarData) (old new : ℕ → List ℕ) (first : ℕ) (plan : Plan) → ArePlanned blobs (first + plan.data_blocks + plan.index_blocks) plan → StandOutside blobs old new → 0 < plan.index_blocks * plan.geometry.block → (n : ℕ) →
+    bytes_in new first plan IndexRing n ≡ bytes_in old first plan IndexRing n
+index-before None old new first plan planned outside some n = outside _
+index-before (Some v) old new first plan planned outside some n = (before-var v old new first plan planned outside n).1 some
+
+-- so the index stands where other parts of its table changed
+pub bitmaps-moved : (indexed : Option Index) (f g : FlashState) (first : ℕ) (plan : Plan) (table new : Table) → bitmaps.ArePlanned indexed (first + plan.data_blocks) plan → 2 ≤ plan.geometry.block → KeepsPages table new → new.index ≡ table.index → new.firsts ≡ table.firsts → new.waiting ≡ table.waiting →
+    new.rows.next ≡ table.rows.next → IsPlainTable plan table → IsPlainTable plan new → (0 < plan.index_blocks * plan.geometry.block → (n : ℕ) → bytes_in (page_at g) first plan IndexRing n ≡ bytes_in (page_at f) first plan IndexRing n) →
+    bitmaps.Stand indexed f (first + plan.data_blocks) plan table → bitmaps.Stand indexed g (first + plan.data_blocks) plan new
+bitmaps-moved None f g first plan table new planned pages keeps index firsts waiting next facts after same s = waiting ∙ s
+bitmaps-moved (Some indexed) f g first plan table new planned pages keeps index firsts waiting next facts after same s =
+    let k : 3 * plan.geometry.block ≤ plan.index_blocks * plan.geometry.block = mul-le-mul_right plan.geometry.block (omega (arith, planned.blocks, indexed.some_blocks)) in
+    stand-moved (Some indexed) f g first plan table new keeps index firsts waiting next facts after (same (omega (arith, k, pages))) s
+
+-- .. as its variable data
+pub bitmaps-stand : (indexed : Option Index) (f g : FlashState) (first : ℕ) (plan : Plan) (table : Table) (ring : Option Ring) (fill : ℕ) → bitmaps.ArePlanned indexed (first + plan.data_blocks) plan → 2 ≤ plan.geometry.block → IsPlainTable plan table → IsPlainTable plan (record table { var = ring; fill = fill }) →
+    (0 < plan.index_blocks * plan.geometry.block → (n : ℕ) → bytes_in (page_at g) first plan IndexRing n ≡ bytes_in (page_at f) first plan IndexRing n) →
+    bitmaps.Stand indexed f (first + plan.data_blocks) plan table → bitmaps.Stand indexed g (first + plan.data_blocks) plan (record table { var = ring; fill = fill })
+bitmaps-stand indexed f g first plan table ring fill planned pages facts after same s =
+    bitmaps-moved indexed f g first plan table (record table { var = ring; fill = fill }) planned pages (keeps-same table (record table { var = ring; fill = fill }) refl refl refl) refl refl refl refl facts after same s
+
+-- the table in memory stands where it stands with any variable data
+pub rested-finishes : (t' : code.Table) (new : FlashState) (first : ℕ) (plan : Plan) (seals : List RingName) (table : Table) (rose : Bool) (device : Device) (left : Option VarData) → IsRested first plan seals table rose device left new →
+    ((ring : Option Ring) (fill : ℕ) → IsPlainTable plan (record table { var = ring; fill = fill }) → HoldsTable (page_at new) first plan (lose (record table { var = ring; fill = fill })) →
+    Stand left new (first + plan.data_blocks + plan.index_blocks) plan (record table { var = ring; fill = fill }) → Stands t' new first plan (record table { var = ring; fill = fill })) →
+    Finishes first plan (seals_within plan seals table) table (after_seals plan seals table) rose device t' new
+rested-finishes t' new first plan seals table rose device left h with_var = record {
+  now = h.now;
+  did = h.did;
+  whole = h.whole;
+  counts = h.counts;
+  power = h.power;
+  stands = subst (λ (x : Table). Stands t' new first plan x) (sym h.beside.2) (with_var h.beside.0 h.beside.1
+      (subst (IsPlainTable plan) h.beside.2 h.facts)
+      (subst (λ (x : Table). HoldsTable (page_at new) first plan (lose x)) h.beside.2 h.pages)
+      (subst (λ (x : Table). Stand left new (first + plan.data_blocks + plan.index_blocks) plan x) h.beside.2 h.blobs));
+}

@@ -1,0 +1,44 @@
+use Rattle.std.proofs.Common.{rules, ◌≡◌, ℕ, Option, Some, None, Result, Ok, Err, List, sym, ◌∙◌, ap, subst}
+use Rattle.std.specs.Prelude.{option_map}
+use Rattle.std.specs.Borrow.{Bor}
+use Rattle.std.proofs.lemmas.Result.{err_from_is_err_and}
+use Rattle.fl_base.specs.declared.types.BlobRef.{BlobRef}
+use Rattle.fl_flash.specs.declared.flash.FlashFault.{FlashFault}
+use Rattle.fl_table.specs.Blobs.{PlaceEndsOf, PlaceEnds}
+use Rattle.fl_table.proofs.BlobSteps.{place-ok, place-err, place-none}
+use Rattle.fl_table.proofs.blobs.place.Goals as goal
+use Rattle.fl_var.specs.declared.var_data.VarData.{VarData}
+
+pub returns-clause-ends : goal.returns-clause-ends
+returns-clause-ends g c = λ first plan table item rose device blob_is.
+    let f = g.F.Flash.state c.args.flash.now in
+    let h = g.F.Flash.state c.append.new.flash in
+    let e = c.in_ok-at.ensures in
+    let is : c.args.blobs.now ≡ Some c.in-Some.var = search rules in
+    let bytes : c.args.blob ≡ Some c.in-Some-blob.bytes = search rules in
+    let placed = blob_is ∙ ap (option_map (λ (b : Bor (List ℕ)). b.now)) bytes in
+    subst (λ (o : Option VarData). PlaceEndsOf o f first plan item table rose device (Ok (Some c.in_ok-at.at)) (Some c.append.new.self) h) (sym is)
+    (λ watched stands. place-ok c.in-Some.var c.append.new.self f h first plan table e.same stands rose device item c.in-Some-blob.bytes.now c.in_ok-at.at placed watched
+    (e.ends plan table rose device watched stands.in_pages) e.holds)
+
+pub returns-in_err-at-clause-ends : goal.returns-in_err-at-clause-ends
+returns-in_err-at-clause-ends g c = λ first plan table item rose device blob_is.
+    let f = g.F.Flash.state c.args.flash.now in
+    let h = g.F.Flash.state c.append.new.flash in
+    let e = c.in_err-at.ensures in
+    let is : c.args.blobs.now ≡ Some c.in-Some.var = search rules in
+    let bytes : c.args.blob ≡ Some c.in-Some-blob.bytes = search rules in
+    let placed = blob_is ∙ ap (option_map (λ (b : Bor (List ℕ)). b.now)) bytes in
+    let p = err_from_is_err_and c.from_residual.result c.from_residual.ensures.1 in
+    let answer : Err c.in_err-at.field-0.0 ≡ c.from_residual.result = sym (p.1 ∙ ap (λ (x : FlashFault). Err x) p.2) in
+    subst (λ (o : Option VarData). PlaceEndsOf o f first plan item table rose device c.from_residual.result (Some c.append.new.self) h) (sym is)
+    (λ watched stands. subst (λ (x : Result (Option BlobRef) FlashFault). PlaceEnds first plan item table rose device c.in-Some.var x c.append.new.self h) answer
+    (place-err c.in-Some.var c.append.new.self f h first plan table e.same stands rose device item c.in-Some-blob.bytes.now c.in_err-at.field-0.0 placed (e.ends plan table rose device watched stands.in_pages)))
+
+pub returns-in_default-blob-clause-ends : goal.returns-in_default-blob-clause-ends
+returns-in_default-blob-clause-ends g c = λ first plan table item rose device blob_is.
+    let f = g.F.Flash.state c.args.flash.now in
+    let is : c.args.blobs.now ≡ Some c.in-Some.var = search rules in
+    let none : c.args.blob ≡ None = search rules in
+    subst (λ (o : Option VarData). PlaceEndsOf o f first plan item table rose device (Ok None) (Some c.in-Some.var) f) (sym is)
+    (λ watched stands. place-none c.in-Some.var f first plan table item rose device (blob_is ∙ ap (option_map (λ (b : Bor (List ℕ)). b.now)) none) watched stands)

@@ -1,0 +1,107 @@
+use Rattle.std.proofs.Common.{ℕ, true, ◌+◌, Option, Ok, Err, not, ◌==◌, bit_and, sym, ap, subst, ◌≡◌, [], List, ◌∙◌, refl}
+use Rattle.fl_base.specs.declared.types.Span.{Span}
+use Rattle.fl_flash.specs.Buffer.{BufferState}
+use Rattle.fl_index.specs.declared.index.Index.{Index}
+use Rattle.fl_index.specs.Looking.{ShowsBitmap, next_to_read}
+use Rattle.fl_model.specs.Image.{rows_at}
+use Rattle.fl_model.specs.Query.{selected}
+use Rattle.fl_table.specs.Skipping.{AreFresh, AreScanning, LooksOn, ShowsPage}
+use Rattle.fl_table.proofs.Skips.{looks-found, looks-failed, shows-none, shows-some, shows-fault, index-stands, kept-number, some-bits, bad-index, misses-none}
+use Rattle.fl_table.proofs.table.Table.may_have.Goals as goal
+
+pub returns-in-Ok-None-clause-shows : goal.returns-in-Ok-None-clause-shows
+returns-in-Ok-None-clause-shows g c = λ first plan table n rows told stands fresh at here some.
+    let t = c.args.self.now in
+    let f = g.F.Flash.state c.args.flash.now in
+    let is = c.in-Some-bitmaps.is in
+    let index = c.in-Some-bitmaps.index in
+    let shown = c.in-Ok-None.ensures.stands (first + plan.data_blocks) plan table told (index-stands t f first plan table stands index is)
+    (subst (λ (o : Option Index). AreFresh o (g.F.Flash.state c.args.flash.now) c.args.buf.now) is fresh) (kept-number t f first plan table stands index is c.args.number n rows at here) in
+    let none = subst (λ (o : Option ℕ). ShowsBitmap plan table c.args.number (Ok o)) c.in-Ok-None.field-0-is shown in
+    subst (λ (s : Option Span). ShowsPage plan table s c.args.number (rows_at table n rows) (Ok true)) (sym c.in-Some.is)
+    (shows-none plan table c.in-Some.span c.args.number (rows_at table n rows) none.0)
+
+pub returns-in-Ok-Some-clause-shows : goal.returns-in-Ok-Some-clause-shows
+returns-in-Ok-Some-clause-shows g c = λ first plan table n rows told stands fresh at here some.
+    let t = c.args.self.now in
+    let f = g.F.Flash.state c.args.flash.now in
+    let is = c.in-Some-bitmaps.is in
+    let index = c.in-Some-bitmaps.index in
+    let shown = c.in-Ok-Some.ensures.stands (first + plan.data_blocks) plan table told (index-stands t f first plan table stands index is)
+    (subst (λ (o : Option Index). AreFresh o (g.F.Flash.state c.args.flash.now) c.args.buf.now) is fresh) (kept-number t f first plan table stands index is c.args.number n rows at here) in
+    let found = subst (λ (o : Option ℕ). ShowsBitmap plan table c.args.number (Ok o)) c.in-Ok-Some.field-0-is shown in
+    subst (λ (s : Option Span). ShowsPage plan table s c.args.number (rows_at table n rows) (Ok (not (bit_and c.in-Ok-Some.bitmap c.mask.result == 0)))) (sym c.in-Some.is)
+    (shows-some plan table c.in-Some.span c.args.number c.in-Ok-Some.bitmap c.mask.result (rows_at table n rows) found.0 (found.1 n rows at here some)
+    (c.mask.ensures.exact plan stands.planned.buckets (some-bits t f first plan table stands index is)))
+
+pub returns-in-Err-clause-shows : goal.returns-in-Err-clause-shows
+returns-in-Err-clause-shows g c = λ first plan table n rows told stands fresh at here some.
+    let t = c.args.self.now in
+    let f = g.F.Flash.state c.args.flash.now in
+    let is = c.in-Some-bitmaps.is in
+    let index = c.in-Some-bitmaps.index in
+    let shown = c.in-Err.ensures.stands (first + plan.data_blocks) plan table told (index-stands t f first plan table stands index is)
+    (subst (λ (o : Option Index). AreFresh o (g.F.Flash.state c.args.flash.now) c.args.buf.now) is fresh) (kept-number t f first plan table stands index is c.args.number n rows at here) in
+    shows-fault plan table c.args.span c.args.number n (rows_at table n rows) c.in-Err.fault shown
+
+pub returns-in-Ok-None-clause-looks : goal.returns-in-Ok-None-clause-looks
+returns-in-Ok-None-clause-looks g c = λ first plan table told stands fresh scanning.
+    let t = c.args.self.now in
+    let f = g.F.Flash.state c.args.flash.now in
+    let is = c.in-Some-bitmaps.is in
+    let index = c.in-Some-bitmaps.index in
+    let indexed = index-stands t f first plan table stands index is in
+    let known = subst (λ (o : Option Index). AreFresh o (g.F.Flash.state c.args.flash.now) c.args.buf.now) is fresh in
+    let scans = subst (λ (o : Option Index). AreScanning o c.args.number c.args.buf.now) is scanning in
+    subst (λ (s : Option Span). LooksOn c.args.self.now.bitmaps s c.args.number c.args.buf.now (g.F.Flash.state c.args.flash.now).work.reads (Ok true) (g.F.Flash.state c.bitmap_of.new.flash).work.reads c.bitmap_of.new.buf) (sym c.in-Some.is)
+    (looks-found t.bitmaps index is c.in-Some.span c.args.number c.args.buf.now f (g.F.Flash.state c.bitmap_of.new.flash) c.bitmap_of.new.buf true
+    (c.in-Ok-None.ensures.scans (first + plan.data_blocks) plan table (next_to_read index c.args.buf.now) told indexed known scans)
+    (c.in-Ok-None.ensures.most (first + plan.data_blocks) plan table (next_to_read index c.args.buf.now) told indexed known scans)
+    (λ numbers later lt. c.in-Ok-None.ensures.least (first + plan.data_blocks) plan table (next_to_read index c.args.buf.now) numbers told indexed known scans later lt))
+
+pub returns-in-Ok-Some-clause-looks : goal.returns-in-Ok-Some-clause-looks
+returns-in-Ok-Some-clause-looks g c = λ first plan table told stands fresh scanning.
+    let t = c.args.self.now in
+    let f = g.F.Flash.state c.args.flash.now in
+    let is = c.in-Some-bitmaps.is in
+    let index = c.in-Some-bitmaps.index in
+    let indexed = index-stands t f first plan table stands index is in
+    let known = subst (λ (o : Option Index). AreFresh o (g.F.Flash.state c.args.flash.now) c.args.buf.now) is fresh in
+    let scans = subst (λ (o : Option Index). AreScanning o c.args.number c.args.buf.now) is scanning in
+    let may = not (bit_and c.in-Ok-Some.bitmap c.mask.result == 0) in
+    subst (λ (s : Option Span). LooksOn c.args.self.now.bitmaps s c.args.number c.args.buf.now (g.F.Flash.state c.args.flash.now).work.reads (Ok (not (bit_and c.in-Ok-Some.bitmap c.mask.result == 0))) (g.F.Flash.state c.bitmap_of.new.flash).work.reads c.bitmap_of.new.buf) (sym c.in-Some.is)
+    (looks-found t.bitmaps index is c.in-Some.span c.args.number c.args.buf.now f (g.F.Flash.state c.bitmap_of.new.flash) c.bitmap_of.new.buf may
+    (c.in-Ok-Some.ensures.scans (first + plan.data_blocks) plan table (next_to_read index c.args.buf.now) told indexed known scans)
+    (c.in-Ok-Some.ensures.most (first + plan.data_blocks) plan table (next_to_read index c.args.buf.now) told indexed known scans)
+    (λ numbers later lt. c.in-Ok-Some.ensures.least (first + plan.data_blocks) plan table (next_to_read index c.args.buf.now) numbers told indexed known scans later lt))
+
+pub returns-in-Err-clause-looks : goal.returns-in-Err-clause-looks
+returns-in-Err-clause-looks g c = λ first plan table told stands fresh scanning.
+    let t = c.args.self.now in
+    let f = g.F.Flash.state c.args.flash.now in
+    let is = c.in-Some-bitmaps.is in
+    let index = c.in-Some-bitmaps.index in
+    let indexed = index-stands t f first plan table stands index is in
+    let known = subst (λ (o : Option Index). AreFresh o (g.F.Flash.state c.args.flash.now) c.args.buf.now) is fresh in
+    let scans = subst (λ (o : Option Index). AreScanning o c.args.number c.args.buf.now) is scanning in
+    subst (λ (s : Option Span). LooksOn c.args.self.now.bitmaps s c.args.number c.args.buf.now (g.F.Flash.state c.args.flash.now).work.reads (Err c.in-Err.fault) (g.F.Flash.state c.bitmap_of.new.flash).work.reads c.forget.new.self) (sym c.in-Some.is)
+    (looks-failed t.bitmaps index is c.in-Some.span c.args.number c.args.buf.now f (g.F.Flash.state c.bitmap_of.new.flash) c.forget.new.self c.in-Err.fault
+    (c.in-Err.ensures.most (first + plan.data_blocks) plan table (next_to_read index c.args.buf.now) told indexed known scans)
+    (ap (λ (b : BufferState). b.holds) c.forget.ensures))
+
+pub returns-in-Err-clause-bad : goal.returns-in-Err-clause-bad
+returns-in-Err-clause-bad g c = bad-index c.args.self.now.bitmaps c.in-Some-bitmaps.index c.in-Some-bitmaps.is (g.F.Flash.state c.args.flash.now) c.args.buf.now c.in-Err.fault c.in-Err.ensures.bad
+
+pub returns-in-Ok-Some-clause-misses : goal.returns-in-Ok-Some-clause-misses
+returns-in-Ok-Some-clause-misses g c = λ first plan table n rows range told stands fresh at here some missed.
+    let t = c.args.self.now in
+    let f = g.F.Flash.state c.args.flash.now in
+    let is = c.in-Some-bitmaps.is in
+    let index = c.in-Some-bitmaps.index in
+    let shown = c.in-Ok-Some.ensures.stands (first + plan.data_blocks) plan table told (index-stands t f first plan table stands index is)
+    (subst (λ (o : Option Index). AreFresh o (g.F.Flash.state c.args.flash.now) c.args.buf.now) is fresh) (kept-number t f first plan table stands index is c.args.number n rows at here) in
+    let found = subst (λ (o : Option ℕ). ShowsBitmap plan table c.args.number (Ok o)) c.in-Ok-Some.field-0-is shown in
+    let none = misses-none (bit_and c.in-Ok-Some.bitmap c.mask.result) missed in
+    subst (λ (s : Option Span). selected range s (rows_at table n rows) ≡ []) (sym c.in-Some.is)
+    (c.mask.ensures.misses plan (rows_at table n rows) range stands.planned.buckets (some-bits t f first plan table stands index is)
+    (ap (λ b. bit_and b c.mask.result) (sym (found.1 n rows at here some)) ∙ none))

@@ -1,0 +1,15 @@
+-- What clauses see of a table's variable data.
+use Rattle.std.specs.Prelude.{ℕ, ◌-◌, Bool, Option, is_some}
+use Rattle.fl_table.specs.declared.table.Table.{Table}
+use Rattle.fl_var.specs.declared.var_data.VarData.{VarData}
+
+-- they themselves, where it has any
+abbrev pub data_in : Table → Option VarData
+data_in t = t.blobs
+
+abbrev pub has_blobs : Table → Bool
+has_blobs t = is_some t.blobs
+
+-- how many bytes of content a page of them holds
+abbrev pub content_in : Table → ℕ
+content_in t = t.geometry.page - 16

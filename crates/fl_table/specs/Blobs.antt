@@ -1,0 +1,176 @@
+-- The variable data of a table, where it has any: the blobs of its records.
+use Rattle.std.specs.Prelude.{◌≡◌, ◌⊎◌, ℕ, ◌+◌, ◌*◌, ◌/◌, ◌^◌, ◌<◌, ◌≤◌, Bool, true, ◌==◌, nat_lt, Result, Ok, Err, Option, Some, None, is_some, option_map, unwrap_or, List, [], ◌∷◌, length, slice_get, if◌then◌else◌}
+use Rattle.std.specs.Option.{ForSome}
+use Rattle.fl_base.specs.declared.types.BlobRef.{BlobRef}
+use Rattle.fl_flash.specs.Flash.{FlashState}
+use Rattle.fl_flash.specs.declared.flash.FlashFault.{FlashFault}
+use Rattle.fl_model.specs.Image.{HoldsBlob}
+use Rattle.fl_model.specs.Record.{Record, Plan}
+use Rattle.fl_model.specs.Ring.{Ring, oldest, extended}
+use Rattle.fl_model.specs.Table.{Table, Entry, RingName, VarRing, written, blob_len, place_seals, after_seals, with_record}
+use Rattle.fl_model.specs.Within.{TablePerforms, seals_within}
+use Rattle.fl_model.specs.Work.{Device, Whole, PartProgress}
+use Rattle.fl_ring.specs.Device.{SameDevice}
+use Rattle.fl_ring.specs.Ring.{OutsideStands, room}
+use Rattle.fl_ring.specs.Step.{IsWatched}
+use Rattle.fl_var.specs.Memory as memory
+use Rattle.fl_var.specs.Memory.{is_mounted, next_in, waiting_in, room_in, page_in, image_in, var_shape}
+use Rattle.fl_var.specs.Placing.{FaultEnds, where_placed, pages_placed}
+use Rattle.fl_var.specs.Standing as standing
+use Rattle.fl_var.specs.Standing.{IsVarRing}
+use Rattle.fl_var.specs.declared.var_data.VarData.{VarData}
+
+-- as a plan says, where the ring begins at this block
+pub record IsPlanned (var : VarData) (first : ℕ) (plan : Plan) : Type 0 where
+  pub planned : memory.IsPlanned var plan
+  pub begins : (var_shape var).first ≡ first * plan.geometry.block
+
+abbrev pub ArePlanned : Option VarData → ℕ → Plan → Type 0
+ArePlanned None first plan = plan.var_blocks ≡ 0
+ArePlanned (Some var) first plan = IsPlanned var first plan
+
+-- what no call changes
+abbrev pub AreSamePlan : Option VarData → Option VarData → Type 0
+AreSamePlan None None = Unit {0}
+AreSamePlan (Some old) (Some new) = memory.IsSamePlan old new
+AreSamePlan None (Some new) = ⊥
+AreSamePlan (Some old) None = ⊥
+
+-- a flash on which the variable data lie
+abbrev pub LieOn : Option VarData → FlashState → Type 0
+LieOn None f = Unit {0}
+LieOn (Some var) f = memory.LiesOn var f
+
+-- they were mounted, where there are any, and no seal of them failed since
+abbrev pub AreRunning : Option VarData → Type 0
+AreRunning blobs = ForSome blobs (λ var. is_mounted var ≡ true)
+
+-- no byte waits
+abbrev pub AreEmpty : Option VarData → Type 0
+AreEmpty None = Unit {0}
+AreEmpty (Some var) = waiting_in var ≡ []
+
+-- the pages of a put and of its seal have numbers
+abbrev pub NumbersLeft : Option VarData → Type 0
+NumbersLeft None = Unit {0}
+NumbersLeft (Some var) = next_in var + 64 < 2 ^ 32
+
+-- a blob that a put may be given
+abbrev pub HasFew : Option (List ℕ) → Type 0
+HasFew None = Unit {0}
+HasFew (Some bytes) = length bytes ≤ 1500
+
+-- the pages that are sealed while a blob is placed
+abbrev pub pages_for : Option VarData → Option (List ℕ) → ℕ
+pages_for None blob = 0
+pages_for (Some var) None = 0
+pages_for (Some var) (Some bytes) = pages_placed var (length bytes)
+
+-- .. at most, whatever waits
+abbrev pub most_pages : Option VarData → Option (List ℕ) → ℕ
+most_pages None blob = 0
+most_pages (Some var) None = 0
+most_pages (Some var) (Some bytes) = length bytes / room_in var + 1
+
+-- the number of the next page
+abbrev pub next_of : Option VarData → ℕ
+next_of blobs = unwrap_or (option_map (λ var. next_in var) blobs) 0
+
+-- .. and after the bytes that wait were sealed
+abbrev pub next_after : Option VarData → ℕ
+next_after blobs = unwrap_or (option_map (λ var. if length (waiting_in var) == 0 then next_in var else next_in var + 1) blobs) 0
+
+-- each blob of these records was given up, or stands in these pages
+abbrev pub AreHeld : Plan → Ring → (ℕ → List ℕ) → List Entry → Type 0
+AreHeld plan ring at entries =
+    (i : ℕ) (entry : Entry) (blob : List ℕ) → slice_get entries i ≡ Some entry → entry.kept.blob ≡ Some blob → 0 < length blob →
+    (entry.page < oldest ring) ⊎ HoldsBlob plan ring at entry blob
+
+-- The ring and the buffer stand for those of a table, and hold the blobs of its records. Those of the written ones stand in
+-- the ring alone.
+pub record IsStanding (var : VarData) (f : FlashState) (first : ℕ) (plan : Plan) (table : Table) : Type 0 where
+  pub planned : IsPlanned var first plan
+  pub in_pages : standing.Stands var f plan table
+  pub all : AreHeld plan (extended 1 in_pages.ring.ring) (image_in var f) table.entries
+  pub written : AreHeld plan in_pages.ring.ring (page_in var f) (written table)
+
+-- where there is no variable data, no byte waits
+abbrev pub Stand : Option VarData → FlashState → ℕ → Plan → Table → Type 0
+Stand None f first plan table = table.fill ≡ 0
+Stand (Some var) f first plan table = IsStanding var f first plan table
+
+-- the bytes that wait are sealed, where there are any
+abbrev pub blob_seals : Table → List RingName
+blob_seals table = if nat_lt 0 table.fill then VarRing ∷ [] else []
+
+-- These seals were all done, and left the variable data of this table.
+pub record Finishes (first : ℕ) (plan : Plan) (seals : List RingName) (table after : Table) (rose : Bool) (device : Device) (var : VarData) (new : FlashState) : Type 0 where
+  pub now : PartProgress Table
+  pub did : TablePerforms plan rose (seals_within plan seals table) device table now
+  pub whole : now.end ≡ Whole
+  pub counts : SameDevice new now.device
+  pub power : new.is_on ≡ true
+  pub stands : IsStanding var new first plan after
+
+-- One of their operations failed. The flash stands for the ring that this leaves, and holds the blobs of the written records.
+pub record Breaks (first : ℕ) (plan : Plan) (seals : List RingName) (table : Table) (rose : Bool) (device : Device) (fault : FlashFault) (old : VarData) (new : FlashState) : Type 0 where
+  pub now : PartProgress Table
+  pub did : TablePerforms plan rose (seals_within plan seals table) device table now
+  pub answer : FaultEnds now.end fault new
+  pub counts : SameDevice new now.device
+  pub ring : Ring
+  pub ring_is : now.state.var ≡ Some ring
+  pub pages : IsVarRing plan ring (page_in old new)
+  pub written : AreHeld plan ring (page_in old new) (written table)
+
+-- The bytes that waited were sealed: all blobs stand in the ring.
+pub record SealsRest (first : ℕ) (plan : Plan) (table : Table) (rose : Bool) (device : Device) (var : VarData) (new : FlashState) : Type 0 where
+  pub finishes : Finishes first plan (blob_seals table) table (after_seals plan (blob_seals table) table) rose device var new
+  pub sealed : AreHeld plan finishes.stands.in_pages.ring.ring (page_in var new) table.entries
+
+abbrev pub RestEnds : ℕ → Plan → Table → Bool → Device → VarData → Result (Unit {0}) FlashFault → VarData → FlashState → Type 0
+RestEnds first plan table rose device old (Ok done) var new = SealsRest first plan table rose device var new
+RestEnds first plan table rose device old (Err fault) var new = Breaks first plan (blob_seals table) table rose device fault old new
+
+abbrev pub RestEndsOf : Option VarData → FlashState → ℕ → Plan → Table → Bool → Device → Result (Unit {0}) FlashFault → Option VarData → FlashState → Type 0
+RestEndsOf None old first plan table rose device result blobs new = (result ≡ Ok tt) × (blobs ≡ None) × (new ≡ old)
+RestEndsOf (Some var) old first plan table rose device result None new = ⊥
+RestEndsOf (Some var) old first plan table rose device result (Some now) new =
+    IsWatched old new rose device → IsStanding var old first plan table → RestEnds first plan table rose device var result now new
+
+-- the table that a record joins, after its blob was placed
+abbrev pub table_with : Plan → Record → Table → Table
+table_with plan item table = with_record plan item table (after_seals plan (place_seals plan (blob_len item) table) table)
+
+-- where the blob of a record is placed
+abbrev pub reference_of : Plan → Record → Table → Option BlobRef
+reference_of plan item table = option_map (λ bytes. where_placed plan (length bytes) table) item.blob
+
+-- a record's blob was placed, where it has one: it stands with those of the others
+abbrev pub PlaceEnds : ℕ → Plan → Record → Table → Bool → Device → VarData → Result (Option BlobRef) FlashFault → VarData → FlashState → Type 0
+PlaceEnds first plan item table rose device old (Ok at) var new =
+    (at ≡ reference_of plan item table) × Finishes first plan (place_seals plan (blob_len item) table) table (table_with plan item table) rose device var new
+PlaceEnds first plan item table rose device old (Err fault) var new = Breaks first plan (place_seals plan (blob_len item) table) table rose device fault old new
+
+abbrev pub PlaceEndsOf : Option VarData → FlashState → ℕ → Plan → Record → Table → Bool → Device → Result (Option BlobRef) FlashFault → Option VarData → FlashState → Type 0
+PlaceEndsOf None old first plan item table rose device result blobs new = (result ≡ Ok None) × (blobs ≡ None) × (new ≡ old)
+PlaceEndsOf (Some var) old first plan item table rose device result None new = ⊥
+PlaceEndsOf (Some var) old first plan item table rose device result (Some now) new =
+    IsWatched old new rose device → IsStanding var old first plan table → PlaceEnds first plan item table rose device var result now new
+
+-- the flash pages outside the ring stand
+abbrev pub StandOutside : Option VarData → (ℕ → List ℕ) → (ℕ → List ℕ) → Type 0
+StandOutside None old new = (page : ℕ) → new page ≡ old page
+StandOutside (Some var) old new = OutsideStands (var_shape var) old new
+
+-- how many pages the ring has, and how many rings there are
+abbrev pub room_of : Option VarData → ℕ
+room_of blobs = unwrap_or (option_map (λ var. room (var_shape var)) blobs) 0
+
+abbrev pub rings_of : Option VarData → ℕ
+rings_of blobs = if is_some blobs then 1 else 0
+
+-- a reference that a row can have: it isn't the one that stands for none
+abbrev pub FitsRow : Option BlobRef → Type 0
+FitsRow None = Unit {0}
+FitsRow (Some at) = at.offset < 4096

@@ -1,0 +1,67 @@
+-- Whether a data page may have rows of a span, as far as its bitmap tells, and what index pages are read for it.
+use Rattle.std.specs.Prelude.{◌≡◌, ℕ, ◌+◌, ◌-◌, ◌^◌, ◌<◌, ◌≤◌, Bool, true, not, ◌||◌, nat_lt, Option, Some, None, Result, Ok, Err, OnOk, List, ◌∷◌, bit_and}
+use Rattle.std.specs.List.{AllByRecursion}
+use Rattle.fl_base.specs.declared.types.Span.{Span}
+use Rattle.fl_flash.specs.Buffer.{BufferState}
+use Rattle.fl_flash.specs.Flash.{FlashState}
+use Rattle.fl_index.specs.Looking as looking
+use Rattle.fl_index.specs.Looking.{IsFresh, IsScanning, HoldsGood, next_to_read, unread, due}
+use Rattle.fl_index.specs.declared.index.Index.{Index}
+use Rattle.fl_model.specs.Layout.{bitmap_of}
+use Rattle.fl_model.specs.Limits.{is_indexed, mask_of}
+use Rattle.fl_model.specs.Record.{Plan}
+use Rattle.fl_model.specs.Table.{Table, Entry}
+use Rattle.fl_page.specs.declared.fault.BadPage.{BadPage as Refusal}
+use Rattle.fl_page.specs.declared.fault.ReadFault.{ReadFault}
+use Rattle.fl_page.specs.declared.fault.ReadFault.TheVariants.{Flash, BadPage}
+
+-- a kept index page that a buffer holds has the bytes that stand on the flash
+abbrev pub AreFresh : Option Index → FlashState → BufferState → Type 0
+AreFresh None f buf = Unit {0}
+AreFresh (Some index) f buf = IsFresh index f buf
+
+-- .. and is good, or not committed
+abbrev pub HoldGood : Option Index → BufferState → Type 0
+HoldGood None buf = Unit {0}
+HoldGood (Some index) buf = HoldsGood index buf
+
+-- a scan has come to a data page, and the buffer holds no index page or the one that was looked at last
+abbrev pub AreScanning : Option Index → ℕ → BufferState → Type 0
+AreScanning None number buf = Unit {0}
+AreScanning (Some index) number buf = IsScanning index number (next_to_read index buf) buf
+
+-- the index pages that a scan of a span may still read from a data page on
+abbrev pub unread_of : Option Span → Option Index → ℕ → BufferState → ℕ
+unread_of None bitmaps number buf = 0
+unread_of (Some span) None number buf = 0
+unread_of (Some span) (Some index) number buf = unread index number (next_to_read index buf)
+
+-- .. and those that it has to read for some data pages
+abbrev pub due_of : Option Span → Option Index → List ℕ → BufferState → ℕ
+due_of None bitmaps numbers buf = 0
+due_of (Some span) None numbers buf = 0
+due_of (Some span) (Some index) numbers buf = due index numbers (next_to_read index buf)
+
+-- a kept index page that is committed on a flash, and isn't good
+abbrev pub IsBadIndex : Option Index → FlashState → Refusal → Type 0
+IsBadIndex None f bad = ⊥
+IsBadIndex (Some index) f bad = looking.IsBadPage index f bad
+
+-- a page with these rows has to be read for a span
+abbrev pub wants_page : Plan → Table → Option Span → ℕ → List Entry → Bool
+wants_page plan table None number entries = true
+wants_page plan table (Some span) number entries = not (is_indexed plan table number) || nat_lt 0 (bit_and (bitmap_of plan entries) (mask_of plan span))
+
+-- For a table of the model: whether a page with these rows has to be read. No index page is bad.
+abbrev pub ShowsPage : Plan → Table → Option Span → ℕ → List Entry → Result Bool ReadFault → Type 0
+ShowsPage plan table span number entries (Ok may) = may ≡ wants_page plan table span number entries
+ShowsPage plan table span number entries (Err (Flash fault)) = Unit {0}
+ShowsPage plan table span number entries (Err (BadPage bad)) = ⊥
+
+-- Over a flash that stands for a table: the scan goes on, what was read isn't read again, and what had to be read was.
+pub record LooksOn (bitmaps : Option Index) (span : Option Span) (number : ℕ) (before : BufferState) (reads : ℕ) (result : Result Bool ReadFault) (reads_now : ℕ) (after : BufferState) : Type 0 where
+  pub scanning : AreScanning bitmaps number after
+  pub once : OnOk result (reads_now + unread_of span bitmaps number after ≤ reads + unread_of span bitmaps number before)
+  pub most : reads_now ≤ reads + unread_of span bitmaps number before
+  pub least : (numbers : List ℕ) → AllByRecursion (λ n. number ≤ n) numbers → reads_now < 2 ^ 64 - 1 →
+      OnOk result (reads + due_of span bitmaps (number ∷ numbers) before ≤ reads_now + due_of span bitmaps numbers after)

@@ -1,0 +1,191 @@
+// The variable data of a table, where it has any.
+ghost use Rattle.std.specs.Prelude.{◌≡◌, ◌+◌, ◌*◌, ◌≤◌, ℕ, Bool, Ok, Some, None, IsTrue, ◌/◌, ◌&&◌, List, true, is_some, is_ok, option_map, length, slice_get, IfOk, IfErr, IfSome, OnOk};
+ghost use Rattle.fl_flash.specs.Flash.{Goes, page_at};
+ghost use Rattle.fl_model.specs.Record.{Plan, Record};
+ghost use Rattle.fl_model.specs.Table as model;
+ghost use Rattle.fl_model.specs.Work.{Device};
+ghost use Rattle.fl_model.specs.Mount.{blob_end};
+ghost use Rattle.fl_model.specs.Table.{Entry};
+ghost use Rattle.fl_ring.specs.Looking.{OnlyReads};
+ghost use Rattle.fl_var.specs.Memory.{is_mounted, room_in, LiesOn};
+ghost use Rattle.fl_var.specs.Reading.{data_of, buffer_of, count_left, pages_left, Opens, Finds, IfUnread};
+ghost use Rattle.fl_ring.specs.Causes.{CausedBy, IfFlash};
+ghost use Rattle.fl_table.specs.BlobEnds.{least_of};
+ghost use Rattle.fl_table.specs.BlobMount.{MountEndsOf, FindsBlobs, RefusesBlobs, WithinEndsOf, RefusesWithin, AreBelow};
+ghost use Rattle.fl_table.specs.Causes.{MountCausedBy};
+ghost use Rattle.fl_table.specs.Mounting.{FewReads, FewRepairs};
+ghost use Rattle.fl_table.specs.Blobs.{IsStanding, AreSamePlan, LieOn, AreRunning, AreEmpty, NumbersLeft, RestEndsOf, PlaceEndsOf, StandOutside, next_of, next_after, rings_of, room_of, HasFew, pages_for, FitsRow};
+
+use crate::MountFault;
+use fl_base::BlobRef;
+use fl_flash::{Flash, FlashFault, PageBuf};
+use fl_page::ReadFault;
+use fl_ring::RingFault;
+use fl_var::{BlobReader, VarData};
+
+/// Mounts the variable data. The numbers of a ring whose pages tell none begin at `at_least`, which is one more than the
+/// greatest page that a kept blob names.
+pub(crate) fn mount<F: Flash>(
+    blobs: &mut Option<VarData>,
+    flash: &mut F,
+    at_least: u32,
+    buf: &mut PageBuf,
+) -> Result<(), RingFault>
+    requires lies { LieOn blobs.old (F.state flash.old) }
+    requires room { length buf.old.bytes ≡ (F.state flash.old).geometry.page }
+    requires none { buf.old.holds ≡ None }
+    ensures goes { Goes (F.state flash.old) (F.state flash.new) }
+    ensures same { AreSamePlan blobs.old blobs.new }
+    ensures lies { LieOn blobs.new (F.state flash.new) }
+    ensures room { length buf.new.bytes ≡ length buf.old.bytes }
+    ensures holds { buf.new.holds ≡ None }
+    ensures running { OnOk result (AreRunning blobs.new) }
+    ensures empty { AreEmpty blobs.new }
+    ensures ends { (first : ℕ) (plan : Plan) (table : model.Table) (rose : Bool) (device : Device) → at_least ≡ blob_end table →
+        MountEndsOf blobs.old (F.state flash.old) first plan table rose device result blobs.new (F.state flash.new) }
+    ensures found { OnOk result (FindsBlobs blobs.old (F.state flash.old) at_least blobs.new (F.state flash.new)) }
+    ensures outside { IsTrue (F.state flash.old).media.tells → StandOutside blobs.old (page_at (F.state flash.old)) (page_at (F.state flash.new)) }
+    ensures reads { FewReads (4 * room_of blobs.old) (F.state flash.old) (F.state flash.new) }
+    ensures repairs { FewRepairs (rings_of blobs.old) (F.state flash.old) (F.state flash.new) }
+    ensures refused { IfErr result (λ e. RefusesBlobs blobs.old (F.state flash.old) at_least e (F.state flash.new)) }
+    ensures cause { IfErr result (λ e. IfFlash (λ fault. CausedBy (F.state flash.old) fault (F.state flash.new)) e) }
+{
+    match blobs {
+        Some(var) => var.mount(flash, at_least, buf),
+        None => Ok(()),
+    }
+}
+
+/// The number at which those of a ring begin whose pages tell none, where blobs end there.
+fn least_of(end: u64) -> u32
+    ensures { result ≡ least_of end }
+{
+    end.min(u64::from(u32::MAX)) as u32
+}
+
+/// Mounts the variable data, whose blobs end before page `end`. The numbers of a ring whose pages tell none begin there.
+pub(crate) fn mount_within<F: Flash>(
+    blobs: &mut Option<VarData>,
+    flash: &mut F,
+    end: u64,
+    buf: &mut PageBuf,
+) -> Result<(), MountFault>
+    requires lies { LieOn blobs.old (F.state flash.old) }
+    requires room { length buf.old.bytes ≡ (F.state flash.old).geometry.page }
+    requires none { buf.old.holds ≡ None }
+    ensures goes { Goes (F.state flash.old) (F.state flash.new) }
+    ensures same { AreSamePlan blobs.old blobs.new }
+    ensures lies { LieOn blobs.new (F.state flash.new) }
+    ensures room { length buf.new.bytes ≡ length buf.old.bytes }
+    ensures holds { buf.new.holds ≡ None }
+    ensures running { OnOk result (AreRunning blobs.new) }
+    ensures ends { (first : ℕ) (plan : Plan) (table : model.Table) (rose : Bool) (device : Device) → end ≡ blob_end table →
+        WithinEndsOf blobs.old (F.state flash.old) first plan table rose device result blobs.new (F.state flash.new) }
+    ensures found { OnOk result (FindsBlobs blobs.old (F.state flash.old) (least_of end) blobs.new (F.state flash.new)) }
+    ensures below { OnOk result (AreBelow end blobs.new) }
+    ensures outside { IsTrue (F.state flash.old).media.tells → StandOutside blobs.old (page_at (F.state flash.old)) (page_at (F.state flash.new)) }
+    ensures reads { FewReads (4 * room_of blobs.old) (F.state flash.old) (F.state flash.new) }
+    ensures repairs { FewRepairs (rings_of blobs.old) (F.state flash.old) (F.state flash.new) }
+    ensures refused { IfErr result (λ e. RefusesWithin blobs.old (F.state flash.old) end e (F.state flash.new)) }
+    ensures cause { IfErr result (λ e. MountCausedBy (F.state flash.old) e (F.state flash.new)) }
+{
+    let at_least = least_of(end);
+    mount(blobs, flash, at_least, buf)?;
+    let Some(var) = blobs else {
+        return Ok(());
+    };
+    let next = var.next_number();
+    if end > u64::from(next) {
+        let page = least_of(end - 1);
+        return Err(MountFault::BadBlob { page, next });
+    }
+    Ok(())
+}
+
+/// Seals the bytes that wait, where there are any.
+pub(crate) fn seal_rest<F: Flash>(
+    blobs: &mut Option<VarData>,
+    flash: &mut F,
+) -> Result<(), FlashFault>
+    requires running { AreRunning blobs.old }
+    requires lies { LieOn blobs.old (F.state flash.old) }
+    requires left { NumbersLeft blobs.old }
+    ensures goes { Goes (F.state flash.old) (F.state flash.new) }
+    ensures same { AreSamePlan blobs.old blobs.new }
+    ensures lies { LieOn blobs.new (F.state flash.new) }
+    ensures running { OnOk result (AreRunning blobs.new) }
+    ensures next { OnOk result (next_of blobs.new ≡ next_after blobs.old) }
+    ensures empty { OnOk result (AreEmpty blobs.new) }
+    ensures ends { (first : ℕ) (plan : Plan) (table : model.Table) (rose : Bool) (device : Device) →
+        RestEndsOf blobs.old (F.state flash.old) first plan table rose device result blobs.new (F.state flash.new) }
+    ensures power { OnOk result ((F.state flash.old).is_on ≡ true → (F.state flash.new).is_on ≡ true) }
+    ensures quiet { AreEmpty blobs.old → (result ≡ Ok tt) × (F.state flash.new ≡ F.state flash.old) }
+    ensures outside { IsTrue (F.state flash.old).media.tells → StandOutside blobs.old (page_at (F.state flash.old)) (page_at (F.state flash.new)) }
+    ensures reads { (F.state flash.new).work.reads ≡ (F.state flash.old).work.reads }
+    ensures media_reads { (F.state flash.new).media.reads ≤ (F.state flash.old).media.reads + rings_of blobs.old }
+    ensures cause { IfErr result (λ e. CausedBy (F.state flash.old) e (F.state flash.new)) }
+{
+    match blobs {
+        Some(var) => var.seal_rest(flash),
+        None => Ok(()),
+    }
+}
+
+/// Places a blob, where there is one and the table has variable data, and tells where.
+pub(crate) fn place<F: Flash>(
+    blobs: &mut Option<VarData>,
+    flash: &mut F,
+    blob: Option<&[u8]>,
+) -> Result<Option<BlobRef>, FlashFault>
+    requires running { AreRunning blobs.old }
+    requires lies { LieOn blobs.old (F.state flash.old) }
+    requires left { NumbersLeft blobs.old }
+    requires few { HasFew (option_map (λ b. b.now) blob) }
+    ensures goes { Goes (F.state flash.old) (F.state flash.new) }
+    ensures same { AreSamePlan blobs.old blobs.new }
+    ensures lies { LieOn blobs.new (F.state flash.new) }
+    ensures running { OnOk result (AreRunning blobs.new) }
+    ensures given { IfOk result (λ at. is_some at ≡ (is_some blobs.old && is_some blob.entry)) }
+    ensures fits { IfOk result FitsRow }
+    ensures next { OnOk result (next_of blobs.new ≡ next_of blobs.old + pages_for blobs.old (option_map (λ b. b.now) blob.entry)) }
+    ensures quiet { pages_for blobs.old (option_map (λ b. b.now) blob.entry) ≡ 0 → (is_ok result ≡ true) × (F.state flash.new ≡ F.state flash.old) }
+    ensures ends { (first : ℕ) (plan : Plan) (table : model.Table) (item : Record) (rose : Bool) (device : Device) → item.blob ≡ option_map (λ b. b.now) blob.entry →
+        PlaceEndsOf blobs.old (F.state flash.old) first plan item table rose device result blobs.new (F.state flash.new) }
+    ensures outside { IsTrue (F.state flash.old).media.tells → StandOutside blobs.old (page_at (F.state flash.old)) (page_at (F.state flash.new)) }
+    ensures reads { (F.state flash.new).work.reads ≡ (F.state flash.old).work.reads }
+    ensures media_reads { (F.state flash.new).media.reads ≤ (F.state flash.old).media.reads + pages_for blobs.old (option_map (λ b. b.now) blob.entry) }
+    ensures cause { IfErr result (λ e. CausedBy (F.state flash.old) e (F.state flash.new)) }
+{
+    let Some(var) = blobs else {
+        return Ok(None);
+    };
+    let Some(bytes) = blob else {
+        return Ok(None);
+    };
+    let at = var.append(flash, bytes)?;
+    Ok(Some(at))
+}
+
+/// Opens the blob of a record: none exactly where it is gone.
+pub(crate) fn open<'s, 'b, F: Flash>(
+    var: &'s VarData,
+    flash: &mut F,
+    at: BlobRef,
+    buf: &'b mut PageBuf,
+) -> Result<Option<BlobReader<'s, 'b>>, ReadFault>
+    requires mounted { is_mounted var.now ≡ true }
+    requires lies { LiesOn var.now (F.state flash.old) }
+    requires room { length buf.now.bytes ≡ (F.state flash.old).geometry.page }
+    ensures reads { OnlyReads (F.state flash.old) 1 (F.state flash.new) }
+    ensures lies { LiesOn var.now (F.state flash.new) }
+    ensures var { IfOk result (λ reader. IfSome reader (λ r. (data_of r ≡ var.now) × (count_left r ≡ at.length))) }
+    ensures buffer { IfOk result (λ reader. IfSome reader (λ r. buffer_of r ≡ buf.entry.ghost_name)) }
+    ensures few { IfOk result (λ reader. IfSome reader (λ r. pages_left r ≤ at.length / room_in var.now + 1)) }
+    ensures opens { IsTrue (F.state flash.old).media.tells → Opens var.now (F.state flash.old) at result }
+    ensures finds { (first : ℕ) (plan : Plan) (table : model.Table) (i : ℕ) (entry : Entry) (bytes : List ℕ) → IsTrue (F.state flash.old).media.tells → IsStanding var.now (F.state flash.old) first plan table
+        → slice_get table.entries i ≡ Some entry → entry.kept.blob ≡ Some bytes → at ≡ record { page = entry.page; offset = entry.offset; length = length bytes }
+        → Finds table entry bytes (F.state flash.old) result }
+    ensures fails { IfErr result (λ e. IfUnread (F.state flash.old) e (F.state flash.new)) }
+{
+    var.open_blob(flash, at, buf)
+}
