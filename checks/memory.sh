@@ -29,17 +29,17 @@ for script in "$here"/../examples/*.script; do
 done
 [ $status = 0 ] && echo "where a call for memory is refused, nothing is written"
 
-# 65,536 pages of 1,024 bytes: data pages take 2 bytes of memory each, index pages 8
+# 65,536 pages of 1,024 bytes: data pages take 2 bytes of memory each, index pages 8; variable data takes a page buffer a table
 largest() {
     echo "device 1024 4"
-    for name in a b c d; do echo "table $name 8 i64,i64,i64 $1 $2 0 64 0 1 255 0"; done
+    for name in a b c d; do echo "table $name 8 i64,i64,i64 $1 $2 $3 64 0 1 255 $4"; done
 }
-for rings in "4092 4" "3 4093"; do
+for rings in "4092 4 0 0" "3 4093 0 0" "3 4089 4 100"; do
     # shellcheck disable=SC2086
     largest $rings > "$folder/largest.script"
     echo mount >> "$folder/largest.script"
     run 0 "$folder/largest.script" || { echo "the largest configuration: status $?"; status=1; }
     read -r calls most < "$folder/told"
-    echo "four tables of $rings blocks for data and index: $calls calls for memory, $most bytes at most"
+    echo "four tables of $rings (blocks for data, index and variable data, longest blob): $calls calls for memory, $most bytes at most"
 done
 exit $status

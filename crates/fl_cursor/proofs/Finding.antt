@@ -96,6 +96,7 @@ module _ (old : Cursor) (here_is : old.place ≡ Start) (buf : MutBor BufferStat
       looking = told.looking;
     };
     most = λ told. let le = few told in omega (arith, le, most-here);
+    fewer = λ told. let after = ap (most_from (table_of old) contents (asked_of old) (index_page old) buf.now.bytes) here_is in omega (arith, after, most-here);
   }
 
   -- no page begins by the key, so that the oldest one comes next
@@ -111,6 +112,7 @@ module _ (old : Cursor) (here_is : old.place ≡ Start) (buf : MutBor BufferStat
       let le = few told in
       let same = ap behind_most (start-is (table_of old) contents low None (is told)) in
       omega (arith, le, most-here, same))
+      (λ told. let same = ap behind_most (start-is (table_of old) contents low None (is told)) in omega (arith, most-here, same))
       (λ told lt.
       let le = later lt in
       let fewer = raised-fewer (table_of old) contents (asked_of old) pages (oldest_in (table_of old)) (lowest-from (asked_of old)) in
@@ -166,21 +168,9 @@ module _ (old : Cursor) (here_is : old.place ≡ Start) (buf : MutBor BufferStat
         (λ told. told.fresh) (looking-at (number + 1))
         (λ told.
         let le = few told in
-        let rest = pages_to_last (table_of old) contents (asked_of old).span (asked_of old).top (number + 1) (next_in (table_of old) - (number + 1)) in
-        let same : behind_most (start_of (table_of old) contents low)
-        ≡ cond (is_skipped (table_of old) contents (asked_of old).span number) (pages_to_last (table_of old) contents (asked_of old).span (asked_of old).top (number + 1) (next_in (table_of old) - (number + 1)))
-        (1 + cond (has_last (asked_of old).top (rows_in (layout_in (table_of old)) buf.now.bytes)) 0 (pages_to_last (table_of old) contents (asked_of old).span (asked_of old).top (number + 1) (next_in (table_of old) - (number + 1))))
-        + index_most (table_of old) (asked_of old) (index_page old) number =
-        ap behind_most (start-is (table_of old) contents low (Some number) (is told))
-        ∙ (ap (λ n. pages_to_last (table_of old) contents (asked_of old).span (asked_of old).top number n + index_most (table_of old) (asked_of old) (index_page old) number)
-        (let one : next_in (table_of old) - number ≡ suc (next_in (table_of old) - (number + 1)) = omega (arith, before) in one)
-        ∙ ap (λ (xs : List Row). cond (is_skipped (table_of old) contents (asked_of old).span number) (pages_to_last (table_of old) contents (asked_of old).span (asked_of old).top (number + 1) (next_in (table_of old) - (number + 1)))
-        (1 + cond (has_last (asked_of old).top xs) 0 (pages_to_last (table_of old) contents (asked_of old).span (asked_of old).top (number + 1) (next_in (table_of old) - (number + 1))))
-        + index_most (table_of old) (asked_of old) (index_page old) number) (rows-here told)) in
-        let less = unread-less (asked_of old).span (table_of old).bitmaps number (number + 1) (index_page old) (omega arith) in
-        let enters = enter-most (is_skipped (table_of old) contents (asked_of old).span number) (has_last (asked_of old).top (rows_in (layout_in (table_of old)) buf.now.bytes)) rest
-        (index_most (table_of old) (asked_of old) (index_page old) number) (index_most (table_of old) (asked_of old) (index_page old) (number + 1)) less in
-        omega (arith, le, most-here, same, enters))
+        let enters = enters-here told in
+        omega (arith, le, enters))
+        (λ told. let enters = enters-here told in omega (arith, enters))
         (λ told lt.
         let b = first told in
         let one = some told lt in
@@ -201,6 +191,25 @@ module _ (old : Cursor) (here_is : old.place ≡ Start) (buf : MutBor BufferStat
         enter-most true false rest most most_behind le = omega (arith, le)
         enter-most false true rest most most_behind le = omega arith
         enter-most false false rest most most_behind le = omega (arith, le)
+
+        enters-here : IsTold old contents →
+            most_to_find (table_of old) low + most_from (table_of old) contents (asked_of old) (index_page old) buf.now.bytes (InPage number 0) ≤ most_from (table_of old) contents (asked_of old) (index_page old) (buffer_of old) old.place
+        enters-here told =
+            let rest = pages_to_last (table_of old) contents (asked_of old).span (asked_of old).top (number + 1) (next_in (table_of old) - (number + 1)) in
+            let same : behind_most (start_of (table_of old) contents low)
+            ≡ cond (is_skipped (table_of old) contents (asked_of old).span number) (pages_to_last (table_of old) contents (asked_of old).span (asked_of old).top (number + 1) (next_in (table_of old) - (number + 1)))
+            (1 + cond (has_last (asked_of old).top (rows_in (layout_in (table_of old)) buf.now.bytes)) 0 (pages_to_last (table_of old) contents (asked_of old).span (asked_of old).top (number + 1) (next_in (table_of old) - (number + 1))))
+            + index_most (table_of old) (asked_of old) (index_page old) number =
+            ap behind_most (start-is (table_of old) contents low (Some number) (is told))
+            ∙ (ap (λ n. pages_to_last (table_of old) contents (asked_of old).span (asked_of old).top number n + index_most (table_of old) (asked_of old) (index_page old) number)
+            (let one : next_in (table_of old) - number ≡ suc (next_in (table_of old) - (number + 1)) = omega (arith, before) in one)
+            ∙ ap (λ (xs : List Row). cond (is_skipped (table_of old) contents (asked_of old).span number) (pages_to_last (table_of old) contents (asked_of old).span (asked_of old).top (number + 1) (next_in (table_of old) - (number + 1)))
+            (1 + cond (has_last (asked_of old).top xs) 0 (pages_to_last (table_of old) contents (asked_of old).span (asked_of old).top (number + 1) (next_in (table_of old) - (number + 1))))
+            + index_most (table_of old) (asked_of old) (index_page old) number) (rows-here told)) in
+            let less = unread-less (asked_of old).span (table_of old).bitmaps number (number + 1) (index_page old) (omega arith) in
+            let enters = enter-most (is_skipped (table_of old) contents (asked_of old).span number) (has_last (asked_of old).top (rows_in (layout_in (table_of old)) buf.now.bytes)) rest
+            (index_most (table_of old) (asked_of old) (index_page old) number) (index_most (table_of old) (asked_of old) (index_page old) (number + 1)) less in
+            omega (arith, most-here, same, enters)
 
         at-most-one : (b : Bool) → cond b 1 0 ≤ 1
         at-most-one true = omega arith

@@ -1,33 +1,31 @@
 -- The index pages that list a page with rows after the first one of a scan.
-use Rattle.std.proofs.Common.{◌≡◌, ◌⊎◌, inl, inr, ℕ, zero, suc, ◌+◌, ◌-◌, ◌<◌, ◌≤◌, Bool, true, false, ◌&&◌, ◌||◌, cond, ◌==◌, nat_le, nat_lt, min, Option, Some, None, option_map, unwrap_or, List, [], ◌∷◌, ◌++◌, length, map, take, drop, refl, sym, ◌∙◌, ap, subst, append_assoc, arith}
-use Rattle.std.specs.List.{slice_get, list_any, count_by, sum, last_or, AllByRecursion}
-use Rattle.std.proofs.lemmas.Bool.{cases_lt, leb-true, le-leb, ltb-true, eqb-true, false_from_ne_true}
+use Rattle.std.proofs.Common.{◌≡◌, ◌⊎◌, inl, inr, ℕ, zero, suc, ◌+◌, ◌-◌, ◌<◌, ◌≤◌, Bool, true, false, ◌&&◌, ◌||◌, cond, ◌==◌, nat_le, nat_lt, Option, Some, None, unwrap_or, List, [], ◌∷◌, ◌++◌, length, map, take, drop, refl, sym, ◌∙◌, ap, subst, append_assoc, arith}
+use Rattle.std.specs.List.{slice_get, list_any, count_by, sum, AllByRecursion}
+use Rattle.std.proofs.lemmas.Bool.{cases_lt, leb-true, le-leb, ltb-true, false_from_ne_true}
 use Rattle.std.proofs.lemmas.List.{length-drop}
 use Rattle.std.proofs.lemmas.List.Sums.{sum_by-cons, sum_by-take-le}
 use Rattle.fl_base.specs.declared.types.KeyRange.{KeyRange}
 use Rattle.fl_base.specs.declared.types.Span.{Span}
 use Rattle.fl_find.specs.Pages.{first_key}
-use Rattle.fl_index.specs.Looking.{is_looked_at, after_held, due}
+use Rattle.fl_index.specs.Looking.{is_looked_at, after_held, next_to_read, due}
 use Rattle.fl_index.specs.Memory as indexes
 use Rattle.fl_index.specs.Page.{page_number}
 use Rattle.fl_index.specs.declared.index.Index.{Index}
 use Rattle.fl_index.proofs.Spanned.{listed-looked, due-firsts}
 use Rattle.fl_flash.specs.Buffer.{BufferState}
-use Rattle.fl_model.specs.Image.{rows_at}
 use Rattle.fl_model.specs.Limits.{first_page, last_page, in_pages}
 use Rattle.fl_model.specs.Query.{Cursor, begin, is_up_to}
 use Rattle.fl_model.specs.Record.{entries_per_page}
 use Rattle.fl_model.specs.Ring as rings
 use Rattle.fl_model.specs.Row.{Row, stored_row}
 use Rattle.fl_model.specs.Spline.{pages_from, pages_of, page_at}
-use Rattle.fl_model.specs.Table.{Entry, last_entry}
+use Rattle.fl_model.specs.Table.{Entry}
 use Rattle.fl_model.proofs.Lists.{slice_get-short}
 use Rattle.fl_page.specs.Contents.{Contents}
 use Rattle.fl_page.specs.Steps.{Ascends}
 use Rattle.fl_search.specs.Search.{IsPageOf}
 use Rattle.fl_table.specs.Look.{oldest_in, buffered_rows}
 use Rattle.fl_table.specs.Memory.{next_in}
-use Rattle.fl_table.specs.Skipping.{due_of}
 use Rattle.fl_table.specs.declared.table.Table.{Table}
 use Rattle.fl_table.proofs.KeptPages.{sum-next}
 use Rattle.fl_table.proofs.KeyRows.{drop-row}
@@ -37,7 +35,7 @@ use Rattle.fl_cursor.specs.Cursor.{IsStanding}
 use Rattle.fl_cursor.specs.Listed.{rows_on, rows_over, rows_of}
 use Rattle.fl_cursor.specs.Reads.{begins_by, start_of, pages_looked_up}
 use Rattle.fl_cursor.proofs.Beginning.{standing-start, start-is, over-split}
-use Rattle.fl_cursor.proofs.Finding.{Begins, begins, first-front}
+use Rattle.fl_cursor.proofs.Finding.{begins, first-front}
 use Rattle.fl_cursor.proofs.Passing.{each-front, each-back}
 use Rattle.fl_cursor.proofs.Selected.{all-up}
 use Rattle.fl_cursor.proofs.Starting.{ascends-front}
@@ -307,10 +305,10 @@ module _ (t : Table) (contents : Contents) (h : IsStanding t contents) where
     none-counted below = count-false lists_later h.table.firsts (none-later below)
 
     -- the index pages that list one are due
-    pub due-later : (index : Index) (buf : BufferState) → t.bitmaps ≡ Some index → buf.holds ≡ None → (span_is : Span) →
+    pub due-later : (index : Index) (buf : BufferState) → t.bitmaps ≡ Some index → buf.holds ≡ None →
         count_by lists_later h.table.firsts
-        ≤ due_of (Some span_is) (Some index) (pages_looked_up t contents (begin range span h.table).top (start_of t contents range.low + 1) (next_in t - (start_of t contents range.low + 1))) buf
-    due-later index buf is empty span_is =
+        ≤ due index (pages_looked_up t contents (begin range span h.table).top (start_of t contents range.low + 1) (next_in t - (start_of t contents range.low + 1))) (next_to_read index buf)
+    due-later index buf is empty =
         let numbers = pages_looked_up t contents (begin range span h.table).top (start_of t contents range.low + 1) (next_in t - (start_of t contents range.low + 1)) in
         let few = due-firsts index h.flash (h.first + h.plan.data_blocks) h.plan h.table (index-stands t h.flash h.first h.plan h.table h.stands index is) lists_later numbers looked in
         let start = ap (λ n. due index numbers n) (ap (after_held (indexes.oldest_in index) (page_number buf.bytes)) empty) in

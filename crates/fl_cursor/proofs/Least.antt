@@ -1,5 +1,5 @@
 -- What a cursor that begins reads at least, in the words of the model.
-use Rattle.std.proofs.Common.{◌≡◌, ℕ, zero, suc, ◌+◌, ◌-◌, ◌<◌, ◌≤◌, Bool, true, false, ◌&&◌, ◌||◌, cond, ◌==◌, nat_le, nat_lt, Option, Some, None, List, [], ◌∷◌, ◌++◌, length, map, take, drop, refl, sym, ◌∙◌, ap, subst, arith, inl, inr, ◌⊎◌}
+use Rattle.std.proofs.Common.{◌≡◌, ℕ, zero, suc, ◌+◌, ◌-◌, ◌<◌, ◌≤◌, Bool, true, false, ◌||◌, cond, ◌==◌, nat_le, nat_lt, Option, Some, None, List, [], ◌∷◌, ◌++◌, length, map, take, drop, refl, sym, ◌∙◌, ap, subst, arith, inl, inr}
 use Rattle.std.specs.List.{slice_get, list_any, count_by, sum, AllByRecursion}
 use Rattle.std.proofs.lemmas.Bool.{cases_lt, leb-true, le-leb, eqb-true, false_from_ne_true}
 use Rattle.std.proofs.lemmas.List.{drop-drop}
@@ -7,9 +7,9 @@ use Rattle.std.proofs.lemmas.List.Sums.{sum_by-cons}
 use Rattle.fl_base.specs.declared.types.KeyRange.{KeyRange}
 use Rattle.fl_base.specs.declared.types.Span.{Span}
 use Rattle.fl_model.specs.Facts.{is_some_ring, counts_in}
-use Rattle.fl_model.specs.Limits.{first_page, last_page, in_pages, asks_values, least_reads}
+use Rattle.fl_model.specs.Limits.{asks_values, least_reads}
 use Rattle.fl_model.specs.Query.{Cursor, begin, matches, in_range, in_span, is_up_to}
-use Rattle.fl_model.specs.Record.{has_index, entries_per_page}
+use Rattle.fl_model.specs.Record.{has_index}
 use Rattle.fl_model.specs.Ring as rings
 use Rattle.fl_model.specs.Ring.{Ring}
 use Rattle.fl_model.specs.Row.{Row, stored_row}
@@ -34,8 +34,10 @@ use Rattle.fl_cursor.specs.declared.place.Place.TheVariants.{Start, Pages, InPag
 use Rattle.fl_cursor.proofs.Beginning.{raised-below}
 use Rattle.fl_cursor.proofs.Finding.{begins}
 use Rattle.fl_cursor.proofs.Later.{lists_later, due-later, none-counted, first-over}
+use Rattle.fl_cursor.proofs.Looked.{due-both}
 use Rattle.fl_flash.specs.Buffer.{BufferState}
 use Rattle.fl_index.specs.declared.index.Index.{Index}
+use Rattle.fl_index.specs.Looking.{due, next_to_read}
 use Rattle.fl_table.specs.Bitmaps.{ArePlanned}
 use Rattle.fl_table.specs.Skipping.{due_of}
 use Rattle.fl_cursor.proofs.Passing.{each-weaker}
@@ -217,27 +219,23 @@ module _ (t : Table) (contents : Contents) (h : IsStanding t contents) where
 
   listed-few : (range : KeyRange) (span : Option Span) (index : BufferState) → index.holds ≡ None → pages_listed range span ≤ index_least t contents (begin range span h.table) index (start_of t contents range.low + 1)
   listed-few range None index empty = omega arith
-  listed-few range (Some span) index empty = by_values (asks_values (Some span)) (by_index t.bitmaps refl)
+  listed-few range (Some span) index empty = by_index t.bitmaps refl
     where
-      numbers : Option Index → ℕ
-      numbers o = due_of (Some span) o (pages_looked_up t contents (begin range (Some span) h.table).top (start_of t contents range.low + 1) (next_in t - (start_of t contents range.low + 1))) index
-
-      by_values : (b : Bool) → count_by (lists_later t contents h range (Some span)) h.table.firsts ≤ index_least t contents (begin range (Some span) h.table) index (start_of t contents range.low + 1) →
-          cond b (count_by (lists_later t contents h range (Some span)) h.table.firsts) 0 ≤ index_least t contents (begin range (Some span) h.table) index (start_of t contents range.low + 1)
-      by_values true le = le
-      by_values false le = omega arith
+      by_values : (b : Bool) (listed : ℕ) → listed ≡ 0 → cond b listed 0 ≡ 0
+      by_values true listed none = none
+      by_values false listed none = refl
 
       by_index : (bitmaps : Option Index) → t.bitmaps ≡ bitmaps →
-          count_by (lists_later t contents h range (Some span)) h.table.firsts ≤ index_least t contents (begin range (Some span) h.table) index (start_of t contents range.low + 1)
+          pages_listed range (Some span) ≤ index_least t contents (begin range (Some span) h.table) index (start_of t contents range.low + 1)
       by_index None is =
           let plain = subst (λ (o : Option Index). ArePlanned o (h.first + h.plan.data_blocks) h.plan) is h.stands.planned.index in
           let none = no-firsts (ap (λ n. nat_lt 0 n) plain) in
-          let nothing : count_by (lists_later t contents h range (Some span)) h.table.firsts ≡ 0 = ap (λ (xs : List ℕ). count_by (lists_later t contents h range (Some span)) xs) none in
+          let nothing = by_values (asks_values (Some span)) (count_by (lists_later t contents h range (Some span)) h.table.firsts) (ap (λ (xs : List ℕ). count_by (lists_later t contents h range (Some span)) xs) none) in
           omega (arith, nothing)
       by_index (Some b) is =
-          subst (λ (o : Option Index). count_by (lists_later t contents h range (Some span)) h.table.firsts
-          ≤ due_of (Some span) o (pages_looked_up t contents (begin range (Some span) h.table).top (start_of t contents range.low + 1) (next_in t - (start_of t contents range.low + 1))) index) (sym is)
-          (due-later t contents h range (Some span) b index is empty span)
+          subst (λ (o : Option Index). pages_listed range (Some span) ≤ due_of (Some span) o (pages_looked_up t contents (begin range (Some span) h.table).top (start_of t contents range.low + 1) (next_in t - (start_of t contents range.low + 1))) index) (sym is)
+          (due-both (asks_values (Some span)) (count_by (lists_later t contents h range (Some span)) h.table.firsts) (due b (pages_looked_up t contents (begin range (Some span) h.table).top (start_of t contents range.low + 1) (next_in t - (start_of t contents range.low + 1))) (next_to_read b index))
+          (due-later t contents h range (Some span) b index is empty))
 
   none-listed : (range : KeyRange) (span : Option Span) →
       ((n : ℕ) (row : Row) → oldest_in t ≤ n → n < next_in t → slice_get (rows_on t contents n) 0 ≡ Some row → is_up_to (begin range span h.table).top row.key ≡ true → row.key ≤ range.low) → pages_listed range span ≡ 0

@@ -14,6 +14,7 @@ pub mod Whole
 pub mod Stepping
 pub mod Beginning
 pub mod Finding
+pub mod Ending
 pub mod Selected
 pub mod Limited
 pub mod Later

@@ -1,13 +1,12 @@
 -- What a cursor that begins reads at most, in the words of the model.
-use Rattle.std.proofs.Common.{◌≡◌, ℕ, zero, suc, ◌+◌, ◌-◌, ◌<◌, ◌≤◌, ◌⊎◌, Bool, true, false, ◌&&◌, ◌||◌, not, cond, min, ◌==◌, nat_le, nat_lt, Option, Some, None, option_map, unwrap_or, List, [], ◌∷◌, length, refl, sym, ◌∙◌, ap, subst, arith, inl, inr, bit_and}
+use Rattle.std.proofs.Common.{◌≡◌, ℕ, zero, suc, ◌+◌, ◌-◌, ◌<◌, ◌≤◌, ◌⊎◌, Bool, true, false, ◌&&◌, ◌||◌, not, cond, min, ◌==◌, nat_le, Option, Some, None, option_map, unwrap_or, List, [], ◌∷◌, length, refl, sym, ◌∙◌, ap, subst, arith, inl, inr}
 use Rattle.std.specs.List.{count_by}
 use Rattle.std.proofs.lemmas.Bool.{cases_lt, le-leb, eq-eqb}
 use Rattle.std.proofs.lemmas.List.Sums.{sum_by-cons}
 use Rattle.fl_base.specs.declared.types.Span.{Span}
 use Rattle.fl_find.specs.Index.{most_reads}
 use Rattle.fl_find.specs.Pages.{first_key}
-use Rattle.fl_model.specs.Layout.{bitmap_of}
-use Rattle.fl_model.specs.Limits.{mask_of, is_listed, rows_of_page, is_wanted, numbers_from, numbers_of, first_page, last_page, in_pages, is_spanned, scan_limit}
+use Rattle.fl_model.specs.Limits.{is_wanted, numbers_from, numbers_of, first_page, last_page, in_pages, is_spanned, scan_limit}
 use Rattle.fl_model.specs.Query.{Cursor}
 use Rattle.fl_model.specs.Record.{has_index}
 use Rattle.fl_model.specs.Ring.{Ring}

@@ -1,7 +1,7 @@
 -- What a cursor looks up in the index, from a page on.
-use Rattle.std.proofs.Common.{◌≡◌, inl, inr, ℕ, zero, suc, ◌+◌, ◌-◌, ◌<◌, ◌≤◌, Bool, true, false, ◌||◌, cond, Option, Some, None, List, [], ◌∷◌, refl, sym, ◌∙◌, ap, subst, arith}
+use Rattle.std.proofs.Common.{◌≡◌, inl, inr, ℕ, zero, suc, ◌+◌, ◌-◌, ◌<◌, ◌≤◌, Bool, true, false, ◌||◌, cond, Option, Some, None, List, [], ◌∷◌, refl, ◌∙◌, ap, arith}
 use Rattle.std.proofs.lemmas.Bool.{cases_lt}
-use Rattle.std.specs.List.{list_any, count_by, range_with_len, AllByRecursion}
+use Rattle.std.specs.List.{list_any, AllByRecursion}
 use Rattle.fl_base.specs.declared.types.Span.{Span}
 use Rattle.fl_flash.specs.Buffer.{BufferState}
 use Rattle.fl_index.specs.declared.index.Index.{Index}
@@ -9,6 +9,7 @@ use Rattle.fl_index.specs.Looking.{is_looked_at, next_to_read, due}
 use Rattle.fl_index.specs.Memory as indexes
 use Rattle.fl_index.proofs.Counts.{count-none, count-fewer}
 use Rattle.fl_index.proofs.Scans.{scanning-later, unread-fewer}
+use Rattle.fl_model.specs.Limits.{asks_values}
 use Rattle.fl_model.specs.Query.{Cursor, is_up_to}
 use Rattle.fl_model.specs.Row.{Row}
 use Rattle.fl_page.specs.Contents.{Contents}
@@ -35,18 +36,27 @@ or-true : (b c : Bool) → c ≡ true → (b || c) ≡ true
 or-true true c e = refl
 or-true false c e = e
 
+-- none is due where the span has no value
+pub due-both : (b : Bool) (fewer more : ℕ) → fewer ≤ more → cond b fewer 0 ≤ cond b more 0
+due-both true fewer more le = le
+due-both false fewer more le = omega arith
+
 pub due-more : (span : Option Span) (bitmaps : Option Index) (number : ℕ) (numbers : List ℕ) (buf : BufferState) → due_of span bitmaps numbers buf ≤ due_of span bitmaps (number ∷ numbers) buf
 due-more None bitmaps number numbers buf = omega arith
 due-more (Some span) None number numbers buf = omega arith
 due-more (Some span) (Some index) number numbers buf =
-    count-fewer (λ n. list_any (is_looked_at index n) numbers) (λ n. list_any (is_looked_at index n) (number ∷ numbers)) (indexes.next_in index - next_to_read index buf) (next_to_read index buf)
-    (λ k low high e. or-true (is_looked_at index k number) (list_any (is_looked_at index k) numbers) e)
+    due-both (asks_values (Some span)) (due index numbers (next_to_read index buf)) (due index (number ∷ numbers) (next_to_read index buf))
+    (count-fewer (λ n. list_any (is_looked_at index n) numbers) (λ n. list_any (is_looked_at index n) (number ∷ numbers)) (indexes.next_in index - next_to_read index buf) (next_to_read index buf)
+    (λ k low high e. or-true (is_looked_at index k number) (list_any (is_looked_at index k) numbers) e))
 
 pub due-nothing : (span : Option Span) (bitmaps : Option Index) (buf : BufferState) → due_of span bitmaps [] buf ≡ 0
 due-nothing None bitmaps buf = refl
 due-nothing (Some span) None buf = refl
-due-nothing (Some span) (Some index) buf =
-    count-none (λ n. list_any (is_looked_at index n) []) (indexes.next_in index - next_to_read index buf) (next_to_read index buf) (λ k low high. refl)
+due-nothing (Some span) (Some index) buf = by_values (asks_values (Some span))
+  where
+    by_values : (b : Bool) → cond b (due index [] (next_to_read index buf)) 0 ≡ 0
+    by_values true = count-none (λ n. list_any (is_looked_at index n) []) (indexes.next_in index - next_to_read index buf) (next_to_read index buf) (λ k low high. refl)
+    by_values false = refl
 
 -- pages that are looked up lie behind the one that comes next
 pub looked-from : (t : Table) (contents : Contents) (top : Option ℕ) (n number : ℕ) → AllByRecursion (λ k. number ≤ k) (pages_looked_up t contents top number n)

@@ -1,5 +1,5 @@
 -- A step as the step of rows.
-use Rattle.std.proofs.Common.{◌≡◌, ℕ, true, false, Bool, [], filter, Result, Ok, Err, OnErr, IfOk, IfErr, refl, ◌∙◌, ap, inl, inr, Option, Some, None, ◌+◌, subst, sym}
+use Rattle.std.proofs.Common.{◌≡◌, ℕ, true, false, Bool, [], filter, Result, Ok, Err, OnErr, IfOk, IfErr, refl, ◌∙◌, ap, inl, inr, Option, Some, None, ◌+◌, subst}
 use Rattle.std.specs.Bool.{OnFalse}
 use Rattle.std.specs.Borrow.{Bor}
 use Rattle.fl_page.specs.Contents.{Contents}

@@ -34,6 +34,7 @@ module _ (old : Cursor) (contents : Contents) (reads : ℕ) (place : Place) (pla
     told = λ told. record { standing = told.standing; ascends = told.ascends; passes = passes told; fresh = told.fresh; looking = looking told };
     gives = λ told. refl;
     most = λ told. let le = most told in omega (arith, le);
+    fewer = most;
     later = λ lt. omega arith;
     least = λ told lt. let le = least told in omega (arith, le);
   }
@@ -59,7 +60,8 @@ module _ (old : Cursor) (contents : Contents) (reads : ℕ) (place : Place) (pla
     gives = λ told.
         gives-taken (asked_of old) (rows_of (table_of old) contents) (rows_behind (table_of old) contents (buffer_of old) place) row told.ascends (passes told) left
         ∙ ap (λ (r : Row). r ∷ filter (is_left (taken (asked_of old) row.key)) (rows_of (table_of old) contents)) (sym present);
-    most = λ told. most_by told (is_last (asked_of old).top row.key) refl;
+    most = λ told. let le = most_by told (is_last (asked_of old).top row.key) refl in omega (arith, le);
+    fewer = λ told. most_by told (is_last (asked_of old).top row.key) refl;
     later = λ lt. omega arith;
     least = λ told lt. least_by told (is_last (asked_of old).top row.key) refl;
   }
@@ -81,9 +83,9 @@ module _ (old : Cursor) (contents : Contents) (reads : ℕ) (place : Place) (pla
       passes_by told false last = passes-taken (asked_of old) (rows_of (table_of old) contents) (rows_behind (table_of old) contents (buffer_of old) place) row (passes told) left
 
       most_by : IsTold old contents → (b : Bool) → is_last (asked_of old).top row.key ≡ b →
-          reads + most_from (table_of old) contents (taken (asked_of old) row.key) (index_page old) (buffer_of old) (cond b Ended place) ≤ reads + most_from (table_of old) contents (asked_of old) (index_page old) (buffer_of old) old.place
+          most_from (table_of old) contents (taken (asked_of old) row.key) (index_page old) (buffer_of old) (cond b Ended place) ≤ most_from (table_of old) contents (asked_of old) (index_page old) (buffer_of old) old.place
       most_by told true last = omega arith
-      most_by told false last = let le = most told last in omega (arith, le)
+      most_by told false last = most told last
 
       least_by : IsTold old contents → (b : Bool) → is_last (asked_of old).top row.key ≡ b →
           reads + least_from (table_of old) contents (asked_of old) (index_page old) old.place ≤ reads + least_from (table_of old) contents (taken (asked_of old) row.key) (index_page old) (cond b Ended place)

@@ -21,8 +21,8 @@ use Rattle.fl_cursor.specs.Listed.{bytes_at, rows_on, rows_over, rows_from, rows
 use Rattle.fl_cursor.specs.Reads.{has_last, is_missed, is_skipped, pages_to_last, pages_asked, pages_looked_up, most_from, least_from}
 use Rattle.fl_cursor.specs.declared.cursor.Cursor.{Cursor}
 use Rattle.fl_cursor.specs.declared.place.Place.{Place}
-use Rattle.fl_cursor.specs.declared.place.Place.TheVariants.{Pages, InPage, Pending}
-use Rattle.fl_cursor.proofs.Looked.{looking-later, unread-less, due-more, due-nothing, looked-from}
+use Rattle.fl_cursor.specs.declared.place.Place.TheVariants.{Pages, InPage}
+use Rattle.fl_cursor.proofs.Looked.{looking-later, unread-less, due-more, looked-from}
 use Rattle.fl_cursor.proofs.Passing.{NotLeft, passes-same, passes-over, each-weaker}
 use Rattle.fl_cursor.proofs.Stood.{standing-committed}
 use Rattle.fl_cursor.proofs.Taking.{moves-on}
@@ -34,15 +34,17 @@ pub turns : (old : Cursor) (buf index : MutBor BufferState) (place : Place) (con
     (IsTold old contents → Passes (asked_of old) (rows_of (table_of old) contents) (rows_behind (table_of old) contents buf.now.bytes place)) →
     (IsTold old contents → AreFreshIn (table_of old).bitmaps contents index.now) → (IsTold old contents → IsLooking (table_of old).bitmaps place index.now) →
     (IsTold old contents → reads_now + most_from (table_of old) contents (asked_of old) index.now buf.now.bytes place ≤ reads + most_from (table_of old) contents (asked_of old) (index_page old) (buffer_of old) old.place) →
+    (IsTold old contents → most_from (table_of old) contents (asked_of old) index.now buf.now.bytes place ≤ most_from (table_of old) contents (asked_of old) (index_page old) (buffer_of old) old.place) →
     (IsTold old contents → reads_now < 2 ^ 64 - 1 → reads + least_from (table_of old) contents (asked_of old) (index_page old) old.place ≤ reads_now + least_from (table_of old) contents (asked_of old) index.now place) →
     Goes false contents reads old reads_now (record old { rows_buf = buf; index_buf = index; place = place })
-turns old buf index place contents reads reads_now named room index_named index_room good placed later passes fresh looking most least = record {
+turns old buf index place contents reads reads_now named room index_named index_room good placed later passes fresh looking most fewer least = record {
   keeps = record { table = refl; rows_name = named; rows_room = room; index_name = index_named; index_room = index_room };
   notes = refl;
   ready = λ held h. record { flash = h.flash; same = h.same; lies = h.lies; rows_room = room ∙ h.rows_room; index_room = index_room ∙ h.index_room; placed = placed; index_good = good h.index_good };
   told = λ told. record { standing = told.standing; ascends = told.ascends; passes = passes told; fresh = fresh told; looking = looking told };
   gives = λ told. refl;
   most = most;
+  fewer = fewer;
   later = later;
   least = least;
 }
@@ -161,6 +163,10 @@ module _ (old : Cursor) (next : ℕ) (here_is : old.place ≡ Pages next) (from 
         let most = most-by some true (l.shows told some) in
         let once = (l.looks told).once in
         omega (arith, most, once, less-then))
+        (λ told.
+        let most = most-by some true (l.shows told some) in
+        let fewer = (l.looks told).fewer in
+        omega (arith, most, fewer, less-then))
         (λ told lt.
         let least = least-here ∙ ap (λ b. cond b 1 0 + asked_behind
         + due_of (asked_of old).span (table_of old).bitmaps (cond (list_any (λ row. is_up_to (asked_of old).top row.key) (rows_on (table_of old) contents next)) (next ∷ looked_behind) looked_behind) (index_page old)) (l.misses told some refl).1 in
@@ -168,7 +174,7 @@ module _ (old : Cursor) (next : ℕ) (here_is : old.place ≡ Pages next) (from 
         let due = (l.looks told).least looked_behind looked-later lt in
         omega (arith, least, few, due))
 
-    -- a read failed: the place stays, and the buffers may hold other pages
+    -- a read failed: the place is the same, and the buffers may hold other pages
     fails-on : (buf : MutBor BufferState) (result : Result Bool ReadFault) (mid reads_now : ℕ) → Looked old next contents reads result mid index → buf.ghost_name ≡ old.rows_buf.ghost_name → length buf.now.bytes ≡ length old.rows_buf.now.bytes →
         (IsTold old contents → reads_now ≤ reads + most_from (table_of old) contents (asked_of old) (index_page old) (buffer_of old) old.place) → Fails contents reads old reads_now (record old { rows_buf = buf; index_buf = index })
     fails-on buf result mid reads_now l named room most = record {
@@ -192,6 +198,11 @@ module _ (old : Cursor) (next : ℕ) (here_is : old.place ≡ Pages next) (from 
         looking = subst (λ (p : Place). IsLooking (table_of old).bitmaps p index.now) (sym here_is) (l.looks told).scanning;
       };
       most = most;
+      fewer = λ told.
+          let before = ap (most_from (table_of old) contents (asked_of old) (index_page old) (buffer_of old)) here_is in
+          let after = ap (most_from (table_of old) contents (asked_of old) index.now buf.now.bytes) here_is in
+          let fewer = (l.looks told).fewer in
+          omega (arith, before, after, fewer);
     }
 
     pub look-fails : (mid : ℕ) (fault : ReadFault) → Looked old next contents reads (Err fault) mid index → Fails contents reads old mid (record old { index_buf = index })
@@ -222,6 +233,9 @@ module _ (old : Cursor) (next : ℕ) (here_is : old.place ≡ Pages next) (from 
             (λ told.
             let most = most-by some false (l.shows told some) ∙ ap (λ (xs : List Row). 1 + cond (has_last (asked_of old).top xs) 0 pages_behind + unread_of (asked_of old).span (table_of old).bitmaps next (index_page old)) (rows-here told) in
             by_last (has_last (asked_of old).top (rows_in (layout_in (table_of old)) buf.now.bytes)) (l.looks told) most)
+            (λ told.
+            let most = most-by some false (l.shows told some) ∙ ap (λ (xs : List Row). 1 + cond (has_last (asked_of old).top xs) 0 pages_behind + unread_of (asked_of old).span (table_of old).bitmaps next (index_page old)) (rows-here told) in
+            fewer_by_last (has_last (asked_of old).top (rows_in (layout_in (table_of old)) buf.now.bytes)) (l.looks told) most)
             (λ told lt.
             let le = least_one lt in
             let few = at-most-one (list_any (is_asked (asked_of old)) (rows_on (table_of old) contents next)) in
@@ -239,26 +253,17 @@ module _ (old : Cursor) (next : ℕ) (here_is : old.place ≡ Pages next) (from 
             by_last true looks most = omega (arith, most, one, looks.most)
             by_last false looks most = omega (arith, most, one, looks.once, less-then)
 
+            fewer_by_last : (b : Bool) → LooksOn (table_of old).bitmaps (asked_of old).span next (index_page old) reads (Ok true) mid index.now →
+                most_from (table_of old) contents (asked_of old) (index_page old) (buffer_of old) old.place ≡ 1 + cond b 0 pages_behind + unread_of (asked_of old).span (table_of old).bitmaps next (index_page old) →
+                cond b 0 (pages_behind + unread_of (asked_of old).span (table_of old).bitmaps (next + 1) index.now) ≤ most_from (table_of old) contents (asked_of old) (index_page old) (buffer_of old) old.place
+            fewer_by_last true looks most = omega arith
+            fewer_by_last false looks most = omega (arith, most, looks.fewer, less-then)
+
         -- where the rows are told it isn't void
         pub page-void : (state_of_page buf.now.bytes ≡ Committed → ⊥) → Goes false contents reads old reads_now (record old { rows_buf = buf; index_buf = index; place = Pages (next + 1) })
         page-void other =
             turns old buf index (Pages (next + 1)) contents reads reads_now named room l.named l.room l.good kept-next later-here
-            (λ told. absurd (committed told)) (λ told. absurd (committed told)) (λ told. absurd (committed told)) (λ told. absurd (committed told)) (λ told lt. absurd (committed told))
+            (λ told. absurd (committed told)) (λ told. absurd (committed told)) (λ told. absurd (committed told)) (λ told. absurd (committed told)) (λ told. absurd (committed told)) (λ told lt. absurd (committed told))
           where
             committed : IsTold old contents → ⊥
             committed told = other (ap state_of_page (bytes told) ∙ standing-committed (table_of old) contents told.standing next from before some)
-
--- behind the last page are the pending rows
-pub pages-end : (old : Cursor) (next : ℕ) → old.place ≡ Pages next → next ≡ next_in (table_of old) → (contents : Contents) (reads : ℕ) → Goes false contents reads old reads (record old { place = Pending 0 })
-pages-end old next here_is end contents reads =
-    let none : next_in (table_of old) - next ≡ 0 = omega (arith, end) in
-    moves-on old contents reads (Pending 0) (omega arith)
-    (λ told. passes-same (asked_of old) (rows_of (table_of old) contents) (rows_behind (table_of old) contents (buffer_of old) old.place) (buffered_rows (table_of old))
-    (ap (rows_behind (table_of old) contents (buffer_of old)) here_is ∙ ap (λ k. rows_over (table_of old) contents next k ++ buffered_rows (table_of old)) none) told.passes)
-    (λ told. tt)
-    (λ told. omega arith)
-    (λ told.
-    let least = ap (least_from (table_of old) contents (asked_of old) (index_page old)) here_is
-    ∙ ap (λ n. pages_asked (table_of old) contents (asked_of old) next n + due_of (asked_of old).span (table_of old).bitmaps (pages_looked_up (table_of old) contents (asked_of old).top next n) (index_page old)) none in
-    let nothing = due-nothing (asked_of old).span (table_of old).bitmaps (index_page old) in
-    omega (arith, least, nothing))

@@ -1,16 +1,14 @@
 -- The pages that bitmaps let a cursor skip, in memory and in the words of the model.
-use Rattle.std.proofs.Common.{◌≡◌, ℕ, zero, suc, ◌+◌, ◌-◌, ◌^◌, ◌<◌, ◌≤◌, Bool, true, false, not, ◌&&◌, ◌||◌, cond, ◌==◌, nat_le, nat_lt, Option, Some, None, option_map, unwrap_or, is_some, List, [], ◌∷◌, filter, fold, map, take, drop, bit_and, bit_or, refl, sym, ◌∙◌, ap, subst, arith}
-use Rattle.std.specs.Prelude.{ℤ, pos, int_le}
+use Rattle.std.proofs.Common.{◌≡◌, ℕ, zero, suc, ◌+◌, ◌-◌, ◌^◌, ◌<◌, ◌≤◌, Bool, true, false, not, ◌&&◌, ◌||◌, cond, ◌==◌, nat_le, nat_lt, Option, Some, None, option_map, unwrap_or, List, [], ◌∷◌, filter, fold, map, take, drop, bit_and, bit_or, refl, sym, ◌∙◌, ap, subst, arith}
+use Rattle.std.specs.Prelude.{pos, int_le}
 use Rattle.std.specs.List.{slice_get, sum, list_any, AllByRecursion}
-use Rattle.std.proofs.lemmas.Bool.{lt-ltb, eq-eqb, eqb-true, false_from_ne_true}
+use Rattle.std.proofs.lemmas.Bool.{eq-eqb, eqb-true, false_from_ne_true}
 use Rattle.std.proofs.lemmas.List.{drop-drop}
 use Rattle.std.proofs.lemmas.List.Sums.{sum_by-cons}
-use Rattle.fl_base.specs.declared.types.KeyRange.{KeyRange}
 use Rattle.fl_base.specs.declared.types.Span.{Span}
 use Rattle.fl_bitmap.specs.Bucket.{AreBucketsOf, bucket_in, mask_in, with_value}
 use Rattle.fl_bitmap.specs.declared.buckets.Buckets.{Buckets}
 use Rattle.fl_bitmap.proofs.Spans.{bucket_of-is}
-use Rattle.fl_index.specs.Memory.{is_waiting, listing_in}
 use Rattle.fl_index.specs.declared.index.Index.{Index}
 use Rattle.fl_index.proofs.Spanned.{indexed-is}
 use Rattle.fl_model.specs.Image.{rows_at}
@@ -20,8 +18,7 @@ use Rattle.fl_model.specs.Query.{Cursor, matches, selected, is_above, is_up_to}
 use Rattle.fl_model.specs.Record.{Plan}
 use Rattle.fl_model.specs.Ring as rings
 use Rattle.fl_model.specs.Row.{Row, stored_row}
-use Rattle.fl_model.specs.Spline.{pages_from, pages_of}
-use Rattle.fl_model.specs.Table as model
+use Rattle.fl_model.specs.Spline.{pages_from}
 use Rattle.fl_model.specs.Table.{Entry}
 use Rattle.fl_page.specs.Contents.{Contents}
 use Rattle.fl_table.specs.Bitmaps.{ArePlanned}
@@ -29,9 +26,9 @@ use Rattle.fl_table.specs.Look.{oldest_in, rows_noted}
 use Rattle.fl_table.specs.Memory.{next_in, HasBuckets}
 use Rattle.fl_table.specs.Skipping.{wants_page}
 use Rattle.fl_table.specs.declared.table.Table.{Table}
-use Rattle.fl_table.proofs.Looks.{next-is, oldest-is, noted-is}
+use Rattle.fl_table.proofs.Looks.{next-is}
 use Rattle.fl_table.proofs.Skips.{mask-meets, index-stands, some-bits}
-use Rattle.fl_cursor.specs.Asked.{is_left, is_asked, row_matches}
+use Rattle.fl_cursor.specs.Asked.{is_asked}
 use Rattle.fl_cursor.specs.Cursor.{IsStanding}
 use Rattle.fl_cursor.specs.Listed.{rows_on}
 use Rattle.fl_cursor.specs.Reads.{bitmap_in, mask_for, is_indexed_in, is_missed}

@@ -40,6 +40,10 @@ goes-then taken contents reads mid now a b c h k = record {
       let first = h.most told in
       let second = k.most (h.told told) in
       omega (arith, first, second);
+  fewer = λ told.
+      let first = h.fewer told in
+      let second = k.fewer (h.told told) in
+      omega (arith, first, second);
   later = λ lt.
       let second = k.later lt in
       let first = h.later (omega (arith, second, lt)) in
@@ -61,6 +65,10 @@ fails-then contents reads mid now a b c h k = record {
       let first = h.most told in
       let second = k.most (h.told told) in
       omega (arith, first, second);
+  fewer = λ told.
+      let first = h.fewer told in
+      let second = k.fewer (h.told told) in
+      omega (arith, first, second);
 }
 
 -- a cursor that holds no row yet
@@ -72,6 +80,7 @@ goes-nowhere a contents reads = record {
   told = λ told. record { standing = told.standing; ascends = told.ascends; passes = told.passes; fresh = told.fresh; looking = told.looking };
   gives = λ told. refl;
   most = λ told. omega arith;
+  fewer = λ told. omega arith;
   later = λ lt. omega arith;
   least = λ told lt. omega arith;
 }

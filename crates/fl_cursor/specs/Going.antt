@@ -80,13 +80,15 @@ pub record Goes (taken : Bool) (contents : Contents) (reads : ℕ) (old : Cursor
   pub told : IsTold old contents → IsTold new contents
   pub gives : IsTold old contents → Gives taken (left_of old contents) (present_of new) (left_of new contents)
   pub most : IsTold old contents → reads_now + most_of new contents ≤ reads + most_of old contents
+  pub fewer : IsTold old contents → most_of new contents ≤ most_of old contents
   pub later : reads_now < 2 ^ 64 - 1 → reads ≤ reads_now
   pub least : IsTold old contents → reads_now < 2 ^ 64 - 1 → reads + least_of old contents ≤ reads_now + least_of new contents
 
--- A read failed: the place and the key given last stay.
+-- A read failed: the key given last stays, and no more reads are left than before.
 pub record Fails (contents : Contents) (reads : ℕ) (old : Cursor) (reads_now : ℕ) (new : Cursor) : Type 0 where
   pub keeps : Keeps old new
   pub notes : mark_of new ≡ mark_of old
   pub ready : (held : Contents) → IsReady old held → IsReady new held
   pub told : IsTold old contents → IsTold new contents
   pub most : IsTold old contents → reads_now ≤ reads + most_of old contents
+  pub fewer : IsTold old contents → most_of new contents ≤ most_of old contents

@@ -3,5 +3,6 @@ pub mod Listed
 pub mod Sought
 pub mod Cursor
 pub mod Reads
+pub mod Ends
 pub mod Going
 pub mod Ascending

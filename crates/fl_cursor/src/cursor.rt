@@ -121,8 +121,8 @@ impl<'s, 'r, 'i> Cursor<'s, 'r, 'i> {
     /// What is kept of it. The table and the buffers are free again.
     pub fn park(self) -> Bookmark
         ensures mark { result ≡ mark_of self.entry }
-        ensures rows_buf { self.exit.1.0.now ≡ self.entry.rows_buf.now }
-        ensures index_buf { self.exit.1.1.0.now ≡ self.entry.index_buf.now }
+        ensures rows_buf { self.exit.1.0.now ≡ rows_page self.entry }
+        ensures index_buf { self.exit.1.1.0.now ≡ index_page self.entry }
     {
         self.mark
     }

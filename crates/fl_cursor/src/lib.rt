@@ -3,6 +3,7 @@
 
 mod bookmark;
 mod cursor;
+mod end;
 mod laws;
 mod place;
 mod rows;

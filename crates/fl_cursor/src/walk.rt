@@ -15,6 +15,7 @@ use fl_page::ReadFault;
 impl Cursor<'_, '_, '_> {
     ghost use Rattle.fl_flash.specs.Flash.{FlashState};
     ghost use Rattle.fl_cursor.specs.Cursor.{table_of, mark_of, asked_of, buffer_of, place_of, here_of, is_here, has_ended, IsReady, IsTold, IsPlaced, IfBad, MayBeBad};
+    ghost use Rattle.fl_cursor.specs.Ends.{EndsPages};
     ghost use Rattle.fl_cursor.specs.Going.{Goes, Fails, took, pages_left, is_start, is_in_page, is_at_pages};
     ghost use Rattle.fl_cursor.specs.declared.place.Place.{Place};
 
@@ -43,6 +44,7 @@ impl Cursor<'_, '_, '_> {
         ensures outside { OnFalse result (is_in_page (place_of self.new) ≡ false) }
         ensures fewer { pages_left (table_of self.old) (place_of self.new) ≤ pages_left (table_of self.old) (place_of self.old) }
         ensures stays_ended { has_ended self.old ≡ true → (result ≡ false) × (has_ended self.new ≡ true) }
+        ensures behind { is_at_pages (place_of self.old) ≡ false → (result ≡ false) × (is_at_pages (place_of self.new) ≡ false) }
     {
         let Place::InPage { number, row } = self.place else {
             return false;
@@ -77,6 +79,7 @@ impl Cursor<'_, '_, '_> {
         ensures here { OnFalse result (here_of self.new ≡ here_of self.old) }
         ensures end { OnFalse result (has_ended self.new ≡ true) }
         ensures stays_ended { has_ended self.old ≡ true → result ≡ false }
+        ensures behind { is_at_pages (place_of self.new) ≡ false }
     {
         let Place::Pending { row } = self.place else {
             return false;
@@ -110,6 +113,7 @@ impl Cursor<'_, '_, '_> {
         ensures fails { OnErr result (Fails (contents_of (F.state flash.old)) (F.state flash.old).work.reads self.old (F.state flash.new).work.reads self.new) }
         ensures begun { OnOk result (is_start (place_of self.new) ≡ false) }
         ensures stays_ended { has_ended self.old ≡ true → (has_ended self.new ≡ true) × (F.state flash.new ≡ F.state flash.old) × OnErr result ⊥ }
+        ensures behind { is_at_pages (place_of self.old) ≡ false → (is_at_pages (place_of self.new) ≡ false) × (F.state flash.new ≡ F.state flash.old) × OnErr result ⊥ }
     {
         let Place::Start = self.place else {
             return Ok(());
@@ -130,11 +134,11 @@ impl Cursor<'_, '_, '_> {
     }
 
     /// Goes into the page with this number, which is read once, or past it where it has no rows or its bitmap tells that
-    /// none of them is asked for. Behind the last page are the pending rows.
+    /// none of them is asked for. Behind the pages that may have a row to be given are the pending rows.
     fn read_page<F: Flash>(&mut self, next: u32, end: u32, flash: &mut F) -> Result<(), ReadFault>
         requires ready { IsReady self.old (contents_of (F.state flash.old)) }
         requires next { place_of self.old ≡ Place.Pages next }
-        requires end { end ≡ next_in (table_of self.old) }
+        requires end { EndsPages (table_of self.old) (mark_of self.old).top end }
         ensures reads_only { OnlyReads (F.state flash.old) (F.state flash.new) }
         ensures cause { IfErr result (λ fault. IsCaused (F.state flash.old) fault (F.state flash.new)) }
         ensures bad_page { IfErr result (IfBad (MayBeBad (table_of self.old) (contents_of (F.state flash.old)))) }
@@ -144,7 +148,7 @@ impl Cursor<'_, '_, '_> {
         ensures begun { is_start (place_of self.new) ≡ false }
         ensures fewer { OnOk result (pages_left (table_of self.old) (place_of self.new) < pages_left (table_of self.old) (place_of self.old)) }
     {
-        if next == end {
+        if end <= next {
             self.place = Place::Pending { row: 0 };
             return Ok(());
         }
@@ -171,7 +175,8 @@ impl Cursor<'_, '_, '_> {
         Ok(())
     }
 
-    /// Goes to the next row, and says whether there is one. After a fault the place and the key given last stay.
+    /// Goes to the next row, and says whether there is one. After a fault the key given last stays, and the same rows are
+    /// left.
     pub fn advance<F: Flash>(&mut self, flash: &mut F) -> Result<bool, ReadFault>
         requires { IsReady self.old (contents_of (F.state flash.old)) }
         ensures reads_only { OnlyReads (F.state flash.old) (F.state flash.new) }
@@ -182,13 +187,17 @@ impl Cursor<'_, '_, '_> {
         ensures fails { OnErr result (Fails (contents_of (F.state flash.old)) (F.state flash.old).work.reads self.old (F.state flash.new).work.reads self.new) }
         ensures end { IfOk result (λ more. OnFalse more (has_ended self.new ≡ true)) }
         ensures stays_ended { has_ended self.old ≡ true → (result ≡ Ok false) × (F.state flash.new ≡ F.state flash.old) }
+
+        // Among the pending rows, and where none is left, nothing is read, so no fault comes; it stays there.
+        ensures behind { is_at_pages (place_of self.old) ≡ false → (is_at_pages (place_of self.new) ≡ false) × (F.state flash.new ≡ F.state flash.old) × OnErr result ⊥ }
     {
-        let end = self.table.next_number();
+        let next_number = self.table.next_number();
         self.here = Here::Nowhere;
         self.find_start(flash)?;
         if self.step_in_page() {
             return Ok(true);
         }
+        let end = self.mark.end_of_pages(self.table, next_number);
         while let Place::Pages { next } = self.place {
             self.read_page(next, end, flash)?;
             if self.step_in_page() {

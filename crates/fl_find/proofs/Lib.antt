@@ -3,6 +3,7 @@ pub mod Moves
 pub mod Sound
 pub mod Firsts
 pub mod Windows
+pub mod Ends
 pub mod Modelled
 pub mod Indexed
 pub mod Seeking

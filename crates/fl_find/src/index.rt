@@ -24,10 +24,11 @@ pub struct LearnedIndex<const KNOTS: usize, const SLOTS: usize> {
 }
 
 impl<const KNOTS: usize, const SLOTS: usize> LearnedIndex<KNOTS, SLOTS> {
-    ghost use Rattle.std.specs.Prelude.{◌≤◌, ◌<◌, ◌+◌, ◌-◌, ◌^◌, min, ℕ, true, false, IsTrue, List, [], ◌∷◌, ◌++◌, length, Option, Some, IfSome, IfOk, IfErr, OnOk, unwrap_or};
+    ghost use Rattle.std.specs.Prelude.{◌≤◌, ◌<◌, ◌+◌, ◌-◌, ◌^◌, min, ℕ, true, false, IsTrue, List, [], ◌∷◌, ◌++◌, length, Option, Some, IfSome, IfOk, IfErr, OnOk, if◌then◌else◌, unwrap_or};
     ghost use Rattle.fl_model.specs.Record.{Plan};
+    ghost use Rattle.fl_model.specs.Facts.{IsTable};
     ghost use Rattle.fl_model.specs.Table as model;
-    ghost use Rattle.fl_model.specs.Spline.{bits, is_covered, is_pending_key, lookup_limit};
+    ghost use Rattle.fl_model.specs.Spline.{bits, is_covered, is_pending_key, lookup_limit, page_at};
     ghost use Rattle.fl_radix.specs.Slots.{knots_in_slot};
     ghost use Rattle.fl_ring.specs.Place.{shape_of, oldest_of, next_of, LiesOn};
     ghost use Rattle.fl_schema.specs.Schema.{layout_of};
@@ -37,7 +38,7 @@ impl<const KNOTS: usize, const SLOTS: usize> LearnedIndex<KNOTS, SLOTS> {
     ghost use Rattle.fl_find.specs.Pages.{first_on, Holds, IsFresh};
     ghost use Rattle.fl_find.specs.Looking.{OnlyLooks, LookFails, NoneIsBad};
     ghost use Rattle.fl_find.specs.Standing.{HoldsPages, HasPoints};
-    ghost use Rattle.fl_find.specs.Finding.{FindsPage};
+    ghost use Rattle.fl_find.specs.Finding.{FindsPage, pages_end};
     ghost use Rattle.fl_find.specs.Index.{error_in, knots_in, shift_in, is_further, IndexOf, window_end, most_reads};
 
     /// The index of no pages, whose lines may be off by `error` pages.
@@ -131,6 +132,21 @@ impl<const KNOTS: usize, const SLOTS: usize> LearnedIndex<KNOTS, SLOTS> {
             end as u32
         } else {
             next
+        }
+    }
+
+    /// The number after the last of the pages before `next` that may have a row with at most this key: that after its
+    /// window where the key is covered, and else `next`. The first key of each later page with rows is greater.
+    pub fn end_of_pages(&self, key: u64, next: u32) -> u32
+        ensures exact { result ≡ (if is_covered (knots_in self.now) key then window_end self.now next key else next) }
+        ensures table { (plan : Plan) (table : model.Table) → IndexOf plan.error table.points self.now → next ≡ table.rows.next → result ≡ pages_end KNOTS plan table key }
+        ensures past { (plan : Plan) (table : model.Table) → IsTable plan table → HasPoints table → IndexOf plan.error table.points self.now → next ≡ table.rows.next →
+            IfSome (page_at table key) (λ page. page < result) }
+    {
+        let mut steps = Steps::new();
+        match self.radix.segment(&self.spline, key, &mut steps) {
+            Some(segment) => self.end_of_window(segment, key, next),
+            None => next,
         }
     }
 

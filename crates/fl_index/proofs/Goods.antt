@@ -37,7 +37,7 @@ page-size t f ring has lies reaches number =
     let on = lies.ring ring has in
     let lt = mod-lt number (some_room ring.blocks ring.per_block ring.served.blocks ring.served.per_block) in
     let within : place_at (shape_of ring) number < (ring.first_block + ring.blocks) * ring.per_block = grind (arith, lt) in
-    let exists = lies_exists ring f (place_in t number) on (omega (arith, within, place-same t ring has number number)) in
+    let exists = lies_exists ring f (place_in t number) on (omega (arith, within, place-same t ring has number)) in
     page_length f (place_in t number) reaches exists ∙ ap (λ (g : Geometry). g.page) lies.geometry
   where
     some_room : (a b : ℕ) → 3 ≤ a → 2 ≤ b → 0 < a * b

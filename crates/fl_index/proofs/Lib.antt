@@ -11,8 +11,8 @@ pub mod SealAnswers
 pub mod Rooms
 pub mod HeaderPages
 pub mod Listings
-pub mod ListingAnswers
 pub mod Showing
+pub mod Held
 pub mod Lookups
 pub mod Counts
 pub mod Scans

@@ -14,11 +14,12 @@ use Rattle.fl_ring.specs.Place.{shape_of, oldest_of, next_of}
 use Rattle.fl_ring.specs.Ring.{Shape, place}
 use Rattle.fl_ring.specs.declared.ring.Ring.{Ring}
 use Rattle.fl_index.specs.declared.index.Index.{Index}
-use Rattle.fl_index.specs.Looking.{looked_at, IsHeld, IsFresh, IfRead, ends_above, unread, HoldsLast, IsScanning, ScansOn}
-use Rattle.fl_index.specs.Memory.{first_in, is_waiting, next_in, oldest_in, per_page, listing_from, listing_in, place_in}
+use Rattle.fl_index.specs.Looking.{looked_at, listing_by, IsHeld, IsFresh, IfRead, ends_above, unread, HoldsLast, IsScanning, ScansOn}
+use Rattle.fl_index.specs.Memory.{first_in, is_waiting, next_in, oldest_in, per_page, listing_in, place_in}
 use Rattle.fl_index.specs.Page.{page_number}
 use Rattle.fl_index.specs.Standing.{Stands}
 use Rattle.fl_index.proofs.Firsts.{full-below}
+use Rattle.fl_index.proofs.Held.{listed-by, listed-first}
 use Rattle.fl_index.proofs.Listings.{IsListing, listing-is}
 use Rattle.fl_index.proofs.Showing.{KeptPage, kept-page, ListingPage, listing-page, PageIs, page-is, X_is}
 
@@ -48,27 +49,27 @@ pub ok-any : (result : Result (Option ℕ) ReadFault) (P : Type 0) → P → OnO
 ok-any (Ok found) P p = p
 ok-any (Err fault) P p = tt
 
-module _ (t : Index) (ring : Ring) (has : t.ring ≡ Some ring) (number : ℕ) where
-  pub listing-same : listing_in t number ≡ listing_from (per_page t) (first_in t) number (oldest_of ring) (next_of ring - oldest_of ring)
-  listing-same = ap (λ (o : Option Ring). listing_from (per_page t) (first_in t) number (unwrap_or (option_map (λ r. oldest_of r) o) 0) (unwrap_or (option_map (λ r. next_of r) o) 0 - unwrap_or (option_map (λ r. oldest_of r) o) 0)) has
-
+module _ (t : Index) (ring : Ring) (has : t.ring ≡ Some ring) where
   pub place-same : (page : ℕ) → place (shape_of ring) page ≡ place_in t page
   place-same page = ap (λ (r : Shape). place r page) (t.lies ring has)
 
-  module _ (page : ℕ) (waits : is_waiting t number ≡ false) (listing : listing_from (per_page t) (first_in t) number (oldest_of ring) (next_of ring - oldest_of ring) ≡ Some page) where
-    pub listing-here : listing_in t number ≡ Some page
-    listing-here = listing-same ∙ listing
+  pub next-same : next_in t ≡ next_of ring
+  next-same = ap (λ (o : Option Ring). unwrap_or (option_map (λ r. next_of r) o) 0) has
 
-    pub looked-here : looked_at t number ≡ Some page
-    looked-here = ap (λ b. cond b None (listing_in t number)) waits ∙ listing-here
+  pub oldest-same : oldest_in t ≡ oldest_of ring
+  oldest-same = ap (λ (o : Option Ring). unwrap_or (option_map (λ r. oldest_of r) o) 0) has
 
-    at : IsListing (per_page t) (first_in t) number (oldest_in t) (next_in t - oldest_in t) page
-    at = listing-is (per_page t) (first_in t) number (next_in t - oldest_in t) (oldest_in t) page listing-here
+  module _ (number page : ℕ) (old : BufferState) (listing : listing_by t number old ≡ Some page) where
+    pub looked-here : is_waiting t number ≡ false → looked_at t number old ≡ Some page
+    looked-here waits = ap (λ b. cond b None (listing_by t number old)) waits ∙ listing
 
     pub kept-here : (oldest_in t ≤ page) × (page < next_in t)
-    kept-here = (at.low, omega (arith, at.low, at.high))
+    kept-here = (listed-by t number page old listing).kept
 
-    module _ (f : FlashState) (old new : BufferState) where
+    pub listing-here : (f : FlashState) (first : ℕ) (plan : Plan) (table : Table) → Stands t f first plan table → listing_in t number ≡ Some page
+    listing-here f first plan table stands = listed-first t f first plan table stands number page (listed-by t number page old listing)
+
+    module _ (f : FlashState) (new : BufferState) where
       pub held-is : old.holds ≡ Some (place (shape_of ring) page) → page_number old.bytes ≡ page → IsHeld t page old
       held-is holds is = record { kept = kept-here; place = holds ∙ ap (λ (n : ℕ). Some n) (place-same page); number_is = is }
 
@@ -170,6 +171,7 @@ module _ (t : Index) (f : FlashState) (first : ℕ) (plan : Plan) (table : Table
           next = page + 1;
           scanning = inr (page, refl, record { is_held = is_held; before = before-it });
           once = omega (arith, reads, unread-later t number from page low within.1 ends);
+          fewer = omega (arith, unread-later t number from page low within.1 ends);
         }
 
         stays : (h : ℕ) → from ≡ h + 1 → HoldsLast t number h old → h ≡ page → ScansOn t number from a b after
@@ -179,6 +181,7 @@ module _ (t : Index) (f : FlashState) (first : ℕ) (plan : Plan) (table : Table
               next = from;
               scanning = inr (h, e, subst (λ (x : BufferState). HoldsLast t number h x) (sym s.1) last);
               once = let r = ap (λ (x : FlashState). x.work.reads) s.0 in omega (arith, r);
+              fewer = omega arith;
             }
 
         by_buffer : IsScanning t number from old → ScansOn t number from a b after

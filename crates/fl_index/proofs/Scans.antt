@@ -1,5 +1,5 @@
 -- What a lookup of a scan reads, at most and at least.
-use Rattle.std.proofs.Common.{◌≡◌, ◌⊎◌, inl, inr, ℕ, suc, ◌+◌, ◌-◌, ◌<◌, ◌≤◌, Bool, true, false, cond, ◌||◌, ◌==◌, nat_le, nat_lt, Option, Some, None, IfErr, IsTrue, Result, Ok, Err, List, [], ◌∷◌, refl, sym, ◌∙◌, ap, subst, arith}
+use Rattle.std.proofs.Common.{◌≡◌, ◌⊎◌, inl, inr, ℕ, suc, ◌+◌, ◌-◌, ◌<◌, ◌≤◌, Bool, true, false, cond, ◌||◌, ◌==◌, nat_le, nat_lt, Option, Some, None, IfErr, OnErr, IsTrue, Result, Ok, Err, List, [], ◌∷◌, refl, sym, ◌∙◌, ap, subst, arith}
 use Rattle.std.proofs.lemmas.Bool.{cases_lt, ltb-true, lt-ltb, eqb-true, false≢true, false_from_ne_true}
 use Rattle.std.specs.List.{list_any, range_with_len, count_by, AllByRecursion}
 use Rattle.fl_flash.specs.Buffer.{BufferState}
@@ -7,10 +7,11 @@ use Rattle.fl_flash.specs.Flash.{FlashState, page_at}
 use Rattle.fl_mark.specs.Mark.{state_of_page}
 use Rattle.fl_model.specs.Record.{Plan}
 use Rattle.fl_model.specs.Table.{Table}
+use Rattle.fl_page.specs.Contents.{IsCaused}
 use Rattle.fl_page.specs.declared.fault.ReadFault.{ReadFault}
 use Rattle.fl_page.specs.declared.fault.ReadFault.TheVariants.{Flash, BadPage}
 use Rattle.fl_index.specs.declared.index.Index.{Index}
-use Rattle.fl_index.specs.Looking.{bad_page, HoldsGood, IsBadPage, IfBad, IsFound, looked_at, IsHeld, ends_above, unread, IsScanning, after_held, next_to_read, is_page, is_looked_at, due}
+use Rattle.fl_index.specs.Looking.{bad_page, HoldsGood, IsBadPage, IfBad, IfUnread, IsFound, listing_of, IsHeld, ends_above, unread, IsScanning, after_held, next_to_read, is_page, is_looked_at, due}
 use Rattle.fl_index.specs.Memory.{first_in, is_waiting, next_in, oldest_in, per_page, lists, listing_in, place_in}
 use Rattle.fl_index.specs.Page.{page_number, IsGoodPage}
 use Rattle.fl_index.specs.Standing.{Stands}
@@ -67,7 +68,7 @@ looked-listed false o page e = e
 
 looked-lists : (t : Index) (listing number : ℕ) → is_looked_at t listing number ≡ true → lists (per_page t) number (first_in t listing) ≡ true
 looked-lists t listing number e =
-    let h = looked-listed (is_waiting t number) (listing_in t number) listing (page-is listing (looked_at t number) e) in
+    let h = looked-listed (is_waiting t number) (listing_in t number) listing (page-is listing (listing_of t number) e) in
     (listing-is (per_page t) (first_in t) number (next_in t - oldest_in t) (oldest_in t) listing h).here
 
 none-looked : (t : Index) (listing number : ℕ) (numbers : List ℕ) → ends_above (per_page t) number (first_in t listing) ≡ false → AllByRecursion (λ n. number ≤ n) numbers → list_any (is_looked_at t listing) numbers ≡ false
@@ -85,15 +86,27 @@ due-same t number from numbers other =
     count-fewer (λ n. list_any (is_looked_at t n) (number ∷ numbers)) (λ n. list_any (is_looked_at t n) numbers) (next_in t - from) from
     (λ k low high e. sym (ap (λ b. b || list_any (is_looked_at t k) numbers) (other k low)) ∙ e)
 
-pub none-at : (t : Index) (number : ℕ) → looked_at t number ≡ None → (k : ℕ) → is_looked_at t k number ≡ false
+pub none-at : (t : Index) (number : ℕ) → listing_of t number ≡ None → (k : ℕ) → is_looked_at t k number ≡ false
 none-at t number none k = ap (is_page k) none
 
 -- without a look nothing is read
-pub memory-least : (t : Index) (number from reads : ℕ) (numbers : List ℕ) (buf : BufferState) → looked_at t number ≡ None → IsScanning t number from buf → reads + due t (number ∷ numbers) from ≤ reads + due t numbers (next_to_read t buf)
+pub memory-least : (t : Index) (number from reads : ℕ) (numbers : List ℕ) (buf : BufferState) → listing_of t number ≡ None → IsScanning t number from buf → reads + due t (number ∷ numbers) from ≤ reads + due t numbers (next_to_read t buf)
 memory-least t number from reads numbers buf none scanning =
     let few = due-same t number from numbers (λ k low. none-at t number none k) in
     let moved = ap (due t numbers) (scanning-from t number from buf scanning) in
     omega (arith, few, moved)
+
+-- what is found in a good page is no fault
+pub good-found : (t : Index) (page number : ℕ) (bytes : List ℕ) (result : Result (Option ℕ) ReadFault) (P : Type 0) → IsGoodPage (per_page t) page bytes → IsFound t page number bytes result → IfErr result (IfUnread (λ e. ⊥)) → OnErr result P
+good-found t page number bytes (Ok found) P good is none = tt
+good-found t page number bytes (Err (Flash fault)) P good is none = absurd none
+good-found t page number bytes (Err (BadPage bad)) P good is none = absurd (is.1 good)
+
+-- a fault that isn't one of the flash needs no cause
+pub caused-none : (f g : FlashState) (result : Result (Option ℕ) ReadFault) → IfErr result (IfUnread (λ e. ⊥)) → IfErr result (λ fault. IsCaused f fault g)
+caused-none f g (Ok found) none = tt
+caused-none f g (Err (Flash fault)) none = absurd none
+caused-none f g (Err (BadPage bad)) none = tt
 
 -- a bad page stands on the flash, where none is held
 pub bad-page : (t : Index) (f : FlashState) (number page : ℕ) (old new : BufferState) (result : Result (Option ℕ) ReadFault) → (oldest_in t ≤ page) × (page < next_in t) → IsFound t page number new.bytes result →
@@ -141,10 +154,25 @@ module _ (t : Index) (f : FlashState) (first : ℕ) (plan : Plan) (table : Table
     | inr h ↦ let r = ap (λ (x : FlashState). x.work.reads) (held h.0) in omega (arith, r)
   ]
 
-  behind : (looked : looked_at t number ≡ Some page) (k : ℕ) → page + 1 ≤ k → is_looked_at t k number ≡ false
+  -- where the page isn't held, the index pages before those that may be read end at or below the number
+  pub unread-again : (from : ℕ) (old : BufferState) → IsScanning t number from old → (IsHeld t page old → ⊥) → unread t number (oldest_in t) ≤ unread t number from
+  unread-again from old scanning unheld = let w = where-page from old scanning in elim w.1 [ inl h ↦ behind_oldest w.0 h.0 | inr h ↦ absurd (unheld h.0) ]
+    where
+      behind_oldest : oldest_in t ≤ from → from ≤ page → unread t number (oldest_in t) ≤ unread t number from
+      behind_oldest low le =
+          let k = from - oldest_in t in
+          let n = next_in t - from in
+          let parts : next_in t - oldest_in t ≡ k + n = omega (arith, low, le, here.1) in
+          let at : oldest_in t + k ≡ from = omega (arith, low) in
+          let split = ap (λ m. count_by (λ n. ends_above (per_page t) number (first_in t n)) (range_with_len (oldest_in t) m)) parts ∙ count-split (λ n. ends_above (per_page t) number (first_in t n)) k n (oldest_in t) in
+          let moved = ap (λ a. count_by (λ n. ends_above (per_page t) number (first_in t n)) (range_with_len a n)) at in
+          let front = count-none (λ n. ends_above (per_page t) number (first_in t n)) k (oldest_in t) (λ j from_j to_j. before-it t f first plan table stands number page listing j from_j (omega (arith, to_j, at, le))) in
+          omega (arith, split, moved, front)
+
+  behind : (looked : listing_of t number ≡ Some page) (k : ℕ) → page + 1 ≤ k → is_looked_at t k number ≡ false
   behind looked k low = ap (is_page k) looked ∙ false_from_ne_true (page == k) (λ e. let same = eqb-true page k e in omega (arith, same, low))
 
-  due-read : (from : ℕ) (numbers : List ℕ) → oldest_in t ≤ from → from ≤ page → looked_at t number ≡ Some page → AllByRecursion (λ n. number ≤ n) numbers → due t (number ∷ numbers) from ≤ 1 + due t numbers (page + 1)
+  due-read : (from : ℕ) (numbers : List ℕ) → oldest_in t ≤ from → from ≤ page → listing_of t number ≡ Some page → AllByRecursion (λ n. number ≤ n) numbers → due t (number ∷ numbers) from ≤ 1 + due t numbers (page + 1)
   due-read from numbers low le looked later =
       let k = page - from in
       let n = next_in t - (page + 1) in
@@ -157,7 +185,7 @@ module _ (t : Index) (f : FlashState) (first : ℕ) (plan : Plan) (table : Table
       omega (arith, split, moved, front, count-cons (looked-by t (number ∷ numbers)) n page, at-most-one (looked-by t (number ∷ numbers) page), others)
 
   -- at least it reads the page where that isn't held
-  pub scan-least : (from : ℕ) (old after : BufferState) (a b : FlashState) (numbers : List ℕ) → IsScanning t number from old → looked_at t number ≡ Some page → AllByRecursion (λ n. number ≤ n) numbers →
+  pub scan-least : (from : ℕ) (old after : BufferState) (a b : FlashState) (numbers : List ℕ) → IsScanning t number from old → listing_of t number ≡ Some page → AllByRecursion (λ n. number ≤ n) numbers →
       ((IsHeld t page old → ⊥) → a.work.reads + 1 ≤ b.work.reads) → (IsHeld t page old → (b ≡ a) × (after ≡ old)) → after.holds ≡ Some (place_in t page) → page_number after.bytes ≡ page →
       a.work.reads + due t (number ∷ numbers) from ≤ b.work.reads + due t numbers (next_to_read t after)
   scan-least from old after a b numbers scanning looked later read held holds number_is =

@@ -11,13 +11,14 @@ use Rattle.fl_model.specs.Ring as model
 use Rattle.fl_model.specs.Table.{Table, full_pages}
 use Rattle.fl_model.proofs.Lists.{slice_get-some, slice_get-short}
 use Rattle.fl_index.specs.declared.index.Index.{Index}
-use Rattle.fl_index.specs.Looking.{looked_at, ends_above, unread, is_page, is_looked_at, due}
+use Rattle.fl_index.specs.Looking.{ends_above, unread, is_page, is_looked_at, due}
 use Rattle.fl_index.specs.Memory.{first_in, first_waiting, waiting_in, is_waiting, next_in, oldest_in, per_page, lists, listing_in}
 use Rattle.fl_index.specs.Standing.{Stands}
 use Rattle.fl_index.proofs.Counts.{count-cons, at-most-one}
-use Rattle.fl_index.proofs.Firsts.{full-one, full-void, full-append, full-within, full-below}
+use Rattle.fl_index.proofs.Firsts.{full-one, full-void, full-append, full-within}
 use Rattle.fl_index.proofs.Lists.{below-end}
-use Rattle.fl_index.proofs.Listings.{listing-is, listing-no}
+use Rattle.fl_index.proofs.Held.{listed-first}
+use Rattle.fl_index.proofs.Listings.{listing-is}
 use Rattle.fl_index.proofs.Showing.{both_true, ListingPage, listing-page, listed-indexed, waits-indexed, none-shows, number_old, kept_len, firsts_from, X_is}
 
 drop-at : (i x : ℕ) (xs : List ℕ) → slice_get xs i ≡ Some x → drop i xs ≡ x ∷ drop (suc i) xs
@@ -112,19 +113,14 @@ module _ (t : Index) (f : FlashState) (first : ℕ) (plan : Plan) (table : Table
 
   -- ---- the index page that lists a data page is looked at for it
 
-  one-lists : (number a b : ℕ) → ListingPage t f first plan table stands number a → ListingPage t f first plan table stands number b → a < b → ⊥
-  one-lists number a b la lb lt =
-      let less = full-below counts la.kept.i lb.kept.i la.kept.c (omega (arith, la.kept.at, lb.kept.at, lt)) la.kept.here la.some in
-      let apart = stands.in_ring.facts.firsts _ _ la.first_page lb.first_page (omega (arith, less)) la.listed lb.listed in
-      omega (arith, apart, lb.low, la.high)
-
   pub listed-looked : (number page first_page : ℕ) → oldest_in t ≤ page → page < next_in t → first_in t page ≡ Some first_page → first_page ≤ number → number < first_page + entries_per_page plan → is_looked_at t page number ≡ true
   listed-looked number page first_page low high is from before =
       let here : lists (per_page t) number (first_in t page) ≡ true =
       ap (lists (per_page t) number) is
       ∙ (ap (λ b. b && nat_lt number (first_page + per_page t)) (le-leb first_page number from) ∙ lt-ltb number (first_page + per_page t) (omega (arith, before, X_is t f first plan table stands))) in
       let l = listing-page t f first plan table stands number page low high here in
-      ap (λ b. is_page page (cond b None (listing_in t number))) (not_waiting l) ∙ by_listing (listing_in t number) refl here l
+      ap (λ b. is_page page (cond b None (listing_in t number))) (not_waiting l)
+      ∙ (ap (is_page page) (listed-first t f first plan table stands number page (record { kept = (low, high); here = here })) ∙ eq-eqb page page refl)
     where
       not_waiting : ListingPage t f first plan table stands number page → is_waiting t number ≡ false
       not_waiting l = false_from_ne_true (is_waiting t number) (λ e.
@@ -132,20 +128,6 @@ module _ (t : Index) (f : FlashState) (first : ℕ) (plan : Plan) (table : Table
           let least = leb-true (first_waiting t) number b.0 in
           let end = below-end (entries_per_page plan) table.firsts _ l.first_page stands.in_ring.facts.firsts l.listed in
           omega (arith, least, end, l.high, stands.in_ring.facts.listed, stands.waits.first_is))
-
-      by_listing : (o : Option ℕ) → listing_in t number ≡ o → lists (per_page t) number (first_in t page) ≡ true → ListingPage t f first plan table stands number page → is_page page o ≡ true
-      by_listing None e here l =
-          absurd (false≢true (sym (listing-no (per_page t) (first_in t) number (next_in t - oldest_in t) (oldest_in t) page e low (omega (arith, low, high))) ∙ here))
-      by_listing (Some other) e here l =
-          let at = listing-is (per_page t) (first_in t) number (next_in t - oldest_in t) (oldest_in t) other e in
-          let k = listing-page t f first plan table stands number other at.low (omega (arith, at.low, at.high)) at.here in
-          elim (cases_lt other page) [
-            | inl less ↦ absurd (one-lists number other page k l less)
-            | inr le ↦ elim (cases_lt page other) [
-              | inl less ↦ absurd (one-lists number page other l k less)
-              | inr ge ↦ eq-eqb other page (omega (arith, le, ge))
-            ]
-          ]
 
   -- the index pages that the model counts are due
   module _ (q : ℕ → Bool) (numbers : List ℕ) (looked : (page first_page : ℕ) → oldest_in t ≤ page → page < next_in t → first_in t page ≡ Some first_page → q first_page ≡ true → list_any (is_looked_at t page) numbers ≡ true) where

@@ -1,5 +1,5 @@
 -- A lookup of a data page's bitmap, over any bytes and for a table of the model.
-use Rattle.std.specs.Prelude.{◌≡◌, ◌⊎◌, ℕ, ◌+◌, ◌-◌, ◌<◌, ◌≤◌, Bool, false, nat_lt, ◌==◌, Option, Some, None, IfSome, is_some, unwrap_or, Result, Ok, Err, List, count_by, slice_get, if◌then◌else◌}
+use Rattle.std.specs.Prelude.{◌≡◌, ◌⊎◌, ℕ, ◌+◌, ◌-◌, ◌<◌, ◌≤◌, Bool, true, false, ◌&&◌, nat_le, nat_lt, ◌==◌, Option, Some, None, IfSome, is_some, unwrap_or, Result, Ok, Err, List, count_by, slice_get, if◌then◌else◌}
 use Rattle.std.specs.List.{range_with_len, list_any}
 use Rattle.fl_flash.specs.Buffer.{BufferState}
 use Rattle.fl_flash.specs.Flash.{FlashState, page_at}
@@ -16,7 +16,7 @@ use Rattle.fl_page.specs.declared.fault.BadPage.{BadPage as Refusal}
 use Rattle.fl_page.specs.declared.fault.ReadFault.{ReadFault}
 use Rattle.fl_page.specs.declared.fault.ReadFault.TheVariants.{Flash, BadPage}
 use Rattle.fl_index.specs.declared.index.Index.{Index}
-use Rattle.fl_index.specs.Memory.{oldest_in, next_in, place_in, per_page, width_in, first_in, listing_in, is_waiting, waiting_at, first_waiting}
+use Rattle.fl_index.specs.Memory.{oldest_in, next_in, place_in, per_page, width_in, first_in, lists, listing_in, is_waiting, waiting_at, first_waiting}
 use Rattle.fl_index.specs.Page.{page_number, page_entries, entry_at, IsGoodPage}
 
 -- a buffer holds the kept index page with this number
@@ -32,6 +32,11 @@ IsFresh index f buf = (number : ℕ) → IsHeld index number buf → buf.bytes �
 -- the place of a data page among those that a kept index page lists
 abbrev pub entry_of : Index → ℕ → ℕ → ℕ
 entry_of index listing number = number - unwrap_or (first_in index listing) 0
+
+-- a kept index page lists a data page, and the place of its bitmap there is this one
+abbrev pub HasEntry : Index → ℕ → ℕ → ℕ → Type 0
+HasEntry index number listing entry =
+    (lists (per_page index) number (first_in index listing) ≡ true) × (entry ≡ entry_of index listing number) × (entry < per_page index)
 
 abbrev pub bad_page : ℕ → List ℕ → Refusal
 bad_page number page = record { wanted = number; found = page_number page; count = page_entries page }
@@ -56,9 +61,27 @@ abbrev pub IfUnread : (FlashFault → Type 0) → ReadFault → Type 0
 IfUnread P (Flash fault) = P fault
 IfUnread P (BadPage bad) = Unit {0}
 
+-- there is a page, and its number is this one
+abbrev pub is_page : ℕ → Option ℕ → Bool
+is_page number None = false
+is_page number (Some page) = page == number
+
+-- a buffer holds the place of the kept index page whose number stands in its bytes
+abbrev pub is_kept : Index → BufferState → Bool
+is_kept index buf =
+    nat_le (oldest_in index) (page_number buf.bytes) && nat_lt (page_number buf.bytes) (next_in index) && is_page (place_in index (page_number buf.bytes)) buf.holds
+
+-- .. and it lists a data page
+abbrev pub held_lists : Index → ℕ → BufferState → Bool
+held_lists index number buf = is_kept index buf && lists (per_page index) number (first_in index (page_number buf.bytes))
+
+-- the kept index page that lists a data page: that in the buffer, where it does, or else the first one
+abbrev pub listing_by : Index → ℕ → BufferState → Option ℕ
+listing_by index number buf = if held_lists index number buf then Some (page_number buf.bytes) else listing_in index number
+
 -- the index page to be looked at, where there is one: the bitmap doesn't wait, and a kept index page lists the data page
-abbrev pub looked_at : Index → ℕ → Option ℕ
-looked_at index number = if is_waiting index number then None else listing_in index number
+abbrev pub looked_at : Index → ℕ → BufferState → Option ℕ
+looked_at index number buf = if is_waiting index number then None else listing_by index number buf
 
 -- Nothing was read, and this was answered: the bitmap where it waits.
 pub record ByMemory (index : Index) (number : ℕ) (old : FlashState) (before : BufferState) (result : Result (Option ℕ) ReadFault) (new : FlashState) (after : BufferState) : Type 0 where
@@ -100,6 +123,7 @@ pub record ScansOn (index : Index) (number from : ℕ) (old new : FlashState) (a
   pub next : ℕ
   pub scanning : IsScanning index number next after
   pub once : new.work.reads + unread index number next ≤ old.work.reads + unread index number from
+  pub fewer : unread index number next ≤ unread index number from
 
 -- the first index page that may still be read where a buffer holds what was looked at last
 abbrev pub after_held : ℕ → ℕ → Option ℕ → ℕ
@@ -109,13 +133,13 @@ after_held oldest number (Some page) = number + 1
 abbrev pub next_to_read : Index → BufferState → ℕ
 next_to_read index buf = after_held (oldest_in index) (page_number buf.bytes) buf.holds
 
--- an index page is the one to be looked at for a data page
-abbrev pub is_page : ℕ → Option ℕ → Bool
-is_page listing None = false
-is_page listing (Some page) = page == listing
+-- the first index page that lists a data page whose bitmap doesn't wait
+abbrev pub listing_of : Index → ℕ → Option ℕ
+listing_of index number = if is_waiting index number then None else listing_in index number
 
+-- .. is this one
 abbrev pub is_looked_at : Index → ℕ → ℕ → Bool
-is_looked_at index listing number = is_page listing (looked_at index number)
+is_looked_at index listing number = is_page listing (listing_of index number)
 
 -- of the kept index pages from one on those to be looked at for some of these data pages
 abbrev pub due : Index → List ℕ → ℕ → ℕ

@@ -3,8 +3,9 @@ ghost use Rattle.std.specs.Prelude.{◌≡◌, ◌⊎◌, ◌+◌, ◌-◌, ◌*
 ghost use Rattle.fl_flash.specs.Flash.{page_at};
 ghost use Rattle.fl_flash.specs.Media.{next_count};
 ghost use Rattle.fl_page.specs.Contents as contents;
-ghost use Rattle.fl_ring.specs.Looking.{OnlyReads, ReadFails};
-ghost use Rattle.fl_ring.specs.Place.{shape_of, oldest_of, next_of, LiesOn as LiesIn};
+ghost use Rattle.fl_page.specs.declared.fault.ReadFault.TheVariants as fault;
+ghost use Rattle.fl_ring.specs.Looking.{OnlyReads};
+ghost use Rattle.fl_ring.specs.Place.{shape_of, LiesOn as LiesIn};
 ghost use Rattle.fl_ring.specs.Ring.{place};
 ghost use Rattle.fl_index.specs.Page.{page_number};
 
@@ -27,8 +28,8 @@ impl Index {
     ghost use Rattle.std.specs.List.{AllByRecursion};
     ghost use Rattle.fl_model.specs.Record.{Plan};
     ghost use Rattle.fl_model.specs.Table as model;
-    ghost use Rattle.fl_index.specs.Looking.{looked_at, entry_of, IsFound, IsHeld, IsFresh, IfRead, IfUnread, ByMemory, ShowsBitmap, IsScanning, ScansOn, HoldsGood, IsBadPage, IfBad, due, next_to_read, unread};
-    ghost use Rattle.fl_index.specs.Memory.{first_in, listing_from, lists, per_page, place_in, width_in, LiesOn};
+    ghost use Rattle.fl_index.specs.Looking.{looked_at, listing_by, held_lists, entry_of, HasEntry, IsFound, IsHeld, IsFresh, IfRead, IfUnread, ByMemory, ShowsBitmap, IsScanning, ScansOn, HoldsGood, IsBadPage, IfBad, due, next_to_read, unread};
+    ghost use Rattle.fl_index.specs.Memory.{first_in, listing_in, lists, oldest_in, per_page, place_in, width_in, LiesOn};
     ghost use Rattle.fl_index.specs.Standing.{Stands};
 
     /// The bitmap of a data page, and none where it doesn't wait and no kept index page lists it. The index page that
@@ -46,15 +47,15 @@ impl Index {
         ensures room { length buf.new.bytes ≡ length buf.old.bytes }
 
         // A bitmap that waits, and that of a data page that no index page lists, need no look ..
-        ensures memory { looked_at self.now number ≡ None → ByMemory self.now number (F.state flash.old) buf.old result (F.state flash.new) buf.new }
+        ensures memory { looked_at self.now number buf.old ≡ None → ByMemory self.now number (F.state flash.old) buf.old result (F.state flash.new) buf.new }
 
         // .. and any other one is looked up in the one index page that lists it, which isn't read where the buffer holds it.
-        ensures found { IfSome (looked_at self.now number) (λ listing. IsFound self.now listing number buf.new.bytes result) }
-        ensures page { IfSome (looked_at self.now number) (λ listing. IsTrue (F.state flash.old).media.tells → IsFresh self.now (F.state flash.old) buf.old →
+        ensures found { IfSome (looked_at self.now number buf.old) (λ listing. IsFound self.now listing number buf.new.bytes result) }
+        ensures page { IfSome (looked_at self.now number buf.old) (λ listing. IsTrue (F.state flash.old).media.tells → IsFresh self.now (F.state flash.old) buf.old →
             IfRead result (buf.new.bytes ≡ page_at (F.state flash.old) (place_in self.now listing))) }
-        ensures holds { IfSome (looked_at self.now number) (λ listing. IfRead result (buf.new.holds ≡ Some (place_in self.now listing))) }
-        ensures held { IfSome (looked_at self.now number) (λ listing. IsHeld self.now listing buf.old → ((F.state flash.new) ≡ F.state flash.old) × (buf.new ≡ buf.old)) }
-        ensures read { IfSome (looked_at self.now number) (λ listing. (buf.old.holds ≡ Some (place_in self.now listing) → page_number buf.old.bytes ≡ listing → ⊥) →
+        ensures holds { IfSome (looked_at self.now number buf.old) (λ listing. IfRead result (buf.new.holds ≡ Some (place_in self.now listing))) }
+        ensures held { IfSome (looked_at self.now number buf.old) (λ listing. IsHeld self.now listing buf.old → ((F.state flash.new) ≡ F.state flash.old) × (buf.new ≡ buf.old)) }
+        ensures read { IfSome (looked_at self.now number buf.old) (λ listing. (buf.old.holds ≡ Some (place_in self.now listing) → page_number buf.old.bytes ≡ listing → ⊥) →
             IfRead result ((F.state flash.new).work.reads ≡ next_count (F.state flash.old).work.reads)) }
         ensures fresh { IsTrue (F.state flash.old).media.tells → IsFresh self.now (F.state flash.old) buf.old → IsFresh self.now (F.state flash.new) buf.new }
 
@@ -68,10 +69,14 @@ impl Index {
             IsFresh self.now (F.state flash.old) buf.old → IsScanning self.now number from buf.old → AllByRecursion (λ n. number ≤ n) numbers → (F.state flash.new).work.reads < 2 ^ 64 - 1 →
             OnOk result ((F.state flash.old).work.reads + due self.now (number ∷ numbers) from ≤ (F.state flash.new).work.reads + due self.now numbers (next_to_read self.now buf.new)) }
 
+        // A scan that begins anew after a fault has no more left to read than before it.
+        ensures again { (first : ℕ) → (plan : Plan) → (table : model.Table) → (from : ℕ) → IsTrue (F.state flash.old).media.tells → Stands self.now (F.state flash.old) first plan table →
+            IsFresh self.now (F.state flash.old) buf.old → IsScanning self.now number from buf.old → OnErr result (unread self.now number (oldest_in self.now) ≤ unread self.now number from) }
+
         // A page that is held isn't bad, and a bad one that is answered stands on the flash.
         ensures good { HoldsGood self.now buf.old → OnOk result (HoldsGood self.now buf.new) }
         ensures bad { IfErr result (IfBad (λ bad. IsTrue (F.state flash.old).media.tells → HoldsGood self.now buf.old → IsBadPage self.now (F.state flash.old) bad)) }
-        ensures fails { IfErr result (IfUnread (λ e. ReadFails (F.state flash.old) e (F.state flash.new))) }
+        ensures cause { IfErr result (λ fault. contents.IsCaused (F.state flash.old) fault (F.state flash.new)) }
         ensures unread { IfErr result (IfUnread (λ e. buf.new.holds ≡ None)) }
     {
         if let Some(bitmap) = self.waiting_bitmap(number) {
@@ -80,7 +85,7 @@ impl Index {
         let Some(ring) = &self.ring else {
             return Ok(None);
         };
-        let Some(listing) = self.listing(ring, number) else {
+        let Some(listing) = self.listing(ring, number, buf) else {
             return Ok(None);
         };
         if let Err(fault) = hold(ring, listing.page, flash, buf) {
@@ -89,28 +94,61 @@ impl Index {
         self.listed(listing, buf.bytes())
     }
 
-    /// The kept index page that lists a data page.
-    fn listing(&self, ring: &Ring, number: u32) -> Option<Listing>
-        ensures none { result ≡ None → listing_from (per_page self.now) (first_in self.now) number (oldest_of ring.now) (next_of ring.now - oldest_of ring.now) ≡ None }
-        ensures some { IfSome result (λ l. (listing_from (per_page self.now) (first_in self.now) number (oldest_of ring.now) (next_of ring.now - oldest_of ring.now) ≡ Some l.page)
-            × (l.entry ≡ entry_of self.now l.page number) × (l.entry < per_page self.now)) }
+    /// The kept index page that lists a data page: that in the buffer, where it does, or else the first one. So a scan
+    /// searches for an index page only where it comes to another one.
+    fn listing(&self, ring: &Ring, number: u32, buf: &PageBuf) -> Option<Listing>
+        requires mine { self.now.ring ≡ Some ring.now }
+        requires room { 16 ≤ length buf.now.bytes }
+        ensures none { result ≡ None → listing_by self.now number buf.now ≡ None }
+        ensures some { IfSome result (λ l. (listing_by self.now number buf.now ≡ Some l.page) × HasEntry self.now number l.page l.entry) }
+    {
+        if let Some(listing) = self.held_listing(ring, number, buf) {
+            return Some(listing);
+        }
+        self.first_listing(ring, number)
+    }
+
+    /// The kept index page in the buffer, if it lists a data page.
+    fn held_listing(&self, ring: &Ring, number: u32, buf: &PageBuf) -> Option<Listing>
+        requires mine { self.now.ring ≡ Some ring.now }
+        requires room { 16 ≤ length buf.now.bytes }
+        ensures none { result ≡ None → held_lists self.now number buf.now ≡ false }
+        ensures some { IfSome result (λ l. (held_lists self.now number buf.now ≡ true) × (l.page ≡ page_number buf.now.bytes) × HasEntry self.now number l.page l.entry) }
+    {
+        let page = number_in(buf.bytes());
+        if page < ring.oldest() || ring.next_number() <= page {
+            return None;
+        }
+        if buf.holds() != Some(ring.place_of(page)) {
+            return None;
+        }
+        self.listing_on(page, number)
+    }
+
+    /// The first kept index page that lists a data page.
+    fn first_listing(&self, ring: &Ring, number: u32) -> Option<Listing>
+        requires mine { self.now.ring ≡ Some ring.now }
+        ensures none { result ≡ None → listing_in self.now number ≡ None }
+        ensures some { IfSome result (λ l. (listing_in self.now number ≡ Some l.page) × HasEntry self.now number l.page l.entry) }
     {
         for page in ring.oldest()..ring.next_number() {
-            let first = self.firsts[page as usize % self.firsts.len()];
-            if let Some(entry) = self.entry_after(first, number) {
-                return Some(Listing { page, entry });
+            if let Some(listing) = self.listing_on(page, number) {
+                return Some(listing);
             }
         }
         None
     }
 
-    /// The place of a data page's bitmap in an index page that lists data pages from `first` on, if it lists that one.
-    fn entry_after(&self, first: Option<u32>, number: u32) -> Option<usize>
-        ensures { result ≡ (if lists (per_page self.now) number first then Some (number - unwrap_or first 0) else None) }
+    /// The index page with this number, if it lists a data page.
+    fn listing_on(&self, page: u32, number: u32) -> Option<Listing>
+        ensures none { result ≡ None → lists (per_page self.now) number (first_in self.now page) ≡ false }
+        ensures some { IfSome result (λ l. (l.page ≡ page) × HasEntry self.now number page l.entry) }
     {
+        let first = self.firsts[page as usize % self.firsts.len()];
         match first {
             Some(first) if first <= number && number - first < self.capacity() => {
-                Some((number - first) as usize)
+                let entry = (number - first) as usize;
+                Some(Listing { page, entry })
             }
             _ => None,
         }
@@ -157,7 +195,7 @@ fn hold<F: Flash>(
         (buf.new.bytes ≡ page_at (F.state flash.old) (place (shape_of ring.now) number)) ⊎ ((buf.old.holds ≡ Some (place (shape_of ring.now) number)) × (page_number buf.old.bytes ≡ number) × (buf.new ≡ buf.old))) }
     ensures read { OnOk result ((buf.old.holds ≡ Some (place (shape_of ring.now) number) → page_number buf.old.bytes ≡ number → ⊥) → (F.state flash.new).work.reads ≡ next_count (F.state flash.old).work.reads) }
     ensures none { OnErr result (buf.new.holds ≡ None) }
-    ensures fails { IfErr result (λ e. ReadFails (F.state flash.old) e (F.state flash.new)) }
+    ensures cause { IfErr result (λ e. contents.IsCaused (F.state flash.old) (fault.Flash e) (F.state flash.new)) }
 {
     let page = ring.place_of(number);
     if buf.holds() == Some(page) && number_in(buf.bytes()) == number {

@@ -3,11 +3,13 @@ use Rattle.std.proofs.Common.{◌≡◌, ℕ, zero, suc, ◌+◌, ◌-◌, ◌^�
 use Rattle.std.specs.List.{slice_get}
 use Rattle.std.specs.Option.{is_some}
 use Rattle.fl_base.specs.declared.types.KeyRange.{KeyRange}
+use Rattle.fl_base.specs.declared.types.Span.{Span}
 use Rattle.fl_model.specs.Record.{Plan, Record, Config}
 use Rattle.fl_model.specs.Table.{Table, Refusal, refusal_of, put_seals, put_record}
 use Rattle.fl_model.specs.Work.{Device, Progress, Outcome, Finished, CutShort, Failed, Performs, operations_of, changed_at}
 use Rattle.fl_model.specs.Mount.{Mounts, MountEnd, Mounted, Stopped, Unread, rings_from}
 use Rattle.fl_model.specs.Query.{left_of, moved}
+use Rattle.fl_model.specs.Limits.{scan_limit}
 use Rattle.fl_model.specs.Spline.{lookup_limit, lookup_reads}
 use Rattle.fl_words.specs.Command as command
 use Rattle.fl_words.specs.Command.{Command}
@@ -16,8 +18,8 @@ use Rattle.fl_words.specs.Reply.{Reply}
 use Rattle.fl_machine.specs.Machine.{Machine, OpenCursor, Cost, OfGet}
 use Rattle.fl_machine.specs.Step.{Moment, Step, StepOf, Says, EndsAs, EndsMount, WithTable, Located, located, LoadsFrom, LoadsOn, GetStep, NextStep, cursor_at, no_column, load_record, next_random, rows_of, cost_reply, refused}
 use Rattle.fl_machine.specs.Run.{Run}
-use Rattle.fl_machine.specs.Reads.{has_reads, is_unread, none_read, OnTable, OnColumns, ReadsLeast, GetExact, ExactOf, RunExact, reads_in}
-use Rattle.fl_machine.specs.AllReads.{GetReads, ScanReads, ReadsOf, RunReads}
+use Rattle.fl_machine.specs.Reads.{has_reads, is_unread, none_read, blob_limit, OnTable, OnColumns, OnCursor, FaultHasRead, GetExact, ScanExact, ExactOf, RunExact, reads_in}
+use Rattle.fl_machine.specs.AllReads.{Within, GetReads, ScanReads, NextReads, ReadsOf, RunReads}
 use Rattle.fl_machine.specs.Costs.{executed_on, cost_of_get, cost_after, TellsCosts, CostsAreTold, PromisedCostsAreTold}
 
 cost_in : Machine → Cost
@@ -222,12 +224,36 @@ on-read config old m name P Q go h = by_cases old.mounted (located config old na
     by_cases true (Some at) h = go at h
     by_cases false o h = h
 
+-- a scan reads no fewer pages than it must
+scan-read : (config : Config) (m : Moment) (range : KeyRange) (span : Option Span) (at : Located) → ScanReads config m range span at → ScanExact m range span at
+scan-read config m range span at h = record { least = h.1; failed = h.0.1 }
+
+-- a cursor whose read failed has read
+next-read : (config : Config) (old : Machine) (m : Moment) (n : ℕ) → OnCursor config old m n (NextReads config m) → OnCursor config old m n (λ c plan table. FaultHasRead m)
+next-read config old m n h = by_cursor old.mounted (cursor_at old n) h
+  where
+    by_table : (c : OpenCursor) (plan : Plan) (o : Option Table) → MatchOption o (none_read m) (NextReads config m c plan) → MatchOption o (none_read m) (λ table. FaultHasRead m)
+    by_table c plan None h = h
+    by_table c plan (Some table) h = h.1
+
+    by_plan : (c : OpenCursor) (o : Option Plan) → MatchOption o (none_read m) (λ plan. MatchOption (slice_get old.tables c.table) (none_read m) (NextReads config m c plan)) →
+        MatchOption o (none_read m) (λ plan. MatchOption (slice_get old.tables c.table) (none_read m) (λ table. FaultHasRead m))
+    by_plan c None h = h
+    by_plan c (Some plan) h = by_table c plan (slice_get old.tables c.table) h
+
+    by_cursor : (b : Bool) (o : Option OpenCursor) →
+        MatchBool b (MatchOption o (none_read m) (λ c. MatchOption (slice_get config.plans c.table) (none_read m) (λ plan. MatchOption (slice_get old.tables c.table) (none_read m) (NextReads config m c plan)))) (none_read m) →
+        MatchBool b (MatchOption o (none_read m) (λ c. MatchOption (slice_get config.plans c.table) (none_read m) (λ plan. MatchOption (slice_get old.tables c.table) (none_read m) (λ table. FaultHasRead m)))) (none_read m)
+    by_cursor true None h = h
+    by_cursor true (Some c) h = by_plan c (slice_get config.plans c.table) h
+    by_cursor false o h = h
+
 -- an operator over columns reads no fewer pages than it must
-over-read : (config : Config) (m : Moment) (range : KeyRange) (columns : List ℕ) (at : Located) → OnColumns m columns (ScanReads config m range None) at → OnColumns m columns (ReadsLeast m range None) at
+over-read : (config : Config) (m : Moment) (range : KeyRange) (columns : List ℕ) (at : Located) → OnColumns m columns (ScanReads config m range None) at → OnColumns m columns (ScanExact m range None) at
 over-read config m range columns at h = by_lacked (no_column at.plan columns) h
   where
-    by_lacked : (lacked : Option ℕ) → MatchOption lacked (ScanReads config m range None at) (λ column. none_read m) → MatchOption lacked (ReadsLeast m range None at) (λ column. none_read m)
-    by_lacked None h = h.1
+    by_lacked : (lacked : Option ℕ) → MatchOption lacked (ScanReads config m range None at) (λ column. none_read m) → MatchOption lacked (ScanExact m range None at) (λ column. none_read m)
+    by_lacked None h = scan-read config m range None at h
     by_lacked (Some column) h = h
 
 -- the reads of every command are as many as is promised
@@ -239,15 +265,22 @@ exact-read config old m (command.Cut n kind) r = tt
 exact-read config old m (command.Put name key values blob) r = tt
 exact-read config old m (command.Flush name) r = tt
 exact-read config old m (command.Get name key) r = on-read config old m name (GetReads config m key) (GetExact config m key) (λ at p. record { covered = p.1; found = p.2; failed = p.0.1 }) r
-exact-read config old m (command.Blob name key) r = tt
-exact-read config old m (command.Scan name range span) r = on-read config old m name (ScanReads config m range span) (ReadsLeast m range span) (λ at p. p.1) r
+exact-read config old m (command.Blob name key) r = on-read config old m name within (λ at. FaultHasRead m) (λ at p. p.1) r
+  where
+    within : Located → Type 0
+    within at = Within m (blob_limit config.knots at.plan at.table key)
+exact-read config old m (command.Scan name range span) r = on-read config old m name (ScanReads config m range span) (ScanExact m range span) (scan-read config m range span) r
 exact-read config old m (command.Open cursor name range span) r = tt
-exact-read config old m (command.Next cursor count) r = tt
+exact-read config old m (command.Next cursor count) r = next-read config old m cursor r
 exact-read config old m (command.Close cursor) r = tt
-exact-read config old m (command.Select name range column op value) r = on-read config old m name (OnColumns m (column ∷ []) (ScanReads config m range None)) (OnColumns m (column ∷ []) (ReadsLeast m range None)) (over-read config m range (column ∷ [])) r
-exact-read config old m (command.Project name range columns) r = on-read config old m name (OnColumns m columns (ScanReads config m range None)) (OnColumns m columns (ReadsLeast m range None)) (over-read config m range columns) r
-exact-read config old m (command.Agg name range column width) r = on-read config old m name (OnColumns m (column ∷ []) (ScanReads config m range None)) (OnColumns m (column ∷ []) (ReadsLeast m range None)) (over-read config m range (column ∷ [])) r
-exact-read config old m (command.Join left right range) r = tt
+exact-read config old m (command.Select name range column op value) r = on-read config old m name (OnColumns m (column ∷ []) (ScanReads config m range None)) (OnColumns m (column ∷ []) (ScanExact m range None)) (over-read config m range (column ∷ [])) r
+exact-read config old m (command.Project name range columns) r = on-read config old m name (OnColumns m columns (ScanReads config m range None)) (OnColumns m columns (ScanExact m range None)) (over-read config m range columns) r
+exact-read config old m (command.Agg name range column width) r = on-read config old m name (OnColumns m (column ∷ []) (ScanReads config m range None)) (OnColumns m (column ∷ []) (ScanExact m range None)) (over-read config m range (column ∷ [])) r
+exact-read config old m (command.Join left right range) r =
+    on-read config old m left (λ a. OnTable config old m right (both a)) (λ a. OnTable config old m right (λ b. FaultHasRead m)) (λ a p. on-read config old m right (both a) (λ b. FaultHasRead m) (λ b q. q.1) p) r
+  where
+    both : Located → Located → Type 0
+    both a b = Within m (scan_limit config.knots a.plan a.table range None range.low + scan_limit config.knots b.plan b.table range None range.low)
 exact-read config old m (command.Stat name) r = tt
 exact-read config old m command.Cost r = tt
 exact-read config old m (command.Load name count step seed) r = tt

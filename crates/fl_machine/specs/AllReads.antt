@@ -1,21 +1,21 @@
 -- The reads of every command of the machine, of the blobs and the operators too. `Reads` has those that a run promises.
-use Rattle.std.specs.Prelude.{◌≡◌, ℕ, ◌+◌, ◌*◌, ◌/◌, ◌≤◌, false, Option, None, is_some, option_map, unwrap_or, List, [], ◌∷◌, IsTrue, MatchBool, MatchOption, slice_get}
+use Rattle.std.specs.Prelude.{◌≡◌, ℕ, ◌+◌, ◌*◌, ◌≤◌, false, Option, None, is_some, option_map, unwrap_or, List, [], ◌∷◌, IsTrue, MatchBool}
 use Rattle.fl_base.specs.declared.types.KeyRange.{KeyRange}
 use Rattle.fl_base.specs.declared.types.Span.{Span}
-use Rattle.fl_model.specs.Record.{Plan, Config, content_per_page}
-use Rattle.fl_model.specs.Table.{Table, written, blob_len}
+use Rattle.fl_model.specs.Record.{Plan, Config}
+use Rattle.fl_model.specs.Table.{Table, written}
 use Rattle.fl_model.specs.Query.{entry_at, Cursor}
 use Rattle.fl_model.specs.Spline.{lookup_limit, lookup_reads}
 use Rattle.fl_model.specs.Limits.{scan_limit, least_reads}
 use Rattle.fl_words.specs.Command as command
 use Rattle.fl_words.specs.Command.{Command}
 use Rattle.fl_machine.specs.Machine.{Machine, OpenCursor}
-use Rattle.fl_machine.specs.Step.{Moment, Located, cursor_at}
-use Rattle.fl_machine.specs.Reads.{is_unread, has_reads, pages_in, none_read, OnTable, OnColumns}
+use Rattle.fl_machine.specs.Step.{Moment, Located}
+use Rattle.fl_machine.specs.Reads.{is_unread, has_reads, pages_in, none_read, OnTable, OnColumns, OnCursor, FaultHasRead, blob_limit}
 
 -- at most the limit, and where a read failed one at least
 abbrev pub Within : Moment → ℕ → Type 0
-Within moment limit = (moment.reads ≤ limit) × (IsTrue (is_unread moment) → 1 ≤ moment.reads)
+Within moment limit = (moment.reads ≤ limit) × FaultHasRead moment
 
 abbrev pub GetReads : Config → Moment → ℕ → Located → Type 0
 GetReads config moment key at =
@@ -32,16 +32,15 @@ ScanReads config moment range span at =
 abbrev pub lowest_left : Cursor → ℕ
 lowest_left cursor = unwrap_or (option_map (λ after. after + 1) cursor.after) cursor.range.low
 
-abbrev pub NextReads : Config → Machine → Moment → OpenCursor → Plan → Table → Type 0
-NextReads config old moment open_cursor plan table =
+abbrev pub NextReads : Config → Moment → OpenCursor → Plan → Table → Type 0
+NextReads config moment open_cursor plan table =
     Within moment (scan_limit config.knots plan table open_cursor.cursor.range open_cursor.cursor.span (lowest_left open_cursor.cursor))
 
 abbrev pub ReadsOf : Config → Machine → Moment → Command → Type 0
 ReadsOf config old moment command.Mount = MatchBool old.mounted (none_read moment) (moment.reads ≤ 5 * pages_in config)
 ReadsOf config old moment (command.Get name key) = OnTable config old moment name (GetReads config moment key)
 ReadsOf config old moment (command.Blob name key) =
-    OnTable config old moment name (λ at. Within moment (lookup_limit config.knots at.plan at.table key
-    + unwrap_or (option_map (λ entry. blob_len entry.kept) (entry_at key at.table.entries)) 0 / content_per_page at.plan + 2))
+    OnTable config old moment name (λ at. Within moment (blob_limit config.knots at.plan at.table key))
 ReadsOf config old moment (command.Scan name range span) = OnTable config old moment name (ScanReads config moment range span)
 ReadsOf config old moment (command.Select name range column op value) = OnTable config old moment name (OnColumns moment (column ∷ []) (ScanReads config moment range None))
 ReadsOf config old moment (command.Project name range columns) = OnTable config old moment name (OnColumns moment columns (ScanReads config moment range None))
@@ -49,12 +48,7 @@ ReadsOf config old moment (command.Agg name range column width) = OnTable config
 ReadsOf config old moment (command.Join left right range) =
     OnTable config old moment left (λ a. OnTable config old moment right (λ b.
     Within moment (scan_limit config.knots a.plan a.table range None range.low + scan_limit config.knots b.plan b.table range None range.low)))
-ReadsOf config old moment (command.Next cursor count) =
-    MatchBool old.mounted
-    (MatchOption (cursor_at old cursor) (none_read moment) (λ c.
-    MatchOption (slice_get config.plans c.table) (none_read moment) (λ plan.
-    MatchOption (slice_get old.tables c.table) (none_read moment) (λ table. NextReads config old moment c plan table))))
-    (none_read moment)
+ReadsOf config old moment (command.Next cursor count) = OnCursor config old moment cursor (NextReads config moment)
 ReadsOf config old moment _ = none_read moment
 
 abbrev pub ReadsWithin : Config → Machine → Moment → Type 0

@@ -1,10 +1,10 @@
 -- How many pages a moment reads.
-use Rattle.std.specs.Prelude.{◌≡◌, ℕ, ◌+◌, ◌-◌, ◌*◌, ◌^◌, ◌<◌, ◌≤◌, min, Bool, true, false, not, ◌&&◌, Option, None, is_some, option_map, unwrap_or, List, [], ◌∷◌, sum_by, IsTrue, MatchBool, MatchOption, slice_get}
+use Rattle.std.specs.Prelude.{◌≡◌, ℕ, ◌+◌, ◌-◌, ◌*◌, ◌/◌, ◌^◌, ◌<◌, ◌≤◌, min, Bool, true, false, not, ◌&&◌, Option, None, is_some, option_map, unwrap_or, List, [], ◌∷◌, sum_by, IsTrue, MatchBool, MatchOption, slice_get}
 use Rattle.std.specs.List.{last_or}
 use Rattle.fl_base.specs.declared.types.KeyRange.{KeyRange}
 use Rattle.fl_base.specs.declared.types.Span.{Span}
-use Rattle.fl_model.specs.Record.{Plan, Config, blocks_of}
-use Rattle.fl_model.specs.Table.{Table, written}
+use Rattle.fl_model.specs.Record.{Plan, Config, blocks_of, content_per_page}
+use Rattle.fl_model.specs.Table.{Table, Entry, written, blob_len}
 use Rattle.fl_model.specs.Query.{Cursor, entry_at}
 use Rattle.fl_model.specs.Spline.{retained, is_covered, is_pending_key, lookup_limit, lookup_reads}
 use Rattle.fl_model.specs.Limits.{scan_limit, least_reads}
@@ -12,7 +12,7 @@ use Rattle.fl_words.specs.Command as command
 use Rattle.fl_words.specs.Command.{Command}
 use Rattle.fl_words.specs.Reply as reply
 use Rattle.fl_words.specs.Reply.{Reply}
-use Rattle.fl_machine.specs.Machine.{Machine}
+use Rattle.fl_machine.specs.Machine.{Machine, OpenCursor}
 use Rattle.fl_machine.specs.Step.{Moment, Located, located, cursor_at, no_column}
 
 abbrev pub is_read_fault : Reply → Bool
@@ -45,27 +45,45 @@ OnTable config old moment name P = MatchBool old.mounted (MatchOption (located c
 abbrev pub OnColumns : Moment → List ℕ → (Located → Type 0) → Located → Type 0
 OnColumns moment columns P at = MatchOption (no_column at.plan columns) (P at) (λ column. none_read moment)
 
--- no more pages than a scan of the range may read; and no fewer than it reads at least, where no read failed
+-- no more pages than a scan of the range may read
 abbrev pub WithinScan : Config → Moment → KeyRange → Option Span → Located → Type 0
 WithinScan config moment range span at = moment.reads ≤ scan_limit config.knots at.plan at.table range span range.low
 
+-- no fewer pages than a scan of the range reads at least, where no read failed
 abbrev pub ReadsLeast : Moment → KeyRange → Option Span → Located → Type 0
 ReadsLeast moment range span at = is_unread moment ≡ false → least_reads at.plan at.table range span ≤ moment.reads
 
--- The greatest number of reads of a command. An operator reads no more than a scan of its range, and a join no more than
--- two. Of a blob nothing is promised yet.
-abbrev pub LimitOf : Config → Machine → Moment → Command → Type 0
-LimitOf config old moment command.Mount = MatchBool old.mounted (none_read moment) (moment.reads ≤ 4 * pages_in config)
-LimitOf config old moment (command.Get name key) = OnTable config old moment name (λ at. moment.reads ≤ lookup_limit config.knots at.plan at.table key)
-LimitOf config old moment (command.Blob name key) = Unit {0}
-LimitOf config old moment (command.Scan name range span) = OnTable config old moment name (WithinScan config moment range span)
-LimitOf config old moment (command.Next cursor count) =
+-- the reads of a command that goes on with a cursor, and none where there is none
+abbrev pub OnCursor : Config → Machine → Moment → ℕ → (OpenCursor → Plan → Table → Type 0) → Type 0
+OnCursor config old moment cursor P =
     MatchBool old.mounted
     (MatchOption (cursor_at old cursor) (none_read moment) (λ c.
     MatchOption (slice_get config.plans c.table) (none_read moment) (λ plan.
-    MatchOption (slice_get old.tables c.table) (none_read moment) (λ table.
-    moment.reads ≤ scan_limit config.knots plan table c.cursor.range c.cursor.span (lowest_of c.cursor)))))
+    MatchOption (slice_get old.tables c.table) (none_read moment) (P c plan))))
     (none_read moment)
+
+-- a reply that a read failed comes with one read at least
+abbrev pub FaultHasRead : Moment → Type 0
+FaultHasRead moment = IsTrue (is_unread moment) → 1 ≤ moment.reads
+
+-- how long the blob of an entry is, 0 where there is no entry or it has none
+abbrev pub length_of_blob : Option Entry → ℕ
+length_of_blob found = unwrap_or (option_map (λ entry. blob_len entry.kept) found) 0
+
+-- no more pages than the lookup of a key may read, and those of its blob with two more
+abbrev pub blob_limit : ℕ → Plan → Table → ℕ → ℕ
+blob_limit knots plan table key =
+    lookup_limit knots plan table key + length_of_blob (entry_at key table.entries) / content_per_page plan + 2
+
+-- The greatest number of reads of a command. An operator reads no more than a scan of its range, and a join no more than
+-- two.
+abbrev pub LimitOf : Config → Machine → Moment → Command → Type 0
+LimitOf config old moment command.Mount = MatchBool old.mounted (none_read moment) (moment.reads ≤ 4 * pages_in config)
+LimitOf config old moment (command.Get name key) = OnTable config old moment name (λ at. moment.reads ≤ lookup_limit config.knots at.plan at.table key)
+LimitOf config old moment (command.Blob name key) = OnTable config old moment name (λ at. moment.reads ≤ blob_limit config.knots at.plan at.table key)
+LimitOf config old moment (command.Scan name range span) = OnTable config old moment name (WithinScan config moment range span)
+LimitOf config old moment (command.Next cursor count) =
+    OnCursor config old moment cursor (λ c plan table. moment.reads ≤ scan_limit config.knots plan table c.cursor.range c.cursor.span (lowest_of c.cursor))
 LimitOf config old moment (command.Select name range column op value) = OnTable config old moment name (OnColumns moment (column ∷ []) (WithinScan config moment range None))
 LimitOf config old moment (command.Project name range columns) = OnTable config old moment name (OnColumns moment columns (WithinScan config moment range None))
 LimitOf config old moment (command.Agg name range column width) = OnTable config old moment name (OnColumns moment (column ∷ []) (WithinScan config moment range None))
@@ -79,20 +97,27 @@ abbrev pub RunLimits : Config → Machine → List Moment → Type 0
 RunLimits config old [] = Unit {0}
 RunLimits config old (moment ∷ moments) = LimitOf config old moment moment.command × RunLimits config moment.after moments
 
--- Where no read of it failed, a get of a covered key that isn't pending reads just as many pages as the definition says, and
--- of a written record at least one. One whose read failed read one at least.
+-- A get of a covered key that isn't pending reads just as many pages as the definition says, and of a written record at least
+-- one, where no read of it failed; where one failed, at least that one.
 pub record GetExact (config : Config) (moment : Moment) (key : ℕ) (at : Located) : Type 0 where
   pub covered : is_unread moment ≡ false → IsTrue (has_reads config.knots at.plan at.table key) → moment.reads ≡ lookup_reads config.knots at.plan at.table key
   pub found : is_unread moment ≡ false → IsTrue (is_some (entry_at key (written at.table))) → 1 ≤ moment.reads
-  pub failed : IsTrue (is_unread moment) → 1 ≤ moment.reads
+  pub failed : FaultHasRead moment
 
 -- .. a scan, or an operator over one range, at least the least number
+pub record ScanExact (moment : Moment) (range : KeyRange) (span : Option Span) (at : Located) : Type 0 where
+  pub least : ReadsLeast moment range span at
+  pub failed : FaultHasRead moment
+
 abbrev pub ExactOf : Config → Machine → Moment → Command → Type 0
 ExactOf config old moment (command.Get name key) = OnTable config old moment name (GetExact config moment key)
-ExactOf config old moment (command.Scan name range span) = OnTable config old moment name (ReadsLeast moment range span)
-ExactOf config old moment (command.Select name range column op value) = OnTable config old moment name (OnColumns moment (column ∷ []) (ReadsLeast moment range None))
-ExactOf config old moment (command.Project name range columns) = OnTable config old moment name (OnColumns moment columns (ReadsLeast moment range None))
-ExactOf config old moment (command.Agg name range column width) = OnTable config old moment name (OnColumns moment (column ∷ []) (ReadsLeast moment range None))
+ExactOf config old moment (command.Blob name key) = OnTable config old moment name (λ at. FaultHasRead moment)
+ExactOf config old moment (command.Scan name range span) = OnTable config old moment name (ScanExact moment range span)
+ExactOf config old moment (command.Next cursor count) = OnCursor config old moment cursor (λ c plan table. FaultHasRead moment)
+ExactOf config old moment (command.Select name range column op value) = OnTable config old moment name (OnColumns moment (column ∷ []) (ScanExact moment range None))
+ExactOf config old moment (command.Project name range columns) = OnTable config old moment name (OnColumns moment columns (ScanExact moment range None))
+ExactOf config old moment (command.Agg name range column width) = OnTable config old moment name (OnColumns moment (column ∷ []) (ScanExact moment range None))
+ExactOf config old moment (command.Join left right range) = OnTable config old moment left (λ a. OnTable config old moment right (λ b. FaultHasRead moment))
 ExactOf config old moment _ = Unit {0}
 
 -- the reads of some moments

@@ -99,8 +99,8 @@ StandsAfter config content machine = IfSome content (λ bytes. IsImage config by
 abbrev pub RoseBy : ℕ → ℕ → ℕ → Type 0
 RoseBy n before now = (before + n ≤ now) ⊎ (2 ^ 64 - 1 ≤ now)
 
--- The moments of a run, each of which reads as many pages as it may: no command reads more than its limit, and a get, a
--- scan and an operator over one range as many as are promised.
+-- The moments of a run, each of which reads as many pages as it may: no command reads more than its limit, a get, a scan and
+-- an operator over one range as many as are promised, and one that answers a read fault at least one.
 pub record KeepsReads (config : Config) (old : Machine) (moments : List Moment) : Type 0 where
   pub limits : RunLimits config old moments
   pub exact : RunExact config 0 old moments

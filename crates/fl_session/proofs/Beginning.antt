@@ -1,5 +1,5 @@
 -- The lines of a configuration, one after another.
-use Rattle.std.proofs.Common.{◌≡◌, ℕ, ◌+◌, ◌<◌, Bool, true, false, ◌⊎◌, inl, inr, Option, Some, None, Result, Ok, Err, List, [], ◌∷◌, ◌++◌, length, drop, refl, sym, ◌∙◌, ap, subst, append_assoc, append-nil, length-append, arith}
+use Rattle.std.proofs.Common.{◌≡◌, ℕ, ◌+◌, ◌<◌, Bool, true, false, Option, Some, None, Result, Ok, Err, List, [], ◌∷◌, ◌++◌, length, drop, refl, sym, ◌∙◌, ap, subst, append_assoc, append-nil, length-append, arith}
 use Rattle.std.specs.Prelude.{if◌then◌else◌, IfOk, IfErr}
 use Rattle.fl_session.specs.declared.begin.Begun.{Begun}
 use Rattle.std.proofs.lemmas.Bool.{le-ltb, ltb-false}
@@ -10,20 +10,19 @@ use Rattle.fl_words.specs.Config.{Lines, no_lines, whole}
 use Rattle.fl_machine.specs.Script.{Unended, BadLine, BadConfig, start_with, start_from, start_of, ended}
 use Rattle.fl_script.specs.declared.command.Command as code
 use Rattle.fl_script.specs.CommandView.{command_view}
-use Rattle.fl_session.specs.Built.{is_built}
 use Rattle.fl_session.specs.Texts.{most_bytes, lines_read, lines_within, is_long}
-use Rattle.fl_session.specs.Ends.{start_in, IsUnbuiltConfig}
+use Rattle.fl_session.specs.Ends.{start_in}
 use Rattle.fl_session.specs.Given.{Given}
 use Rattle.fl_session.specs.Stream.{LinesState, Gives, TakesPart, TakesAhead}
 use Rattle.fl_session.specs.Taken.{TakesFew, TakesLine, TakesBegin, IsUnended}
 use Rattle.std.proofs.lemmas.List.{drop_all}
 use Rattle.fl_session.specs.Next.{NextCommand, EndsThere, IsRefused}
 use Rattle.fl_session.specs.Loop.{Tail}
-use Rattle.fl_session.specs.Begin.{IsFresh, GoesOn, EndsIt, Refuses, Unmakes, AtCommand, AtEnd, EndsInConfig, EndsBefore, EndsBegin, BeginsAt, ConfiguresBy}
+use Rattle.fl_session.specs.Begin.{IsFresh, GoesOn, EndsIt, Refuses, AtCommand, AtEnd, EndsInConfig, EndsBegin, BeginsAt, ConfiguresBy}
 use Rattle.fl_session.specs.declared.lines.LinesFault.{LinesFault}
 use Rattle.fl_session.specs.declared.lines.LinesFault.TheVariants.{Failed, Long}
 use Rattle.fl_session.specs.declared.status.Status.{Status}
-use Rattle.fl_session.specs.declared.status.Status.TheVariants.{Line, ScriptRead, Config as BadConfiguration, ScriptLong, NotYet}
+use Rattle.fl_session.specs.declared.status.Status.TheVariants.{Line, ScriptRead, Config as BadConfiguration, ScriptLong}
 use Rattle.fl_session.proofs.Reading.{given-few, given-over, given-none, given-all, given-taken, given-most}
 use Rattle.fl_session.proofs.Accepting.{Configures, configures-none, configures-end, configures-line, configures-more, too_long-command}
 use Rattle.fl_session.proofs.Loops.{NextLine, fits, too_long, next_line}
@@ -217,26 +216,6 @@ refused_line knots text now number old new left left_now h gives bad =
       | too_long t long ↦ bad_line knots text now number old left t.line t.others (Err grammar.TooLong) h t.lines (too_long-command t.line t.long) tt
     ]
 
--- a command of a form that isn't built
-unbuilt_line : (knots : ℕ) (text : List ℕ) (now : Lines) (number : ℕ) (old new : LinesState) (left : Option (List ℕ)) (left_now : List ℕ) (c : words.Command) →
-    (h : Configured knots text now number old left) → Gives old (old.ahead ++ h.left_is) (Ok true) new left_now → command_of new.line ≡ Ok c →
-    ((is_built c ≡ false) ⊎ IsUnbuiltConfig (start_of knots (h.before ++ new.line ∷ []))) → EndsBefore knots text number
-unbuilt_line knots text now number old new left left_now c h gives reads u =
-    elim (the_next text h.before old new h.left_is left_now h.reading gives) [
-      | fits g is_open ↦ record {
-        before = h.before;
-        line = new.line;
-        others = lines_within new.most (new.ahead ++ left_now);
-        split = g.lines ∙ append_assoc h.before (new.line ∷ []) (lines_within new.most (new.ahead ++ left_now));
-        number_is = h.numbered;
-        command = c;
-        reads = reads;
-        unbuilt = u;
-        unended = unended knots h.before now h.configures;
-      }
-      | too_long t long ↦ absurd (not_long c (sym reads ∙ too_long-command new.line long))
-    ]
-
 source_failed : (knots : ℕ) (text : List ℕ) (now : Lines) (number : ℕ) (old new : LinesState) (left : Option (List ℕ)) (left_now : List ℕ) →
     (h : Configured knots text now number old left) → TakesPart old (old.ahead ++ h.left_is) new left_now → EndsInConfig knots text (Some left_now)
 source_failed knots text now number old new left left_now h part =
@@ -264,9 +243,6 @@ ends-cases : (knots : ℕ) (text : List ℕ) (now : Lines) (number : ℕ) (old n
     EndsBegin knots text (Some left_now) status
 ends-cases knots text now number old new left left_now (Ok true) (Line n) h gives takes e =
     (refused_line knots text now number old new left left_now h gives e.1 ∙ ap (λ m. BadLine m) (sym e.0), subst (λ m. TakesLine text m (Some left_now)) (sym e.0) (line-takes knots text now number old left left_now h takes))
-ends-cases knots text now number old new left left_now (Ok true) (NotYet n) h gives takes e =
-    subst (λ m. EndsBefore knots text m × TakesLine text m (Some left_now)) (sym e.0)
-    (unbuilt_line knots text now number old new left left_now e.1.command h gives e.1.reads (inl e.1.unbuilt), line-takes knots text now number old left left_now h takes)
 ends-cases knots text now number old new left left_now (Ok true) status h gives takes e = absurd e
 ends-cases knots text now number old new left left_now (Ok false) status h gives takes e = absurd e
 ends-cases knots text now number old new left left_now (Err Failed) ScriptRead h gives takes e = source_failed knots text now number old new left left_now h gives
@@ -297,22 +273,6 @@ ends-refused knots text now number n old new left left_now f f_now c room h next
           ∙ ap (λ m. BadConfig m) (sym (e ∙ h.numbered))))),
       begin-takes knots text now number old new left left_now f f_now c room h next,
     )
-
--- .. or isn't built
-pub ends-unbuilt_config : (knots : ℕ) (text : List ℕ) (now next : Lines) (number n : ℕ) (old new : LinesState) (left left_now : Option (List ℕ)) (f f_now : ℕ) (c : code.Command) (room : List ℕ) →
-    Configured knots text now number old left → NextCommand old left f number (Ok (Some c)) room new left_now f_now → Unmakes now (command_view c room) next → n ≡ number →
-    EndsBefore knots text n × TakesLine text n left_now
-ends-unbuilt_config knots text now next number n old new left left_now f f_now c room h nx u e =
-    let g = nx.advances.gives h.left_is h.left_told h.reading.ended in
-    let k : Gives old (old.ahead ++ h.left_is) (Ok true) new g.0 = subst (λ r. Gives old (old.ahead ++ h.left_is) r new g.0) nx.next.0 g.2 in
-    let starts : start_of knots (h.before ++ new.line ∷ []) ≡ Unended (Some (u.config knots)) (length h.before + 1 + 1) =
-    configures-line knots h.before now new.line [] (Ok (command_view c room)) h.configures nx.next.1.reads
-    ∙ (u.goes_on knots (length h.before + 1) new.line [] (λ x. start_from knots (length h.before + 1 + 1) x [])
-    ∙ ap (λ w. Unended w (length h.before + 1 + 1)) (u.whole_is knots)) in
-    let t : TakesAhead old (old.ahead ++ h.left_is) (Ok true) g.0 = subst (λ r. TakesAhead old (old.ahead ++ h.left_is) r g.0) nx.next.0 g.3 in
-    let takes = subst (λ l. TakesLine text number l) (sym g.1) (line-takes knots text now number old left g.0 h t) in
-    subst (λ m. EndsBefore knots text m × TakesLine text m left_now) (sym e)
-    (unbuilt_line knots text now number old new left g.0 (command_view c room) h k nx.next.1.reads (inr (subst IsUnbuiltConfig (sym starts) (u.unbuilt knots))), takes)
 
 -- what was taken with the command that ended the configuration
 pub command-takes : (knots : ℕ) (text : List ℕ) (now : Lines) (number : ℕ) (state : LinesState) (left_now : Option (List ℕ)) → AtCommand knots text now number state left_now → TakesBegin knots text left_now
@@ -362,6 +322,4 @@ pub configure-ends : (knots : ℕ) (text : List ℕ) (now next : Lines) (number 
     EndsBegin knots text left_now status
 configure-ends knots text now next number old new left left_now f f_now c room (BadConfiguration n) h nx e =
     ends-refused knots text now number n old new left left_now f f_now c room h nx e.1 e.0
-configure-ends knots text now next number old new left left_now f f_now c room (NotYet n) h nx e =
-    ends-unbuilt_config knots text now next number n old new left left_now f f_now c room h nx e.1 e.0
 configure-ends knots text now next number old new left left_now f f_now c room status h nx e = absurd e

@@ -1,5 +1,5 @@
 -- The digits of a blob, chunk by chunk.
-use Rattle.std.proofs.Common.{◌≡◌, ℕ, ◌+◌, ◌/◌, ◌%◌, ◌≤◌, Bool, true, false, inl, inr, IsErr, Option, Some, Result, Ok, Err, List, [], ◌∷◌, ◌++◌, length, take, refl, sym, ◌∙◌, ap, subst, arith, append_assoc, append-nil, length-append, codes}
+use Rattle.std.proofs.Common.{◌≡◌, ℕ, ◌+◌, ◌/◌, ◌%◌, ◌≤◌, Bool, true, false, inl, inr, IsErr, Option, Result, Ok, Err, List, [], ◌∷◌, ◌++◌, length, take, refl, sym, ◌∙◌, ap, subst, arith, append_assoc, append-nil, length-append, codes}
 use Rattle.std.proofs.lemmas.Grind.{flat_map-append}
 use Rattle.std.proofs.lemmas.List.{take_at}
 use Rattle.fl_base.specs.Causes.{Rose, Appends, AppendsFront}
@@ -9,13 +9,14 @@ use Rattle.fl_page.specs.declared.fault.ReadFault.{ReadFault}
 use Rattle.fl_page.specs.declared.fault.ReadFault.TheVariants.{Flash, BadPage}
 use Rattle.fl_script.proofs.Sending.{appends-append, sent-failed, written-err}
 use Rattle.fl_script.specs.Written.{Written}
+use Rattle.fl_search.specs.Search.{RoseSome}
 use Rattle.fl_var.specs.Reading.{pages_left, bytes_left, Reads, IsWholeIn, NoneBad}
 use Rattle.fl_var.specs.declared.reader.BlobReader.{BlobReader}
 use Rattle.fl_words.specs.Reply as words
 use Rattle.fl_words.specs.Reply.{hex_digit, hex_text, text, texts}
 use Rattle.fl_session.specs.BlobLine.{GivesDigits, ShowsBytes, read_reply}
 use Rattle.fl_session.specs.declared.listing.ListFault.TheVariants.{Read}
-use Rattle.fl_session.proofs.Resumed.{rose-read}
+use Rattle.fl_session.proofs.Resumed.{rose-read, read-counted}
 use Rattle.fl_session.proofs.RowLines.{appends-none}
 
 pub hex-append : (xs ys : List ℕ) → hex_text (xs ++ ys) ≡ hex_text xs ++ hex_text ys
@@ -84,56 +85,58 @@ fault-lines bytes =
     ap (λ (l : List ℕ). text (words.Bytes bytes) ++ l) (append-nil (text words.ReadFault))
     ∙ (append_assoc (codes "bytes " ++ hex_text bytes) (10 ∷ []) (text words.ReadFault) ∙ append_assoc (codes "bytes ") (hex_text bytes) (10 ∷ [] ++ text words.ReadFault))
 
--- the medium failed in a read that failed with the power on
-abbrev pub RoseWith : ReadFault → ℕ → ℕ → Type 0
-RoseWith (Flash fault) faults faults_now = Rose faults faults_now
-RoseWith (BadPage bad) faults faults_now = Unit {0}
+-- the medium failed in a read that failed with the power on, and it is counted
+abbrev pub RoseWith : ReadFault → ℕ → ℕ → ℕ → ℕ → Type 0
+RoseWith (Flash fault) faults faults_now reads reads_now = Rose faults faults_now × RoseSome reads reads_now
+RoseWith (BadPage bad) faults faults_now reads reads_now = Unit {0}
 
-pub rose-with : (f g : FlashState) (e : ReadFault) → f.is_on ≡ true → IsCaused f e g → RoseWith e f.media.faults g.media.faults
-rose-with f g (Flash fault) on caused = rose-read f g fault on caused
+pub rose-with : (f g : FlashState) (e : ReadFault) → f.is_on ≡ true → IsCaused f e g → RoseWith e f.media.faults g.media.faults f.work.reads g.work.reads
+rose-with f g (Flash fault) on caused = (rose-read f g fault on caused, read-counted f g fault on caused)
 rose-with f g (BadPage bad) on caused = tt
 
-module _ {E : Type 0} (bytes : List ℕ) (told now : Option (List ℕ)) (faults faults_now : ℕ) (result : Result (Unit {0}) E) where
+module _ {E : Type 0} (bytes : List ℕ) (told now : Option (List ℕ)) (faults faults_now reads reads_now : ℕ) (result : Result (Unit {0}) E) where
   -- all of the line, or a front of it
-  pub shows-line : Written told now result (codes "bytes " ++ (hex_text bytes ++ 10 ∷ [])) → ShowsBytes bytes told now faults faults_now result
+  pub shows-line : Written told now result (codes "bytes " ++ (hex_text bytes ++ 10 ∷ [])) → ShowsBytes bytes told now faults faults_now reads reads_now result
   shows-line wrote = record {
     rose = false;
     risen = λ t. absurd (no t);
     replies = words.Bytes bytes ∷ [];
     replied = inl refl;
     wrote = subst (λ (l : List ℕ). Written told now result l) (sym (bytes-line bytes)) wrote;
+    failed = λ t. absurd (no t);
   }
     where
       no : false ≡ true → ⊥
       no e = cc
 
   -- a front of it, and then the fault
-  pub shows-fault : (n : ℕ) → n ≤ length bytes → Rose faults faults_now → Written told now result (codes "bytes " ++ (hex_text (take n bytes) ++ (10 ∷ [] ++ text words.ReadFault))) → ShowsBytes bytes told now faults faults_now result
-  shows-fault n le rose wrote = record {
+  pub shows-fault : (n : ℕ) → n ≤ length bytes → Rose faults faults_now → RoseSome reads reads_now → Written told now result (codes "bytes " ++ (hex_text (take n bytes) ++ (10 ∷ [] ++ text words.ReadFault))) → ShowsBytes bytes told now faults faults_now reads reads_now result
+  shows-fault n le rose counted wrote = record {
     rose = true;
     risen = λ t. rose;
     replies = words.Bytes (take n bytes) ∷ words.ReadFault ∷ [];
     replied = inr (refl, (n, le, refl));
     wrote = subst (λ (l : List ℕ). Written told now result l) (sym (fault-lines (take n bytes))) wrote;
+    failed = λ unread. counted;
   }
 
   -- a read failed in it
-  pub shows-unread : (e : ReadFault) (begun given ended : Option (List ℕ)) → GivesDigits bytes begun given (Err (Read e)) → RoseWith e faults faults_now → Appends told begun (codes "bytes ") → Appends given ended (10 ∷ []) → Written ended now result (text (read_reply e)) →
-      ShowsBytes bytes told now faults faults_now result
+  pub shows-unread : (e : ReadFault) (begun given ended : Option (List ℕ)) → GivesDigits bytes begun given (Err (Read e)) → RoseWith e faults faults_now reads reads_now → Appends told begun (codes "bytes ") → Appends given ended (10 ∷ []) → Written ended now result (text (read_reply e)) →
+      ShowsBytes bytes told now faults faults_now reads reads_now result
   shows-unread (BadPage bad) begun given ended gives rose first line wrote = absurd gives
   shows-unread (Flash fault) begun given ended gives rose first line wrote =
       let front = take gives.0 bytes in
-      shows-fault gives.0 gives.1 rose
+      shows-fault gives.0 gives.1 rose.0 rose.1
       (written-after told begun now result (codes "bytes ") (hex_text front ++ (10 ∷ [] ++ text words.ReadFault)) first
       (written-after begun given now result (hex_text front) (10 ∷ [] ++ text words.ReadFault) gives.2
       (written-after given ended now result (10 ∷ []) (text words.ReadFault) line wrote)))
 
   -- the sink failed behind it
-  pub shows-unended : (e : ReadFault) (begun given : Option (List ℕ)) → GivesDigits bytes begun given (Err (Read e)) → RoseWith e faults faults_now → Appends told begun (codes "bytes ") → AppendsFront given now (10 ∷ []) → IsErr result → ShowsBytes bytes told now faults faults_now result
+  pub shows-unended : (e : ReadFault) (begun given : Option (List ℕ)) → GivesDigits bytes begun given (Err (Read e)) → RoseWith e faults faults_now reads reads_now → Appends told begun (codes "bytes ") → AppendsFront given now (10 ∷ []) → IsErr result → ShowsBytes bytes told now faults faults_now reads reads_now result
   shows-unended (BadPage bad) begun given gives rose first line failed = absurd gives
   shows-unended (Flash fault) begun given gives rose first line failed =
       let front = take gives.0 bytes in
-      shows-fault gives.0 gives.1 rose
+      shows-fault gives.0 gives.1 rose.0 rose.1
       (written-after told begun now result (codes "bytes ") (hex_text front ++ (10 ∷ [] ++ text words.ReadFault)) first
       (written-after begun given now result (hex_text front) (10 ∷ [] ++ text words.ReadFault) gives.2
       (written-err given now result (10 ∷ [] ++ text words.ReadFault) failed (front-more given now (10 ∷ []) (text words.ReadFault) line))))

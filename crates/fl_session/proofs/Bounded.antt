@@ -9,7 +9,7 @@ use Rattle.fl_model.specs.Record.{bytes_equal}
 use Rattle.fl_words.specs.Command as command
 use Rattle.fl_words.specs.Command.{Command}
 use Rattle.fl_words.specs.Grammar.{LineFault, Number, TooLong, number_in, number, signed, are_digits, value_of, cursor_of, is_name, op_of, columns_of, blob_word, blob_split, ◌>>=◌, form, part, each_signed, with_range, device_line, table_line, cut_kind, cut_line, put_parts, put_blob, put_line, name_line, key_line, bare_line, scan_line, open_line, next_line, close_line, select_line, project_line, agg_line, join_line, load_line, line_of, words_command, words_in, without_return, command_of}
-use Rattle.fl_session.specs.Complete.{is_within}
+use Rattle.fl_session.specs.Runnable.{is_within}
 
 -- a line that is read is such a command
 abbrev Gives : Result Command LineFault → Type 0

@@ -12,7 +12,7 @@ use Rattle.fl_flash.specs.declared.armed.Armed.{Armed}
 use Rattle.fl_flash.specs.declared.flash.Work.{Work}
 use Rattle.fl_model.specs.Query as query
 use Rattle.fl_model.specs.Query.{moved}
-use Rattle.fl_model.specs.Record.{Config, Plan, has_var}
+use Rattle.fl_model.specs.Record.{Config, Plan}
 use Rattle.fl_model.specs.Table as model
 use Rattle.fl_page.specs.Contents.{OnlyReads}
 use Rattle.fl_words.specs.Command as command
@@ -20,7 +20,7 @@ use Rattle.fl_words.specs.Reply as reply
 use Rattle.fl_words.specs.Reply.{text, texts}
 use Rattle.fl_machine.specs.Machine.{Machine, OpenCursor}
 use Rattle.fl_machine.specs.OpenCursors.{IsWithin, IsOpenWithin, AreWithin}
-use Rattle.fl_machine.specs.Reads.{none_read, lowest_of, LimitOf}
+use Rattle.fl_machine.specs.Reads.{none_read, lowest_of, OnCursor, FaultHasRead, LimitOf}
 use Rattle.fl_machine.proofs.OpenCursors.{within-at}
 use Rattle.fl_model.specs.Limits.{scan_limit}
 use Rattle.fl_machine.specs.Step.{Moment, StepOf, Says, NextStep, cursor_at}
@@ -29,7 +29,7 @@ use Rattle.fl_script.specs.Written.{Written}
 use Rattle.fl_table.specs.Memory.{LiesOn}
 use Rattle.fl_table.specs.Standing.{Stands}
 use Rattle.fl_table.specs.declared.table.Table.{Table}
-use Rattle.fl_session.specs.Cost.{HasRead}
+use Rattle.fl_session.specs.Cost.{HasRead, ReadsAsStated}
 use Rattle.fl_session.specs.Execute.{Executes}
 use Rattle.fl_session.specs.Nexts.{Nexts, given_of}
 use Rattle.fl_session.specs.Notes.{cursor_of}
@@ -40,7 +40,6 @@ use Rattle.fl_session.specs.Standing.{SessionStands}
 use Rattle.fl_session.specs.Tables.{first_of}
 use Rattle.fl_session.proofs.Answering.{answers-saying, executes-answered, saying, says}
 use Rattle.fl_session.proofs.Costing.{read-none}
-use Rattle.fl_session.proofs.BuiltAll.{no-blobs}
 use Rattle.fl_session.proofs.CursorsOf.{cursor-told}
 use Rattle.fl_session.proofs.Getting.{goes-reads, tables-looked}
 use Rattle.fl_session.proofs.Sound.{lies-on}
@@ -56,7 +55,6 @@ stands-moved : (config : Config) (entries : List Entry) (notes : Notes) (f g : F
     SessionStands config entries g true (record notes { cursors = set notes.cursors n (Some cursor) }) (record m { cursors = set m.cursors n (Some (cursor_of cursor)) })
 stands-moved config entries notes f g n cursor m only h = record {
   knots = h.knots;
-  built = h.built;
   medium = medium-goes config f g (goes-reads f g only) h.medium;
   tables = tables-looked f g only config.plans entries m.tables h.tables;
   is_mounted = h.is_mounted;
@@ -93,23 +91,22 @@ with_cursor m n table cursor = record m { cursors = set m.cursors n (Some (recor
 at-some : {X : Type 0} (o : Option X) (x : X) (N : Type 0) (P : X → Type 0) → o ≡ Some x → P x → MatchOption o N P
 at-some o x N P e p = subst (λ y. MatchOption y N P) (sym e) p
 
--- .. and its limit
-next-limit : (config : Config) (old : Machine) (moment : Moment) (n count : ℕ) (cursor : TableCursor) (plan : Plan) (table : model.Table) → old.mounted ≡ true → cursor_at old n ≡ Some (cursor_of cursor) →
-    slice_get config.plans cursor.table ≡ Some plan → slice_get old.tables cursor.table ≡ Some table → moment.reads ≤ scan_limit config.knots plan table cursor.mark.range cursor.mark.span (lowest_of (asked_by cursor.mark)) → LimitOf config old moment (command.Next n count)
-next-limit config old moment n count cursor plan table on at p t most =
-    subst (λ b. MatchBool b (MatchOption (cursor_at old n) (none_read moment) (λ c. MatchOption (slice_get config.plans c.table) (none_read moment) (λ plan. MatchOption (slice_get old.tables c.table) (none_read moment) (λ table.
-    moment.reads ≤ scan_limit config.knots plan table c.cursor.range c.cursor.span (lowest_of c.cursor))))) (none_read moment)) (sym on)
-    (at-some (cursor_at old n) (cursor_of cursor) _ _ at (at-some (slice_get config.plans cursor.table) plan _ _ p (at-some (slice_get old.tables cursor.table) table _ _ t most)))
+-- .. and what is said of its reads
+on-cursor : (config : Config) (old : Machine) (moment : Moment) (n : ℕ) (cursor : TableCursor) (plan : Plan) (table : model.Table) (P : OpenCursor → Plan → model.Table → Type 0) → old.mounted ≡ true → cursor_at old n ≡ Some (cursor_of cursor) →
+    slice_get config.plans cursor.table ≡ Some plan → slice_get old.tables cursor.table ≡ Some table → P (cursor_of cursor) plan table → OnCursor config old moment n P
+on-cursor config old moment n cursor plan table P on at p t here =
+    subst (λ b. MatchBool b (MatchOption (cursor_at old n) (none_read moment) (λ c. MatchOption (slice_get config.plans c.table) (none_read moment) (λ plan. MatchOption (slice_get old.tables c.table) (none_read moment) (P c plan)))) (none_read moment)) (sym on)
+    (at-some (cursor_at old n) (cursor_of cursor) _ _ at (at-some (slice_get config.plans cursor.table) plan _ _ p (at-some (slice_get old.tables cursor.table) table _ _ t here)))
 
 -- the rows were given and the cursor was moved, or a page wasn't read; where the sink failed the cursor may be anywhere
 pub next-executes : (E : Type 0) (config : Config) (old : Machine) (entries : List Entry) (entry : Entry) (notes : Notes) (f g : FlashState) (reads n count : ℕ) (mounted : Bool) (cursor : TableCursor) (new : Bookmark) (told told_now : Option (List ℕ)) (result : Result (Unit {0}) E) →
     SessionStands config entries f mounted notes old → mounted ≡ true → slice_get notes.cursors n ≡ Some (Some cursor) → slice_get entries cursor.table ≡ Some entry → IfSome cursor.mark.after (λ after. after < 2 ^ 64) → OnlyReads f g → HasRead f reads g → reads ≡ g.work.reads - f.work.reads →
-    ((first : ℕ) (plan : Plan) (table : model.Table) → IsTrue f.media.tells → f.is_on ≡ true → Stands entry.table f first plan table → has_var plan ≡ false → Nexts plan table count cursor.mark new told told_now f.media.faults g.media.faults f.work.reads g.work.reads result) →
+    ((first : ℕ) (plan : Plan) (table : model.Table) → IsTrue f.media.tells → f.is_on ≡ true → Stands entry.table f first plan table → Nexts plan table count cursor.mark new told told_now f.media.faults g.media.faults f.work.reads g.work.reads result) →
     Executes config old (command.Next n count) (SessionStands config entries g mounted (record notes { cursors = set notes.cursors n (Some (record cursor { mark = new })) })) f g told told_now result
 next-executes E config old entries entry notes f g reads n count mounted cursor new told told_now result h on e here fits only counted reads_are nexts =
     let h' = subst (λ m. SessionStands config entries f m notes old) on h in
     let own = at-place f (λ i. true) config.plans entries old.tables cursor.table entry h'.tables here in
-    let s = nexts (first_of config.plans cursor.table) own.plan own.table h'.medium.told (h'.power refl) own.stands.on_flash (no-blobs config.plans h'.built cursor.table own.plan own.plan_is) in
+    let s = nexts (first_of config.plans cursor.table) own.plan own.table h'.medium.told (h'.power refl) own.stands.on_flash in
     let end : query.Cursor = moved (asked_by cursor.mark) (take s.given (given_of count cursor.mark own.table)) in
     let moment : Moment = record { command = command.Next n count; rose = s.rose; reads = reads; last = None; replies = s.replies; after = with_cursor old n cursor.table end } in
     let at : cursor_at old n ≡ Some (cursor_of cursor) = ap (λ (cs : List (Option OpenCursor)). unwrap_or (slice_get cs n) None) h'.cursors ∙ cursor-told notes.cursors n (Some cursor) e in
@@ -117,7 +114,7 @@ next-executes E config old entries entry notes f g reads n count mounted cursor 
     let limited : AreWithin old.cursors → LimitOf config old moment (command.Next n count) = λ within.
     let is : IsWithin (asked_by cursor.mark) = subst IsOpenWithin at (within-at old.cursors n within) in
     let most = s.within (bounded cursor.mark.top cursor.mark.range.high is.top) in
-    next-limit config old moment n count cursor own.plan own.table h'.is_mounted at own.plan_is own.table_is
+    on-cursor config old moment n cursor own.plan own.table (λ c plan table. moment.reads ≤ scan_limit config.knots plan table c.cursor.range c.cursor.span (lowest_of c.cursor)) h'.is_mounted at own.plan_is own.table_is
     (omega (
       arith,
       most,
@@ -125,6 +122,9 @@ next-executes E config old entries entry notes f g reads n count mounted cursor 
       ap (λ k. scan_limit k own.plan own.table cursor.mark.range cursor.mark.span (lowest_of (asked_by cursor.mark))) h'.knots,
       ap (λ low. scan_limit 64 own.plan own.table cursor.mark.range cursor.mark.span low) (lowest-same cursor.mark.range.low cursor.mark.after fits is.after),
     )) in
+    let failed : g.work.reads < 2 ^ 64 - 1 → OnCursor config old moment n (λ c plan table. FaultHasRead moment) = λ below.
+    on-cursor config old moment n cursor own.plan own.table (λ c plan table. FaultHasRead moment) h'.is_mounted at own.plan_is own.table_is
+    (λ unread. let more = s.failed unread below in omega (arith, more, reads_are)) in
     let notes' : Notes = record notes { cursors = set notes.cursors n (Some (record cursor { mark = new })) } in
     record {
       moment = moment;
@@ -135,7 +135,7 @@ next-executes E config old entries entry notes f g reads n count mounted cursor 
       alike = record { cost = refl; tables = refl; mounted = refl; device = refl };
       same = same-after result end s.moved_to;
       reads = counted;
-      stated = limited;
+      stated = (limited, failed);
       rose = s.risen;
       told_all = all-told result (texts s.replies) s.wrote;
       told_front = front-told result (texts s.replies) s.wrote;
@@ -155,7 +155,7 @@ next-executes E config old entries entry notes f g reads n count mounted cursor 
 
 -- .. or there is no session or no such cursor
 module _ (E : Type 0) (config : Config) (old : Machine) (entries : List Entry) (notes : Notes) (f : FlashState) (n count : ℕ) (told told_now : Option (List ℕ)) (result : Result (Unit {0}) E) where
-  next-answered : (mounted : Bool) (said : reply.Reply) → SessionStands config entries f mounted notes old → ((moment : Moment) → none_read moment → AreWithin old.cursors → LimitOf config old moment (command.Next n count)) → StepOf config old (saying (command.Next n count) (said ∷ []) old) (command.Next n count) → Written told told_now result (text said) →
+  next-answered : (mounted : Bool) (said : reply.Reply) → SessionStands config entries f mounted notes old → ((moment : Moment) → none_read moment → ReadsAsStated config old moment f result (command.Next n count)) → StepOf config old (saying (command.Next n count) (said ∷ []) old) (command.Next n count) → Written told told_now result (text said) →
       Executes config old (command.Next n count) (SessionStands config entries f mounted notes) f f told told_now result
   next-answered mounted said h limit step wrote =
       executes-answered E config old (command.Next n count) (SessionStands config entries f mounted notes) f f (text said) told told_now result
@@ -165,7 +165,7 @@ module _ (E : Type 0) (config : Config) (old : Machine) (entries : List Entry) (
       Executes config old (command.Next n count) (SessionStands config entries f mounted notes) f f told told_now result
   next-off mounted off h wrote =
       let c = command.Next n count in
-      next-answered mounted reply.NotMounted h (λ moment none. λ within. rw (h.is_mounted ∙ off) none) (next-of config old n count (saying c (reply.NotMounted ∷ []) old) false (cursor_at old n) (h.is_mounted ∙ off) refl (says c (reply.NotMounted ∷ []) old)) wrote
+      next-answered mounted reply.NotMounted h (λ moment none. (λ within. rw (h.is_mounted ∙ off) none, λ below. rw (h.is_mounted ∙ off) none)) (next-of config old n count (saying c (reply.NotMounted ∷ []) old) false (cursor_at old n) (h.is_mounted ∙ off) refl (says c (reply.NotMounted ∷ []) old)) wrote
 
   pub next-none : (mounted : Bool) → mounted ≡ true → slice_get notes.cursors n ≡ Some None → SessionStands config entries f mounted notes old → Written told told_now result (text reply.NoCursor) →
       Executes config old (command.Next n count) (SessionStands config entries f mounted notes) f f told told_now result
@@ -173,4 +173,4 @@ module _ (E : Type 0) (config : Config) (old : Machine) (entries : List Entry) (
       let c = command.Next n count in
       let h' = subst (λ m. SessionStands config entries f m notes old) on h in
       let at : cursor_at old n ≡ None = ap (λ (cs : List (Option OpenCursor)). unwrap_or (slice_get cs n) None) h'.cursors ∙ cursor-told notes.cursors n None e in
-      next-answered mounted reply.NoCursor h (λ moment none. λ within. rw (h'.is_mounted, at) none) (next-of config old n count (saying c (reply.NoCursor ∷ []) old) true None h'.is_mounted at (says c (reply.NoCursor ∷ []) old)) wrote
+      next-answered mounted reply.NoCursor h (λ moment none. (λ within. rw (h'.is_mounted, at) none, λ below. rw (h'.is_mounted, at) none)) (next-of config old n count (saying c (reply.NoCursor ∷ []) old) true None h'.is_mounted at (says c (reply.NoCursor ∷ []) old)) wrote

@@ -45,7 +45,6 @@ pub stands-set : (config : Config) (entries : List Entry) (notes : Notes) (f : F
     SessionStands config entries f true (record notes { cursors = set notes.cursors n mark }) (record m { cursors = set m.cursors n (option_map cursor_of mark) })
 stands-set config entries notes f n mark m h = record {
   knots = h.knots;
-  built = h.built;
   medium = h.medium;
   tables = h.tables;
   is_mounted = h.is_mounted;

@@ -20,7 +20,7 @@ use Rattle.fl_session.specs.Run.{tail_of, RunsFrom, IsOfCommands}
 use Rattle.fl_session.specs.Begin.{AtCommand, AtEnd, EndsBegin, BeginsAt}
 use Rattle.fl_session.specs.Ends.{Told, IsUntouched, IsOwn, IsFormed, RunsAll, RunsInto, start_in, EndsEarly, EndsDone, EndsLine, EndsInto, EndsConfig, Ends, IsEarlyBy}
 use Rattle.fl_session.specs.declared.status.Status.{Status}
-use Rattle.fl_session.specs.declared.status.Status.TheVariants.{Done, Line, ScriptRead, OutWrite, Config as BadConfiguration, ScriptLong, NotYet}
+use Rattle.fl_session.specs.declared.status.Status.TheVariants.{Done, Line, ScriptRead, OutWrite, Config as BadConfiguration, ScriptLong}
 use Rattle.fl_session.proofs.Beginning.{command-takes}
 use Rattle.fl_session.proofs.Running.{ran-none, ran-seen, ran_into-seen}
 use Rattle.fl_session.proofs.Ready.{after-alike}
@@ -45,20 +45,6 @@ ends-in_begin knots text left told ScriptRead h e u = record {
   ends = unended-untouched (start_of knots (whole_lines (take h.taken text))) told h.unended u;
 }
 ends-in_begin knots text left told ScriptLong h e u = (h.0, unended-untouched (start_of knots (lines_read text)) told h.1 u, subst (λ l. HasTaken text (most_bytes + 1) l) (sym e) h.2)
-ends-in_begin knots text left told (NotYet n) h e u = (
-  record {
-    before = h.0.before;
-    line = h.0.line;
-    others = h.0.others;
-    split = h.0.split;
-    number_is = h.0.number_is;
-    command = h.0.command;
-    reads = h.0.reads;
-    unbuilt = h.0.unbuilt;
-    ends = unended-untouched (start_of knots h.0.before) told h.0.unended u;
-  },
-  subst (λ l. TakesLine text n l) (sym e) h.1,
-)
 ends-in_begin knots text left told status h e u = absurd h
 
 start-of_lines : (knots : ℕ) (text : List ℕ) (now : Lines) (number : ℕ) (state : LinesState) (left_now : Option (List ℕ)) (config : Config) →
@@ -287,25 +273,6 @@ ends-of_commands knots text now number state left_now config told around stands 
   subst (λ s. EndsEarly s told) (sym (start-of_lines knots text now number state left_now config a w)) (h.1.accepts, runs-all config told around stands stands_now _ o h.1.runs),
   tail-over knots text now number state left_now told.left_now a h.0 h.2,
 )
-ends-of_commands knots text now number state left_now config told around stands stands_now (NotYet n) a w o h = (
-  record {
-    before = a.before ++ state.line ∷ h.0.before;
-    line = h.0.line;
-    others = h.0.others;
-    split =
-        a.given.lines
-        ∙ (append_assoc a.before (state.line ∷ []) (lines_within state.most (state.ahead ++ a.left))
-        ∙ (ap (λ ls. a.before ++ ls) h.0.split ∙ sym (append_assoc a.before (state.line ∷ h.0.before) (h.0.line ∷ h.0.others))));
-    number_is = omega (arith, h.0.number_is, a.numbered, length-append a.before (state.line ∷ h.0.before));
-    command = h.0.unbuilt.command;
-    reads = h.0.unbuilt.reads;
-    unbuilt = inl h.0.unbuilt.unbuilt;
-    ends =
-        subst (λ s. EndsEarly s told) (sym (start-behind knots text now number state left_now config h.0.before a w))
-        (h.0.accepts, runs-all config told around stands stands_now _ o h.0.runs);
-  },
-  tail-line knots text now number state left_now n told.left_now a h.1,
-)
 ends-of_commands knots text now number state left_now config told around stands stands_now status a w o h = absurd h
 
 -- a script without commands
@@ -346,19 +313,6 @@ commands-seen tail left around s s' r r' OutWrite f g h = record {
       ran_into-seen around.config old h.commands (StandsAlike s') (StandsAlike r') around.faults around.faults_now around.told around.told_now (λ m a. (a.0, g a.0 a.1, a.2)) (h.runs old (f old k) ready);
 }
 commands-seen tail left around s s' r r' ScriptLong f g h = (h.0, record { accepts = h.1.accepts; runs = all-seen around s s' r r' _ f g h.1.runs }, h.2)
-commands-seen tail left around s s' r r' (NotYet n) f g h = (
-  record {
-    before = h.0.before;
-    line = h.0.line;
-    others = h.0.others;
-    split = h.0.split;
-    number_is = h.0.number_is;
-    unbuilt = h.0.unbuilt;
-    accepts = h.0.accepts;
-    runs = all-seen around s s' r r' _ f g h.0.runs;
-  },
-  h.1,
-)
 commands-seen tail left around s s' r r' status f g h = absurd h
 
 pub runs-seen : (first : Option code.Command) (number : ℕ) (state : LinesState) (left left_now : Option (List ℕ)) (around : Around) (s s' r r' : Machine → Type 0) (status : Status) → ((m : Machine) → r m → s m) → ((m : Machine) → s' m → r' m) →
@@ -398,5 +352,4 @@ commands-early old new told told_now (Line n) h = tt
 commands-early old new told told_now ScriptRead h = tt
 commands-early old new told told_now OutWrite h = tt
 commands-early old new told told_now ScriptLong h = tt
-commands-early old new told told_now (NotYet n) h = tt
 commands-early old new told told_now status h = absurd h

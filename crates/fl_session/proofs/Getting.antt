@@ -6,7 +6,7 @@ use Rattle.fl_flash.specs.Places.{extent}
 use Rattle.fl_flash.specs.declared.armed.Armed.{Armed}
 use Rattle.fl_flash.specs.declared.flash.Work.{Work}
 use Rattle.fl_model.specs.Query.{entry_at}
-use Rattle.fl_model.specs.Record.{Config, Plan, has_var}
+use Rattle.fl_model.specs.Record.{Config, Plan}
 use Rattle.fl_model.specs.Spline.{retained, is_covered, is_pending_key, lookup_limit, lookup_reads}
 use Rattle.fl_model.specs.Table as model
 use Rattle.fl_page.specs.Contents.{Contents, OnlyReads}
@@ -23,6 +23,7 @@ use Rattle.fl_script.specs.ReplyView.{reply_text}
 use Rattle.fl_script.specs.Written.{Written}
 use Rattle.fl_script.specs.declared.reply.Reply as code
 use Rattle.fl_table.specs.Standing.{Stands}
+use Rattle.fl_table.specs.declared.table.Table.{Table}
 use Rattle.fl_session.specs.Answer.{Refusal, IsReached}
 use Rattle.fl_session.specs.Execute.{Executes}
 use Rattle.fl_session.specs.Looked.{Looks}
@@ -34,7 +35,6 @@ use Rattle.fl_session.specs.declared.cost.Cost.TheVariants as code_cost
 use Rattle.fl_session.specs.Standing.{SessionStands}
 use Rattle.fl_session.specs.Tables.{first_of, EntryStands, TablesStand}
 use Rattle.fl_session.proofs.Apart.{stands-pages}
-use Rattle.fl_session.proofs.BuiltAll.{no-blobs}
 use Rattle.fl_session.proofs.Answering.{executes-answered, step-is, table-step}
 use Rattle.fl_session.proofs.Owning.{own-of, own-none}
 use Rattle.fl_session.proofs.TablesChanged.{tables-still}
@@ -59,9 +59,16 @@ module _ (f g : FlashState) (only : OnlyReads f g) where
     faults = only.faults;
   }
 
+  -- a table still stands
+  pub stands-read : (t : Table) (first : ℕ) (plan : Plan) (table : model.Table) → Stands t f first plan table → Stands t g first plan table
+  stands-read t first plan table h = stands-pages f g (looks-pages f g (record { reads = only; power = only.power; cuts = only.cuts })) t first plan table h
+
+  pub tells-read : IsTrue f.media.tells → IsTrue g.media.tells
+  tells-read told = subst IsTrue (sym goes-reads.tells) told
+
   entry-looked : (entry : Entry) (first : ℕ) (plan : Plan) (table : model.Table) → EntryStands entry f true first plan table → EntryStands entry g true first plan table
   entry-looked entry first plan table h =
-      record { named = h.named; geometry = h.geometry ∙ sym goes-reads.geometry; planned = h.planned; on_flash = stands-pages f g (looks-pages f g (record { reads = only; power = only.power; cuts = only.cuts })) entry.table first plan table h.on_flash }
+      record { named = h.named; geometry = h.geometry ∙ sym goes-reads.geometry; planned = h.planned; on_flash = stands-read entry.table first plan table h.on_flash }
 
   pub tables-looked : (plans : List Plan) (entries : List Entry) (tables : List model.Table) → TablesStand f (λ i. true) plans entries tables → TablesStand g (λ i. true) plans entries tables
   tables-looked plans entries tables h = tables-still f g (λ i. true) plans entries tables h (λ i plan e x k. entry-looked e (first_of plans i) plan x k)
@@ -71,7 +78,6 @@ module _ (f g : FlashState) (only : OnlyReads f g) where
       SessionStands config entries g true (record notes { cost = cost }) (record m { cost = cost_of cost })
   session-read config entries notes cost m h = record {
     knots = h.knots;
-    built = h.built;
     medium = medium-goes config f g goes-reads h.medium;
     tables = tables-looked config.plans entries m.tables h.tables;
     is_mounted = h.is_mounted;
@@ -109,14 +115,14 @@ has-parts false covered e = (refl, e)
 pub get-executes : (E : Type 0) (config : Config) (old : Machine) (entries : List Entry) (at : ℕ) (entry : Entry) (asked : List ℕ) (notes : Notes) (f g : FlashState) (reads limit key : ℕ) (mounted : Bool) (said : code.Reply) (told told_now : Option (List ℕ)) (result : Result (Unit {0}) E) →
     SessionStands config entries f mounted notes old → IsReached entries mounted asked at → slice_get entries at ≡ Some entry → OnlyReads f g → HasRead f reads g → reads ≡ g.work.reads - f.work.reads →
     ((f : FlashState) (first : ℕ) (plan : Plan) (table : model.Table) → Stands entry.table f first plan table → limit ≡ lookup_limit 64 plan table key) →
-    ((first : ℕ) (plan : Plan) (table : model.Table) → IsTrue f.media.tells → f.is_on ≡ true → Stands entry.table f first plan table → has_var plan ≡ false → Looks plan table key f.media.faults g.media.faults f.work.reads g.work.reads (reply_text said)) →
+    ((first : ℕ) (plan : Plan) (table : model.Table) → IsTrue f.media.tells → f.is_on ≡ true → Stands entry.table f first plan table → Looks plan table key f.media.faults g.media.faults f.work.reads g.work.reads (reply_text said)) →
     Written told told_now result (reply_text said) →
     Executes config old (command.Get asked key) (SessionStands config entries g mounted (record notes { cost = code_cost.OfGet reads limit })) f g told told_now result
 get-executes E config old entries at entry asked notes f g reads limit key mounted said told told_now result h r here only counted reads_are limits looks wrote =
     let h' = subst (λ m. SessionStands config entries f m notes old) r.mounted_is h in
     let own = own-of config old entries f notes asked at entry h' here r.named in
     let first = first_of config.plans at in
-    let s = looks first own.plan own.table h'.medium.told (h'.power refl) own.stands.on_flash (no-blobs config.plans h'.built at own.plan own.plan_is) in
+    let s = looks first own.plan own.table h'.medium.told (h'.power refl) own.stands.on_flash in
     let is : limit ≡ lookup_limit config.knots own.plan own.table key = limits f first own.plan own.table own.stands.on_flash ∙ ap (λ n. lookup_limit n own.plan own.table key) (sym h'.knots) in
     let moment : Moment = record { command = command.Get asked key; rose = s.rose; reads = reads; last = None; replies = s.reply ∷ []; after = record old { cost = OfGet reads (lookup_limit config.knots own.plan own.table key) } } in
     let place : Located = record { place = at; plan = own.plan; table = own.table } in

@@ -1,5 +1,5 @@
 -- Rows that a cursor gives one after another.
-use Rattle.std.proofs.Common.{◌≡◌, ℕ, zero, suc, ◌-◌, ◌<◌, true, Option, Some, Ok, Err, List, [], ◌∷◌, ◌++◌, length, map, take, refl, sym, ◌∙◌, ap, subst, arith, append_assoc, append-nil}
+use Rattle.std.proofs.Common.{◌≡◌, ℕ, zero, suc, ◌-◌, ◌<◌, Bool, true, Option, Some, Ok, Err, List, [], ◌∷◌, ◌++◌, length, map, take, refl, sym, ◌∙◌, ap, subst, arith, append_assoc, append-nil}
 use Rattle.std.proofs.lemmas.List.{map-append}
 use Rattle.std.proofs.lemmas.Grind.{flat_map-append}
 use Rattle.std.specs.List.{last_or}
@@ -24,43 +24,43 @@ use Rattle.fl_session.specs.declared.listing.ListFault.TheVariants.{Read}
 use Rattle.fl_session.proofs.RowLines.{appends-none}
 
 -- the lines of rows, and of one more
-abbrev pub lines : List Row → List ℕ
-lines rows = texts (map row_reply rows)
+abbrev pub lines : Bool → List Row → List ℕ
+lines blobs rows = texts (map (row_reply blobs) rows)
 
-lines-more : (rows : List Row) (row : Row) (others : List Row) → lines (rows ++ row ∷ others) ≡ lines rows ++ (text (row_reply row) ++ lines others)
-lines-more rows row others = ap texts (map-append row_reply rows (row ∷ others)) ∙ flat_map-append text (map row_reply rows) (map row_reply (row ∷ others))
+lines-more : (blobs : Bool) (rows : List Row) (row : Row) (others : List Row) → lines blobs (rows ++ row ∷ others) ≡ lines blobs rows ++ (text (row_reply blobs row) ++ lines blobs others)
+lines-more blobs rows row others = ap texts (map-append (row_reply blobs) rows (row ∷ others)) ∙ flat_map-append text (map (row_reply blobs) rows) (map (row_reply blobs) (row ∷ others))
 
 -- none was given yet
-pub gave-none : (cursor : Cursor) (contents : Contents) (told : Option (List ℕ)) → Gave cursor cursor contents told told []
-gave-none cursor contents told = record { left = refl; mark = refl; wrote = appends-none told }
+pub gave-none : (blobs : Bool) (cursor : Cursor) (contents : Contents) (told : Option (List ℕ)) → Gave blobs cursor cursor contents told told []
+gave-none blobs cursor contents told = record { left = refl; mark = refl; wrote = appends-none told }
 
-module _ (first mid new : Cursor) (contents : Contents) (told told_mid : Option (List ℕ)) (rows : List Row) (gave : Gave first mid contents told told_mid rows) where
+module _ (blobs : Bool) (first mid new : Cursor) (contents : Contents) (told told_mid : Option (List ℕ)) (rows : List Row) (gave : Gave blobs first mid contents told told_mid rows) where
   -- the cursor went on, and gave no more
-  pub gave-same : mark_of new ≡ mark_of mid → left_of new contents ≡ left_of mid contents → Gave first new contents told told_mid rows
+  pub gave-same : mark_of new ≡ mark_of mid → left_of new contents ≡ left_of mid contents → Gave blobs first new contents told told_mid rows
   gave-same mark left = record { left = gave.left ∙ ap (λ (l : List Row). rows ++ l) (sym left); mark = mark ∙ gave.mark; wrote = gave.wrote }
 
   -- one more was given
-  pub gave-next : (row : Row) (told_now : Option (List ℕ)) → left_of mid contents ≡ row ∷ left_of new contents → mark_of new ≡ record (mark_of mid) { after = Some row.key } → Appends told_mid told_now (text (row_reply row)) →
-      Gave first new contents told told_now (rows ++ row ∷ [])
+  pub gave-next : (row : Row) (told_now : Option (List ℕ)) → left_of mid contents ≡ row ∷ left_of new contents → mark_of new ≡ record (mark_of mid) { after = Some row.key } → Appends told_mid told_now (text (row_reply blobs row)) →
+      Gave blobs first new contents told told_now (rows ++ row ∷ [])
   gave-next row told_now left mark wrote = record {
     left = gave.left ∙ (ap (λ (l : List Row). rows ++ l) left ∙ sym (append_assoc rows (row ∷ []) (left_of new contents)));
     mark = mark ∙ (ap (λ (m : Bookmark). record m { after = Some row.key }) gave.mark ∙ ap (λ (o : Option ℕ). record (mark_of first) { after = o }) (sym last));
-    wrote = subst (λ (l : List ℕ). Appends told told_now l) (sym (lines-more rows row [] ∙ ap (λ (l : List ℕ). lines rows ++ l) (append-nil (text (row_reply row)))))
-        (appends-append told told_mid told_now (lines rows) (text (row_reply row)) gave.wrote wrote);
+    wrote = subst (λ (l : List ℕ). Appends told told_now l) (sym (lines-more blobs rows row [] ∙ ap (λ (l : List ℕ). lines blobs rows ++ l) (append-nil (text (row_reply blobs row)))))
+        (appends-append told told_mid told_now (lines blobs rows) (text (row_reply blobs row)) gave.wrote wrote);
   }
     where
       last : last_or (mark_of first).after (map (λ (r : Row). r.key) (rows ++ row ∷ [])) ≡ Some row.key
       last = ap (last_or (mark_of first).after) (map-append (λ (r : Row). r.key) rows (row ∷ [])) ∙ last_or-push (mark_of first).after (map (λ (r : Row). r.key) rows) row.key
 
   -- the sink failed in the line of one more
-  pub gave-failed : (count : ℕ) (row : Row) (told_now : Option (List ℕ)) → left_of mid contents ≡ row ∷ left_of new contents → length rows < count → AppendsFront told_mid told_now (text (row_reply row)) →
-      AppendsFront told told_now (lines (take count (left_of first contents)))
+  pub gave-failed : (count : ℕ) (row : Row) (told_now : Option (List ℕ)) → left_of mid contents ≡ row ∷ left_of new contents → length rows < count → AppendsFront told_mid told_now (text (row_reply blobs row)) →
+      AppendsFront told told_now (lines blobs (take count (left_of first contents)))
   gave-failed count row told_now left less wrote =
       let more = take (count - length rows - 1) (left_of new contents) in
       let all : take count (left_of first contents) ≡ rows ++ row ∷ take (count - length rows - 1) (left_of new contents) =
       ap (take count) (gave.left ∙ ap (λ (l : List Row). rows ++ l) left) ∙ (take-behind rows row (left_of new contents) count less) in
-      sent-failed told told_mid told_now (lines (take count (left_of first contents))) (text (row_reply row) ++ lines (take (count - length rows - 1) (left_of new contents))) (lines (take (count - length rows - 1) (left_of new contents))) (text (row_reply row))
-      (record { front = lines rows; parts = sym (ap lines all ∙ lines-more rows row (take (count - length rows - 1) (left_of new contents))); appended = gave.wrote }) wrote refl
+      sent-failed told told_mid told_now (lines blobs (take count (left_of first contents))) (text (row_reply blobs row) ++ lines blobs (take (count - length rows - 1) (left_of new contents))) (lines blobs (take (count - length rows - 1) (left_of new contents))) (text (row_reply blobs row))
+      (record { front = lines blobs rows; parts = sym (ap (lines blobs) all ∙ lines-more blobs rows row (take (count - length rows - 1) (left_of new contents))); appended = gave.wrote }) wrote refl
     where
       take-behind : (xs : List Row) (x : Row) (others : List Row) (n : ℕ) → length xs < n → take n (xs ++ x ∷ others) ≡ xs ++ x ∷ take (n - length xs - 1) others
       take-behind [] x others zero less = absurd (omega (arith, less))
@@ -71,11 +71,11 @@ module _ (first mid new : Cursor) (contents : Contents) (told told_mid : Option 
           ap (λ (l : List Row). y ∷ l) (take-behind xs x others n (omega (arith, less)) ∙ ap (λ k. xs ++ x ∷ take k others) e)
 
   -- a read failed, or no row is left
-  pub gives-fault : (count : ℕ) (row : Row) (e : ReadFault) → Steps (Err e) (left_of mid contents) row (left_of new contents) → mark_of new ≡ mark_of mid → length rows < count → Gives count first new contents told told_mid (Err (Read e))
+  pub gives-fault : (count : ℕ) (row : Row) (e : ReadFault) → Steps (Err e) (left_of mid contents) row (left_of new contents) → mark_of new ≡ mark_of mid → length rows < count → Gives blobs count first new contents told told_mid (Err (Read e))
   gives-fault count row (Flash fault) steps mark less = (rows, gave-same mark steps, less)
   gives-fault count row (BadPage bad) steps mark less = steps
 
-  pub gives-all : (count given : ℕ) → length rows ≡ given → left_of mid contents ≡ [] → left_of new contents ≡ [] → mark_of new ≡ mark_of mid → given < count → Gives count first new contents told told_mid (Ok given)
+  pub gives-all : (count given : ℕ) → length rows ≡ given → left_of mid contents ≡ [] → left_of new contents ≡ [] → mark_of new ≡ mark_of mid → given < count → Gives blobs count first new contents told told_mid (Ok given)
   gives-all count given many none left mark less = (rows, gave-same mark (left ∙ sym none), many, omega (arith, less), λ _. left)
 
 -- at the end nothing more is read

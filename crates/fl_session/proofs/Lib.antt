@@ -34,7 +34,6 @@ pub mod Fresh
 pub mod Completing
 pub mod BlobLines
 pub mod BlobNotes
-pub mod BuiltAll
 pub mod Untouched
 pub mod Generating
 pub mod Loading
@@ -52,13 +51,14 @@ pub mod Operating
 pub mod Fields
 pub mod Grouping
 pub mod Operations
+pub mod BlobShows
+pub mod Blobbing
 pub mod CursorsOf
 pub mod Giving
 pub mod Following
 pub mod Resumed
 pub mod CursorMoves
 pub mod MountReads
-pub mod BuiltLines
 pub mod Plainly
 pub mod Exactly
 pub mod Bounded

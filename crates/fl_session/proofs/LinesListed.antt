@@ -12,9 +12,11 @@ use Rattle.fl_words.specs.Reply.{text, texts}
 use Rattle.fl_script.specs.ReplyView.{reply_text}
 use Rattle.fl_script.specs.declared.reply.Reply.{Reply}
 use Rattle.fl_session.specs.Lines.{IsFirstLine, LineSteps, ListsAll}
+use Rattle.fl_session.specs.Listed.{FaultIsRead}
 use Rattle.fl_session.specs.declared.listing.ListFault.TheVariants.{Sink, Read}
 use Rattle.fl_session.proofs.Executing.{one-text}
 use Rattle.fl_session.proofs.ListsAll.{lists-then, lists-stop}
+use Rattle.fl_session.proofs.Resumed.{read-counted}
 use Rattle.fl_session.proofs.RowLines.{appends-none}
 
 -- a front of the lines was written and counted
@@ -53,9 +55,14 @@ front-unread all left after told now faults count (Flash PowerLost) old new fron
     no : true ≡ false → ⊥
     no e = cc
 front-unread all left after told now faults count (Flash Media) old new front le on step cause =
-    let rose : Rose faults new.media.faults = omega (arith, le, cause) in
+    let rose : Rose faults new.media.faults = omega (arith, le, cause.0) in
     lists-stop front.shown [] left all told now now faults faults new.media.faults count (Read (Flash Media)) front.parts (omega arith) front.listed (rose, (0, omega arith, appends-none now))
 front-unread all left after told now faults count (BadPage bad) old new front le on step cause = absurd step
+
+-- .. that is counted
+pub front-read : (old new : FlashState) (fault : ReadFault) → old.is_on ≡ true → IsCaused old fault new → FaultIsRead old.work.reads new.work.reads (Read fault)
+front-read old new (Flash fault) on cause = read-counted old new fault on cause
+front-read old new (BadPage bad) on cause = tt
 
 -- all lines are listed
 pub front-all : (all left : List words.Reply) (told now : Option (List ℕ)) (faults faults_now count : ℕ) → Fronted all left told now faults count → left ≡ [] → ListsAll all told now faults faults_now (Ok count)

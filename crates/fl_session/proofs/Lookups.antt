@@ -19,7 +19,7 @@ use Rattle.fl_model.proofs.Lists.{slice_get-drop, slice_get-front, slice_get-sho
 use Rattle.fl_page.specs.declared.fault.ReadFault.TheVariants as fault
 use Rattle.fl_search.specs.Search.{RoseSome}
 use Rattle.fl_words.specs.Reply as reply
-use Rattle.fl_words.specs.Reply.{Reply, text}
+use Rattle.fl_words.specs.Reply.{text}
 use Rattle.fl_machine.specs.Step.{row_of, found_reply}
 use Rattle.fl_model.specs.Spline.{lookup_limit}
 use Rattle.fl_table.specs.Finding.{IsFound, ShowsEntry, TookReads, LookupFails, row_of_place}
@@ -44,7 +44,7 @@ the-entry None some = never some
 the-entry (Some entry) some = (entry, refl)
 
 -- the record that is found has the key, and a place
-found-place : (key : ℕ) (entries : List Entry) (entry : Entry) → entry_at key entries ≡ Some entry → (i : ℕ) × (slice_get entries i ≡ Some entry) × (entry.kept.key ≡ key)
+pub found-place : (key : ℕ) (entries : List Entry) (entry : Entry) → entry_at key entries ≡ Some entry → (i : ℕ) × (slice_get entries i ≡ Some entry) × (entry.kept.key ≡ key)
 found-place key [] entry e = absurd (none e)
   where
     none : ◌≡◌ {A = Option Entry} None (Some entry) → ⊥
@@ -98,16 +98,16 @@ looks-absent plan table key faults faults_now reads reads_now said buf found wit
     no entry e = cc
 
 -- one has it, and this is its row
-pub looks-found : (plan : Plan) (table : model.Table) (key faults faults_now reads reads_now : ℕ) (buf : BufferState) (place : RowAt) (row : Row) (said : List ℕ) → has_var plan ≡ false → IsTable plan table → IsFound 64 plan table key reads reads_now buf (Some place) → reads_now ≤ reads + lookup_limit 64 plan table key →
-    ShowsEntry plan table key buf place → row_of_place plan table buf place ≡ Some row → said ≡ text (row_reply row) → Looks plan table key faults faults_now reads reads_now said
-looks-found plan table key faults faults_now reads reads_now buf place row said none facts found within shows at is =
+pub looks-found : (plan : Plan) (table : model.Table) (key faults faults_now reads reads_now : ℕ) (buf : BufferState) (place : RowAt) (row : Row) (blobs : Bool) (said : List ℕ) → blobs ≡ has_var plan → IsTable plan table → IsFound 64 plan table key reads reads_now buf (Some place) → reads_now ≤ reads + lookup_limit 64 plan table key →
+    ShowsEntry plan table key buf place → row_of_place plan table buf place ≡ Some row → said ≡ text (row_reply blobs row) → Looks plan table key faults faults_now reads reads_now said
+looks-found plan table key faults faults_now reads reads_now buf place row blobs said noted facts found within shows at is =
     let same : row ≡ stored_row shows.entry = same-some row (stored_row shows.entry) (sym at ∙ shows.row) in
     record {
       rose = false;
       risen = λ t. never t;
       reply = row_of plan shows.entry;
       reply_is = inl (ap (found_reply plan) (sym shows.found));
-      said_is = is ∙ ap text (ap row_reply same ∙ row-line plan shows.entry none);
+      said_is = is ∙ ap text (ap (row_reply blobs) same ∙ row-line plan blobs shows.entry noted);
       within = within;
       exact = λ unread. found.exact;
       found = λ unread some. took-reads plan table key reads reads_now buf place facts shows found.some some;

@@ -14,12 +14,12 @@ use Rattle.fl_session.specs.Stream.{LinesState, Gives, TakesPart, TakesAhead}
 use Rattle.std.proofs.Math.Seq.{drop-append_seam}
 use Rattle.fl_script.specs.declared.command.Command as code
 use Rattle.fl_script.specs.CommandView.{command_view}
-use Rattle.fl_session.specs.Next.{IsUnbuilt, EndsThere, NextRun}
-use Rattle.fl_session.specs.Loop.{Tail, TakesTail, TailTakes, lines_in, EndsAll, EndsBad, EndsUnbuilt, EndsInReply, EndsTaken, EndsCommands}
+use Rattle.fl_session.specs.Next.{EndsThere, NextRun}
+use Rattle.fl_session.specs.Loop.{Tail, TakesTail, TailTakes, lines_in, EndsAll, EndsBad, EndsInReply, EndsTaken, EndsCommands}
 use Rattle.fl_session.specs.declared.lines.LinesFault.{LinesFault}
 use Rattle.fl_session.specs.declared.lines.LinesFault.TheVariants.{Failed, Long}
 use Rattle.fl_session.specs.declared.status.Status.{Status}
-use Rattle.fl_session.specs.declared.status.Status.TheVariants.{Line, ScriptRead, ScriptLong, NotYet}
+use Rattle.fl_session.specs.declared.status.Status.TheVariants.{Line, ScriptRead, ScriptLong}
 use Rattle.fl_session.specs.Given.{Given}
 use Rattle.fl_session.proofs.Reading.{given-few, given-over, given-none, given-line, given-last, given-all, given-taken, given-most, given-too_long, IsTooLong}
 use Rattle.fl_session.proofs.Accepting.{AllRun, all_run-none, all_run-more, all_run-all, all_run-refused, accepted-more, too_long-command}
@@ -217,27 +217,6 @@ ends-bad tail config stands stands_now faults now reads told told_now number old
           (ap runs_read (too_long-command t.line t.long)) t.lines
     ]
 
-pub ends-unbuilt : (tail : Tail) (config : Config) (stands stands_now : Machine → Type 0) (faults now reads : ℕ) (told told_now : Option (List ℕ)) (number : ℕ) (old new : LinesState) (left left_now : List ℕ) →
-    AllDone tail config stands stands_now faults now reads told told_now number old left → IsUnbuilt new.line → Gives old (old.ahead ++ left) (Ok true) new left_now →
-    EndsUnbuilt tail (around_to config faults now told told_now) stands stands_now number
-ends-unbuilt tail config stands stands_now faults now reads told told_now number old new left left_now h u gives =
-    elim (next_line tail h.given old new left left_now h.reading h.was_open gives) [
-      | fits g is_open ↦ record {
-        before = h.given;
-        line = new.line;
-        others = lines_within new.most (new.ahead ++ left_now);
-        split = ap (λ ls. tail.first ∷ ls) (g.lines ∙ append_assoc h.given (new.line ∷ []) (lines_within new.most (new.ahead ++ left_now)));
-        number_is = h.numbered;
-        unbuilt = u;
-        accepts = all_run-all tail.number (tail.first ∷ h.given) h.all_run;
-        runs = λ old s ready. (h.runs old s ready).0;
-      }
-      | too_long t long ↦ absurd (not_long (sym u.reads ∙ too_long-command new.line long))
-    ]
-  where
-    not_long : Ok u.command ≡ Err grammar.TooLong → ⊥
-    not_long k = cc
-
 pub ends-taken : (tail : Tail) (config : Config) (stands stands_now : Machine → Type 0) (faults now reads : ℕ) (told told_now : Option (List ℕ)) (number : ℕ) (old new : LinesState) (left left_now : List ℕ) →
     AllDone tail config stands stands_now faults now reads told told_now number old left → TakesPart old (old.ahead ++ left) new left_now →
     EndsTaken tail (Some left_now) (around_to config faults now told told_now) stands stands_now
@@ -277,9 +256,6 @@ pub ends-there_run : (tail : Tail) (config : Config) (stands stands_now : Machin
 ends-there_run tail config stands stands_now faults now reads told told_now number old new left left_now (Ok true) (Line n) h gives takes e =
     subst (λ m. EndsBad tail (around_to config faults now told told_now) stands stands_now m × TailTakes tail m (Some left_now)) (sym e.0)
     (ends-bad tail config stands stands_now faults now reads told told_now number old new left left_now h e.1 gives, tail-takes tail config stands stands_now faults now reads told told_now number old left left_now h takes)
-ends-there_run tail config stands stands_now faults now reads told told_now number old new left left_now (Ok true) (NotYet n) h gives takes e =
-    subst (λ m. EndsUnbuilt tail (around_to config faults now told told_now) stands stands_now m × TailTakes tail m (Some left_now)) (sym e.0)
-    (ends-unbuilt tail config stands stands_now faults now reads told told_now number old new left left_now h e.1 gives, tail-takes tail config stands stands_now faults now reads told told_now number old left left_now h takes)
 ends-there_run tail config stands stands_now faults now reads told told_now number old new left left_now (Ok true) status h gives takes e = absurd e
 ends-there_run tail config stands stands_now faults now reads told told_now number old new left left_now (Ok false) status h gives takes e = absurd e
 ends-there_run tail config stands stands_now faults now reads told told_now number old new left left_now (Err Failed) ScriptRead h gives takes e =

@@ -39,7 +39,6 @@ entry-on entry f first plan table h = record { named = h.named; geometry = h.geo
 pub stands-on : (config : Config) (old : Machine) (entries : List Entry) (notes : Notes) (f : FlashState) → SessionStands config entries f false notes old → SessionStands config entries (record f { is_on = true }) false notes old
 stands-on config old entries notes f h = record {
   knots = h.knots;
-  built = h.built;
   medium = record { told = h.medium.told; len = h.medium.len; head = h.medium.head; start = h.medium.start; geometry = h.medium.geometry };
   tables = tables-still f (record f { is_on = true }) (λ i. false) config.plans entries old.tables h.tables (λ i plan e x k. entry-on e f (first_of config.plans i) plan x k);
   is_mounted = h.is_mounted;
@@ -84,7 +83,6 @@ module _ (config : Config) (old : Machine) (notes : Notes) (entries now : List E
         step = mount-step moment refl refl (Mounted w.end) w.did (record { replies_are = refl; after_is = refl; last_is = refl });
         stands_after = record {
           knots = h.knots;
-          built = h.built;
           medium = medium-goes config f g goes h.medium;
           tables = w.stand;
           is_mounted = refl;
@@ -101,7 +99,6 @@ module _ (config : Config) (old : Machine) (notes : Notes) (entries now : List E
       SessionStands config now g false (without_cursors notes) m
   stands-bad tables device counts rest m tables_are off cursors is kept = record {
     knots = h.knots;
-    built = h.built;
     medium = medium-goes config f g goes h.medium;
     tables = subst (λ ts. TablesStand g (λ i. false) config.plans now ts) (sym tables_are) rest;
     is_mounted = off;

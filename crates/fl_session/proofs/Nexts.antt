@@ -7,12 +7,11 @@ use Rattle.fl_machine.specs.Script.{runs, runs_read, runs_command}
 use Rattle.fl_session.specs.declared.lines.LinesFault.{LinesFault}
 use Rattle.fl_session.specs.declared.lines.LinesFault.TheVariants.{Failed, Long}
 use Rattle.fl_session.specs.declared.status.Status.{Status}
-use Rattle.fl_session.specs.declared.status.Status.TheVariants.{Line, NotYet}
-use Rattle.fl_session.specs.Next.{EndsThere, IsRefused, IsBuilt, IsToRun, is_config_line}
+use Rattle.fl_session.specs.declared.status.Status.TheVariants.{Line}
+use Rattle.fl_session.specs.Next.{EndsThere, IsRefused, IsRead, IsToRun, is_config_line}
 
 pub ends-there : (given : Result Bool LinesFault) (line : List ℕ) (number : ℕ) (P Q : Type 0) (status : Status) → (P → Q) → EndsThere given line number P status → EndsThere given line number Q status
 ends-there (Ok true) line number P Q (Line n) f h = (h.0, f h.1)
-ends-there (Ok true) line number P Q (NotYet n) f h = h
 ends-there (Ok true) line number P Q status f h = h
 ends-there (Ok false) line number P Q status f h = h
 ends-there (Err Failed) line number P Q status f h = h
@@ -39,11 +38,11 @@ runs-other_of (words.Table line) e = cc
 runs-other_of c e = refl
 
 -- a line of a configuration isn't run
-pub runs-config : (line : List ℕ) (c : words.Command) → IsBuilt line c → is_config_line c ≡ true → runs line ≡ None
+pub runs-config : (line : List ℕ) (c : words.Command) → IsRead line c → is_config_line c ≡ true → runs line ≡ None
 runs-config line c h e = ap runs_read h.reads ∙ runs-config_of c e
 
-pub to_run-other : (line : List ℕ) (c : words.Command) → IsBuilt line c → is_config_line c ≡ false → IsToRun line c
-to_run-other line c h e = record { reads = h.reads; runnable = record { built = h.built; runs = runs-other_of c e } }
+pub to_run-other : (line : List ℕ) (c : words.Command) → IsRead line c → is_config_line c ≡ false → IsToRun line c
+to_run-other line c h e = record { reads = h.reads; runnable = record { within = h.within; runs = runs-other_of c e } }
 
 pub runs-runnable : (line : List ℕ) (c : words.Command) → IsToRun line c → runs line ≡ Some c
 runs-runnable line c h = ap runs_read h.reads ∙ h.runnable.runs

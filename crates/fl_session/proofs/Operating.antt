@@ -8,7 +8,7 @@ use Rattle.fl_model.specs.Query.{selected, matches}
 use Rattle.fl_model.specs.Record.{Plan, has_var}
 use Rattle.fl_model.specs.Row.{stored_row}
 use Rattle.fl_model.specs.Table as model
-use Rattle.fl_model.specs.Table.{Entry, DataRing}
+use Rattle.fl_model.specs.Table.{Entry}
 use Rattle.fl_machine.specs.Step.{note_of}
 use Rattle.fl_ops.specs.Columns.{Comparison, record_of, records_of, row_passes}
 use Rattle.fl_table.specs.Standing.{Stands}
@@ -36,25 +36,25 @@ column-stored entry zero = refl
 column-stored entry (suc n) = refl
 
 -- the rows that pass a comparison are the records that do
-pub selected-lines : (plan : Plan) (comparison : Comparison) (entries : List Entry) → has_var plan ≡ false →
-    map row_reply (filter (row_passes comparison) (map stored_row entries)) ≡ map (note_of plan) (select comparison.column comparison.op comparison.value (map (λ entry. entry.kept) entries))
-selected-lines plan comparison [] none = refl
-selected-lines plan comparison (entry ∷ entries) none =
+pub selected-lines : (plan : Plan) (blobs : Bool) (comparison : Comparison) (entries : List Entry) → blobs ≡ has_var plan →
+    map (row_reply blobs) (filter (row_passes comparison) (map stored_row entries)) ≡ map (note_of plan) (select comparison.column comparison.op comparison.value (map (λ entry. entry.kept) entries))
+selected-lines plan blobs comparison [] noted = refl
+selected-lines plan blobs comparison (entry ∷ entries) noted =
     by_test (compares comparison.op (column_of entry.kept comparison.column) comparison.value)
-    (ap (λ n. compares comparison.op n comparison.value) (column-stored entry comparison.column)) (selected-lines plan comparison entries none)
+    (ap (λ n. compares comparison.op n comparison.value) (column-stored entry comparison.column)) (selected-lines plan blobs comparison entries noted)
   where
-    line : row_reply (stored_row entry) ≡ note_of plan entry.kept
-    line = row-line plan entry none
+    line : row_reply blobs (stored_row entry) ≡ note_of plan entry.kept
+    line = row-line plan blobs entry noted
 
     by_test : (b : Bool) → row_passes comparison (stored_row entry) ≡ b →
-        map row_reply (filter (row_passes comparison) (map stored_row entries)) ≡ map (note_of plan) (select comparison.column comparison.op comparison.value (map (λ entry. entry.kept) entries)) →
-        map row_reply (cond (row_passes comparison (stored_row entry)) (stored_row entry ∷ filter (row_passes comparison) (map stored_row entries)) (filter (row_passes comparison) (map stored_row entries)))
+        map (row_reply blobs) (filter (row_passes comparison) (map stored_row entries)) ≡ map (note_of plan) (select comparison.column comparison.op comparison.value (map (λ entry. entry.kept) entries)) →
+        map (row_reply blobs) (cond (row_passes comparison (stored_row entry)) (stored_row entry ∷ filter (row_passes comparison) (map stored_row entries)) (filter (row_passes comparison) (map stored_row entries)))
         ≡ map (note_of plan) (cond b (entry.kept ∷ select comparison.column comparison.op comparison.value (map (λ entry. entry.kept) entries)) (select comparison.column comparison.op comparison.value (map (λ entry. entry.kept) entries)))
     by_test true is rest =
-        ap (λ b. map row_reply (cond b (stored_row entry ∷ filter (row_passes comparison) (map stored_row entries)) (filter (row_passes comparison) (map stored_row entries)))) is
-        ∙ (ap (λ (l : List Reply). row_reply (stored_row entry) ∷ l) rest ∙ ap (λ (r : Reply). r ∷ map (note_of plan) (select comparison.column comparison.op comparison.value (map (λ entry. entry.kept) entries))) line)
+        ap (λ b. map (row_reply blobs) (cond b (stored_row entry ∷ filter (row_passes comparison) (map stored_row entries)) (filter (row_passes comparison) (map stored_row entries)))) is
+        ∙ (ap (λ (l : List Reply). row_reply blobs (stored_row entry) ∷ l) rest ∙ ap (λ (r : Reply). r ∷ map (note_of plan) (select comparison.column comparison.op comparison.value (map (λ entry. entry.kept) entries))) line)
     by_test false is rest =
-        ap (λ b. map row_reply (cond b (stored_row entry ∷ filter (row_passes comparison) (map stored_row entries)) (filter (row_passes comparison) (map stored_row entries)))) is ∙ rest
+        ap (λ b. map (row_reply blobs) (cond b (stored_row entry ∷ filter (row_passes comparison) (map stored_row entries)) (filter (row_passes comparison) (map stored_row entries)))) is ∙ rest
 
 -- the fields of a row are those of its record
 fields-stored : (entry : Entry) (columns : List ℕ) → map (column_of (record_of (stored_row entry))) columns ≡ map (column_of entry.kept) columns

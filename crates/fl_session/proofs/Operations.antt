@@ -8,7 +8,7 @@ use Rattle.fl_base.specs.declared.types.Op.{Op}
 use Rattle.fl_flash.specs.Flash.{FlashState}
 use Rattle.fl_model.specs.Limits.{scan_limit, least_reads}
 use Rattle.fl_model.specs.Operators.{key_join}
-use Rattle.fl_model.specs.Record.{Config, Plan, RowLayout, has_var}
+use Rattle.fl_model.specs.Record.{Config, Plan, RowLayout}
 use Rattle.fl_model.specs.Table as model
 use Rattle.fl_page.specs.Contents.{OnlyReads}
 use Rattle.fl_words.specs.Command as words
@@ -16,7 +16,7 @@ use Rattle.fl_words.specs.Command.{Command}
 use Rattle.fl_words.specs.Reply as reply
 use Rattle.fl_words.specs.Reply.{Reply, text}
 use Rattle.fl_machine.specs.Machine.{Machine}
-use Rattle.fl_machine.specs.Reads.{none_read, OnTable, OnColumns}
+use Rattle.fl_machine.specs.Reads.{none_read, OnTable, OnColumns, FaultHasRead}
 use Rattle.fl_machine.specs.Step.{Moment, Step, Located, WithTable, WithColumns, Counts, Says, no_column, records_of, pair_reply}
 use Rattle.fl_script.specs.ReplyView.{reply_text}
 use Rattle.fl_script.specs.Written.{Written}
@@ -34,7 +34,6 @@ use Rattle.fl_session.specs.Standing.{SessionStands}
 use Rattle.fl_session.specs.Tables.{first_of}
 use Rattle.fl_session.specs.declared.tables.Entry.{Entry}
 use Rattle.fl_session.specs.declared.notes.Notes.{Notes}
-use Rattle.fl_session.proofs.BuiltAll.{no-blobs}
 use Rattle.fl_session.proofs.Answering.{executes-answered, answers-saying, saying, says, step-is, table-step}
 use Rattle.fl_session.proofs.Costing.{read-none}
 use Rattle.fl_session.proofs.Executing.{executes-by}
@@ -57,7 +56,7 @@ lacks-column t first plan column lt h =
     rw is refl
 
 -- the session still stands
-session-still : (config : Config) (entries : List Entry) (notes : Notes) (f g : FlashState) (m : Machine) → OnlyReads f g → SessionStands config entries f true notes m → SessionStands config entries g true notes m
+pub session-still : (config : Config) (entries : List Entry) (notes : Notes) (f g : FlashState) (m : Machine) → OnlyReads f g → SessionStands config entries f true notes m → SessionStands config entries g true notes m
 session-still config entries notes f g m only h =
     let read = session-read f g only config entries notes notes.cost m h in
     subst (λ cost. SessionStands config entries g true notes (record m { cost = cost })) (sym h.cost_is) read
@@ -74,13 +73,13 @@ module _ (E : Type 0) (config : Config) (old : Machine) (entries : List Entry) (
   pub operator-executes : (at : ℕ) (entry : Entry) (g : FlashState) (reads : ℕ) → ((moment : Moment) → HasRead f moment.reads g → CountsReads f moment g (command asked)) →
       SessionStands config entries f mounted notes old → IsReached entries mounted asked at → slice_get entries at ≡ Some entry → OnlyReads f g → HasRead f reads g →
       ((first : ℕ) (plan : Plan) → IsPlanned entry.table first plan → no_column plan columns ≡ None) →
-      ((first : ℕ) (plan : Plan) (table : model.Table) → IsTrue f.media.tells → f.is_on ≡ true → Stands entry.table f first plan table → has_var plan ≡ false → Counted (lines (record { place = at; plan = plan; table = table })) (scan_limit 64 plan table range None range.low) (least_reads plan table range None) told told_now f.media.faults g.media.faults f.work.reads g.work.reads result) →
+      ((first : ℕ) (plan : Plan) (table : model.Table) → IsTrue f.media.tells → f.is_on ≡ true → Stands entry.table f first plan table → Counted (lines (record { place = at; plan = plan; table = table })) (scan_limit 64 plan table range None range.low) (least_reads plan table range None) told told_now f.media.faults g.media.faults f.work.reads g.work.reads result) →
       Executes config old (command asked) (SessionStands config entries g mounted notes) f g told told_now result
   operator-executes at entry g reads counts h r there only counted within lists =
       let h' = subst (λ m. SessionStands config entries f m notes old) r.mounted_is h in
       let own = own-of config old entries f notes asked at entry h' there r.named in
       let first = first_of config.plans at in
-      let s = lists first own.plan own.table h'.medium.told (h'.power refl) own.stands.on_flash (no-blobs config.plans h'.built at own.plan own.plan_is) in
+      let s = lists first own.plan own.table h'.medium.told (h'.power refl) own.stands.on_flash in
       let place : Located = record { place = at; plan = own.plan; table = own.table } in
       let moment : Moment = record { command = command asked; rose = s.rose; reads = reads; last = None; replies = s.replies; after = old } in
       let here = subst (λ (none : Option ℕ). MatchOption none (Counts old moment (lines place) old) (λ column. Says moment (reply.NoColumn column ∷ []) old)) (sym (within first own.plan own.stands.planned)) (refl, refl, s.lists) in
@@ -88,6 +87,7 @@ module _ (E : Type 0) (config : Config) (old : Machine) (entries : List Entry) (
       let read : ReadsScan config moment range None g result place = record {
         within = omega (arith, s.within, counted.flash, ap (λ n. scan_limit n own.plan own.table range None range.low) h'.knots);
         least = on-ok-weaker result (λ some below unread. let more = some unread below in omega (arith, more, counted.flash)) s.some;
+        failed = λ below unread. let more = s.failed unread below in omega (arith, more, counted.flash);
       } in
       let stated = on-table config old moment asked (OnColumns moment columns (ReadsScan config moment range None g result)) place h'.is_mounted own.found
       (subst (λ (none : Option ℕ). MatchOption none (ReadsScan config moment range None g result place) (λ column. none_read moment)) (sym (within first own.plan own.stands.planned)) read) in
@@ -164,8 +164,12 @@ module _ (E : Type 0) (config : Config) (old : Machine) (entries : List Entry) (
         ap (λ n. scan_limit n own.plan own.table range None range.low) h'.knots,
         ap (λ n. scan_limit n other.plan other.table range None range.low) h'.knots,
       ) in
-      let stated = on-table config old moment left (λ a. OnTable config old moment right (IsWithinBoth moment a)) place h'.is_mounted own.found
-      (on-table config old moment right (IsWithinBoth moment place) beside h'.is_mounted other.found within) in
+      let stated : ReadsAsStated config old moment g result (words.Join left right range) = (
+        on-table config old moment left (λ a. OnTable config old moment right (IsWithinBoth moment a)) place h'.is_mounted own.found
+            (on-table config old moment right (IsWithinBoth moment place) beside h'.is_mounted other.found within),
+        λ below. on-table config old moment left (λ a. OnTable config old moment right (λ b. FaultHasRead moment)) place h'.is_mounted own.found
+            (on-table config old moment right (λ b. FaultHasRead moment) beside h'.is_mounted other.found (λ unread. let more = s.failed unread below in omega (arith, more, counted.flash))),
+      ) in
       subst (λ m. Executes config old (words.Join left right range) (SessionStands config entries g m notes) f g told told_now result) (sym at_left.mounted_is)
       (executes-by E config old (words.Join left right range) (SessionStands config entries g true notes) f g told told_now result moment refl step (session-still config entries notes f g old only h') counted stated s.risen s.wrote)
 
@@ -175,7 +179,10 @@ module _ (E : Type 0) (config : Config) (old : Machine) (entries : List Entry) (
   join-refused h said r wrote =
       executes-answered E config old (words.Join left right range) (SessionStands config entries f mounted notes) f f (reply_text said) told told_now result
       (answers-refused config old entries notes f mounted (words.Join left right range) left (λ moment a. WithTable config old moment right (CountsPairs moment a)) said f.media.faults h r join-step) (λ moment none. read-none f moment.reads none)
-      (λ moment none. off-table config old entries notes f mounted moment left (λ a. OnTable config old moment right (IsWithinBoth moment a)) said h r none) wrote
+      (λ moment none. (
+        off-table config old entries notes f mounted moment left (λ a. OnTable config old moment right (IsWithinBoth moment a)) said h r none,
+        λ below. off-table config old entries notes f mounted moment left (λ a. OnTable config old moment right (λ b. FaultHasRead moment)) said h r none,
+      )) wrote
 
   -- .. or the right one
   pub join-alone : (l : ℕ) → SessionStands config entries f mounted notes old → IsReached entries mounted left l → (said : code.Reply) → Refusal entries mounted right said → Written told told_now result (reply_text said) →
@@ -187,5 +194,9 @@ module _ (E : Type 0) (config : Config) (old : Machine) (entries : List Entry) (
       executes-answered E config old (words.Join left right range) (SessionStands config entries f mounted notes) f f (reply_text said) told told_now result
       (answers-refused config old entries notes f mounted (words.Join left right range) right (λ moment. CountsPairs moment place) said f.media.faults h r
       (λ moment is w. join-step moment is (table-step config old moment left (λ a. WithTable config old moment right (CountsPairs moment a)) place h'.is_mounted own.found w))) (λ moment none. read-none f moment.reads none)
-      (λ moment none. on-table config old moment left (λ a. OnTable config old moment right (IsWithinBoth moment a)) place h'.is_mounted own.found
-      (off-table config old entries notes f mounted moment right (IsWithinBoth moment place) said h r none)) wrote
+      (λ moment none. (
+        on-table config old moment left (λ a. OnTable config old moment right (IsWithinBoth moment a)) place h'.is_mounted own.found
+            (off-table config old entries notes f mounted moment right (IsWithinBoth moment place) said h r none),
+        λ below. on-table config old moment left (λ a. OnTable config old moment right (λ b. FaultHasRead moment)) place h'.is_mounted own.found
+            (off-table config old entries notes f mounted moment right (λ b. FaultHasRead moment) said h r none),
+      )) wrote

@@ -19,7 +19,6 @@ use Rattle.fl_machine.specs.Script.{StandsAfter, start_of, ended}
 use Rattle.fl_machine.proofs.Accepted.{StartHasRoom, accepted-room, accepted-room-ended}
 use Rattle.fl_script.specs.declared.command.Command as code
 use Rattle.fl_session.specs.declared.status.Status.{Status}
-use Rattle.fl_session.specs.Built.{are_built}
 use Rattle.fl_session.specs.Stream.{LinesState}
 use Rattle.fl_session.specs.Notes.{no_notes}
 use Rattle.fl_session.specs.declared.notes.Notes.{Notes}
@@ -46,7 +45,6 @@ use Rattle.fl_session.proofs.Ready.{ready-room, stands-ready}
 use Rattle.fl_session.proofs.Ending.{runs-seen, ends-of_run, begins-ready, begins-takes}
 use Rattle.fl_session.proofs.Apart.{blocks-apart}
 use Rattle.fl_session.proofs.TablesChanged.{some-is}
-use Rattle.fl_session.proofs.BuiltAll.{ArePlain, no-blobs}
 use Rattle.fl_session.proofs.Rested.{session-begins, session-ends, opened-rests, opened-formed}
 
 -- the parts of a whole configuration
@@ -73,9 +71,6 @@ parts_of knots lines (Some geometry) (plan ∷ plans) config d p e =
 
 pub whole-parts : (knots : ℕ) (lines : Lines) (config : Config) → whole knots lines ≡ Some config → AreParts knots lines config
 whole-parts knots lines config e = parts_of knots lines lines.device lines.plans config refl refl e
-
-pub plain-of : (knots : ℕ) (lines : Lines) (config : Config) → are_built lines.plans ≡ true → AreParts knots lines config → ArePlain config.plans
-plain-of knots lines config built parts = no-blobs config.plans (ap are_built (sym parts.plans) ∙ built)
 
 or-left : (a b : Bool) → (a || b) ≡ false → a ≡ false
 or-left true b e = e
@@ -126,15 +121,15 @@ new-sound entries entries' lines f f' buf buf' notes entries_are f_is buf_is fre
 -- what was run in the session was run over the medium
 pub session-runs : (config : Config) (lines : Lines) (entries entries' : List Entry) (notes notes' : Notes) (f f' : FlashState) (old new : MediaState) (mounted mounted' : Bool) (geometry : Geometry) (blocks : ℕ) (origin : GName) →
     f ≡ on_medium geometry blocks 1024 origin true None 0 (record { reads = 0; programs = 0; erases = 0 }) old → geometry ≡ config.geometry → new ≡ f'.media → IsTrue old.tells →
-    lines.device ≡ Some config.geometry → lines.plans ≡ config.plans → AreNewTables entries lines → mounted ≡ false → notes ≡ no_notes → config.knots ≡ 64 → are_built config.plans ≡ true →
+    lines.device ≡ Some config.geometry → lines.plans ≡ config.plans → AreNewTables entries lines → mounted ≡ false → notes ≡ no_notes → config.knots ≡ 64 →
     (first : Option code.Command) (number : ℕ) (state : LinesState) (left left_now told told_now : Option (List ℕ)) (status : Status) →
     RunsFrom first number state left left_now (around_of config f.media f'.media told told_now) (SessionStands config entries f mounted notes) (SessionStands config entries' f' mounted' notes') status →
     RunsFrom first number state left left_now (around_of config old new told told_now) (RestsOn config old.content) (StandsAfter config (Some new.content)) status
-session-runs config lines entries entries' notes notes' f f' old new mounted mounted' geometry blocks origin is g_is media tells device plans made off fresh knots built first number state left left_now told told_now status h =
+session-runs config lines entries entries' notes notes' f f' old new mounted mounted' geometry blocks origin is g_is media tells device plans made off fresh knots first number state left left_now told told_now status h =
     let begin : (m : Machine) → RestsOn config old.content m → SessionStands config entries f mounted notes m =
     λ m r. subst (λ b. SessionStands config entries f b notes m) (sym off)
     (subst (λ x. SessionStands config entries x false notes m) (sym is)
-    (session-begins config lines entries notes (on_medium geometry blocks 1024 origin true None 0 (record { reads = 0; programs = 0; erases = 0 }) old) m fresh tells refl g_is refl refl refl device plans made knots built r)) in
+    (session-begins config lines entries notes (on_medium geometry blocks 1024 origin true None 0 (record { reads = 0; programs = 0; erases = 0 }) old) m fresh tells refl g_is refl refl refl device plans made knots r)) in
     let end : (m : Machine) → SessionStands config entries' f' mounted' notes' m → StandsAfter config (Some f'.media.content) m = λ m s. session-ends config entries' notes' f' mounted' m s in
     let seen = runs-seen first number state left left_now (around_of config f.media f'.media told told_now) (SessionStands config entries f mounted notes) (SessionStands config entries' f' mounted' notes')
     (RestsOn config old.content) (StandsAfter config (Some f'.media.content)) status begin end h in
@@ -168,13 +163,12 @@ session-keeps f f' old new geometry blocks origin is media goes =
 
 -- a run over an image that was opened
 pub ends-opened : (knots : ℕ) (text : List ℕ) (lines : Lines) (first : Option code.Command) (number : ℕ) (state : LinesState) (left left_now told told_now : Option (List ℕ)) (config : Config) (old mid new : MediaState) (origin : GName) (status : Status) →
-    BeginsAt knots text lines first number state left → whole knots lines ≡ Some config → are_built lines.plans ≡ true → IsTrue old.tells → Opened config old mid → KeepsForm mid new → mid.tells ≡ old.tells → old.faults ≤ mid.faults → mid.faults ≤ new.faults →
+    BeginsAt knots text lines first number state left → whole knots lines ≡ Some config → IsTrue old.tells → Opened config old mid → KeepsForm mid new → mid.tells ≡ old.tells → old.faults ≤ mid.faults → mid.faults ≤ new.faults →
     RunsFrom first number state left left_now (around_of config mid new told told_now) (RestsOn config mid.content) (StandsAfter config (Some new.content)) status →
     Ends knots text (told_of old new left_now told told_now) status
-ends-opened knots text lines first number state left left_now told told_now config old mid new origin status begins w built tells opened kept same_tells later later' h =
+ends-opened knots text lines first number state left left_now told told_now config old mid new origin status begins w tells opened kept same_tells later later' h =
     let ready = begins-ready knots text lines first number state left config begins w in
     let room = ready-room config ready.0 ready.1 (start_in knots text) (start-room knots text) ready.2 in
-    let plain = plain-of knots lines config built (whole-parts knots lines config w) in
     let f : FlashState = record { geometry = config.geometry; blocks = 0; start = 1024; origin = origin; media = mid; is_on = true; armed = None; cuts = 0; work = record { reads = 0; programs = 0; erases = 0 } } in
     ends-of_run knots text lines first number state left config (told_of old new left_now told told_now) (around_of config mid new told told_now) (RestsOn config mid.content) (StandsAfter config (Some new.content)) status begins w
     (record {
@@ -185,7 +179,7 @@ ends-opened knots text lines first number state left left_now told told_now conf
       written_now = refl;
       own = opened.own tells;
       formed = kept-formed config mid new (opened-formed config old mid tells opened) (subst IsTrue (sym same_tells) tells) kept;
-      begins = λ m s. (opened-rests config old mid f m refl refl refl room plain tells opened s, stands-ready config old.content m room s);
+      begins = λ m s. (opened-rests config old mid f m refl refl refl room tells opened s, stands-ready config old.content m room s);
       ends = λ m s. s;
     })
     (le_trans later later') h

@@ -18,12 +18,10 @@ use Rattle.fl_words.specs.Medium.{header, IsImage}
 use Rattle.fl_machine.specs.Machine.{Machine, fresh_tables}
 use Rattle.fl_machine.specs.Found.{HasRoom}
 use Rattle.fl_machine.specs.Script.{StandsFor, StandsAfter}
-use Rattle.fl_session.specs.Built.{are_built}
 use Rattle.fl_session.specs.Ends.{IsOwn, IsFormed, new_content}
 use Rattle.fl_session.specs.Opening.{Opened}
 use Rattle.fl_table.specs.Memory.{IsPlanned}
 use Rattle.fl_table.specs.Pages.{place_in}
-use Rattle.fl_session.proofs.BuiltAll.{ArePlain}
 use Rattle.fl_session.proofs.StepsOf.{entry-off}
 use Rattle.fl_session.proofs.TablesChanged.{some-is, tables-become}
 use Rattle.fl_session.specs.Cost.{cost_of}
@@ -89,8 +87,8 @@ new-header config old new h e =
     omega (arith, count)
 
 pub new-rests : (config : Config) (old new : MediaState) (f : FlashState) → f.start ≡ 1024 → f.geometry ≡ config.geometry → f.media.content ≡ new.content →
-    AllByRecursion HasRoom config.plans → ArePlain config.plans → Opened config old new → new.content ≡ new_content config → IsImage config new.content (fresh_tables config)
-new-rests config old new f start geometry content room plain h e = record {
+    AllByRecursion HasRoom config.plans → Opened config old new → new.content ≡ new_content config → IsImage config new.content (fresh_tables config)
+new-rests config old new f start geometry content room h e = record {
   len = h.len;
   head = ap (take 1024) e ∙ (ap (λ n. take n (new_content config)) (sym size) ∙ take-append_seam (header config) (replicate (medium_len config - 1024) 255));
   tables_are = images-of config new.content 0 config.plans (map fresh_table config.plans) (length-map config.plans fresh_table) (λ i plan table p t.
@@ -124,9 +122,9 @@ opened-formed config old new told h = (h.len, by-own (h.own told))
     by-own (inr formed) = ap (take 1024) (h.kept told (λ e. some (sym formed.0 ∙ ap length e))) ∙ formed.1
 
 pub opened-rests : (config : Config) (old new : MediaState) (f : FlashState) (m : Machine) → f.start ≡ 1024 → f.geometry ≡ config.geometry → f.media.content ≡ new.content →
-    AllByRecursion HasRoom config.plans → ArePlain config.plans → IsTrue old.tells → Opened config old new → StandsFor config old.content m → RestsOn config new.content m
-opened-rests config old new f m start geometry content room plain told h (inl s) = (fresh_tables config, new-rests config old new f start geometry content room plain h (h.made told s.0), s.1)
-opened-rests config old new f m start geometry content room plain told h (inr s) = (
+    AllByRecursion HasRoom config.plans → IsTrue old.tells → Opened config old new → StandsFor config old.content m → RestsOn config new.content m
+opened-rests config old new f m start geometry content room told h (inl s) = (fresh_tables config, new-rests config old new f start geometry content room h (h.made told s.0), s.1)
+opened-rests config old new f m start geometry content room told h (inr s) = (
   s.0,
   subst (λ c. IsImage config c s.0) (sym (h.kept told (λ e. some (sym s.1.len ∙ ap length e)))) s.1,
   s.2,
@@ -137,10 +135,9 @@ opened-rests config old new f m start geometry content room plain told h (inr s)
 
 -- .. and the session that begins on it for the same
 pub session-begins : (config : Config) (lines : Lines) (entries : List Entry) (notes : Notes) (f : FlashState) (m : Machine) → notes ≡ no_notes → IsTrue f.media.tells → f.start ≡ 1024 → f.geometry ≡ config.geometry →
-    f.armed ≡ None → f.work.programs ≡ 0 → f.work.erases ≡ 0 → lines.device ≡ Some config.geometry → lines.plans ≡ config.plans → AreNewTables entries lines → config.knots ≡ 64 → are_built config.plans ≡ true → RestsOn config f.media.content m → SessionStands config entries f false notes m
-session-begins config lines entries notes f m fresh told start geometry armed programs erases device plans new knots built h = record {
+    f.armed ≡ None → f.work.programs ≡ 0 → f.work.erases ≡ 0 → lines.device ≡ Some config.geometry → lines.plans ≡ config.plans → AreNewTables entries lines → config.knots ≡ 64 → RestsOn config f.media.content m → SessionStands config entries f false notes m
+session-begins config lines entries notes f m fresh told start geometry armed programs erases device plans new knots h = record {
   knots = knots;
-  built = built;
   medium = record { told = told; len = h.1.len; head = h.1.head; start = start; geometry = geometry };
   tables = subst (λ (m : Machine). TablesStand f (λ i. false) config.plans entries m.tables) (sym h.2) (record {
     as_many = new.as_many ∙ ap length plans;

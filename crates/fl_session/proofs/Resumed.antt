@@ -17,6 +17,7 @@ use Rattle.fl_model.specs.Row.{stored_row}
 use Rattle.fl_model.specs.Table as model
 use Rattle.fl_page.specs.Contents.{contents_of, IsCaused}
 use Rattle.fl_page.specs.declared.fault.ReadFault.TheVariants.{Flash}
+use Rattle.fl_search.specs.Search.{RoseSome}
 use Rattle.fl_table.specs.Memory.{LiesOn}
 use Rattle.fl_table.specs.Standing.{Stands}
 use Rattle.fl_table.specs.declared.table.Table.{Table}
@@ -38,7 +39,15 @@ rose-read f g PowerLost on off = absurd (no (sym on ∙ off))
   where
     no : true ≡ false → ⊥
     no e = cc
-rose-read f g Media on rose = rose
+rose-read f g Media on cause = cause.0
+
+-- .. in a read that is counted
+pub read-counted : (f g : FlashState) (e : FlashFault) → f.is_on ≡ true → IsCaused f (Flash e) g → RoseSome f.work.reads g.work.reads
+read-counted f g PowerLost on off = absurd (no (sym on ∙ off))
+  where
+    no : true ≡ false → ⊥
+    no e = cc
+read-counted f g Media on cause = cause.1
 
 -- the same bookmarks by other names
 pub nexts-by : {E : Type 0} {plan : Plan} {table : model.Table} {count : ℕ} {a b old new : Bookmark} {told now : Option (List ℕ)} {faults faults_now reads reads_now : ℕ} {result : Result (Unit {0}) E} → a ≡ old → b ≡ new →

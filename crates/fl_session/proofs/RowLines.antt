@@ -1,16 +1,23 @@
 -- The lines of rows, and a reply behind them.
-use Rattle.std.proofs.Common.{◌≡◌, ℕ, suc, false, Option, Some, None, Result, Ok, Err, List, [], ◌∷◌, ◌++◌, length, map, drop, take, refl, sym, ◌∙◌, ap, subst, append-nil, append_assoc, arith}
+use Rattle.std.proofs.Common.{◌≡◌, ℕ, suc, Bool, Option, Some, None, Result, Ok, Err, List, [], ◌∷◌, ◌++◌, length, map, drop, take, refl, sym, ◌∙◌, ap, subst, append-nil, append_assoc, arith}
 use Rattle.std.proofs.lemmas.List.{take-map, take_all, take-append-le}
 use Rattle.fl_base.specs.Causes.{Appends, AppendsFront}
-use Rattle.fl_model.specs.Record.{Column, Plan, has_var}
+use Rattle.fl_flash.specs.Flash.{FlashState}
+use Rattle.fl_model.specs.Record.{Column, Plan, RowLayout, has_var}
 use Rattle.fl_model.specs.Row.{Row, stored_row, values_in}
+use Rattle.fl_model.specs.Table as model
 use Rattle.fl_model.specs.Table.{Entry}
-use Rattle.fl_machine.specs.Step.{rows_of, row_of, row_note}
+use Rattle.fl_machine.specs.Step.{rows_of, row_of}
 use Rattle.fl_script.specs.Written.{Written}
+use Rattle.fl_table.specs.BlobAt.{has_blobs}
+use Rattle.fl_table.specs.Standing.{Stands}
+use Rattle.fl_table.specs.declared.table.Table.{Table}
 use Rattle.fl_script.proofs.Sending.{appends-append, sent-failed}
 use Rattle.fl_words.specs.Reply as reply
 use Rattle.fl_words.specs.Reply.{Reply, text, texts}
+use Rattle.fl_session.specs.BlobNotes.{note_of}
 use Rattle.fl_session.specs.Rows.{row_reply}
+use Rattle.fl_session.proofs.BlobNotes.{note-record}
 
 pub length-values_in : (columns : List Column) (bytes : List ℕ) → length (values_in columns bytes) ≡ length columns
 length-values_in [] bytes = refl
@@ -20,17 +27,19 @@ pub appends-none : (o : Option (List ℕ)) → Appends o o []
 appends-none None = tt
 appends-none (Some bytes) = ap (λ (l : List ℕ). Some l) (sym (append-nil bytes))
 
--- the line of an entry of a table without variable data
-pub row-line : (plan : Plan) (entry : Entry) → has_var plan ≡ false → row_reply (stored_row entry) ≡ row_of plan entry
-row-line plan entry none = ap (λ n. reply.Row entry.kept.key entry.kept.values n) (sym (note entry.kept.blob))
-  where
-    note : (blob : Option (List ℕ)) → row_note plan blob ≡ reply.NoRing
-    note None = rw none refl
-    note (Some bytes) = rw none refl
+-- a table has blobs where its plan has variable data
+pub blobs-as : (t : Table) (f : FlashState) (first : ℕ) (plan : Plan) (table : model.Table) → Stands t f first plan table → has_blobs t ≡ has_var plan
+blobs-as t f first plan table h = sym t.has_blobs ∙ sym (ap (λ (l : RowLayout). l.blobs) h.planned.layout)
 
-pub lines-stored : (plan : Plan) (es : List Entry) → has_var plan ≡ false → map row_reply (map stored_row es) ≡ rows_of plan es
-lines-stored plan [] none = refl
-lines-stored plan (e ∷ es) none = ap (λ (r : Reply). r ∷ map row_reply (map stored_row es)) (row-line plan e none) ∙ ap (λ (l : List Reply). row_of plan e ∷ l) (lines-stored plan es none)
+-- the line of an entry
+pub row-line : (plan : Plan) (blobs : Bool) (entry : Entry) → blobs ≡ has_var plan → row_reply blobs (stored_row entry) ≡ row_of plan entry
+row-line plan blobs entry noted =
+    ap (λ n. reply.Row entry.kept.key entry.kept.values n) (ap (λ b. note_of b (stored_row entry).blob) noted ∙ note-record plan entry)
+
+pub lines-stored : (plan : Plan) (blobs : Bool) (es : List Entry) → blobs ≡ has_var plan → map (row_reply blobs) (map stored_row es) ≡ rows_of plan es
+lines-stored plan blobs [] noted = refl
+lines-stored plan blobs (e ∷ es) noted =
+    ap (λ (r : Reply). r ∷ map (row_reply blobs) (map stored_row es)) (row-line plan blobs e noted) ∙ ap (λ (l : List Reply). row_of plan e ∷ l) (lines-stored plan blobs es noted)
 
 -- the rows in front are those of the entries in front
 pub rows-front : (rows rest : List Row) (es : List Entry) → map stored_row es ≡ rows ++ rest → rows ≡ map stored_row (take (length rows) es)

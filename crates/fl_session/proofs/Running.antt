@@ -14,7 +14,7 @@ use Rattle.fl_words.specs.Reply.{texts}
 use Rattle.fl_machine.specs.Machine.{Machine}
 use Rattle.fl_machine.specs.OpenCursors.{AreWithin}
 use Rattle.fl_machine.proofs.OpenCursors.{run-within}
-use Rattle.fl_machine.specs.Reads.{none_read, OnTable, OnColumns, WithinScan, ReadsLeast, GetExact, LimitOf, RunLimits, ExactOf, RunExact, reads_in}
+use Rattle.fl_machine.specs.Reads.{none_read, OnTable, OnColumns, WithinScan, GetExact, ScanExact, LimitOf, RunLimits, ExactOf, RunExact, reads_in}
 use Rattle.fl_machine.specs.Step.{Moment, Step, Located, located, no_column}
 use Rattle.fl_machine.specs.Run.{Run, end_of, written_by, risen_in}
 use Rattle.fl_machine.specs.Script.{Ran, RanInto, RoseBy}
@@ -89,17 +89,17 @@ limit-by : {E : Type 0} (config : Config) (old : Machine) (moment : Moment) (bef
 limit-by config old moment before now result command.Mount within h k = k
 limit-by config old moment before now result (command.Get name key) within h k =
     on-table-weaker config old moment name (ReadsGet config moment key now) (λ at. moment.reads ≤ lookup_limit config.knots at.plan at.table key) (λ at p. p.within) k
-limit-by config old moment before now result (command.Blob name key) within h k = tt
+limit-by config old moment before now result (command.Blob name key) within h k = k.0
 limit-by config old moment before now result (command.Scan name range span) within h k =
     on-table-weaker config old moment name (ReadsScan config moment range span now result) (WithinScan config moment range span) (λ at p. p.within) k
-limit-by config old moment before now result (command.Next cursor count) within h k = k within
+limit-by config old moment before now result (command.Next cursor count) within h k = k.0 within
 limit-by config old moment before now result (command.Select name range column op value) within h k =
     on-columns-weaker config old moment name (column ∷ []) (ReadsScan config moment range None now result) (WithinScan config moment range None) (λ at p. p.within) k
 limit-by config old moment before now result (command.Project name range columns) within h k =
     on-columns-weaker config old moment name columns (ReadsScan config moment range None now result) (WithinScan config moment range None) (λ at p. p.within) k
 limit-by config old moment before now result (command.Agg name range column width) within h k =
     on-columns-weaker config old moment name (column ∷ []) (ReadsScan config moment range None now result) (WithinScan config moment range None) (λ at p. p.within) k
-limit-by config old moment before now result (command.Join left right range) within h k = k
+limit-by config old moment before now result (command.Join left right range) within h k = k.0
 limit-by config old moment before now result c within h k = h.0
 
 limit : {E : Type 0} (config : Config) (old : Machine) (moment : Moment) (before now : FlashState) (result : Result (Unit {0}) E) (c : Command) → moment.command ≡ c → AreWithin old.cursors → CountsReads before moment now c → ReadsAsStated config old moment now result c → LimitOf config old moment moment.command
@@ -114,14 +114,17 @@ limits-more config old (m ∷ moments) moment run reads = (run.0, limits-more co
 exact-by : (E : Type 0) (config : Config) (old : Machine) (moment : Moment) (now : FlashState) (c : Command) → now.work.reads < 2 ^ 64 - 1 → ReadsAsStated {E = E} config old moment now (Ok tt) c → ExactOf config old moment c
 exact-by E config old moment now (command.Get name key) below k =
     on-table-weaker config old moment name (ReadsGet config moment key now) (GetExact config moment key) (λ at p. p.exact below) k
+exact-by E config old moment now (command.Blob name key) below k = k.1 below
 exact-by E config old moment now (command.Scan name range span) below k =
-    on-table-weaker config old moment name (ReadsScan {E = E} config moment range span now (Ok tt)) (ReadsLeast moment range span) (λ at p. p.least below) k
+    on-table-weaker config old moment name (ReadsScan {E = E} config moment range span now (Ok tt)) (ScanExact moment range span) (λ at p. record { least = p.least below; failed = p.failed below }) k
+exact-by E config old moment now (command.Next cursor count) below k = k.1 below
 exact-by E config old moment now (command.Select name range column op value) below k =
-    on-columns-weaker config old moment name (column ∷ []) (ReadsScan {E = E} config moment range None now (Ok tt)) (ReadsLeast moment range None) (λ at p. p.least below) k
+    on-columns-weaker config old moment name (column ∷ []) (ReadsScan {E = E} config moment range None now (Ok tt)) (ScanExact moment range None) (λ at p. record { least = p.least below; failed = p.failed below }) k
 exact-by E config old moment now (command.Project name range columns) below k =
-    on-columns-weaker config old moment name columns (ReadsScan {E = E} config moment range None now (Ok tt)) (ReadsLeast moment range None) (λ at p. p.least below) k
+    on-columns-weaker config old moment name columns (ReadsScan {E = E} config moment range None now (Ok tt)) (ScanExact moment range None) (λ at p. record { least = p.least below; failed = p.failed below }) k
 exact-by E config old moment now (command.Agg name range column width) below k =
-    on-columns-weaker config old moment name (column ∷ []) (ReadsScan {E = E} config moment range None now (Ok tt)) (ReadsLeast moment range None) (λ at p. p.least below) k
+    on-columns-weaker config old moment name (column ∷ []) (ReadsScan {E = E} config moment range None now (Ok tt)) (ScanExact moment range None) (λ at p. record { least = p.least below; failed = p.failed below }) k
+exact-by E config old moment now (command.Join left right range) below k = k.1 below
 exact-by E config old moment now c below k = tt
 
 counted-by : (before : FlashState) (moment : Moment) (now : FlashState) (c : Command) → CountsReads before moment now c → now.work.reads ≤ before.work.reads + moment.reads

@@ -1,11 +1,11 @@
 -- The scan of a session.
-use Rattle.std.proofs.Common.{◌≡◌, false, ℕ, ◌-◌, Bool, true, IsTrue, Option, Some, None, Result, List, refl, sym, ap, subst, arith}
+use Rattle.std.proofs.Common.{◌≡◌, ℕ, ◌-◌, Bool, true, IsTrue, Option, Some, None, Result, List, refl, sym, ap, subst, arith}
 use Rattle.std.specs.List.{slice_get}
 use Rattle.fl_base.specs.declared.types.KeyRange.{KeyRange}
 use Rattle.fl_base.specs.declared.types.Span.{Span}
 use Rattle.fl_flash.specs.Flash.{FlashState}
 use Rattle.fl_model.specs.Limits.{scan_limit}
-use Rattle.fl_model.specs.Record.{Config, Plan, has_var}
+use Rattle.fl_model.specs.Record.{Config, Plan}
 use Rattle.fl_model.specs.Table as model
 use Rattle.fl_page.specs.Contents.{OnlyReads}
 use Rattle.fl_words.specs.Command as command
@@ -25,7 +25,6 @@ use Rattle.fl_session.specs.declared.cost.Cost.TheVariants as code_cost
 use Rattle.fl_session.specs.Standing.{SessionStands}
 use Rattle.fl_session.specs.Tables.{first_of}
 use Rattle.fl_session.proofs.Answering.{executes-answered, step-is, table-step}
-use Rattle.fl_session.proofs.BuiltAll.{no-blobs}
 use Rattle.fl_session.proofs.Owning.{own-of}
 use Rattle.fl_session.proofs.Costing.{read-none}
 use Rattle.fl_session.proofs.Executing.{executes-by}
@@ -36,17 +35,18 @@ use Rattle.fl_session.proofs.Scanned.{on-ok-weaker}
 -- a scan that is executed
 pub scan-executes : (E : Type 0) (config : Config) (old : Machine) (entries : List Entry) (at : ℕ) (entry : Entry) (asked : List ℕ) (notes : Notes) (f g : FlashState) (reads : ℕ) (mounted : Bool) (range : KeyRange) (span : Option Span) (told told_now : Option (List ℕ)) (result : Result (Unit {0}) E) →
     SessionStands config entries f mounted notes old → IsReached entries mounted asked at → slice_get entries at ≡ Some entry → OnlyReads f g → HasRead f reads g → reads ≡ g.work.reads - f.work.reads →
-    ((first : ℕ) (plan : Plan) (table : model.Table) → IsTrue f.media.tells → f.is_on ≡ true → Stands entry.table f first plan table → has_var plan ≡ false → Scans plan table range span told told_now f.media.faults g.media.faults f.work.reads g.work.reads result) →
+    ((first : ℕ) (plan : Plan) (table : model.Table) → IsTrue f.media.tells → f.is_on ≡ true → Stands entry.table f first plan table → Scans plan table range span told told_now f.media.faults g.media.faults f.work.reads g.work.reads result) →
     Executes config old (command.Scan asked range span) (SessionStands config entries g mounted (record notes { cost = code_cost.OfScan reads })) f g told told_now result
 scan-executes E config old entries at entry asked notes f g reads mounted range span told told_now result h r here only counted reads_are scans =
     let h' = subst (λ m. SessionStands config entries f m notes old) r.mounted_is h in
     let own = own-of config old entries f notes asked at entry h' here r.named in
-    let s = scans (first_of config.plans at) own.plan own.table h'.medium.told (h'.power refl) own.stands.on_flash (no-blobs config.plans h'.built at own.plan own.plan_is) in
+    let s = scans (first_of config.plans at) own.plan own.table h'.medium.told (h'.power refl) own.stands.on_flash in
     let moment : Moment = record { command = command.Scan asked range span; rose = s.rose; reads = reads; last = None; replies = s.replies; after = record old { cost = OfScan reads } } in
     let place : Located = record { place = at; plan = own.plan; table = own.table } in
     let stated : ReadsScan config moment range span g result place = record {
       within = omega (arith, s.within, reads_are, ap (λ n. scan_limit n own.plan own.table range span range.low) h'.knots);
       least = on-ok-weaker result (λ least below unread. let more = least unread below in omega (arith, more, reads_are)) s.least;
+      failed = λ below unread. let more = s.failed unread below in omega (arith, more, reads_are);
     } in
     let step = table-step config old moment asked (ScanStep config old moment range span) place h'.is_mounted own.found (refl, refl, s.lists) in
     let notes' : Notes = record notes { cost = code_cost.OfScan reads } in

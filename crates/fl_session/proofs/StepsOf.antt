@@ -21,7 +21,7 @@ use Rattle.fl_table.specs.Standing.{Stands}
 use Rattle.fl_table.proofs.Holding.{lost-twice}
 use Rattle.fl_table.proofs.Plain.{plain-lose, table-facts, table-parts}
 use Rattle.fl_session.specs.Answer.{Answers}
-use Rattle.fl_session.specs.Built.{IsRunnable}
+use Rattle.fl_session.specs.Runnable.{IsRunnable}
 use Rattle.fl_session.specs.Execute.{Executes}
 use Rattle.fl_session.specs.declared.notes.Notes.{Notes}
 use Rattle.fl_session.specs.Standing.{SessionStands}
@@ -62,7 +62,6 @@ entry-dark entry f first plan table h = record { named = h.named; geometry = h.g
 pub stands-off : (config : Config) (old : Machine) (entries : List Entry) (notes : Notes) (f : FlashState) (mounted : Bool) → SessionStands config entries f mounted notes old → SessionStands config entries (record f { is_on = false }) false notes (stopped old)
 stands-off config old entries notes f mounted h = record {
   knots = h.knots;
-  built = h.built;
   medium = record { told = h.medium.told; len = h.medium.len; head = h.medium.head; start = h.medium.start; geometry = h.medium.geometry };
   tables = tables-become f (record f { is_on = false }) (λ i. mounted) (λ i. false) config.plans entries old.tables lose h.tables
       (λ i plan e x k. entry-dark e f (first_of config.plans i) plan (lose x) (entry-off e f mounted (first_of config.plans i) plan x k));
@@ -91,7 +90,6 @@ pub stands-cut : (config : Config) (old : Machine) (entries : List Entry) (notes
     SessionStands config entries f mounted notes old → SessionStands config entries (record f { armed = Some (record { left = n; tear = Kind kind }) }) mounted notes (cut_to_come old n kind)
 stands-cut config old entries notes f mounted n kind counted h = record {
   knots = h.knots;
-  built = h.built;
   medium = record { told = h.medium.told; len = h.medium.len; head = h.medium.head; start = h.medium.start; geometry = h.medium.geometry };
   tables = tables-still f (record f { armed = Some (record { left = n; tear = Kind kind }) }) (λ i. mounted) config.plans entries old.tables h.tables
       (λ i plan e x k. entry-cut e f mounted (first_of config.plans i) plan x n kind k);
@@ -111,34 +109,31 @@ pub default-view : (c : code.Command) (room : List ℕ) → IsRunnable (command_
     ((name : _) (key : ℕ) (values : _) (blob : Bool) → c ≡ code.TheVariants.Put name key values blob → ⊥) → ((name : _) → c ≡ code.TheVariants.Flush name → ⊥) → ((name : _) → c ≡ code.TheVariants.Stat name → ⊥) → ((name : _) (key : ℕ) → c ≡ code.TheVariants.Get name key → ⊥) → ((name : _) (range : _) (span : _) → c ≡ code.TheVariants.Scan name range span → ⊥) →
     ((name : _) (count step seed : ℕ) → c ≡ code.TheVariants.Load name count step seed → ⊥) → ((cursor : ℕ) (name : _) (range : _) (span : _) → c ≡ code.TheVariants.Open cursor name range span → ⊥) → ((cursor : ℕ) → c ≡ code.TheVariants.Close cursor → ⊥) → ((cursor count : ℕ) → c ≡ code.TheVariants.Next cursor count → ⊥) →
     (c ≡ code.TheVariants.Cost → ⊥) → ((name : _) (range : _) (column : ℕ) (op : _) (value : _) → c ≡ code.TheVariants.Select name range column op value → ⊥) → ((name : _) (range : _) (columns : _) → c ≡ code.TheVariants.Project name range columns → ⊥) → ((name : _) (range : _) (column width : ℕ) → c ≡ code.TheVariants.Agg name range column width → ⊥) →
-    ((left right : _) (range : _) → c ≡ code.TheVariants.Join left right range → ⊥) → command_view c room ≡ command.Nothing
-default-view code.TheVariants.Nothing room r m n k p f s t l o u v w q x y z j = refl
-default-view code.TheVariants.Mount room r m n k p f s t l o u v w q x y z j = absurd (m refl)
-default-view code.TheVariants.Off room r m n k p f s t l o u v w q x y z j = absurd (n refl)
-default-view (code.TheVariants.Cut i kind) room r m n k p f s t l o u v w q x y z j = absurd (k i kind refl)
-default-view (code.TheVariants.Put name key values blob) room r m n k p f s t l o u v w q x y z j = absurd (p name key values blob refl)
-default-view (code.TheVariants.Flush name) room r m n k p f s t l o u v w q x y z j = absurd (f name refl)
-default-view (code.TheVariants.Stat name) room r m n k p f s t l o u v w q x y z j = absurd (s name refl)
-default-view (code.TheVariants.Get name key) room r m n k p f s t l o u v w q x y z j = absurd (t name key refl)
-default-view (code.TheVariants.Scan name range span) room r m n k p f s t l o u v w q x y z j = absurd (l name range span refl)
-default-view code.TheVariants.Cost room r m n k p f s t l o u v w q x y z j = absurd (q refl)
-default-view (code.TheVariants.Load name count step seed) room r m n k p f s t l o u v w q x y z j = absurd (o name count step seed refl)
-default-view (code.TheVariants.Open cursor name range span) room r m n k p f s t l o u v w q x y z j = absurd (u cursor name range span refl)
-default-view (code.TheVariants.Close cursor) room r m n k p f s t l o u v w q x y z j = absurd (v cursor refl)
-default-view (code.TheVariants.Next cursor count) room r m n k p f s t l o u v w q x y z j = absurd (w cursor count refl)
-default-view (code.TheVariants.Select name range column op value) room r m n k p f s t l o u v w q x y z j = absurd (x name range column op value refl)
-default-view (code.TheVariants.Project name range columns) room r m n k p f s t l o u v w q x y z j = absurd (y name range columns refl)
-default-view (code.TheVariants.Agg name range column width) room r m n k p f s t l o u v w q x y z j = absurd (z name range column width refl)
-default-view (code.TheVariants.Join left right range) room r m n k p f s t l o u v w q x y z j = absurd (j left right range refl)
-default-view (code.TheVariants.Device page block) room r m n k p f s t l o u v w q x y z j = absurd (none r.runs)
+    ((left right : _) (range : _) → c ≡ code.TheVariants.Join left right range → ⊥) → ((name : _) (key : ℕ) → c ≡ code.TheVariants.Blob name key → ⊥) → command_view c room ≡ command.Nothing
+default-view code.TheVariants.Nothing room r m n k p f s t l o u v w q x y z j b = refl
+default-view code.TheVariants.Mount room r m n k p f s t l o u v w q x y z j b = absurd (m refl)
+default-view code.TheVariants.Off room r m n k p f s t l o u v w q x y z j b = absurd (n refl)
+default-view (code.TheVariants.Cut i kind) room r m n k p f s t l o u v w q x y z j b = absurd (k i kind refl)
+default-view (code.TheVariants.Put name key values blob) room r m n k p f s t l o u v w q x y z j b = absurd (p name key values blob refl)
+default-view (code.TheVariants.Flush name) room r m n k p f s t l o u v w q x y z j b = absurd (f name refl)
+default-view (code.TheVariants.Stat name) room r m n k p f s t l o u v w q x y z j b = absurd (s name refl)
+default-view (code.TheVariants.Get name key) room r m n k p f s t l o u v w q x y z j b = absurd (t name key refl)
+default-view (code.TheVariants.Scan name range span) room r m n k p f s t l o u v w q x y z j b = absurd (l name range span refl)
+default-view code.TheVariants.Cost room r m n k p f s t l o u v w q x y z j b = absurd (q refl)
+default-view (code.TheVariants.Load name count step seed) room r m n k p f s t l o u v w q x y z j b = absurd (o name count step seed refl)
+default-view (code.TheVariants.Open cursor name range span) room r m n k p f s t l o u v w q x y z j b = absurd (u cursor name range span refl)
+default-view (code.TheVariants.Close cursor) room r m n k p f s t l o u v w q x y z j b = absurd (v cursor refl)
+default-view (code.TheVariants.Next cursor count) room r m n k p f s t l o u v w q x y z j b = absurd (w cursor count refl)
+default-view (code.TheVariants.Select name range column op value) room r m n k p f s t l o u v w q x y z j b = absurd (x name range column op value refl)
+default-view (code.TheVariants.Project name range columns) room r m n k p f s t l o u v w q x y z j b = absurd (y name range columns refl)
+default-view (code.TheVariants.Agg name range column width) room r m n k p f s t l o u v w q x y z j b = absurd (z name range column width refl)
+default-view (code.TheVariants.Join left right range) room r m n k p f s t l o u v w q x y z j b = absurd (j left right range refl)
+default-view (code.TheVariants.Device page block) room r m n k p f s t l o u v w q x y z j b = absurd (none r.runs)
   where
     none : None ≡ Some (command.Device page block) → ⊥
     none e = cc
-default-view (code.TheVariants.Table name key rows index var bits base width error blob) room r m n k p f s t l o u v w q x y z j = absurd (none r.runs)
+default-view (code.TheVariants.Table name key rows index var bits base width error blob) room r m n k p f s t l o u v w q x y z j b = absurd (none r.runs)
   where
     none : None ≡ Some (command_view (code.TheVariants.Table name key rows index var bits base width error blob) room) → ⊥
     none e = cc
-default-view c room r m n k p f s t l o u v w q x y z j = absurd (unbuilt r.built)
-  where
-    unbuilt : false ≡ true → ⊥
-    unbuilt e = cc
+default-view (code.TheVariants.Blob name key) room r m n k p f s t l o u v w q x y z j b = absurd (b name key refl)

@@ -1,22 +1,18 @@
 -- The tables that are made for a configuration, one after another.
-use Rattle.std.proofs.Common.{◌≡◌, ℕ, ◌+◌, ◌^◌, ◌<◌, ◌≤◌, ◌⊎◌, true, false, nat_lt, inl, inr, Option, None, Some, List, [], ◌∷◌, ◌++◌, length, sum_by, take, refl, sym, ◌∙◌, ap, subst, length-append, arith}
+use Rattle.std.proofs.Common.{◌≡◌, ℕ, ◌+◌, ◌^◌, ◌<◌, ◌≤◌, ◌⊎◌, inl, inr, Option, None, Some, List, [], ◌∷◌, ◌++◌, length, sum_by, take, refl, sym, ◌∙◌, ap, subst, length-append, arith}
 use Rattle.std.specs.Prelude.{IfSome}
 use Rattle.std.specs.List.{slice_get}
-use Rattle.std.proofs.lemmas.Bool.{ltb-false}
 use Rattle.fl_model.specs.Record.{Plan, blocks_of}
-use Rattle.fl_model.proofs.Lists.{slice_get-push, slice_get-some}
+use Rattle.fl_model.proofs.Lists.{slice_get-push}
 use Rattle.fl_base.specs.declared.types.RingPlace.{RingPlace}
-use Rattle.fl_plan.specs.Limits.{IsRingSize, IsWithinLimits}
 use Rattle.fl_plan.specs.Plan.{IsConfigOf, blocks_in}
 use Rattle.fl_plan.specs.declared.table_config.TableConfig.{TableConfig}
 use Rattle.fl_flash.specs.Flash.{FlashState, pages}
 use Rattle.fl_table.specs.Memory.{IsPlanned, LiesOn}
 use Rattle.fl_table.specs.declared.table.Table.{Table}
 use Rattle.fl_words.specs.Config.{Lines}
-use Rattle.fl_session.specs.Built.{are_built}
 use Rattle.fl_session.specs.Tables.{first_of, IsNewTable, AreNewTables}
 use Rattle.fl_session.specs.declared.tables.Entry.{Entry}
-use Rattle.fl_session.proofs.BuiltAll.{no-blobs}
 
 -- tables for the first lines
 pub record MadeSoFar (lines : Lines) (n : ℕ) (entries : List Entry) : Type 0 where

@@ -136,7 +136,6 @@ module _ (config : Config) (old : Machine) (entries : List Entry) (at : ℕ) (en
       (λ plan e. subst (λ p. EntryStands now_there g true first p (after own.table)) (own-plan plan e) (entry-done (after own.table) stands)) (λ i plan e x other k. k) in
       record {
         knots = h.knots;
-        built = h.built;
         medium = medium-goes config f g goes h.medium;
         tables = subst (λ ts. TablesStand g (λ i. true) config.plans (entries_with entries at entry u) ts) (sym one) all;
         is_mounted = h.is_mounted;
@@ -152,7 +151,6 @@ module _ (config : Config) (old : Machine) (entries : List Entry) (at : ℕ) (en
       let left = with_table at old.tables state in
       record {
         knots = h.knots;
-        built = h.built;
         medium = medium-goes config f g goes h.medium;
         tables = tables-changed f g (λ i. true) (λ i. false) config.plans entries old.tables (map lose left) at entry now_there lose (lose state)
             h.tables here (outside h.medium.told) goes.geometry (length-map left lose ∙ length-changed at state old.tables)

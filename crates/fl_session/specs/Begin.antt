@@ -1,21 +1,19 @@
 -- How the configuration of a script is read, and how a run ends in it.
-use Rattle.std.specs.Prelude.{◌≡◌, ℕ, ◌+◌, ◌<◌, ◌≤◌, ◌^◌, ◌⊎◌, Bool, true, false, Option, Some, None, Result, Ok, Err, List, [], ◌∷◌, ◌++◌, length, take, drop}
-use Rattle.fl_model.specs.Record.{Config}
+use Rattle.std.specs.Prelude.{◌≡◌, ℕ, ◌+◌, ◌<◌, ◌≤◌, ◌^◌, Bool, true, false, Option, Some, None, Result, Ok, Err, List, [], ◌∷◌, ◌++◌, length, take, drop}
 use Rattle.fl_words.specs.Command.{Command}
 use Rattle.fl_words.specs.Config.{Lines, whole}
 use Rattle.fl_machine.specs.Script.{Start, Unended, BadLine, BadConfig, start_with, start_line, start_of}
-use Rattle.fl_session.specs.Built.{IsRunnable, is_built, is_built_config}
+use Rattle.fl_session.specs.Runnable.{IsRunnable}
 use Rattle.fl_session.specs.Taken.{HasTaken, TakesFew, TakesLine, TakesBegin, IsUnended}
 use Rattle.fl_session.specs.Texts.{most_bytes, whole_lines, rest_of, lines_read}
-use Rattle.fl_session.specs.Ends.{start_in, IsUnbuiltConfig}
+use Rattle.fl_session.specs.Ends.{start_in}
 use Rattle.fl_session.specs.Next.{IsToRun}
-use Rattle.fl_words.specs.Grammar.{command_of}
 use Rattle.fl_script.specs.declared.command.Command as code
 use Rattle.fl_script.specs.CommandView.{command_view}
 use Rattle.fl_session.specs.Given.{Given}
 use Rattle.fl_session.specs.Stream.{LinesState}
 use Rattle.fl_session.specs.declared.status.Status.{Status}
-use Rattle.fl_session.specs.declared.status.Status.TheVariants.{Line, ScriptRead, Config as BadConfiguration, ScriptLong, NotYet}
+use Rattle.fl_session.specs.declared.status.Status.TheVariants.{Line, ScriptRead, Config as BadConfiguration, ScriptLong}
 
 -- a stream of which nothing was read
 pub record IsFresh (state : LinesState) : Type 0 where
@@ -23,7 +21,7 @@ pub record IsFresh (state : LinesState) : Type 0 where
   pub most : state.most ≡ most_bytes
   pub is_open : state.closed ≡ false
 
--- what a command that is read makes of the configuration: it goes on, or the command ends it, or is refused, or isn't built
+-- what a command that is read makes of the configuration: it goes on, or the command ends it, or is refused
 abbrev pub GoesOn : Lines → Command → Lines → Type 0
 GoesOn old c new = (knots n : ℕ) (line : List ℕ) (others : List (List ℕ)) (go : Lines → Start) → start_line knots n old line others (Ok c) go ≡ go new
 
@@ -35,17 +33,10 @@ pub record EndsIt (old : Lines) (c : Command) (new : Lines) : Type 0 where
 abbrev pub Refuses : Lines → Command → Type 0
 Refuses old c = (knots n : ℕ) (line : List ℕ) (others : List (List ℕ)) (go : Lines → Start) → start_line knots n old line others (Ok c) go ≡ BadConfig n
 
-pub record Unmakes (old : Lines) (c : Command) (new : Lines) : Type 0 where
-  pub goes_on : GoesOn old c new
-  pub config : ℕ → Config
-  pub whole_is : (knots : ℕ) → whole knots new ≡ Some (config knots)
-  pub unbuilt : (knots : ℕ) → is_built_config (config knots) ≡ false
-
 abbrev pub ConfiguresBy : Lines → Command → ℕ → Result Bool Status → Lines → Type 0
 ConfiguresBy old c number (Ok true) new = GoesOn old c new
 ConfiguresBy old c number (Ok false) new = EndsIt old c new
 ConfiguresBy old c number (Err (BadConfiguration n)) new = (n ≡ number) × Refuses old c
-ConfiguresBy old c number (Err (NotYet n)) new = (n ≡ number) × Unmakes old c new
 ConfiguresBy old c number (Err status) new = ⊥
 
 -- The configuration is whole, and a command ended it: its line is the last that was given.
@@ -75,18 +66,6 @@ pub record EndsInConfig (knots : ℕ) (text : List ℕ) (left_now : Option (List
   pub left : left_now ≡ Some (drop taken text)
   pub unended : IsUnended (start_of knots (whole_lines (take taken text)))
 
--- a line of the configuration, or the command that would end it, isn't built
-pub record EndsBefore (knots : ℕ) (text : List ℕ) (number : ℕ) : Type 0 where
-  pub before : List (List ℕ)
-  pub line : List ℕ
-  pub others : List (List ℕ)
-  pub split : lines_read text ≡ before ++ line ∷ others
-  pub number_is : number ≡ length before + 1
-  pub command : Command
-  pub reads : command_of line ≡ Ok command
-  pub unbuilt : (is_built command ≡ false) ⊎ IsUnbuiltConfig (start_of knots (before ++ line ∷ []))
-  pub unended : IsUnended (start_of knots before)
-
 abbrev pub BeginsAt : ℕ → List ℕ → Lines → Option code.Command → ℕ → LinesState → Option (List ℕ) → Type 0
 BeginsAt knots text now (Some first) number state left_now = AtCommand knots text now number state left_now
 BeginsAt knots text now None number state left_now = AtEnd knots text now number left_now
@@ -96,7 +75,6 @@ EndsBegin knots text left_now (Line n) = (start_in knots text ≡ BadLine n) × 
 EndsBegin knots text left_now (BadConfiguration n) = (start_in knots text ≡ BadConfig n) × TakesBegin knots text left_now
 EndsBegin knots text left_now ScriptRead = EndsInConfig knots text left_now
 EndsBegin knots text left_now ScriptLong = (most_bytes < length text) × IsUnended (start_of knots (lines_read text)) × HasTaken text (most_bytes + 1) left_now
-EndsBegin knots text left_now (NotYet n) = EndsBefore knots text n × TakesLine text n left_now
 EndsBegin knots text left_now status = ⊥
 
 -- the first command is in hand, if there is one
@@ -110,5 +88,4 @@ IsOfScript (Line n) = Unit {0}
 IsOfScript (BadConfiguration n) = Unit {0}
 IsOfScript ScriptRead = Unit {0}
 IsOfScript ScriptLong = Unit {0}
-IsOfScript (NotYet n) = Unit {0}
 IsOfScript status = ⊥

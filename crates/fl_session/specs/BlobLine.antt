@@ -4,8 +4,10 @@ use Rattle.fl_base.specs.Causes.{Rose, Appends, AppendsFront}
 use Rattle.fl_page.specs.declared.fault.ReadFault.{ReadFault}
 use Rattle.fl_page.specs.declared.fault.ReadFault.TheVariants.{Flash, BadPage}
 use Rattle.fl_script.specs.Written.{Written}
+use Rattle.fl_search.specs.Search.{RoseSome}
 use Rattle.fl_words.specs.Reply as words
 use Rattle.fl_words.specs.Reply.{hex_text, texts}
+use Rattle.fl_session.specs.Listed.{ends_unread}
 use Rattle.fl_session.specs.declared.listing.ListFault.{ListFault}
 use Rattle.fl_session.specs.declared.listing.ListFault.TheVariants.{Sink, Read}
 
@@ -17,14 +19,15 @@ GivesDigits bytes told told_now (Err (Read (Flash fault))) = (n : ℕ) × (n ≤
 GivesDigits bytes told told_now (Err (Read (BadPage bad))) = ⊥
 
 -- The line of these bytes was written. Or a page wasn't read after some of them: then a line of its own says so, which it
--- does only where the medium's faults rose.
-pub record ShowsBytes {E : Type 0} (bytes : List ℕ) (told told_now : Option (List ℕ)) (faults faults_now : ℕ) (result : Result (Unit {0}) E) : Type 0 where
+-- does only where the medium's faults rose, and the read that failed is counted.
+pub record ShowsBytes {E : Type 0} (bytes : List ℕ) (told told_now : Option (List ℕ)) (faults faults_now reads reads_now : ℕ) (result : Result (Unit {0}) E) : Type 0 where
   pub rose : Bool
   pub risen : IsTrue rose → Rose faults faults_now
   pub replies : List words.Reply
   pub replied : (replies ≡ words.Bytes bytes ∷ [])
       ⊎ (IsTrue rose × ((n : ℕ) × (n ≤ length bytes) × (replies ≡ words.Bytes (take n bytes) ∷ words.ReadFault ∷ [])))
   pub wrote : Written told told_now result (texts replies)
+  pub failed : IsTrue (ends_unread replies) → RoseSome reads reads_now
 
 -- what is said of a page that isn't read
 abbrev pub read_reply : ReadFault → words.Reply

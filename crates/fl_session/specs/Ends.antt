@@ -1,20 +1,18 @@
 -- How a run over a script and a medium ends, by its status.
-use Rattle.std.specs.Prelude.{◌≡◌, ℕ, ◌+◌, ◌-◌, ◌<◌, ◌≤◌, false, ◌⊎◌, IsTrue, Option, Some, None, Ok, List, [], ◌∷◌, ◌++◌, length, take, drop, replicate, slice_get, if◌then◌else◌}
+use Rattle.std.specs.Prelude.{◌≡◌, ℕ, ◌+◌, ◌-◌, ◌<◌, ◌≤◌, ◌⊎◌, IsTrue, Option, Some, None, List, [], ◌++◌, length, take, drop, replicate, slice_get, if◌then◌else◌}
 use Rattle.fl_base.specs.Causes.{Rose, Appends}
 use Rattle.fl_flash.specs.Media.{MediaState}
 use Rattle.fl_model.specs.Record.{Config}
 use Rattle.fl_model.specs.Image.{medium_len}
 use Rattle.fl_words.specs.Command.{Command}
-use Rattle.fl_words.specs.Grammar.{command_of}
 use Rattle.fl_words.specs.Medium.{header}
 use Rattle.fl_machine.specs.Machine.{Machine}
 use Rattle.fl_machine.specs.Script.{Start, Ready, Unended, BadLine, BadConfig, start_of, ended, accepted, first_refused, StandsFor, StandsAfter, Ran, RanInto}
-use Rattle.fl_session.specs.Built.{is_built, is_built_config}
 use Rattle.fl_session.specs.Determined.{IsUncut, RanPlainly, RanPlainlyInto}
 use Rattle.fl_session.specs.Taken.{HasTaken, TakesLine, TakesBegin}
 use Rattle.fl_session.specs.Texts.{most_bytes, whole_lines, rest_of, is_long, lines_read}
 use Rattle.fl_session.specs.declared.status.Status.{Status}
-use Rattle.fl_session.specs.declared.status.Status.TheVariants.{Done, Usage, Line, ScriptRead, OutWrite, MediaMake, Config as BadConfiguration, OtherConfig, ScriptLong, NoMemory, NotYet}
+use Rattle.fl_session.specs.declared.status.Status.TheVariants.{Done, Usage, Line, ScriptRead, OutWrite, MediaMake, Config as BadConfiguration, OtherConfig, ScriptLong, NoMemory}
 
 -- what the outside tells before and after: the medium's content, what the source has left, the bytes that are written,
 -- and the medium's faults
@@ -151,26 +149,6 @@ IsNew (Unended config n) told = ⊥
 IsNew (BadLine n) told = ⊥
 IsNew (BadConfig n) told = ⊥
 
--- the configuration that these lines make so far is none that is built
-abbrev pub IsUnbuiltConfig : Start → Type 0
-IsUnbuiltConfig (Unended (Some config) n) = is_built_config config ≡ false
-IsUnbuiltConfig (Unended None n) = ⊥
-IsUnbuiltConfig (Ready config n lines) = ⊥
-IsUnbuiltConfig (BadLine n) = ⊥
-IsUnbuiltConfig (BadConfig n) = ⊥
-
--- The line of this number is in the grammar, and its form isn't built. It is not executed, and those before it were run.
-pub record EndsAt (knots : ℕ) (lines : List (List ℕ)) (told : Told) (number : ℕ) : Type 0 where
-  pub before : List (List ℕ)
-  pub line : List ℕ
-  pub others : List (List ℕ)
-  pub split : lines ≡ before ++ line ∷ others
-  pub number_is : number ≡ length before + 1
-  pub command : Command
-  pub reads : command_of line ≡ Ok command
-  pub unbuilt : (is_built command ≡ false) ⊎ IsUnbuiltConfig (start_of knots (before ++ line ∷ []))
-  pub ends : EndsEarly (start_of knots before) told
-
 -- a source that was read up to so many bytes: the whole lines of these were run, and no line behind them is too long yet
 pub record EndsRead (knots : ℕ) (text : List ℕ) (told : Told) : Type 0 where
   pub taken : ℕ
@@ -194,7 +172,6 @@ Ends knots text told ScriptLong = (most_bytes < length text) × EndsEarly (start
 Ends knots text told NoMemory =
     Appends told.written told.written_now [] × ((told.content_now ≡ told.content) ⊎ IsNew (start_in knots text) told)
     × ((told.left_now ≡ Some text) ⊎ TakesBegin knots text told.left_now)
-Ends knots text told (NotYet n) = EndsAt knots (lines_read text) told n × TakesLine text n told.left_now
 
 -- what the outside told before and after
 abbrev pub told_of : MediaState → MediaState → Option (List ℕ) → Option (List ℕ) → Option (List ℕ) → Told

@@ -1,8 +1,9 @@
 pub mod Paired
 pub mod BlobLine
 pub mod BlobNotes
+pub mod BlobShown
 pub mod Words
-pub mod Built
+pub mod Runnable
 pub mod Texts
 pub mod Taken
 pub mod Ends

@@ -3,6 +3,7 @@ use Rattle.std.specs.Prelude.{◌≡◌, ℕ, ◌+◌, ◌-◌, ◌^◌, ◌<◌
 use Rattle.fl_base.specs.Causes.{Rose, Appends, AppendsFront}
 use Rattle.fl_page.specs.declared.fault.ReadFault.{ReadFault}
 use Rattle.fl_page.specs.declared.fault.ReadFault.TheVariants.{Flash, BadPage}
+use Rattle.fl_search.specs.Search.{RoseSome}
 use Rattle.fl_words.specs.Reply as words
 use Rattle.fl_words.specs.Reply.{text, texts}
 use Rattle.fl_machine.specs.Step as machine
@@ -34,7 +35,7 @@ pub record ReadsLines (most least reads reads_now : ℕ) (result : Result ℕ Li
   pub some : OnOk result (reads_now < 2 ^ 64 - 1 → reads + least ≤ reads_now)
 
 -- The lines and their number were written, or a front of them where the sink failed; or a read failed behind some of them.
--- The count of reads rose by at most so many, and where no read failed by at least so many.
+-- The count of reads rose by at most so many, and where no read failed by at least so many. A read that failed is counted.
 pub record Counted {E : Type 0} (lines : List words.Reply) (most least : ℕ) (told told_now : Option (List ℕ)) (faults faults_now reads reads_now : ℕ) (result : Result (Unit {0}) E) : Type 0 where
   pub rose : Bool
   pub risen : IsTrue rose → Rose faults faults_now
@@ -43,6 +44,7 @@ pub record Counted {E : Type 0} (lines : List words.Reply) (most least : ℕ) (t
   pub wrote : Written told told_now result (texts replies)
   pub within : reads_now ≤ reads + most
   pub some : OnOk result (ends_unread replies ≡ false → reads_now < 2 ^ 64 - 1 → reads + least ≤ reads_now)
+  pub failed : IsTrue (ends_unread replies) → RoseSome reads reads_now
 
 -- These lines were written and counted. Or the sink failed in one of them, or the medium behind some of them; no page
 -- is bad.

@@ -12,6 +12,7 @@ use Rattle.fl_model.specs.Query.{selected}
 use Rattle.fl_model.specs.Record.{Plan}
 use Rattle.fl_model.specs.Table as model
 use Rattle.fl_page.specs.declared.fault.ReadFault.TheVariants.{Flash, BadPage}
+use Rattle.fl_search.specs.Search.{RoseSome}
 use Rattle.fl_words.specs.Reply as words
 use Rattle.fl_words.specs.Reply.{text, texts}
 use Rattle.fl_machine.specs.Reads.{is_read_fault}
@@ -40,8 +41,15 @@ SaysFault (Read (BadPage bad)) told told_now result = Written told told_now resu
 abbrev pub ends_unread : List words.Reply → Bool
 ends_unread replies = unwrap_or (option_map is_read_fault (last_or None replies)) false
 
+-- a read that failed is counted, where the count isn't at its end
+abbrev pub FaultIsRead : ℕ → ℕ → ListFault → Type 0
+FaultIsRead reads reads_now (Sink failed) = Unit {0}
+FaultIsRead reads reads_now (Read (Flash fault)) = RoseSome reads reads_now
+FaultIsRead reads reads_now (Read (BadPage bad)) = Unit {0}
+
 -- The replies to a scan of this table of the model were written, or a front of them where the sink failed. The count of
--- reads rose by no more than the limit, and where no read failed by no less than the least number.
+-- reads rose by no more than the limit, and where no read failed by no less than the least number. A read that failed is
+-- counted.
 pub record Scans {E : Type 0} (plan : Plan) (table : model.Table) (range : KeyRange) (span : Option Span) (told told_now : Option (List ℕ)) (faults faults_now reads reads_now : ℕ) (result : Result (Unit {0}) E) : Type 0 where
   pub rose : Bool
   pub risen : IsTrue rose → Rose faults faults_now
@@ -50,3 +58,4 @@ pub record Scans {E : Type 0} (plan : Plan) (table : model.Table) (range : KeyRa
   pub wrote : Written told told_now result (texts replies)
   pub within : reads_now ≤ reads + scan_limit 64 plan table range span range.low
   pub least : OnOk result (ends_unread replies ≡ false → reads_now < 2 ^ 64 - 1 → reads + least_reads plan table range span ≤ reads_now)
+  pub failed : IsTrue (ends_unread replies) → RoseSome reads reads_now

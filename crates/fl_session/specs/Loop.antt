@@ -6,9 +6,8 @@ use Rattle.fl_machine.specs.Script.{accepted, first_refused}
 use Rattle.fl_session.specs.Taken.{HasTaken, TakesFew}
 use Rattle.fl_session.specs.Texts.{whole_lines, rest_of, lines_within}
 use Rattle.fl_session.specs.Execute.{Around, RanAll, RanPart}
-use Rattle.fl_session.specs.Next.{IsUnbuilt}
 use Rattle.fl_session.specs.declared.status.Status.{Status}
-use Rattle.fl_session.specs.declared.status.Status.TheVariants.{Done, Usage, Line, ScriptRead, OutWrite, MediaMake, Config, OtherConfig, ScriptLong, NoMemory, NotYet}
+use Rattle.fl_session.specs.declared.status.Status.TheVariants.{Done, Usage, Line, ScriptRead, OutWrite, MediaMake, Config, OtherConfig, ScriptLong, NoMemory}
 
 -- a script from a line on: the line and its number, the text behind it and how much of it may be read, and whether the
 -- line was the last one
@@ -47,17 +46,6 @@ pub record EndsBad (tail : Tail) (around : Around) (stands stands_now : Machine 
   pub refuses : first_refused tail.number (lines_in tail) ≡ Some line
   pub runs : RanAll around stands stands_now (accepted (lines_in tail))
 
--- .. before one that isn't built
-pub record EndsUnbuilt (tail : Tail) (around : Around) (stands stands_now : Machine → Type 0) (number : ℕ) : Type 0 where
-  pub before : List (List ℕ)
-  pub line : List ℕ
-  pub others : List (List ℕ)
-  pub split : lines_in tail ≡ (tail.first ∷ before) ++ line ∷ others
-  pub number_is : number ≡ tail.number + length (tail.first ∷ before)
-  pub unbuilt : IsUnbuilt line
-  pub accepts : first_refused tail.number (tail.first ∷ before) ≡ None
-  pub runs : RanAll around stands stands_now (accepted (tail.first ∷ before))
-
 -- .. some of the lines, and in the reply of the last of them the sink failed
 pub record EndsInReply (tail : Tail) (left_now : Option (List ℕ)) (around : Around) (stands stands_now : Machine → Type 0) : Type 0 where
   pub commands : List Command
@@ -85,7 +73,6 @@ EndsCommands tail left_now around stands stands_now (Line n) = EndsBad tail arou
 EndsCommands tail left_now around stands stands_now ScriptRead = EndsTaken tail left_now around stands stands_now
 EndsCommands tail left_now around stands stands_now OutWrite = EndsInReply tail left_now around stands stands_now
 EndsCommands tail left_now around stands stands_now ScriptLong = (tail.most < length tail.text) × EndsAll tail around stands stands_now × HasTaken tail.text (tail.most + 1) left_now
-EndsCommands tail left_now around stands stands_now (NotYet n) = EndsUnbuilt tail around stands stands_now n × TailTakes tail n left_now
 EndsCommands tail left_now around stands stands_now Usage = ⊥
 EndsCommands tail left_now around stands stands_now MediaMake = ⊥
 EndsCommands tail left_now around stands stands_now (Config n) = ⊥

@@ -9,9 +9,9 @@ use Rattle.fl_script.specs.CommandView.{command_view}
 use Rattle.fl_session.specs.declared.lines.LinesFault.{LinesFault}
 use Rattle.fl_session.specs.declared.lines.LinesFault.TheVariants.{Failed, Long}
 use Rattle.fl_session.specs.declared.status.Status.{Status}
-use Rattle.fl_session.specs.declared.status.Status.TheVariants.{Line, ScriptRead, ScriptLong, NotYet}
+use Rattle.fl_session.specs.declared.status.Status.TheVariants.{Line, ScriptRead, ScriptLong}
 use Rattle.fl_session.specs.Stream.{LinesState, Advances}
-use Rattle.fl_session.specs.Built.{is_built, IsRunnable}
+use Rattle.fl_session.specs.Runnable.{is_within, IsRunnable}
 
 abbrev pub is_config_line : words.Command → Bool
 is_config_line (words.Device page block) = true
@@ -23,17 +23,12 @@ abbrev pub IsRefused : Result words.Command grammar.LineFault → Type 0
 IsRefused (Ok c) = ⊥
 IsRefused (Err fault) = Unit {0}
 
--- the line is a command of a form that isn't built
-pub record IsUnbuilt (line : List ℕ) : Type 0 where
-  pub command : words.Command
+-- it is a command, whose numbers are within the bounds that the code needs
+pub record IsRead (line : List ℕ) (command : words.Command) : Type 0 where
   pub reads : command_of line ≡ Ok command
-  pub unbuilt : is_built command ≡ false
+  pub within : is_within command ≡ true
 
--- it is a command of a form that is built
-pub record IsBuilt (line : List ℕ) (command : words.Command) : Type 0 where
-  pub reads : command_of line ≡ Ok command
-  pub built : is_built command ≡ true
-
+-- .. and is run
 pub record IsToRun (line : List ℕ) (command : words.Command) : Type 0 where
   pub reads : command_of line ≡ Ok command
   pub runnable : IsRunnable command
@@ -41,14 +36,13 @@ pub record IsToRun (line : List ℕ) (command : words.Command) : Type 0 where
 -- how a script ends at a line that was asked for
 abbrev pub EndsThere : Result Bool LinesFault → List ℕ → ℕ → Type 0 → Status → Type 0
 EndsThere (Ok true) line number Refused (Line n) = (n ≡ number) × Refused
-EndsThere (Ok true) line number Refused (NotYet n) = (n ≡ number) × IsUnbuilt line
 EndsThere (Err Failed) line number Refused ScriptRead = Unit {0}
 EndsThere (Err Long) line number Refused ScriptLong = Unit {0}
 EndsThere given line number Refused status = ⊥
 
 -- `given` says whether a line was given
 abbrev pub NextOf : Result Bool LinesFault → List ℕ → ℕ → Result (Option Command) Status → List ℕ → Type 0
-NextOf given line number (Ok (Some command)) room = (given ≡ Ok true) × IsBuilt line (command_view command room)
+NextOf given line number (Ok (Some command)) room = (given ≡ Ok true) × IsRead line (command_view command room)
 NextOf given line number (Ok None) room = given ≡ Ok false
 NextOf given line number (Err status) room = EndsThere given line number (IsRefused (command_of line)) status
 

@@ -1,7 +1,7 @@
 -- The number of a status.
 use Rattle.std.specs.Prelude.{ℕ}
 use Rattle.fl_session.specs.declared.status.Status.{Status}
-use Rattle.fl_session.specs.declared.status.Status.TheVariants.{Done, Usage, Line, ScriptRead, OutWrite, MediaMake, Config, OtherConfig, ScriptLong, NoMemory, NotYet}
+use Rattle.fl_session.specs.declared.status.Status.TheVariants.{Done, Usage, Line, ScriptRead, OutWrite, MediaMake, Config, OtherConfig, ScriptLong, NoMemory}
 
 abbrev pub number_of : Status → ℕ
 number_of Done = 0
@@ -14,4 +14,3 @@ number_of (Config n) = 6
 number_of (OtherConfig wanted found at) = 7
 number_of ScriptLong = 8
 number_of NoMemory = 9
-number_of (NotYet n) = 10

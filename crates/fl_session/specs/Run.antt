@@ -7,7 +7,7 @@ use Rattle.fl_model.specs.Record.{Config}
 use Rattle.fl_machine.specs.Machine.{Machine}
 use Rattle.fl_script.specs.declared.command.Command as code
 use Rattle.fl_session.specs.declared.status.Status.{Status}
-use Rattle.fl_session.specs.declared.status.Status.TheVariants.{Done, Line, ScriptRead, OutWrite, MediaMake, OtherConfig, ScriptLong, NotYet}
+use Rattle.fl_session.specs.declared.status.Status.TheVariants.{Done, Line, ScriptRead, OutWrite, MediaMake, OtherConfig, ScriptLong}
 use Rattle.fl_config.specs.declared.image.ImageRefusal.{ImageRefusal}
 use Rattle.fl_config.specs.declared.image.ImageRefusal.TheVariants.{Media, Other}
 use Rattle.fl_session.specs.Stream.{LinesState}
@@ -41,7 +41,6 @@ IsOfCommands (Line n) = Unit {0}
 IsOfCommands ScriptRead = Unit {0}
 IsOfCommands OutWrite = Unit {0}
 IsOfCommands ScriptLong = Unit {0}
-IsOfCommands (NotYet n) = Unit {0}
 IsOfCommands status = ⊥
 
 -- there is room for a flash of so many blocks

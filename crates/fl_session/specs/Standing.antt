@@ -7,7 +7,6 @@ use Rattle.fl_model.specs.Table as model
 use Rattle.fl_model.specs.Image.{medium_len}
 use Rattle.fl_words.specs.Medium.{header, IsImage}
 use Rattle.fl_machine.specs.Machine.{Machine, begins, no_cursors}
-use Rattle.fl_session.specs.Built.{are_built}
 use Rattle.fl_session.specs.Cost.{cost_of}
 use Rattle.fl_session.specs.Notes.{cursors_of}
 use Rattle.fl_session.specs.Tables.{TablesStand, LieOn, AreRunning}
@@ -27,7 +26,6 @@ pub record IsOnMedium (config : Config) (f : FlashState) : Type 0 where
 -- a session over tables; it notes the cost of the last get or scan and, while it is mounted, the cursors that are open
 pub record SessionStands (config : Config) (entries : List Entry) (f : FlashState) (mounted : Bool) (notes : Notes) (m : Machine) : Type 0 where
   pub knots : config.knots ≡ 64
-  pub built : are_built config.plans ≡ true
   pub medium : IsOnMedium config f
   pub tables : TablesStand f (λ i. mounted) config.plans entries m.tables
   pub is_mounted : m.mounted ≡ mounted

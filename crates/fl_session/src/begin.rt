@@ -4,12 +4,11 @@ ghost use Rattle.fl_base.specs.Causes.{Rose};
 ghost use Rattle.fl_words.specs.Config.{whole, no_lines};
 ghost use Rattle.fl_config.specs.Whole.{is_whole};
 ghost use Rattle.fl_script.specs.CommandView.{command_view};
-ghost use Rattle.fl_session.specs.Built as forms;
+ghost use Rattle.fl_session.specs.Runnable.{is_within};
 ghost use Rattle.fl_session.specs.Next as words;
 ghost use Rattle.fl_session.specs.Begin.{ConfiguresBy, IsFresh, BeginsAt, EndsBegin, HoldsFirst, IsOfScript};
 
 use crate::Status;
-use crate::built::is_built_config;
 use crate::lines::Lines;
 use crate::next::{is_config, next_command};
 use fl_base::Source;
@@ -29,9 +28,8 @@ fn configure(
     room: &LineRoom,
     number: u64,
 ) -> Result<bool, Status>
-    requires { forms.is_built (command_view command.now room.now) ≡ true }
-    ensures by { ConfiguresBy config.old (command_view command.now room.now) number result config.new }
-    ensures built { IfOk result (λ goes_on. forms.are_built config.old.plans ≡ true → forms.are_built config.new.plans ≡ true) }
+    requires { is_within (command_view command.now room.now) ≡ true }
+    ensures { ConfiguresBy config.old (command_view command.now room.now) number result config.new }
 {
     if is_nothing(command) {
         return Ok(true);
@@ -42,11 +40,7 @@ fn configure(
     if config.add(command, room).is_err() {
         return Err(Status::Config { line: number });
     }
-    if is_built_config(config) {
-        Ok(true)
-    } else {
-        Err(Status::NotYet { line: number })
-    }
+    Ok(true)
 }
 
 /// Where the configuration ended: at a command, which is the line of this number, or with the script.
@@ -77,7 +71,6 @@ pub(crate) fn read_config<S: Source>(
     requires first { config.old ≡ no_lines }
     requires fresh { IsFresh lines.old }
     ensures whole { IfOk result (λ b. IsTrue (is_whole config.new)) }
-    ensures built { IfOk result (λ b. forms.are_built config.new.plans ≡ true) }
     ensures in_hand { IfOk result (λ b. HoldsFirst b.first b.number room.new lines.new) }
     ensures begins { IfOk result (λ b. (knots : ℕ) (text : List ℕ) → S.left script.old ≡ Some text →
         BeginsAt knots text config.new b.first b.number lines.new (S.left script.new)) }

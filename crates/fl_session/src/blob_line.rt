@@ -53,7 +53,7 @@ pub(crate) fn show_bytes<F: Flash, K: Sink>(
     ensures cause { HasCause (K.faults out.old) (K.faults out.new) result }
     ensures reads { Reads reader.old (F.state flash.old) → IsWholeIn reader.old (F.state flash.old) → (F.state flash.new).work.reads ≤ (F.state flash.old).work.reads + pages_left reader.old }
     ensures shows { Reads reader.old (F.state flash.old) → IsWholeIn reader.old (F.state flash.old) → (F.state flash.old).is_on ≡ true →
-        ShowsBytes (bytes_left reader.old (F.state flash.old)) (K.written out.old) (K.written out.new) (F.state flash.old).media.faults (F.state flash.new).media.faults result }
+        ShowsBytes (bytes_left reader.old (F.state flash.old)) (K.written out.old) (K.written out.new) (F.state flash.old).media.faults (F.state flash.new).media.faults (F.state flash.old).work.reads (F.state flash.new).work.reads result }
 {
     write_reply(&Reply::BytesBegin, out)?;
     match give_digits(reader, flash, out) {
@@ -67,7 +67,7 @@ pub(crate) fn show_bytes<F: Flash, K: Sink>(
 }
 
 /// The reply where a page isn't read.
-fn read_reply(fault: ReadFault) -> Reply
+pub(crate) fn read_reply(fault: ReadFault) -> Reply
     ensures { reply_text result ≡ text (read_reply fault) }
 {
     match fault {

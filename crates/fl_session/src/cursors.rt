@@ -1,10 +1,10 @@
 // The cursors of a session, kept as bookmarks between two commands.
-ghost use Rattle.std.specs.Prelude.{◌≡◌, ℕ, true, false, length, IsTrue};
+ghost use Rattle.std.specs.Prelude.{◌≡◌, ℕ, true, length, IsTrue};
 ghost use Rattle.fl_base.specs.Causes.{HasCause};
 ghost use Rattle.fl_cursor.specs.Asked.{asked_by};
 ghost use Rattle.fl_flash.specs.Flash.{FlashState};
 ghost use Rattle.fl_model.specs.Query.{begin};
-ghost use Rattle.fl_model.specs.Record.{Plan, has_var};
+ghost use Rattle.fl_model.specs.Record.{Plan};
 ghost use Rattle.fl_model.specs.Table as model;
 ghost use Rattle.fl_page.specs.Contents.{OnlyReads};
 ghost use Rattle.fl_script.specs.ReplyView.{reply_text};
@@ -16,6 +16,7 @@ ghost use Rattle.fl_session.specs.Standing.{HasRooms};
 
 use crate::buffers::Buffers;
 use crate::listing::{give_rows, write_fault};
+use crate::rows::form_of;
 use fl_base::{KeyRange, Sink, SinkFailed, Span};
 use fl_cursor::{Bookmark, Cursor};
 use fl_flash::Flash;
@@ -66,12 +67,12 @@ pub(crate) fn next_rows<F: Flash, K: Sink>(
     ensures index { length buf.new.index.bytes ≡ length buf.old.index.bytes }
     ensures right { (length buf.new.right_rows.bytes ≡ length buf.old.right_rows.bytes) × (length buf.new.right_index.bytes ≡ length buf.old.right_index.bytes) }
     ensures cause { HasCause (K.faults out.old) (K.faults out.new) result }
-    ensures nexts { (first : ℕ) → (plan : Plan) → (t : model.Table) → IsTrue (F.state flash.old).media.tells → (F.state flash.old).is_on ≡ true → Stands table.now (F.state flash.old) first plan t → has_var plan ≡ false →
+    ensures nexts { (first : ℕ) → (plan : Plan) → (t : model.Table) → IsTrue (F.state flash.old).media.tells → (F.state flash.old).is_on ≡ true → Stands table.now (F.state flash.old) first plan t →
         Nexts plan t count mark.old mark.new (K.written out.old) (K.written out.new) (F.state flash.old).media.faults (F.state flash.new).media.faults (F.state flash.old).work.reads (F.state flash.new).work.reads result }
 {
-    let columns = table.columns();
+    let form = form_of(table);
     let mut cursor = Cursor::resume(table, *mark, &mut buf.rows, &mut buf.index);
-    let given = give_rows(&mut cursor, count, columns, flash, out);
+    let given = give_rows(&mut cursor, count, form, flash, out);
     *mark = cursor.park();
     match given {
         Ok(given) => write_reply(&ending(given, count), out),

@@ -6,7 +6,7 @@ ghost use Rattle.fl_model.specs.Record.{Config};
 ghost use Rattle.fl_machine.specs.Machine.{Machine};
 ghost use Rattle.fl_script.specs.CommandView.{command_view};
 ghost use Rattle.fl_session.specs.Execute.{Executes};
-ghost use Rattle.fl_session.specs.Built.{IsRunnable};
+ghost use Rattle.fl_session.specs.Runnable.{IsRunnable};
 
 use fl_base::{Sink, SinkFailed};
 use fl_script::{Command, LineRoom};

@@ -2,10 +2,10 @@
 #![tactic(auto)]
 
 mod begin;
+mod blob;
 mod blob_line;
 mod blob_note;
 mod buffers;
-mod built;
 mod commands;
 mod cost;
 mod cursors;

@@ -8,7 +8,7 @@ ghost use Rattle.fl_table.specs.Look.{layout_in};
 ghost use Rattle.fl_session.specs.Gives.{Gives, ReadsToGive};
 ghost use Rattle.fl_session.specs.Listed.{IfSink, IfUnread, SaysFault};
 
-use crate::rows::show_row;
+use crate::rows::{RowForm, show_row};
 use fl_base::{Sink, SinkFailed};
 use fl_cursor::Cursor;
 use fl_flash::Flash;
@@ -46,26 +46,26 @@ impl From<ReadFault> for ListFault {
 pub(crate) fn give_rows<F: Flash, K: Sink>(
     cursor: &mut Cursor<'_, '_, '_>,
     count: u64,
-    columns: usize,
+    form: RowForm,
     flash: &mut F,
     out: &mut K,
 ) -> Result<u64, ListFault>
     requires ready { IsReady cursor.old (contents_of (F.state flash.old)) }
-    requires columns { columns ≡ length (layout_in (table_of cursor.old)).columns }
-    requires few { columns ≤ 8 }
+    requires columns { form.columns ≡ length (layout_in (table_of cursor.old)).columns }
+    requires few { form.columns ≤ 8 }
     ensures counts { OnlyReads (F.state flash.old) (F.state flash.new) }
     ensures keeps { Keeps cursor.old cursor.new }
     ensures later { K.faults out.old ≤ K.faults out.new }
     ensures sink { IfErr result (λ fault. IfSink fault (Rose (K.faults out.old) (K.faults out.new))) }
     ensures unread { IfErr result (IfUnread (F.state flash.old) (F.state flash.new)) }
-    ensures gives { IsTold cursor.old (contents_of (F.state flash.old)) → Gives count cursor.old cursor.new (contents_of (F.state flash.old)) (K.written out.old) (K.written out.new) result }
+    ensures gives { IsTold cursor.old (contents_of (F.state flash.old)) → Gives form.blobs count cursor.old cursor.new (contents_of (F.state flash.old)) (K.written out.old) (K.written out.new) result }
     ensures reads { IsTold cursor.old (contents_of (F.state flash.old)) → ReadsToGive count cursor.old (contents_of (F.state flash.old)) (F.state flash.old).work.reads (F.state flash.new).work.reads result }
 {
     for given in 0..count {
         if !cursor.advance(flash)? {
             return Ok(given);
         }
-        show_row(&cursor.row(), columns, out)?;
+        show_row(&cursor.row(), form, out)?;
     }
     Ok(count)
 }

@@ -1,7 +1,7 @@
 // A record that is looked up by its key.
-ghost use Rattle.std.specs.Prelude.{◌≡◌, ℕ, true, false, length, IsTrue};
+ghost use Rattle.std.specs.Prelude.{◌≡◌, ℕ, true, length, IsTrue};
 ghost use Rattle.fl_flash.specs.Flash.{Goes};
-ghost use Rattle.fl_model.specs.Record.{Plan, has_var};
+ghost use Rattle.fl_model.specs.Record.{Plan};
 ghost use Rattle.fl_model.specs.Table as model;
 ghost use Rattle.fl_page.specs.Contents.{OnlyReads};
 ghost use Rattle.fl_script.specs.ReplyView.{reply_text};
@@ -9,7 +9,7 @@ ghost use Rattle.fl_table.specs.Memory.{is_running, LiesOn};
 ghost use Rattle.fl_table.specs.Standing.{Stands};
 ghost use Rattle.fl_session.specs.Looked.{Looks};
 
-use crate::rows::line_of;
+use crate::rows::{form_of, line_of};
 use fl_base::Steps;
 use fl_flash::{Flash, PageBuf};
 use fl_page::ReadFault;
@@ -24,14 +24,14 @@ pub(crate) fn look_up<F: Flash>(table: &Table, key: u64, flash: &mut F, buf: &mu
     ensures counts { OnlyReads (F.state flash.old) (F.state flash.new) }
     ensures lies { LiesOn table.now (F.state flash.new) }
     ensures room { length buf.new.bytes ≡ length buf.old.bytes }
-    ensures looks { (first : ℕ) → (plan : Plan) → (t : model.Table) → IsTrue (F.state flash.old).media.tells → (F.state flash.old).is_on ≡ true → Stands table.now (F.state flash.old) first plan t → has_var plan ≡ false →
+    ensures looks { (first : ℕ) → (plan : Plan) → (t : model.Table) → IsTrue (F.state flash.old).media.tells → (F.state flash.old).is_on ≡ true → Stands table.now (F.state flash.old) first plan t →
         Looks plan t key (F.state flash.old).media.faults (F.state flash.new).media.faults (F.state flash.old).work.reads (F.state flash.new).work.reads (reply_text result) }
 {
-    let columns = table.columns();
+    let form = form_of(table);
     let mut steps = Steps::new();
     match table.find(flash, key, buf, &mut steps) {
         Ok(None) => Reply::Absent,
-        Ok(Some(place)) => line_of(&table.row_at(buf, place), columns),
+        Ok(Some(place)) => line_of(&table.row_at(buf, place), form),
         Err(ReadFault::Flash(_)) => Reply::ReadFault,
         Err(ReadFault::BadPage(bad)) => {
             let number = bad.wanted;

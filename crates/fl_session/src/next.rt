@@ -1,40 +1,12 @@
 // The next line of a script as a command.
-ghost use Rattle.std.specs.Prelude.{◌≡◌, ℕ, Bool, List};
+ghost use Rattle.std.specs.Prelude.{◌≡◌, ℕ, List};
 ghost use Rattle.fl_script.specs.CommandView.{command_view};
-ghost use Rattle.fl_session.specs.Built as forms;
 ghost use Rattle.fl_session.specs.Next.{NextCommand, NextRun, is_config_line};
 
 use crate::Status;
 use crate::lines::{Lines, LinesFault};
 use fl_base::Source;
 use fl_script::{Command, LineRoom, read_line};
-
-fn is_built(command: &Command) -> bool
-    ensures { (room : List ℕ) → result ≡ forms.is_built (command_view command.now room) }
-{
-    match command {
-        Command::Nothing
-        | Command::Device { .. }
-        | Command::Table { .. }
-        | Command::Mount
-        | Command::Off
-        | Command::Put { .. }
-        | Command::Flush { .. }
-        | Command::Get { .. }
-        | Command::Scan { .. }
-        | Command::Select { .. }
-        | Command::Project { .. }
-        | Command::Join { .. }
-        | Command::Stat { .. }
-        | Command::Cost => true,
-        Command::Cut { n, .. } => 1 <= *n,
-        Command::Agg { width, .. } => 1 <= *width,
-        Command::Load { step, .. } => 1 <= *step,
-        Command::Open { cursor, .. } | Command::Next { cursor, .. } | Command::Close { cursor } =>
-            *cursor < 4,
-        _ => false,
-    }
-}
 
 pub(crate) fn is_config(command: &Command) -> bool
     ensures { (room : List ℕ) → result ≡ is_config_line (command_view command.now room) }
@@ -58,14 +30,8 @@ pub(crate) fn next_command<S: Source>(
         Err(LinesFault::Long) => return Err(Status::ScriptLong),
     }
     match read_line(lines.line(), room) {
+        Ok(command) => Ok(Some(command)),
         Err(_) => Err(Status::Line { line: number }),
-        Ok(command) => {
-            if is_built(&command) {
-                Ok(Some(command))
-            } else {
-                Err(Status::NotYet { line: number })
-            }
-        }
     }
 }
 

@@ -1,11 +1,11 @@
 // What the operators make of the rows of a range, listed.
-ghost use Rattle.std.specs.Prelude.{◌≡◌, ◌+◌, ◌≤◌, ◌<◌, ◌^◌, ℕ, None, IsTrue, true, false, length, map, filter};
+ghost use Rattle.std.specs.Prelude.{◌≡◌, ◌+◌, ◌≤◌, ◌<◌, ◌^◌, ℕ, None, IsTrue, true, length, map, filter};
 ghost use Rattle.fl_base.specs.Causes.{HasCause};
 ghost use Rattle.fl_flash.specs.Flash.{FlashState};
 ghost use Rattle.fl_machine.specs.Step.{note_of, group_reply, pair_reply};
 ghost use Rattle.fl_model.specs.Limits.{scan_limit, least_reads};
 ghost use Rattle.fl_model.specs.Operators as operators;
-ghost use Rattle.fl_model.specs.Record.{Plan, has_var};
+ghost use Rattle.fl_model.specs.Record.{Plan};
 ghost use Rattle.fl_model.specs.Table as model;
 ghost use Rattle.fl_page.specs.Contents.{contents_of, OnlyReads};
 ghost use Rattle.fl_table.specs.Look.{layout_in};
@@ -27,6 +27,7 @@ ghost use Rattle.fl_session.specs.Standing.{HasRooms};
 use crate::buffers::Buffers;
 use crate::pair_lines::list_pairs;
 use crate::reply_lines::{answer_lines, end_list};
+use crate::row_lines::RowLines;
 use arrayvec::ArrayVec;
 use fl_base::{KeyRange, Op, Sink, SinkFailed};
 use fl_cursor::Cursor;
@@ -44,25 +45,25 @@ pub(crate) struct Comparison {
 
 /// Lists the rows of a selection over a cursor.
 fn list_selected<F: Flash, K: Sink>(
-    rows: &mut Select<Cursor<'_, '_, '_>>,
+    lines: &mut RowLines<Cursor<'_, '_, '_>>,
     columns: usize,
     flash: &mut F,
     out: &mut K,
 ) -> Result<(), SinkFailed>
-    requires ready { IsReady (selected.input_of rows.old) (contents_of (F.state flash.old)) }
-    requires columns { columns ≡ length (layout_in (table_of (selected.input_of rows.old))).columns }
+    requires ready { IsReady (selected.input_of lines.old.rows) (contents_of (F.state flash.old)) }
+    requires columns { columns ≡ length (layout_in (table_of (selected.input_of lines.old.rows))).columns }
     requires few { columns ≤ 8 }
     ensures reads_only { OnlyReads (F.state flash.old) (F.state flash.new) }
-    ensures rows_name { rows_name (selected.input_of rows.new) ≡ rows_name (selected.input_of rows.old) }
-    ensures index_name { index_name (selected.input_of rows.new) ≡ index_name (selected.input_of rows.old) }
-    ensures ready { IsReady (selected.input_of rows.new) (contents_of (F.state flash.old)) }
+    ensures rows_name { rows_name (selected.input_of lines.new.rows) ≡ rows_name (selected.input_of lines.old.rows) }
+    ensures index_name { index_name (selected.input_of lines.new.rows) ≡ index_name (selected.input_of lines.old.rows) }
+    ensures ready { IsReady (selected.input_of lines.new.rows) (contents_of (F.state flash.old)) }
     ensures cause { HasCause (K.faults out.old) (K.faults out.new) result }
-    ensures counted { IsTold (selected.input_of rows.old) (contents_of (F.state flash.old)) → length (left_of (selected.input_of rows.old) (contents_of (F.state flash.old))) < 2 ^ 63 → (F.state flash.old).is_on ≡ true →
-        Counted (map row_reply (filter (row_passes (selected.comparison_of rows.old)) (left_of (selected.input_of rows.old) (contents_of (F.state flash.old)))))
-        (most_of (selected.input_of rows.old) (contents_of (F.state flash.old))) (least_of (selected.input_of rows.old) (contents_of (F.state flash.old)))
+    ensures counted { IsTold (selected.input_of lines.old.rows) (contents_of (F.state flash.old)) → length (left_of (selected.input_of lines.old.rows) (contents_of (F.state flash.old))) < 2 ^ 63 → (F.state flash.old).is_on ≡ true →
+        Counted (map (row_reply lines.old.blobs) (filter (row_passes (selected.comparison_of lines.old.rows)) (left_of (selected.input_of lines.old.rows) (contents_of (F.state flash.old)))))
+        (most_of (selected.input_of lines.old.rows) (contents_of (F.state flash.old))) (least_of (selected.input_of lines.old.rows) (contents_of (F.state flash.old)))
         (K.written out.old) (K.written out.new) (F.state flash.old).media.faults (F.state flash.new).media.faults (F.state flash.old).work.reads (F.state flash.new).work.reads result }
 {
-    answer_lines(rows, columns, flash, out)
+    answer_lines(lines, columns, flash, out)
 }
 
 /// Lists the rows of the range of which the column compares so with the value.
@@ -82,13 +83,15 @@ pub(crate) fn select<F: Flash, K: Sink>(
     ensures lies { LiesOn table.now (F.state flash.new) }
     ensures room { HasRooms buf.new (F.state flash.old).geometry.page }
     ensures cause { HasCause (K.faults out.old) (K.faults out.new) result }
-    ensures counted { (first : ℕ) → (plan : Plan) → (t : model.Table) → IsTrue (F.state flash.old).media.tells → (F.state flash.old).is_on ≡ true → Stands table.now (F.state flash.old) first plan t → has_var plan ≡ false →
+    ensures counted { (first : ℕ) → (plan : Plan) → (t : model.Table) → IsTrue (F.state flash.old).media.tells → (F.state flash.old).is_on ≡ true → Stands table.now (F.state flash.old) first plan t →
         Counted (map (note_of plan) (operators.select comparison.column comparison.op comparison.value (asked_records range t))) (scan_limit 64 plan t range None range.low) (least_reads plan t range None)
         (K.written out.old) (K.written out.new) (F.state flash.old).media.faults (F.state flash.new).media.faults (F.state flash.old).work.reads (F.state flash.new).work.reads result }
 {
     let cursor = Cursor::begin(table, range, None, &mut buf.rows, &mut buf.index);
-    let mut rows = Select::new(cursor, comparison.column, comparison.op, comparison.value);
-    list_selected(&mut rows, table.columns(), flash, out)
+    let rows = Select::new(cursor, comparison.column, comparison.op, comparison.value);
+    let blobs = table.has_blobs();
+    let mut lines = RowLines { rows, blobs };
+    list_selected(&mut lines, table.columns(), flash, out)
 }
 
 /// The first of these columns that the table doesn't have, if there is one. Column 0 is the key.

@@ -9,6 +9,7 @@ ghost use Rattle.fl_page.specs.Steps.{left_after};
 ghost use Rattle.fl_schema.specs.Schema.{layout_of_row, row_of};
 ghost use Rattle.fl_script.specs.ReplyView.{reply_text};
 ghost use Rattle.fl_words.specs.Reply.{text};
+ghost use Rattle.fl_session.specs.Listed.{FaultIsRead};
 ghost use Rattle.fl_session.specs.Lines.{LineSteps, ListsAll, HasSinkCause};
 ghost use Rattle.fl_session.specs.Paired.{pair_lines};
 
@@ -90,6 +91,7 @@ pub(crate) fn list_pairs<F: Flash, A: Rows<F>, B: Rows<F>, K: Sink>(
         (K.written out.old) (K.written out.new) (F.state flash.old).media.faults (F.state flash.new).media.faults result }
     ensures most { A.told left.old (contents_of (F.state flash.old)) → B.told right.old (contents_of (F.state flash.old)) →
         (F.state flash.new).work.reads ≤ (F.state flash.old).work.reads + (A.most left.old (contents_of (F.state flash.old)) + B.most right.old (contents_of (F.state flash.old))) }
+    ensures failed { (F.state flash.old).is_on ≡ true → IfErr result (FaultIsRead (F.state flash.old).work.reads (F.state flash.new).work.reads) }
 {
     for count in 0..u64::MAX {
         let Some(line) = next_line(left, right, columns, flash)? else {

@@ -6,6 +6,7 @@ ghost use Rattle.fl_flash.specs.Flash.{FlashState};
 ghost use Rattle.fl_page.specs.Contents.{Contents, contents_of, OnlyReads, IsCaused};
 ghost use Rattle.fl_page.specs.Steps.{left_after};
 ghost use Rattle.fl_words.specs.Reply as words;
+ghost use Rattle.fl_session.specs.Listed.{FaultIsRead};
 ghost use Rattle.fl_session.specs.Lines.{LineSteps, Counted, ListsAll, ReadsLines, HasSinkCause};
 
 use crate::listing::{ListFault, write_fault};
@@ -66,6 +67,7 @@ pub(crate) fn list_lines<F: Flash, L: ReplyLines<F>, K: Sink>(
         ListsAll (L.lines lines.old (contents_of (F.state flash.old))) (K.written out.old) (K.written out.new) (F.state flash.old).media.faults (F.state flash.new).media.faults result }
     ensures reads { L.told lines.old (contents_of (F.state flash.old)) → length (L.lines lines.old (contents_of (F.state flash.old))) < 2 ^ 63 →
         ReadsLines (L.most lines.old (contents_of (F.state flash.old))) (L.least lines.old (contents_of (F.state flash.old))) (F.state flash.old).work.reads (F.state flash.new).work.reads result }
+    ensures failed { (F.state flash.old).is_on ≡ true → IfErr result (FaultIsRead (F.state flash.old).work.reads (F.state flash.new).work.reads) }
 {
     for count in 0..u64::MAX {
         let Some(line) = lines.next_line(columns, flash)? else {
@@ -83,7 +85,7 @@ pub(crate) fn end_list<K: Sink>(
 ) -> Result<(), SinkFailed>
     ensures cause { (faults : ℕ) → HasSinkCause faults (K.faults out.old) listed → HasCause faults (K.faults out.new) result }
     ensures counted { (lines : List words.Reply) (most least : ℕ) (told : Option (List ℕ)) (faults faults_now reads reads_now : ℕ) →
-        ListsAll lines told (K.written out.old) faults faults_now listed → ReadsLines most least reads reads_now listed →
+        ListsAll lines told (K.written out.old) faults faults_now listed → ReadsLines most least reads reads_now listed → IfErr listed (FaultIsRead reads reads_now) →
         Counted lines most least told (K.written out.new) faults faults_now reads reads_now result }
 {
     match listed {

@@ -3,29 +3,40 @@ ghost use Rattle.std.specs.Prelude.{◌≡◌, ◌≤◌, length, map};
 ghost use Rattle.fl_session.specs.Rows.{row_reply};
 
 use crate::reply_lines::ReplyLines;
-use crate::rows::line_of;
+use crate::rows::{RowForm, line_of};
 use fl_flash::Flash;
 use fl_ops::Select;
 use fl_page::{ReadFault, RowHere, Rows};
 use fl_script::Reply;
 
-impl<F: Flash, R: Rows<F>> ReplyLines<F> for Select<R> {
-    ghost names = { λ select. ⟦<Select<R> as Rows<F>>⟧.names select };
+/// The rows of a selection, and whether a note on its blob ends the line of each.
+#[derive(Drop)]
+pub(crate) struct RowLines<R: RowHere> {
+    pub(crate) rows: Select<R>,
+    pub(crate) blobs: bool,
+}
 
-    ghost ready = { λ select columns contents. ⟦<Select<R> as Rows<F>>⟧.ready select contents × (columns ≡ length (⟦<Select<R> as RowHere>⟧.schema select).columns) × (columns ≤ 8) };
+impl<F: Flash, R: Rows<F>> ReplyLines<F> for RowLines<R> {
+    ghost names = { λ lines. ⟦<Select<R> as Rows<F>>⟧.names lines.rows };
 
-    ghost told = { λ select. ⟦<Select<R> as Rows<F>>⟧.told select };
+    ghost ready = { λ lines columns contents. ⟦<Select<R> as Rows<F>>⟧.ready lines.rows contents × (columns ≡ length (⟦<Select<R> as RowHere>⟧.schema lines.rows).columns) × (columns ≤ 8) };
 
-    ghost lines = { λ select contents. map row_reply (⟦<Select<R> as Rows<F>>⟧.left select contents) };
+    ghost told = { λ lines. ⟦<Select<R> as Rows<F>>⟧.told lines.rows };
 
-    ghost most = { λ select. ⟦<Select<R> as Rows<F>>⟧.most select };
+    ghost lines = { λ lines contents. map (row_reply lines.blobs) (⟦<Select<R> as Rows<F>>⟧.left lines.rows contents) };
 
-    ghost least = { λ select. ⟦<Select<R> as Rows<F>>⟧.least select };
+    ghost most = { λ lines. ⟦<Select<R> as Rows<F>>⟧.most lines.rows };
+
+    ghost least = { λ lines. ⟦<Select<R> as Rows<F>>⟧.least lines.rows };
 
     fn next_line(&mut self, columns: usize, flash: &mut F) -> Result<Option<Reply>, ReadFault> {
-        if !self.step(flash)? {
+        if !self.rows.step(flash)? {
             return Ok(None);
         }
-        Ok(Some(line_of(&self.row(), columns)))
+        let form = RowForm {
+            columns,
+            blobs: self.blobs,
+        };
+        Ok(Some(line_of(&self.rows.row(), form)))
     }
 }

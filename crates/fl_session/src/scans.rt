@@ -1,7 +1,7 @@
 // The rows of a table that are asked for, as replies.
-ghost use Rattle.std.specs.Prelude.{◌≡◌, ℕ, true, false, length, IsTrue};
+ghost use Rattle.std.specs.Prelude.{◌≡◌, ℕ, true, length, IsTrue};
 ghost use Rattle.fl_base.specs.Causes.{HasCause};
-ghost use Rattle.fl_model.specs.Record.{Plan, has_var};
+ghost use Rattle.fl_model.specs.Record.{Plan};
 ghost use Rattle.fl_model.specs.Table as model;
 ghost use Rattle.fl_page.specs.Contents.{OnlyReads};
 ghost use Rattle.fl_table.specs.Memory.{is_running, LiesOn};
@@ -11,6 +11,7 @@ ghost use Rattle.fl_session.specs.Standing.{HasRooms};
 
 use crate::buffers::Buffers;
 use crate::listing::{give_rows, write_fault};
+use crate::rows::form_of;
 use fl_base::{KeyRange, Sink, SinkFailed, Span};
 use fl_cursor::Cursor;
 use fl_flash::Flash;
@@ -34,12 +35,12 @@ pub(crate) fn list_rows<F: Flash, K: Sink>(
     ensures index { length buf.new.index.bytes ≡ length buf.old.index.bytes }
     ensures right { (length buf.new.right_rows.bytes ≡ length buf.old.right_rows.bytes) × (length buf.new.right_index.bytes ≡ length buf.old.right_index.bytes) }
     ensures cause { HasCause (K.faults out.old) (K.faults out.new) result }
-    ensures scans { (first : ℕ) → (plan : Plan) → (t : model.Table) → IsTrue (F.state flash.old).media.tells → (F.state flash.old).is_on ≡ true → Stands table.now (F.state flash.old) first plan t → has_var plan ≡ false →
+    ensures scans { (first : ℕ) → (plan : Plan) → (t : model.Table) → IsTrue (F.state flash.old).media.tells → (F.state flash.old).is_on ≡ true → Stands table.now (F.state flash.old) first plan t →
         Scans plan t range span (K.written out.old) (K.written out.new) (F.state flash.old).media.faults (F.state flash.new).media.faults (F.state flash.old).work.reads (F.state flash.new).work.reads result }
 {
-    let columns = table.columns();
+    let form = form_of(table);
     let mut cursor = Cursor::begin(table, range, span, &mut buf.rows, &mut buf.index);
-    let listed = give_rows(&mut cursor, u64::MAX, columns, flash, out);
+    let listed = give_rows(&mut cursor, u64::MAX, form, flash, out);
     cursor.park();
     match listed {
         Ok(count) => write_reply(&Reply::EndCount { count }, out),

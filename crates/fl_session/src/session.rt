@@ -10,12 +10,13 @@ ghost use Rattle.fl_machine.specs.Machine.{Machine};
 ghost use Rattle.fl_script.specs.CommandView.{command_view};
 ghost use Rattle.fl_script.specs.ReplyView.{reply_text};
 ghost use Rattle.fl_session.specs.Answer.{Answers, Reaches};
-ghost use Rattle.fl_session.specs.Built.{IsRunnable};
+ghost use Rattle.fl_session.specs.Runnable.{IsRunnable};
 ghost use Rattle.fl_session.specs.Cost.{ReadsMount};
 ghost use Rattle.fl_session.specs.Execute.{Executes};
 ghost use Rattle.fl_session.specs.Notes.{no_notes};
 ghost use Rattle.fl_session.specs.Tables.{pages_of};
 
+use crate::blob::show_blob;
 use crate::buffers::Buffers;
 use crate::cost::Cost;
 use crate::cursors::{next_rows, open_cursor};
@@ -275,6 +276,26 @@ impl<'m, M: Media> Session<'m, M> {
         write_reply(&reply, out)
     }
 
+    /// Tells the blob of the record with the key.
+    fn blob<K: Sink>(&mut self, name: Name, key: u64, out: &mut K) -> Result<(), SinkFailed>
+        requires sound { ⟦<Self as Executor>⟧.sound self.old }
+        ensures sound { ⟦<Self as Executor>⟧.sound self.new }
+        ensures goes { Goes (⟦<Self as Executor>⟧.flash self.old) (⟦<Self as Executor>⟧.flash self.new) }
+        ensures sink { HasCause (K.faults out.old) (K.faults out.new) result }
+        ensures step { (config : Config) (old : Machine) → ⟦<Self as Executor>⟧.stands self.old config old →
+            Executes config old (words.Blob name key) (⟦<Self as Executor>⟧.stands self.new config)
+            (⟦<Self as Executor>⟧.flash self.old) (⟦<Self as Executor>⟧.flash self.new) (K.written out.old) (K.written out.new) result }
+    {
+        let at = match self.find(name) {
+            Ok(at) => at,
+            Err(refusal) => return write_reply(&refusal, out),
+        };
+        let table = &self.tables.entries[at].table;
+        // Its call tells the proof that the count of reads is within its bounds.
+        let _before = self.flash.work();
+        show_blob(table, key, &mut self.flash, &mut self.buf.rows, out)
+    }
+
     /// Lists the rows that are asked for, and their number. The pages that it reads are its cost.
     fn scan<K: Sink>(
         &mut self,
@@ -320,7 +341,7 @@ impl<'m, M: Media> Session<'m, M> {
         let Some(mut open) = self.notes.cursor(cursor) else {
             return write_reply(&Reply::NoCursor, out);
         };
-        // The reads of this command are a difference of two counts, of which this is the first.
+        // Its call tells the proof that the count of reads is within its bounds.
         let _before = self.flash.work();
         let written = next_rows(
             &self.tables.entries[open.table].table,
@@ -407,6 +428,7 @@ impl<'m, M: Media> Executor for Session<'m, M> {
             } => self.open(*cursor, *name, *range, *span),
             Command::Close { cursor } => self.close(*cursor),
             Command::Get { name, key } => return self.get(*name, *key, out),
+            Command::Blob { name, key } => return self.blob(*name, *key, out),
             Command::Scan { name, range, span } => {
                 return self.scan(*name, *range, *span, out);
             }

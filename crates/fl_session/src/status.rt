@@ -25,8 +25,6 @@ pub enum Status {
     ScriptLong,
     /// There is no memory.
     NoMemory,
-    /// The line is of a form that isn't built.
-    NotYet { line: u64 },
 }
 
 impl Status {
@@ -45,7 +43,6 @@ impl Status {
             Status::OtherConfig { .. } => 7,
             Status::ScriptLong => 8,
             Status::NoMemory => 9,
-            Status::NotYet { .. } => 10,
         }
     }
 }

@@ -138,7 +138,7 @@ fn statuses(rt: HostRuntime) -> Result<(), Fail> {
         ("device 128 4\nfrob\n", "", Status::Line { line: 2 }),
         ("C\nmount\nfrob\nmount\n", "ok\n", Status::Line { line: 5 }),
         ("C\nmount\ndevice 128 4\n", "ok\n", Status::Line { line: 5 }),
-        ("C\nmount\nblob t 1\n", "ok\n", Status::NotYet { line: 5 }),
+        ("C\nmount\nblob t 1\n", "ok\nnone\n", Status::Done),
         (
             "C\n# last\nmount\r\nmount",
             "ok\nalready mounted\n",

@@ -9,7 +9,6 @@ ghost use Rattle.fl_model.specs.Record.{Config as Configuration, blocks_of};
 ghost use Rattle.fl_words.specs.Command.{Command as Commanded};
 ghost use Rattle.fl_words.specs.Config.{whole};
 ghost use Rattle.fl_config.specs.Whole.{is_whole};
-ghost use Rattle.fl_session.specs.Built.{are_built};
 ghost use Rattle.fl_session.specs.Begin.{HoldsFirst};
 ghost use Rattle.fl_session.specs.Words.{image_named};
 ghost use Rattle.fl_session.specs.Complete.{IsInPlace, Completes};
@@ -50,7 +49,6 @@ struct Rooms {
 
 fn make_rooms(alloc: Global, config: &Config) -> Result<Rooms, NoMemory>
     requires whole { IsTrue (is_whole config.now) }
-    requires built { are_built config.now.plans ≡ true }
     ensures tables { IfOk result (λ r. AreNewTables r.tables.entries.items config.now) }
     ensures page { IfOk result (λ r. (g : Geometry) → config.now.device ≡ Some g → HasRooms r.buf g.page) }
     ensures flash { IfOk result (λ r. (g : Geometry) → config.now.device ≡ Some g → HasRoom r.flash g (sum_by blocks_of config.now.plans)) }
@@ -125,7 +123,6 @@ fn run_session<M: Media, S: Source, K: Sink>(
     out: &mut K,
 ) -> Status
     requires whole { IsTrue (is_whole config.now) }
-    requires built { are_built config.now.plans ≡ true }
     requires in_hand { HoldsFirst begun.first begun.number room.old lines.old }
     requires reach { (g : Geometry) → config.now.device ≡ Some g → 1024 + extent g (sum_by blocks_of config.now.plans) ≤ length (M.state media.old).content }
     requires blank { is_new ≡ true → IsTrue (M.state media.old).tells → (g : Geometry) → config.now.device ≡ Some g → IsBlankBehind g (sum_by blocks_of config.now.plans) (M.state media.old).content }
@@ -227,7 +224,7 @@ pub fn run<M: Media, S: Source, K: Sink>(
     ensures later { (S.faults script.old ≤ S.faults script.new) × (K.faults out.old ≤ K.faults out.new) }
 
     // A script whose lines are in the grammar and in their places, over a medium that is empty or of its configuration, is run
-    // to its end where no count rises; or memory is wanted before the first command, or not all of it is built.
+    // to its end where no count rises; or memory is wanted before the first command.
     ensures complete { (text : List ℕ) (config : Configuration) (commands : List Commanded) → IsTrue (M.state media.old).tells → S.left script.old ≡ Some text →
         IsInPlace KNOTS text config commands → (image_named (map (λ word. string_bytes word) words.now) ≡ None → ⊥) → IsOwn config (M.state media.old).content →
         (Rose (S.faults script.old) (S.faults script.new) → ⊥) → (Rose (K.faults out.old) (K.faults out.new) → ⊥) → (Rose (M.state media.old).faults (M.state media.new).faults → ⊥) →

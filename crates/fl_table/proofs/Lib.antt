@@ -13,6 +13,7 @@ pub mod Blobbing
 pub mod Settled
 pub mod BlobStands
 pub mod Following
+pub mod PowerOff
 pub mod Outsides
 pub mod Gathering
 pub mod MountIndexed

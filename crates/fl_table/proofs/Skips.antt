@@ -1,17 +1,19 @@
 -- Whether a page may be skipped, and what was read to know it.
-use Rattle.std.proofs.Common.{◌≡◌, inl, inr, ℕ, ◌+◌, ◌-◌, ◌^◌, ◌<◌, ◌≤◌, Bool, true, false, not, ◌||◌, ◌==◌, nat_lt, Option, Some, None, Ok, Err, IsTrue, List, ◌∷◌, bit_and, sym, ◌∙◌, ap, subst, arith, Result, refl}
+use Rattle.std.proofs.Common.{◌≡◌, inl, inr, ℕ, ◌+◌, ◌-◌, ◌^◌, ◌<◌, ◌≤◌, Bool, true, false, not, ◌||◌, ◌==◌, nat_lt, cond, Option, Some, None, Ok, Err, IsTrue, List, [], ◌∷◌, bit_and, sym, ◌∙◌, ap, subst, arith, Result, refl}
 use Rattle.std.proofs.lemmas.Bool.{cases_lt, eqb-true, lt-ltb, false_from_ne_true}
-use Rattle.std.specs.List.{slice_get, AllByRecursion}
+use Rattle.std.specs.List.{slice_get, list_any, AllByRecursion}
 use Rattle.fl_base.specs.declared.types.Span.{Span}
 use Rattle.fl_bitmap.specs.Widths.{is_bits}
 use Rattle.fl_flash.specs.Buffer.{BufferState}
 use Rattle.fl_flash.specs.Flash.{FlashState}
 use Rattle.fl_index.specs.Looking as looking
-use Rattle.fl_index.specs.Looking.{IfBad, HoldsGood, IsScanning, ScansOn, next_to_read, unread, due, ShowsBitmap}
+use Rattle.fl_index.specs.Looking.{IfBad, HoldsGood, IsScanning, ScansOn, is_looked_at, next_to_read, unread, due, ShowsBitmap}
+use Rattle.fl_index.specs.Memory.{next_in, oldest_in}
 use Rattle.fl_index.specs.declared.index.Index.{Index}
+use Rattle.fl_index.proofs.Counts.{count-none}
 use Rattle.fl_index.proofs.Scans.{scanning-from}
 use Rattle.fl_model.specs.Layout.{bitmap_of}
-use Rattle.fl_model.specs.Limits.{is_indexed, mask_of}
+use Rattle.fl_model.specs.Limits.{asks_values, is_indexed, mask_of}
 use Rattle.fl_model.specs.Record.{Plan}
 use Rattle.fl_model.specs.Ring as rings
 use Rattle.fl_model.specs.Table as model
@@ -26,13 +28,14 @@ use Rattle.fl_table.specs.declared.table.Table.{Table}
 
 -- without a span, or without an index, nothing is read
 pub looks-none : (bitmaps : Option Index) (number reads : ℕ) (buf : BufferState) → AreScanning bitmaps number buf → LooksOn bitmaps None number buf reads (Ok true) reads buf
-looks-none bitmaps number reads buf scanning = record { scanning = scanning; once = omega arith; most = omega arith; least = λ numbers later lt. omega arith }
+looks-none bitmaps number reads buf scanning = record { scanning = scanning; once = omega arith; most = omega arith; fewer = omega arith; least = λ numbers later lt. omega arith }
 
 pub looks-plain : (bitmaps : Option Index) (is : bitmaps ≡ None) (span : Option Span) (number reads : ℕ) (buf : BufferState) → LooksOn bitmaps span number buf reads (Ok true) reads buf
 looks-plain None is span number reads buf = record {
   scanning = tt;
   once = omega arith;
   most = omega arith;
+  fewer = omega arith;
   least = λ numbers later lt. by_span span numbers;
 }
   where
@@ -40,6 +43,11 @@ looks-plain None is span number reads buf = record {
     by_span None numbers = omega arith
     by_span (Some span) numbers = omega arith
 looks-plain (Some index) is span number reads buf = cc
+
+-- index pages are due where the span has a value
+due-asked : (b : Bool) (reads reads_now before after : ℕ) → reads + before ≤ reads_now + after → reads ≤ reads_now → reads + cond b before 0 ≤ reads_now + cond b after 0
+due-asked true reads reads_now before after due later = due
+due-asked false reads reads_now before after due later = omega (arith, later)
 
 module _ (bitmaps : Option Index) (index : Index) (is : bitmaps ≡ Some index) (span : Span) (number : ℕ) (before : BufferState) where
   -- the index page was read, or held
@@ -52,17 +60,25 @@ module _ (bitmaps : Option Index) (index : Index) (is : bitmaps ≡ Some index) 
         scanning = subst (λ n. IsScanning index number n after) next scans.scanning;
         once = let same = ap (unread index number) next in omega (arith, scans.once, same);
         most = most;
-        least = least;
+        fewer = let same = ap (unread index number) next in omega (arith, scans.fewer, same);
+        least = λ numbers later lt.
+            let none : due index [] (next_to_read index after) ≡ 0 =
+            count-none (λ n. list_any (is_looked_at index n) []) (next_in index - next_to_read index after) (next_to_read index after) (λ k low high. refl) in
+            let one = least [] tt lt in
+            due-asked (asks_values (Some span)) old.work.reads new.work.reads (due index (number ∷ numbers) (next_to_read index before)) (due index numbers (next_to_read index after))
+            (least numbers later lt) (omega (arith, one, none));
       })
 
   -- the read failed
-  pub looks-failed : (old new : FlashState) (after : BufferState) (fault : ReadFault) → new.work.reads ≤ old.work.reads + unread index number (next_to_read index before) → after.holds ≡ None →
+  pub looks-failed : (old new : FlashState) (after : BufferState) (fault : ReadFault) → new.work.reads ≤ old.work.reads + unread index number (next_to_read index before) →
+      unread index number (oldest_in index) ≤ unread index number (next_to_read index before) → after.holds ≡ None →
       LooksOn bitmaps (Some span) number before old.work.reads (Err fault) new.work.reads after
-  looks-failed old new after fault most none =
+  looks-failed old new after fault most again none =
       subst (λ (o : Option Index). LooksOn o (Some span) number before old.work.reads (Err fault) new.work.reads after) (sym is) (record {
         scanning = inl (none, ap (looking.after_held _ _) none);
         once = tt;
         most = most;
+        fewer = let same : next_to_read index after ≡ oldest_in index = ap (looking.after_held _ _) none in let moved = ap (unread index number) same in omega (arith, again, moved);
         least = λ numbers later lt. tt;
       })
 

@@ -1,5 +1,5 @@
 -- What clauses see of a table's variable data.
-use Rattle.std.specs.Prelude.{ℕ, ◌-◌, Bool, Option, is_some}
+use Rattle.std.specs.Prelude.{ℕ, ◌-◌, Bool, Option, is_some, option_map, unwrap_or}
 use Rattle.fl_table.specs.declared.table.Table.{Table}
 use Rattle.fl_var.specs.declared.var_data.VarData.{VarData}
 
@@ -9,6 +9,10 @@ data_in t = t.blobs
 
 abbrev pub has_blobs : Table → Bool
 has_blobs t = is_some t.blobs
+
+-- how many bytes a page of theirs has, where there are any
+abbrev pub blob_page_len : Table → ℕ
+blob_page_len t = unwrap_or (option_map (λ var. var.geometry.page) t.blobs) 0
 
 -- how many bytes of content a page of them holds
 abbrev pub content_in : Table → ℕ

@@ -1,5 +1,5 @@
 -- Why the calls of a table fail, over any bytes.
-use Rattle.std.specs.Prelude.{◌≡◌, Bool, true, false, Result, Err}
+use Rattle.std.specs.Prelude.{◌≡◌, Bool, true, false, Result, Err, IfErr}
 use Rattle.fl_flash.specs.Flash.{FlashState}
 use Rattle.fl_flash.specs.declared.flash.FlashFault.{FlashFault}
 use Rattle.fl_ring.specs.Causes.{CausedBy}
@@ -12,6 +12,10 @@ use Rattle.fl_table.specs.declared.faults.FlushFault.{FlushFault}
 use Rattle.fl_table.specs.declared.faults.FlushFault.TheVariants as flush
 use Rattle.fl_table.specs.declared.faults.MountFault.{MountFault}
 use Rattle.fl_table.specs.declared.faults.MountFault.TheVariants as mount
+
+-- with the power off the flash stays as it is, and each fault is this one
+abbrev pub OffFailsAs : {T E : Type 0} → E → FlashState → Result T E → FlashState → Type 0
+OffFailsAs fault old result new = old.is_on ≡ false → IfErr result (λ e. e ≡ fault) × (new ≡ old)
 
 abbrev pub PutCausedBy : FlashState → PutRefusal → FlashState → Type 0
 PutCausedBy old (put.Flash fault) new = CausedBy old fault new

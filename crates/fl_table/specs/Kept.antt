@@ -1,6 +1,5 @@
 -- A kept page that was read, over any bytes and for a table of the model.
 use Rattle.std.specs.Prelude.{◌≡◌, ℕ, ◌<◌, Bool, true, false, option_map, unwrap_or, Result, Ok, Err, List, map}
-use Rattle.fl_flash.specs.declared.flash.FlashFault.{FlashFault}
 use Rattle.fl_mark.specs.Mark.{state_of_page}
 use Rattle.fl_mark.specs.declared.page_state.PageState.TheVariants.{Committed}
 use Rattle.fl_model.specs.Image.{rows_at}
@@ -23,11 +22,6 @@ abbrev pub IfRead : Result Bool ReadFault → Type 0 → Type 0
 IfRead (Ok found) P = P
 IfRead (Err (BadPage bad)) P = P
 IfRead (Err (Flash fault)) P = Unit {0}
-
--- why a read failed
-abbrev pub IfUnread : (FlashFault → Type 0) → ReadFault → Type 0
-IfUnread P (Flash fault) = P fault
-IfUnread P (BadPage bad) = Unit {0}
 
 -- The bytes that were read for the page with this number: a page with rows, one that isn't committed, or one that is
 -- committed and has another number or no count that a page has.

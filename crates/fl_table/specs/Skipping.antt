@@ -1,5 +1,5 @@
 -- Whether a data page may have rows of a span, as far as its bitmap tells, and what index pages are read for it.
-use Rattle.std.specs.Prelude.{◌≡◌, ℕ, ◌+◌, ◌-◌, ◌^◌, ◌<◌, ◌≤◌, Bool, true, not, ◌||◌, nat_lt, Option, Some, None, Result, Ok, Err, OnOk, List, ◌∷◌, bit_and}
+use Rattle.std.specs.Prelude.{◌≡◌, ℕ, ◌+◌, ◌-◌, ◌^◌, ◌<◌, ◌≤◌, Bool, true, not, ◌||◌, nat_lt, Option, Some, None, Result, Ok, Err, OnOk, List, ◌∷◌, bit_and, if◌then◌else◌}
 use Rattle.std.specs.List.{AllByRecursion}
 use Rattle.fl_base.specs.declared.types.Span.{Span}
 use Rattle.fl_flash.specs.Buffer.{BufferState}
@@ -8,12 +8,17 @@ use Rattle.fl_index.specs.Looking as looking
 use Rattle.fl_index.specs.Looking.{IsFresh, IsScanning, HoldsGood, next_to_read, unread, due}
 use Rattle.fl_index.specs.declared.index.Index.{Index}
 use Rattle.fl_model.specs.Layout.{bitmap_of}
-use Rattle.fl_model.specs.Limits.{is_indexed, mask_of}
+use Rattle.fl_model.specs.Limits.{asks_values, is_indexed, mask_of}
 use Rattle.fl_model.specs.Record.{Plan}
 use Rattle.fl_model.specs.Table.{Table, Entry}
 use Rattle.fl_page.specs.declared.fault.BadPage.{BadPage as Refusal}
 use Rattle.fl_page.specs.declared.fault.ReadFault.{ReadFault}
 use Rattle.fl_page.specs.declared.fault.ReadFault.TheVariants.{Flash, BadPage}
+use Rattle.fl_table.specs.declared.table.Table as code
+
+-- the index of a table, where it has one
+abbrev pub index_in : code.Table → Option Index
+index_in t = t.bitmaps
 
 -- a kept index page that a buffer holds has the bytes that stand on the flash
 abbrev pub AreFresh : Option Index → FlashState → BufferState → Type 0
@@ -36,11 +41,11 @@ unread_of None bitmaps number buf = 0
 unread_of (Some span) None number buf = 0
 unread_of (Some span) (Some index) number buf = unread index number (next_to_read index buf)
 
--- .. and those that it has to read for some data pages
+-- .. and those that it has to read for some data pages: none where the span has no value
 abbrev pub due_of : Option Span → Option Index → List ℕ → BufferState → ℕ
 due_of None bitmaps numbers buf = 0
 due_of (Some span) None numbers buf = 0
-due_of (Some span) (Some index) numbers buf = due index numbers (next_to_read index buf)
+due_of (Some span) (Some index) numbers buf = if asks_values (Some span) then due index numbers (next_to_read index buf) else 0
 
 -- a kept index page that is committed on a flash, and isn't good
 abbrev pub IsBadIndex : Option Index → FlashState → Refusal → Type 0
@@ -58,10 +63,12 @@ ShowsPage plan table span number entries (Ok may) = may ≡ wants_page plan tabl
 ShowsPage plan table span number entries (Err (Flash fault)) = Unit {0}
 ShowsPage plan table span number entries (Err (BadPage bad)) = ⊥
 
--- Over a flash that stands for a table: the scan goes on, what was read isn't read again, and what had to be read was.
+-- Over a flash that stands for a table: the scan goes on, what was read isn't read again, and what had to be read was. After a
+-- fault too no more is left to be read than before.
 pub record LooksOn (bitmaps : Option Index) (span : Option Span) (number : ℕ) (before : BufferState) (reads : ℕ) (result : Result Bool ReadFault) (reads_now : ℕ) (after : BufferState) : Type 0 where
   pub scanning : AreScanning bitmaps number after
   pub once : OnOk result (reads_now + unread_of span bitmaps number after ≤ reads + unread_of span bitmaps number before)
   pub most : reads_now ≤ reads + unread_of span bitmaps number before
+  pub fewer : unread_of span bitmaps number after ≤ unread_of span bitmaps number before
   pub least : (numbers : List ℕ) → AllByRecursion (λ n. number ≤ n) numbers → reads_now < 2 ^ 64 - 1 →
       OnOk result (reads + due_of span bitmaps (number ∷ numbers) before ≤ reads_now + due_of span bitmaps numbers after)

@@ -6,6 +6,7 @@ ghost use Rattle.fl_model.specs.Table as model;
 ghost use Rattle.fl_model.specs.Work.{Device};
 ghost use Rattle.fl_ring.specs.Causes.{CausedBy, IfFlash};
 ghost use Rattle.fl_table.specs.Bitmaps.{AreSamePlan, AreSameRing, LieOn, AreRunning, AreBroken, AreWaiting, AreIdle, HaveRoom, EndAt, NumberLeft, AreNoted, StandOutside, MountEndsOf, MakesRoomOf, RoomMade, first_to_wait, room_of, rings_of};
+ghost use Rattle.fl_table.specs.Causes.{OffFailsAs};
 ghost use Rattle.fl_table.specs.Mounting.{FewReads, FewRepairs, FindsBitmaps, RefusesBitmaps};
 
 use fl_flash::{Flash, FlashFault, PageBuf};
@@ -36,6 +37,7 @@ pub(crate) fn mount_bitmaps<F: Flash>(
     ensures repairs { FewRepairs (rings_of bitmaps.old) (F.state flash.old) (F.state flash.new) }
     ensures cause { IfErr result (λ e. IfFlash (λ fault. CausedBy (F.state flash.old) fault (F.state flash.new)) e) }
     ensures power { OnOk result ((F.state flash.old).is_on ≡ true → (F.state flash.new).is_on ≡ true) }
+    ensures off { OffFailsAs (RingFault.Flash FlashFault.PowerLost) (F.state flash.old) result (F.state flash.new) }
 {
     match bitmaps {
         Some(index) => index.mount(flash, buf),
@@ -104,6 +106,7 @@ pub(crate) fn make_room<F: Flash>(
     ensures reads { (F.state flash.new).work.reads ≡ (F.state flash.old).work.reads }
     ensures media_reads { (F.state flash.new).media.reads ≤ (F.state flash.old).media.reads + rings_of bitmaps.old }
     ensures power { OnOk result ((F.state flash.old).is_on ≡ true → (F.state flash.new).is_on ≡ true) }
+    ensures off { OffFailsAs FlashFault.PowerLost (F.state flash.old) result (F.state flash.new) }
     ensures cause { IfErr result (λ e. CausedBy (F.state flash.old) e (F.state flash.new)) }
 {
     match bitmaps {

@@ -217,42 +217,23 @@ fn blank(alloc: Global) -> Result<Vec<u8>, NoMemory>
 
 #[test]
 fn blobs_are_placed_before_their_rows(rt: HostRuntime) -> Result<(), Fail> {
+    let too_long = PutRefusal::Blob { limit: 200 };
     let steps = [
         (open(0, 0), UNREAD),
         (Mount, found(0, 0, 0)),
-        (
-            Put(1, Some(201)),
-            Answer::Put(Err(PutRefusal::Blob { limit: 200 })),
-        ),
+        (Put(1, Some(201)), Answer::Put(Err(too_long))),
         (Put(1, Some(100)), TAKEN),
         // In the buffer.
         (open(0, 0), THERE),
-        // On a page and in the buffer.
-        (Put(2, Some(100)), TAKEN),
-        (open(0, 100), THERE),
-        // Neither has pages: the rows and what is in the buffer are lost, and the page of the first one is given up.
-        (Mount, found(0, 0, 0)),
-        (Put(1, None), TAKEN),
-        (Put(2, Some(100)), TAKEN),
-        (open(1, 0), THERE),
+        (Put(2, Some(200)), TAKEN),
+        (Put(3, Some(200)), TAKEN),
+        // Six pages are full then, and the first block was given up.
+        (Put(4, Some(200)), TAKEN),
+        (open(0, 0), GONE),
+        // The bytes in the buffer are sealed before the page of the rows.
         (Flush, Flushed(Ok(()))),
-        (Mount, found(2, 1, 0)),
-        (open(1, 0), THERE),
-        (Put(2, None), Answer::Put(Err(PutRefusal::Key { last: 2 }))),
-        (Put(3, Some(0)), TAKEN),
-        (Put(4, Some(100)), TAKEN),
-        (Put(5, Some(100)), TAKEN),
-        (Put(6, Some(100)), TAKEN),
-        (open(1, 0), THERE),
-        // The page of the rows is full, so the bytes in the buffer are sealed before it: page 4, with which the first block
-        // is given up.
-        (Put(7, Some(100)), TAKEN),
-        (open(1, 0), GONE),
-        (open(5, 0), THERE),
-        (Flush, Flushed(Ok(()))),
-        (Mount, found(7, 3, 0)),
-        (open(1, 0), GONE),
-        (open(5, 0), THERE),
+        (Mount, found(4, 1, 0)),
+        (open(4, 52), THERE),
     ];
     let bytes = blank(rt.alloc())?;
     assert_eq!(rt; run(rt.alloc(), bytes, &steps)?, steps.len());
@@ -295,27 +276,15 @@ fn image(alloc: Global, page: u32, number: Option<u32>) -> Result<Vec<u8>, NoMem
 
 #[test]
 fn the_numbers_go_on_behind_the_kept_blobs(rt: HostRuntime) -> Result<(), Fail> {
+    let bad = MountFault::BadBlob { page: 3, next: 1 };
+    let none = MountFault::Ring(RingFault::NoNumber { at_least: u32::MAX });
     let images = [
         // A void ring, whose numbers begin behind the blob that a row names, at the first of its six places.
         (9, None, found(1, 1, 0), open(12, 0), THERE),
-        (0, None, found(1, 1, 0), open(6, 0), THERE),
         // A row that names a page from the next one on.
-        (
-            3,
-            Some(0),
-            Found(Err(MountFault::BadBlob { page: 3, next: 1 })),
-            open(1, 0),
-            UNREAD,
-        ),
-        (0, Some(0), found(1, 1, 0), open(1, 0), THERE),
+        (3, Some(0), Found(Err(bad)), open(1, 0), UNREAD),
         // No number is left behind the blob.
-        (
-            u32::MAX,
-            None,
-            Found(Err(MountFault::Ring(RingFault::NoNumber { at_least: u32::MAX }))),
-            open(0, 0),
-            UNREAD,
-        ),
+        (u32::MAX, None, Found(Err(none)), open(0, 0), UNREAD),
     ];
     for (page, number, mounted, at, there) in images {
         let put = match there {

@@ -1,27 +1,22 @@
 // The variable data of a table, where it has any.
-ghost use Rattle.std.specs.Prelude.{◌≡◌, ◌+◌, ◌*◌, ◌≤◌, ℕ, Bool, Ok, Some, None, IsTrue, ◌/◌, ◌&&◌, List, true, is_some, is_ok, option_map, length, slice_get, IfOk, IfErr, IfSome, OnOk};
-ghost use Rattle.fl_flash.specs.Flash.{Goes, page_at};
+ghost use Rattle.std.specs.Prelude.{◌≡◌, ◌+◌, ◌*◌, ◌≤◌, ℕ, Bool, Ok, None, IsTrue, ◌&&◌, true, is_some, is_ok, option_map, length, IfOk, IfErr, OnOk};
+ghost use Rattle.fl_flash.specs.Flash.{Goes, OffChangesNothing, page_at};
 ghost use Rattle.fl_model.specs.Record.{Plan, Record};
 ghost use Rattle.fl_model.specs.Table as model;
 ghost use Rattle.fl_model.specs.Work.{Device};
 ghost use Rattle.fl_model.specs.Mount.{blob_end};
-ghost use Rattle.fl_model.specs.Table.{Entry};
-ghost use Rattle.fl_ring.specs.Looking.{OnlyReads};
-ghost use Rattle.fl_var.specs.Memory.{is_mounted, room_in, LiesOn};
-ghost use Rattle.fl_var.specs.Reading.{data_of, buffer_of, count_left, pages_left, Opens, Finds, IfUnread};
 ghost use Rattle.fl_ring.specs.Causes.{CausedBy, IfFlash};
 ghost use Rattle.fl_table.specs.BlobEnds.{least_of};
 ghost use Rattle.fl_table.specs.BlobMount.{MountEndsOf, FindsBlobs, RefusesBlobs, WithinEndsOf, RefusesWithin, AreBelow};
-ghost use Rattle.fl_table.specs.Causes.{MountCausedBy};
+ghost use Rattle.fl_table.specs.Causes.{MountCausedBy, OffFailsAs};
 ghost use Rattle.fl_table.specs.Mounting.{FewReads, FewRepairs};
-ghost use Rattle.fl_table.specs.Blobs.{IsStanding, AreSamePlan, LieOn, AreRunning, AreEmpty, NumbersLeft, RestEndsOf, PlaceEndsOf, StandOutside, next_of, next_after, rings_of, room_of, HasFew, pages_for, FitsRow};
+ghost use Rattle.fl_table.specs.Blobs.{AreSamePlan, LieOn, AreRunning, AreEmpty, NumbersLeft, RestEndsOf, PlaceEndsOf, StandOutside, next_of, next_after, rings_of, room_of, HasFew, pages_for, FitsRow};
 
 use crate::MountFault;
 use fl_base::BlobRef;
 use fl_flash::{Flash, FlashFault, PageBuf};
-use fl_page::ReadFault;
 use fl_ring::RingFault;
-use fl_var::{BlobReader, VarData};
+use fl_var::VarData;
 
 /// Mounts the variable data. The numbers of a ring whose pages tell none begin at `at_least`, which is one more than the
 /// greatest page that a kept blob names.
@@ -119,6 +114,7 @@ pub(crate) fn seal_rest<F: Flash>(
     ensures ends { (first : ℕ) (plan : Plan) (table : model.Table) (rose : Bool) (device : Device) →
         RestEndsOf blobs.old (F.state flash.old) first plan table rose device result blobs.new (F.state flash.new) }
     ensures power { OnOk result ((F.state flash.old).is_on ≡ true → (F.state flash.new).is_on ≡ true) }
+    ensures off { OffFailsAs FlashFault.PowerLost (F.state flash.old) result (F.state flash.new) }
     ensures quiet { AreEmpty blobs.old → (result ≡ Ok tt) × (F.state flash.new ≡ F.state flash.old) }
     ensures outside { IsTrue (F.state flash.old).media.tells → StandOutside blobs.old (page_at (F.state flash.old)) (page_at (F.state flash.new)) }
     ensures reads { (F.state flash.new).work.reads ≡ (F.state flash.old).work.reads }
@@ -149,6 +145,7 @@ pub(crate) fn place<F: Flash>(
     ensures fits { IfOk result FitsRow }
     ensures next { OnOk result (next_of blobs.new ≡ next_of blobs.old + pages_for blobs.old (option_map (λ b. b.now) blob.entry)) }
     ensures quiet { pages_for blobs.old (option_map (λ b. b.now) blob.entry) ≡ 0 → (is_ok result ≡ true) × (F.state flash.new ≡ F.state flash.old) }
+    ensures off { 1 ≤ pages_for blobs.old (option_map (λ b. b.now) blob.entry) → OffChangesNothing (F.state flash.old) result (F.state flash.new) }
     ensures ends { (first : ℕ) (plan : Plan) (table : model.Table) (item : Record) (rose : Bool) (device : Device) → item.blob ≡ option_map (λ b. b.now) blob.entry →
         PlaceEndsOf blobs.old (F.state flash.old) first plan item table rose device result blobs.new (F.state flash.new) }
     ensures outside { IsTrue (F.state flash.old).media.tells → StandOutside blobs.old (page_at (F.state flash.old)) (page_at (F.state flash.new)) }
@@ -164,28 +161,4 @@ pub(crate) fn place<F: Flash>(
     };
     let at = var.append(flash, bytes)?;
     Ok(Some(at))
-}
-
-/// Opens the blob of a record: none exactly where it is gone.
-pub(crate) fn open<'s, 'b, F: Flash>(
-    var: &'s VarData,
-    flash: &mut F,
-    at: BlobRef,
-    buf: &'b mut PageBuf,
-) -> Result<Option<BlobReader<'s, 'b>>, ReadFault>
-    requires mounted { is_mounted var.now ≡ true }
-    requires lies { LiesOn var.now (F.state flash.old) }
-    requires room { length buf.now.bytes ≡ (F.state flash.old).geometry.page }
-    ensures reads { OnlyReads (F.state flash.old) 1 (F.state flash.new) }
-    ensures lies { LiesOn var.now (F.state flash.new) }
-    ensures var { IfOk result (λ reader. IfSome reader (λ r. (data_of r ≡ var.now) × (count_left r ≡ at.length))) }
-    ensures buffer { IfOk result (λ reader. IfSome reader (λ r. buffer_of r ≡ buf.entry.ghost_name)) }
-    ensures few { IfOk result (λ reader. IfSome reader (λ r. pages_left r ≤ at.length / room_in var.now + 1)) }
-    ensures opens { IsTrue (F.state flash.old).media.tells → Opens var.now (F.state flash.old) at result }
-    ensures finds { (first : ℕ) (plan : Plan) (table : model.Table) (i : ℕ) (entry : Entry) (bytes : List ℕ) → IsTrue (F.state flash.old).media.tells → IsStanding var.now (F.state flash.old) first plan table
-        → slice_get table.entries i ≡ Some entry → entry.kept.blob ≡ Some bytes → at ≡ record { page = entry.page; offset = entry.offset; length = length bytes }
-        → Finds table entry bytes (F.state flash.old) result }
-    ensures fails { IfErr result (λ e. IfUnread (F.state flash.old) e (F.state flash.new)) }
-{
-    var.open_blob(flash, at, buf)
 }

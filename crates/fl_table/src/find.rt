@@ -18,11 +18,11 @@ pub enum RowAt {
 
 impl Table {
     ghost use Rattle.std.specs.Prelude.{Some, false};
-    ghost use Rattle.fl_find.specs.Finding.{FindsPage};
+    ghost use Rattle.fl_find.specs.Finding.{FindsPage, pages_end};
     ghost use Rattle.fl_find.specs.Pages.{IsFresh};
     ghost use Rattle.fl_flash.specs.Flash.{FlashState};
     ghost use Rattle.fl_model.specs.Record.{Plan};
-    ghost use Rattle.fl_model.specs.Spline.{bits, is_pending_key, lookup_limit};
+    ghost use Rattle.fl_model.specs.Spline.{bits, is_pending_key, lookup_limit, page_at};
     ghost use Rattle.fl_model.specs.Table as model;
     ghost use Rattle.fl_table.specs.Finding.{Finds, FindsPending, IsRowAt, HoldsIts, HoldsKept, LookupFails, IsInSlot, knots_near, row_of_place};
     ghost use Rattle.fl_schema.specs.Schema.{layout_of_row, row_of};
@@ -132,5 +132,15 @@ impl Table {
         };
         self.index
             .page_of(ring, &self.schema, flash, buf, key, steps)
+    }
+
+    /// The number after the last kept page that may have a row with at most this key: the first key of each later page
+    /// with rows is greater. Nothing is read.
+    pub fn end_of_pages(&self, key: u64) -> u32
+        ensures within { result ≤ next_in self.now }
+        ensures exact { (f : FlashState) → (first : ℕ) → (plan : Plan) → (table : model.Table) → Stands self.now f first plan table → result ≡ pages_end 64 plan table key }
+        ensures past { (f : FlashState) → (first : ℕ) → (plan : Plan) → (table : model.Table) → Stands self.now f first plan table → IfSome (page_at table key) (λ page. page < result) }
+    {
+        self.index.end_of_pages(key, self.next_number())
     }
 }

@@ -3,7 +3,7 @@ ghost use Rattle.std.specs.Prelude.{◌≡◌, ◌<◌, ◌≤◌, ◌-◌, Some
 ghost use Rattle.fl_flash.specs.Flash.{page_at};
 ghost use Rattle.fl_flash.specs.Media.{next_count};
 ghost use Rattle.fl_page.specs.Contents as contents;
-ghost use Rattle.fl_ring.specs.Looking.{OnlyReads, ReadFails};
+ghost use Rattle.fl_ring.specs.Looking.{OnlyReads};
 
 use crate::table::Table;
 use fl_flash::{Flash, PageBuf};
@@ -17,7 +17,7 @@ impl Table {
     ghost use Rattle.fl_model.specs.Table as model;
     ghost use Rattle.fl_page.specs.Page.{IsGoodPage, rows_in};
     ghost use Rattle.fl_page.specs.View.{page_of, layout_of_page, count_of, rows_of};
-    ghost use Rattle.fl_table.specs.Kept.{place_of, IfRead, IfUnread, IsFound, ShowsRows};
+    ghost use Rattle.fl_table.specs.Kept.{place_of, IfRead, IsFound, ShowsRows};
     ghost use Rattle.fl_table.specs.Look.{layout_in, oldest_in};
     ghost use Rattle.fl_table.specs.Memory.{next_in, LiesOn};
     ghost use Rattle.fl_table.specs.Standing.{Stands};
@@ -42,7 +42,7 @@ impl Table {
         ensures stands { (first : ℕ) → (plan : Plan) → (table : model.Table) → (count : ℕ) → IsTrue (F.state flash.old).media.tells →
             Stands self.now (F.state flash.old) first plan table → slice_get table.rows.counts (number - rings.oldest table.rows) ≡ Some count →
             ShowsRows plan table (number - rings.oldest table.rows) count buf.new.bytes result }
-        ensures fails { IfErr result (IfUnread (λ e. ReadFails (F.state flash.old) e (F.state flash.new))) }
+        ensures cause { IfErr result (λ fault. contents.IsCaused (F.state flash.old) fault (F.state flash.new)) }
         ensures power { OnOk result ((F.state flash.new).is_on ≡ true) }
     {
         let Some(ring) = &self.ring else {

@@ -1,5 +1,6 @@
 // The mount of a table: its rings are mounted, and its pages are read.
-ghost use Rattle.std.specs.Prelude.{◌≡◌, ◌+◌, ◌-◌, ◌*◌, None, false, true, is_ok, length, [], ◌∷◌, IsTrue, IfOk, IfErr, OnOk, OnErr};
+ghost use Rattle.std.specs.Prelude.{◌≡◌, ◌+◌, ◌-◌, ◌*◌, None, Err, false, true, is_ok, length, [], ◌∷◌, IsTrue, IfOk, IfErr, OnOk, OnErr};
+ghost use Rattle.fl_flash.specs.declared.flash.FlashFault.{FlashFault};
 ghost use Rattle.fl_flash.specs.Flash.{Goes, page_at};
 ghost use Rattle.fl_table.specs.Causes.{MountCausedBy};
 
@@ -91,6 +92,7 @@ impl Table {
         ensures repairs { FewRepairs 1 (F.state flash.old) (F.state flash.new) }
         ensures power { OnOk result ((F.state flash.old).is_on ≡ true → (F.state flash.new).is_on ≡ true) }
         ensures cause { IfErr result (λ e. MountCausedBy (F.state flash.old) e (F.state flash.new)) }
+        ensures off { (F.state flash.old).is_on ≡ false → (result ≡ Err (MountFault.Flash FlashFault.PowerLost)) × (F.state flash.new ≡ F.state flash.old) }
     {
         let ring = Ring::mount(flash, self.place, end, buf)?;
         let next = ring.next_number();
@@ -146,6 +148,7 @@ impl Table {
         ensures reads { IsTrue (F.state flash.old).media.tells → FewReads (4 * (room (ring_shape self.old) + variable.room_of self.old.blobs)) (F.state flash.old) (F.state flash.new) }
         ensures repairs { FewRepairs (1 + variable.rings_of self.old.blobs) (F.state flash.old) (F.state flash.new) }
         ensures cause { IfErr result (λ e. MountCausedBy (F.state flash.old) e (F.state flash.new)) }
+        ensures off { (F.state flash.old).is_on ≡ false → (result ≡ Err (MountFault.Flash FlashFault.PowerLost)) × (F.state flash.new ≡ F.state flash.old) }
     {
         let rows = self.read_rows(end, flash, buf)?;
         mount_within(&mut self.blobs, flash, rows.blob_end, buf)?;
@@ -177,6 +180,7 @@ impl Table {
         ensures reads { IsTrue (F.state flash.old).media.tells → FewReads (4 * pages_in self.old) (F.state flash.old) (F.state flash.new) }
         ensures repairs { FewRepairs (rings_in self.old) (F.state flash.old) (F.state flash.new) }
         ensures cause { IfErr result (λ e. MountCausedBy (F.state flash.old) e (F.state flash.new)) }
+        ensures off { (F.state flash.old).is_on ≡ false → (result ≡ Err (MountFault.Flash FlashFault.PowerLost)) × (F.state flash.new ≡ F.state flash.old) }
     {
         self.forget();
         let end = mount_bitmaps(&mut self.bitmaps, flash, buf)?;

@@ -1,6 +1,6 @@
 // Puts and flushes.
 ghost use Rattle.std.specs.Prelude.{◌≡◌, ◌≤◌, ◌+◌, ◌<◌, ◌++◌, ◌∷◌, [], true, false, length, IsTrue, OnOk, OnErr, IfErr, option_map};
-ghost use Rattle.fl_flash.specs.Flash.{Goes, page_at};
+ghost use Rattle.fl_flash.specs.Flash.{Goes, OffChangesNothing, page_at};
 ghost use Rattle.fl_table.specs.Memory.{bitmap_with};
 
 use crate::blobs::place;
@@ -58,6 +58,7 @@ impl Table {
         ensures index_next { OnOk result (index_next self.new.bitmaps ≤ index_next self.old.bitmaps + 1) }
         ensures blob_next { OnOk result (variable.next_of self.new.blobs ≤ variable.next_of self.old.blobs + 1) }
         ensures power { OnOk result ((F.state flash.old).is_on ≡ true → (F.state flash.new).is_on ≡ true) }
+        ensures off { (HasRoom self.old → ⊥) → OffChangesNothing (F.state flash.old) result (F.state flash.new) }
         ensures calm { OnOk result (is_stopped self.new ≡ is_stopped self.old) }
         ensures stopped { OnErr result ((is_running self.new ≡ false) × (is_stopped self.new ≡ true)) }
         ensures outside { IsTrue (F.state flash.old).media.tells → OutsideStands self.old (page_at (F.state flash.old)) (page_at (F.state flash.new)) }
@@ -115,6 +116,7 @@ impl Table {
             → Stands self.old (F.state flash.old) first plan table → IsAcceptedBy plan table key values.now (option_map (λ b. b.now) blob.entry)
             → JoinEnds first plan (record { key = key; values = values.now; blob = option_map (λ b. b.now) blob.entry }) table rose device result self.new (F.state flash.new) }
         ensures quiet { variable.pages_for self.old.blobs (option_map (λ b. b.now) blob.entry) ≡ 0 → (result ≡ Ok tt) × (F.state flash.new ≡ F.state flash.old) }
+        ensures off { 1 ≤ variable.pages_for self.old.blobs (option_map (λ b. b.now) blob.entry) → OffChangesNothing (F.state flash.old) result (F.state flash.new) }
         ensures running { OnOk result (is_running self.new ≡ true) }
         ensures calm { OnOk result (is_stopped self.new ≡ is_stopped self.old) }
         ensures stopped { OnErr result ((is_running self.new ≡ false) × (is_stopped self.new ≡ true)) }
@@ -158,6 +160,8 @@ impl Table {
         ensures running { is_running self.new ≡ (is_running self.old && not (put_breaks result)) }
         ensures quiet { put_refusal self.old key values.now (option_map (λ b. length b.now) blob.entry) ≡ None → HasRoom self.old → variable.pages_for self.old.blobs (option_map (λ b. b.now) blob.entry) ≡ 0
             → (result ≡ Ok tt) × (F.state flash.new ≡ F.state flash.old) }
+        ensures off { put_refusal self.old key values.now (option_map (λ b. length b.now) blob.entry) ≡ None → (HasRoom self.old → variable.pages_for self.old.blobs (option_map (λ b. b.now) blob.entry) ≡ 0 → ⊥)
+            → (F.state flash.old).is_on ≡ false → (result ≡ Err (PutRefusal.Flash FlashFault.PowerLost)) × (F.state flash.new ≡ F.state flash.old) }
         ensures reads { (F.state flash.new).work.reads ≡ (F.state flash.old).work.reads }
         ensures media_reads { (F.state flash.new).media.reads ≤ (F.state flash.old).media.reads + rings_in self.old + variable.most_pages self.old.blobs (option_map (λ b. b.now) blob.entry) }
         ensures outside { IsTrue (F.state flash.old).media.tells → OutsideStands self.old (page_at (F.state flash.old)) (page_at (F.state flash.new)) }
@@ -184,6 +188,7 @@ impl Table {
         ensures running { is_running self.new ≡ (is_running self.old && not (flush_breaks result)) }
         ensures refused { result ≡ Err FlushFault.Stopped → self.new ≡ self.old }
         ensures quiet { is_running self.old ≡ true → pending_in self.old ≡ 0 → (result ≡ Ok tt) × (self.new ≡ self.old) × (F.state flash.new ≡ F.state flash.old) }
+        ensures off { is_running self.old ≡ true → 1 ≤ pending_in self.old → (F.state flash.old).is_on ≡ false → (result ≡ Err (FlushFault.Flash FlashFault.PowerLost)) × (F.state flash.new ≡ F.state flash.old) }
         ensures reads { (F.state flash.new).work.reads ≡ (F.state flash.old).work.reads }
         ensures media_reads { (F.state flash.new).media.reads ≤ (F.state flash.old).media.reads + rings_in self.old }
         ensures outside { IsTrue (F.state flash.old).media.tells → OutsideStands self.old (page_at (F.state flash.old)) (page_at (F.state flash.new)) }

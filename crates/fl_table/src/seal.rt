@@ -1,7 +1,7 @@
 // The seal of a table: a full list of bitmaps, the bytes of blobs that wait, and the pending rows.
 ghost use Rattle.std.specs.Prelude.{◌≡◌, ◌≤◌, ◌+◌, ◌-◌, ◌<◌, ◌%◌, ◌==◌, [], ◌∷◌, true, false, length, map, count_by, slice_index, slice_set, IsTrue, OnOk, OnErr, IfErr};
 ghost use Rattle.std.specs.List.{range_with_len};
-ghost use Rattle.fl_flash.specs.Flash.{Goes, page_at};
+ghost use Rattle.fl_flash.specs.Flash.{Goes, OffChangesNothing, page_at};
 ghost use Rattle.fl_ring.specs.Causes.{CausedBy};
 
 use crate::bitmaps::{make_room, note_bitmap};
@@ -21,6 +21,7 @@ impl Table {
     ghost use Rattle.fl_table.specs.Bitmaps.{HaveRoom, bitmap_seals, next_of as index_next, rings_of};
     ghost use Rattle.fl_table.specs.Blobs as variable;
     ghost use Rattle.fl_table.specs.Blobs.{AreEmpty, blob_seals};
+    ghost use Rattle.fl_table.specs.Causes.{OffFailsAs};
     ghost use Rattle.fl_table.specs.Mounting.{OutsideStands, rings_in};
     ghost use Rattle.fl_table.specs.Outcomes.{SealsEnd};
 
@@ -46,6 +47,7 @@ impl Table {
         ensures reads { (F.state flash.new).work.reads ≡ (F.state flash.old).work.reads }
         ensures media_reads { (F.state flash.new).media.reads ≤ (F.state flash.old).media.reads + rings_in self.old }
         ensures power { OnOk result ((F.state flash.old).is_on ≡ true → (F.state flash.new).is_on ≡ true) }
+        ensures off { OffChangesNothing (F.state flash.old) result (F.state flash.new) }
         ensures cause { IfErr result (λ e. CausedBy (F.state flash.old) e (F.state flash.new)) }
     {
         self.seal_bitmaps(flash)?;
@@ -75,6 +77,7 @@ impl Table {
         ensures reads { (F.state flash.new).work.reads ≡ (F.state flash.old).work.reads }
         ensures media_reads { (F.state flash.new).media.reads ≤ (F.state flash.old).media.reads + rings_of self.old.bitmaps }
         ensures power { OnOk result ((F.state flash.old).is_on ≡ true → (F.state flash.new).is_on ≡ true) }
+        ensures off { OffFailsAs FlashFault.PowerLost (F.state flash.old) result (F.state flash.new) }
         ensures cause { IfErr result (λ e. CausedBy (F.state flash.old) e (F.state flash.new)) }
     {
         if let Err(fault) = make_room(&mut self.bitmaps, flash) {
@@ -107,6 +110,7 @@ impl Table {
         ensures reads { (F.state flash.new).work.reads ≡ (F.state flash.old).work.reads }
         ensures media_reads { (F.state flash.new).media.reads ≤ (F.state flash.old).media.reads + variable.rings_of self.old.blobs }
         ensures power { OnOk result ((F.state flash.old).is_on ≡ true → (F.state flash.new).is_on ≡ true) }
+        ensures off { OffFailsAs FlashFault.PowerLost (F.state flash.old) result (F.state flash.new) }
         ensures cause { IfErr result (λ e. CausedBy (F.state flash.old) e (F.state flash.new)) }
     {
         if let Err(fault) = seal_rest(&mut self.blobs, flash) {
@@ -140,6 +144,7 @@ impl Table {
         ensures reads { (F.state flash.new).work.reads ≡ (F.state flash.old).work.reads }
         ensures media_reads { (F.state flash.new).media.reads ≤ (F.state flash.old).media.reads + 1 }
         ensures power { OnOk result ((F.state flash.old).is_on ≡ true → (F.state flash.new).is_on ≡ true) }
+        ensures off { OffChangesNothing (F.state flash.old) result (F.state flash.new) }
         ensures cause { IfErr result (λ e. CausedBy (F.state flash.old) e (F.state flash.new)) }
     {
         let Some(mut ring) = self.ring.take() else {

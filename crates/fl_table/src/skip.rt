@@ -1,7 +1,6 @@
 // Whether a page may be skipped.
 ghost use Rattle.std.specs.Prelude.{◌≡◌, ◌+◌, ◌<◌, ◌≤◌, Some, None, Ok, true, false, length, IsTrue, IfErr, OnErr, OnOk};
 ghost use Rattle.fl_page.specs.Contents as contents;
-ghost use Rattle.fl_ring.specs.Looking.{ReadFails};
 
 use crate::table::Table;
 use fl_base::Span;
@@ -19,9 +18,8 @@ impl Table {
     ghost use Rattle.fl_model.specs.Record.{Plan};
     ghost use Rattle.fl_model.specs.Ring as rings;
     ghost use Rattle.fl_model.specs.Table as model;
-    ghost use Rattle.fl_table.specs.Kept.{IfUnread};
     ghost use Rattle.fl_table.specs.Memory.{next_in, HasBuckets, LiesOn};
-    ghost use Rattle.fl_table.specs.Skipping.{AreFresh, AreScanning, HoldGood, IsBadIndex, LooksOn, ShowsPage};
+    ghost use Rattle.fl_table.specs.Skipping.{AreFresh, AreScanning, HoldGood, IsBadIndex, LooksOn, ShowsPage, index_in};
     ghost use Rattle.fl_table.specs.Standing.{Stands};
 
     /// Whether the kept page with this number may have a row whose first value is in the span: no span is asked for, the
@@ -39,21 +37,24 @@ impl Table {
         ensures counts { contents.OnlyReads (F.state flash.old) (F.state flash.new) }
         ensures one { (F.state flash.new).work.reads ≤ (F.state flash.old).work.reads + 1 }
         ensures room { length buf.new.bytes ≡ length buf.old.bytes }
-        ensures fresh { IsTrue (F.state flash.old).media.tells → AreFresh self.now.bitmaps (F.state flash.old) buf.old → AreFresh self.now.bitmaps (F.state flash.new) buf.new }
+        ensures none { OnErr result (buf.new.holds ≡ None) }
+        ensures fresh { IsTrue (F.state flash.old).media.tells → AreFresh (index_in self.now) (F.state flash.old) buf.old → AreFresh (index_in self.now) (F.state flash.new) buf.new }
+        ensures unasked { span ≡ None → (result ≡ Ok true) × (F.state flash.new ≡ F.state flash.old) × (buf.new ≡ buf.old) }
+        ensures unindexed { index_in self.now ≡ None → (result ≡ Ok true) × (F.state flash.new ≡ F.state flash.old) × (buf.new ≡ buf.old) }
         ensures shows { (first : ℕ) → (plan : Plan) → (table : model.Table) → (n : ℕ) → (rows : ℕ) → IsTrue (F.state flash.old).media.tells → Stands self.now (F.state flash.old) first plan table →
-            AreFresh self.now.bitmaps (F.state flash.old) buf.old → number ≡ rings.oldest table.rows + n → slice_get table.rows.counts n ≡ Some rows → 0 < rows →
+            AreFresh (index_in self.now) (F.state flash.old) buf.old → number ≡ rings.oldest table.rows + n → slice_get table.rows.counts n ≡ Some rows → 0 < rows →
             ShowsPage plan table span number (rows_at table n rows) result }
         ensures misses { (first : ℕ) → (plan : Plan) → (table : model.Table) → (n : ℕ) → (rows : ℕ) → (range : KeyRange) → IsTrue (F.state flash.old).media.tells →
-            Stands self.now (F.state flash.old) first plan table → AreFresh self.now.bitmaps (F.state flash.old) buf.old → number ≡ rings.oldest table.rows + n →
+            Stands self.now (F.state flash.old) first plan table → AreFresh (index_in self.now) (F.state flash.old) buf.old → number ≡ rings.oldest table.rows + n →
             slice_get table.rows.counts n ≡ Some rows → 0 < rows → result ≡ Ok false → selected range span (rows_at table n rows) ≡ [] }
         ensures looks { (first : ℕ) → (plan : Plan) → (table : model.Table) → IsTrue (F.state flash.old).media.tells → Stands self.now (F.state flash.old) first plan table →
-            AreFresh self.now.bitmaps (F.state flash.old) buf.old → AreScanning self.now.bitmaps number buf.old →
-            LooksOn self.now.bitmaps span number buf.old (F.state flash.old).work.reads result (F.state flash.new).work.reads buf.new }
+            AreFresh (index_in self.now) (F.state flash.old) buf.old → AreScanning (index_in self.now) number buf.old →
+            LooksOn (index_in self.now) span number buf.old (F.state flash.old).work.reads result (F.state flash.new).work.reads buf.new }
 
         // A page that is held isn't bad, and a bad one that is answered stands on the flash.
-        ensures good { HoldGood self.now.bitmaps buf.old → HoldGood self.now.bitmaps buf.new }
-        ensures bad { IfErr result (IfBad (λ bad. IsTrue (F.state flash.old).media.tells → HoldGood self.now.bitmaps buf.old → IsBadIndex self.now.bitmaps (F.state flash.old) bad)) }
-        ensures fails { IfErr result (IfUnread (λ e. ReadFails (F.state flash.old) e (F.state flash.new))) }
+        ensures good { HoldGood (index_in self.now) buf.old → HoldGood (index_in self.now) buf.new }
+        ensures bad { IfErr result (IfBad (λ bad. IsTrue (F.state flash.old).media.tells → HoldGood (index_in self.now) buf.old → IsBadIndex (index_in self.now) (F.state flash.old) bad)) }
+        ensures cause { IfErr result (λ fault. contents.IsCaused (F.state flash.old) fault (F.state flash.new)) }
     {
         let Some(span) = span else {
             return Ok(true);

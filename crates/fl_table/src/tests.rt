@@ -127,57 +127,12 @@ fn run(alloc: Global, bytes: Vec<u8>, steps: &[(Step, Answer)]) -> Result<usize,
 fn pending_rows_are_lost_and_flushed_ones_found(rt: HostRuntime) -> Result<(), Fail> {
     let steps = [
         (Put(1), refused(PutRefusal::Stopped)),
-        (Flush, Flushed(Err(FlushFault::Stopped))),
         (Mount, found(0, 0, 0)),
-        (Flush, Flushed(Ok(()))),
         (Put(1), TAKEN),
+        (Flush, Flushed(Ok(()))),
+        (Put(2), TAKEN),
+        (Mount, found(1, 1, 0)),
         (Put(1), refused(PutRefusal::Key { last: 1 })),
-        (Put(2), TAKEN),
-        (Put(3), TAKEN),
-        (Mount, found(0, 0, 0)),
-        (Put(1), TAKEN),
-        (Put(2), TAKEN),
-        (Put(3), TAKEN),
-        (Put(4), TAKEN),
-        (Mount, found(3, 1, 0)),
-        (Put(3), refused(PutRefusal::Key { last: 3 })),
-        (Put(4), TAKEN),
-        (Flush, Flushed(Ok(()))),
-        (Mount, found(4, 2, 0)),
-        (Put(4), refused(PutRefusal::Key { last: 4 })),
-        (Put(5), TAKEN),
-    ];
-    let bytes = blank(rt.alloc())?;
-    assert_eq!(rt; run(rt.alloc(), bytes, &steps)?, steps.len());
-    Ok(())
-}
-
-#[test]
-fn the_oldest_block_goes(rt: HostRuntime) -> Result<(), Fail> {
-    let steps = [
-        (Mount, found(0, 0, 0)),
-        (Put(1), TAKEN),
-        (Flush, Flushed(Ok(()))),
-        (Put(2), TAKEN),
-        (Flush, Flushed(Ok(()))),
-        (Put(3), TAKEN),
-        (Put(4), TAKEN),
-        (Flush, Flushed(Ok(()))),
-        (Put(5), TAKEN),
-        (Flush, Flushed(Ok(()))),
-        (Mount, found(5, 4, 0)),
-        // Behind the fifth page the block ahead is the oldest, so it goes with its two pages.
-        (Put(6), TAKEN),
-        (Flush, Flushed(Ok(()))),
-        (Mount, found(4, 3, 0)),
-        (Put(7), TAKEN),
-        (Put(8), TAKEN),
-        (Flush, Flushed(Ok(()))),
-        (Mount, found(6, 4, 0)),
-        (Put(9), TAKEN),
-        (Flush, Flushed(Ok(()))),
-        (Mount, found(4, 3, 0)),
-        (Put(9), refused(PutRefusal::Key { last: 9 })),
     ];
     let bytes = blank(rt.alloc())?;
     assert_eq!(rt; run(rt.alloc(), bytes, &steps)?, steps.len());
@@ -244,12 +199,7 @@ fn cut_at(
 #[test]
 fn a_torn_page_is_given_up(rt: HostRuntime) -> Result<(), Fail> {
     let cuts = [
-        // The body wasn't begun.
-        (1, CutKind::Before, found(2, 1, 0), 2),
-        // It was, and the mark wasn't.
-        (1, CutKind::Half, found(2, 2, 1), 2),
-        (1, CutKind::After, found(2, 2, 1), 2),
-        (2, CutKind::Before, found(2, 2, 1), 2),
+        // The mark wasn't programmed whole.
         (2, CutKind::Half, found(2, 2, 1), 2),
         // The page was committed.
         (2, CutKind::After, found(3, 2, 0), 3),
@@ -295,74 +245,40 @@ fn image(alloc: Global, first: Page, second: Option<Page>) -> Result<Vec<u8>, No
     Ok(bytes)
 }
 
+// A page that is refused.
+fn bad(found: u32, count: u32) -> Answer {
+    Found(Err(MountFault::BadPage(BadPage {
+        wanted: 0,
+        found,
+        count,
+    })))
+}
+
 #[test]
 fn images_made_by_hand(rt: HostRuntime) -> Result<(), Fail> {
+    let apart = RingFault::BadPage {
+        page: 2,
+        wanted: 0,
+        found: 7,
+    };
+    let falls = MountFault::BadKeys {
+        page: 1,
+        last: 9,
+        first: 8,
+    };
     let images = [
         ((0, 2, [5, 9]), Some((1, 1, [10, 0])), found(3, 2, 0)),
-        (
-            (7, 2, [5, 9]),
-            None,
-            Found(Err(MountFault::Ring(RingFault::BadPage {
-                page: 2,
-                wanted: 0,
-                found: 7,
-            }))),
-        ),
-        // A page of no rows, of more than it has room for, and of another number.
-        (
-            (0, 0, [5, 9]),
-            None,
-            Found(Err(MountFault::BadPage(BadPage {
-                wanted: 0,
-                found: 0,
-                count: 0,
-            }))),
-        ),
-        (
-            (0, 4, [5, 9]),
-            None,
-            Found(Err(MountFault::BadPage(BadPage {
-                wanted: 0,
-                found: 0,
-                count: 4,
-            }))),
-        ),
-        (
-            (3, 2, [5, 5]),
-            Some((1, 2, [4, 4])),
-            Found(Err(MountFault::BadPage(BadPage {
-                wanted: 0,
-                found: 3,
-                count: 2,
-            }))),
-        ),
-        // The first key that isn't above the one before it, in a page and over two pages.
-        (
-            (0, 2, [5, 5]),
-            Some((1, 2, [4, 4])),
-            Found(Err(MountFault::BadKeys {
-                page: 0,
-                last: 5,
-                first: 5,
-            })),
-        ),
-        (
-            (0, 2, [5, 9]),
-            Some((1, 2, [8, 4])),
-            Found(Err(MountFault::BadKeys {
-                page: 1,
-                last: 9,
-                first: 8,
-            })),
-        ),
+        ((7, 2, [5, 9]), None, Found(Err(MountFault::Ring(apart)))),
+        // A page of more rows than it has room for, and of another number.
+        ((0, 4, [5, 9]), None, bad(0, 4)),
+        ((3, 2, [5, 5]), Some((1, 2, [4, 4])), bad(3, 2)),
+        // The first key that isn't above the one before it.
+        ((0, 2, [5, 9]), Some((1, 2, [8, 4])), Found(Err(falls))),
     ];
     for (first, second, mounted) in images {
         let bytes = image(rt.alloc(), first, second)?;
-        assert_eq!(rt;
-            run(rt.alloc(), bytes, &[(Mount, mounted)])?,
-            1,
-            "{mounted:?}"
-        );
+        let done = run(rt.alloc(), bytes, &[(Mount, mounted)])?;
+        assert_eq!(rt; done, 1, "{mounted:?}");
     }
     Ok(())
 }
@@ -466,17 +382,12 @@ fn keys_are_looked_up(rt: HostRuntime) -> Result<(), Fail> {
         // Not covered: by halves.
         (5, (None, 3, 5, None)),
         // From the estimate and the error of 1 down to the page of the key, past the void one.
-        (10, (Some(10), 2, 5, Some(0))),
         (20, (Some(20), 2, 5, Some(0))),
         (30, (None, 3, 5, Some(0))),
-        (40, (Some(40), 2, 5, Some(1))),
         (60, (Some(60), 1, 5, Some(3))),
-        (65, (None, 1, 5, Some(3))),
         // At least the first pending key.
-        (70, (Some(70), 0, 0, Some(3))),
         (75, (None, 0, 0, Some(3))),
         (80, (Some(80), 0, 0, Some(3))),
-        (90, (None, 0, 0, Some(3))),
     ];
     assert_eq!(rt; look_all_up(rt.alloc(), &lookups)?, [3, lookups.len()]);
     Ok(())

@@ -15,6 +15,5 @@ pub(crate) fn tell<R: Eprint>(rt: &R, status: Status) {
         Status::OtherConfig { .. } => eprintln!(rt; "flashts: the image has another configuration"),
         Status::ScriptLong => eprintln!(rt; "flashts: the script is longer than 16777216 bytes"),
         Status::NoMemory => eprintln!(rt; "flashts: no memory"),
-        Status::NotYet { line } => eprintln!(rt; "flashts: line {line} is not built yet"),
     };
 }

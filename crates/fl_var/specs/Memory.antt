@@ -28,7 +28,10 @@ oldest_in v = unwrap_or (option_map (λ r. oldest_of r) v.ring) 0
 abbrev pub waiting_in : VarData → List ℕ
 waiting_in v = content_in v.waiting
 
--- how many of them a page holds
+-- the bytes of a page, and how many of them that wait it holds
+abbrev pub page_len : VarData → ℕ
+page_len v = v.geometry.page
+
 abbrev pub room_in : VarData → ℕ
 room_in v = v.geometry.page - 16
 

@@ -2,15 +2,16 @@
 use Rattle.std.specs.Prelude.{◌≡◌, ℕ, ◌+◌, ◌-◌, ◌/◌, ◌<◌, ◌≤◌, Bool, true, false, ◌==◌, if◌then◌else◌, IsTrue, Option, Some, None, Result, Ok, Err, List, [], ◌++◌, length, take, drop, slice_range}
 use base.Fml.{GName}
 use Rattle.fl_base.specs.declared.types.BlobRef.{BlobRef}
+use Rattle.fl_flash.specs.Buffer.{BufferState}
 use Rattle.fl_flash.specs.Flash.{FlashState}
 use Rattle.fl_model.specs.Query.{BlobState, Lost, Stands, blob_of}
 use Rattle.fl_model.specs.Table as model
 use Rattle.fl_model.specs.Table.{Entry}
+use Rattle.fl_page.specs.Contents.{IsCaused}
 use Rattle.fl_page.specs.Header.{page_count}
 use Rattle.fl_page.specs.declared.fault.BadPage.{BadPage}
 use Rattle.fl_page.specs.declared.fault.ReadFault.{ReadFault}
 use Rattle.fl_page.specs.declared.fault.ReadFault.TheVariants as fault
-use Rattle.fl_ring.specs.Looking.{ReadFails}
 use Rattle.fl_var.specs.Blobs.{IsGone, contents_in, bytes_of, IsWhole, IsBadFirst, IsBadLater}
 use Rattle.fl_var.specs.Content.{content_of}
 use Rattle.fl_var.specs.Memory.{next_in, room_in, page_in, image_in, present}
@@ -24,6 +25,10 @@ data_of r = r.var.now
 -- the buffer that it was given
 abbrev pub buffer_of : BlobReader → GName
 buffer_of r = r.buf.ghost_name
+
+-- what this one holds
+abbrev pub held_by : BlobReader → BufferState
+held_by r = r.buf.now
 
 -- the page on which it is
 abbrev pub page_of : BlobReader → ℕ
@@ -78,6 +83,12 @@ Finds table entry bytes f (Ok (Some r)) = (blob_of table entry ≡ Stands bytes)
 Finds table entry bytes f (Err (fault.BadPage bad)) = ⊥
 Finds table entry bytes f (Err (fault.Flash e)) = Unit {0}
 
+-- an opening as a reader says it that was turned to the blob, or wasn't
+abbrev pub turned : Result Bool ReadFault → BlobReader → Result (Option BlobReader) ReadFault
+turned (Ok true) r = Ok (Some r)
+turned (Ok false) r = Ok None
+turned (Err e) r = Err e
+
 -- What a step made of the bytes left: true takes a chunk from their front, false comes where none is left, and a fault
 -- leaves them.
 abbrev pub Steps : Result Bool ReadFault → List ℕ → List ℕ → List ℕ → Type 0
@@ -87,12 +98,16 @@ Steps (Err e) before chunk after = after ≡ before
 
 -- why a read of a page fails
 abbrev pub IfUnread : FlashState → ReadFault → FlashState → Type 0
-IfUnread old (fault.Flash e) new = ReadFails old e new
-IfUnread old (fault.BadPage bad) new = Unit {0}
+IfUnread old fault new = IsCaused old fault new
 
 abbrev pub IfBad : (BadPage → Type 0) → ReadFault → Type 0
 IfBad P (fault.Flash e) = Unit {0}
 IfBad P (fault.BadPage bad) = P bad
+
+-- a page is bad, and no read failed
+abbrev pub IsOfPage : ReadFault → Type 0
+IsOfPage (fault.Flash e) = ⊥
+IsOfPage (fault.BadPage bad) = Unit {0}
 
 -- no page is bad
 abbrev pub NoneBad : {T : Type 0} → Result T ReadFault → Type 0

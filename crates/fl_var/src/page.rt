@@ -9,7 +9,7 @@ ghost use Rattle.fl_ring.specs.Looking.{OnlyReads};
 ghost use Rattle.fl_var.specs.Blobs.{end_fault};
 ghost use Rattle.fl_var.specs.Content.{HasContent};
 ghost use Rattle.fl_var.specs.Memory.{is_mounted, next_in, waiting_in, page_in, image_in, present, room_in, LiesOn};
-ghost use Rattle.fl_var.specs.Reading.{IfUnread, IfBad};
+ghost use Rattle.fl_var.specs.Reading.{IfUnread, IfBad, IsOfPage};
 
 use crate::var_data::VarData;
 use fl_base::{get_u16, get_u32};
@@ -73,6 +73,7 @@ impl VarData {
         requires within { number ≤ next_in self.now }
         ensures reads { OnlyReads (F.state flash.old) 1 (F.state flash.new) }
         ensures counts { contents.OnlyReads (F.state flash.old) (F.state flash.new) }
+        ensures pending { next_in self.now ≤ number → (F.state flash.new ≡ F.state flash.old) × IfErr result IsOfPage }
         ensures lies { LiesOn self.now (F.state flash.new) }
         ensures room { length buf.new.bytes ≡ length buf.old.bytes }
         ensures good { IsTrue (F.state flash.old).media.tells → IfOk result (λ used. IfSome used (λ n. HasContent number (image_in self.now (F.state flash.old) number) × (n ≡ page_count (image_in self.now (F.state flash.old) number)))) }

@@ -32,13 +32,13 @@ pub struct BlobReader<'s, 'b> {
 }
 
 impl<'s, 'b> BlobReader<'s, 'b> {
-    ghost use Rattle.std.specs.Prelude.{nat_lt, [], ◌++◌, IsTrue, IfOk, IfErr, OnOk, OnErr};
+    ghost use Rattle.std.specs.Prelude.{nat_lt, false, Ok, [], ◌++◌, IsTrue, IfOk, IfErr, OnOk, OnErr};
     ghost use Rattle.fl_flash.specs.Flash.{FlashState};
     ghost use Rattle.fl_page.specs.Contents as contents;
     ghost use Rattle.fl_ring.specs.Looking.{OnlyReads};
     ghost use Rattle.fl_var.specs.Blobs.{IsBadLater};
     ghost use Rattle.fl_var.specs.Memory.{LiesOn};
-    ghost use Rattle.fl_var.specs.Reading.{data_of, buffer_of, page_of, chunk_of, count_left, pages_left, bytes_left, Reads, IsWholeIn, Steps, IfUnread, IfBad, NoneBad};
+    ghost use Rattle.fl_var.specs.Reading.{data_of, buffer_of, held_by, page_of, chunk_of, count_left, pages_left, bytes_left, Reads, IsWholeIn, Steps, IfUnread, IfBad, NoneBad};
 
     /// Turns to the next page, which has to have content, where the present one was given to its end.
     fn turn<F: Flash>(&mut self, flash: &mut F) -> Result<(), ReadFault>
@@ -98,8 +98,9 @@ impl<'s, 'b> BlobReader<'s, 'b> {
         self.left -= len as u32;
     }
 
-    /// Takes the next chunk from the front of the bytes left. True where there is one, and false where no byte is left.
-    /// After a fault the bytes left are as they were. Over any bytes each true leaves fewer bytes, by its chunk.
+    /// Takes the next chunk from the front of the bytes left. True where there is one, and false where no byte is left,
+    /// for which nothing is read, so that it comes with the power off too. After a fault the bytes left are as they were.
+    /// Over any bytes each true leaves fewer bytes, by its chunk.
     pub fn step<F: Flash>(&mut self, flash: &mut F) -> Result<bool, ReadFault>
         requires lies { LiesOn (data_of self.old) (F.state flash.old) }
         ensures reads { OnlyReads (F.state flash.old) 1 (F.state flash.new) }
@@ -109,6 +110,7 @@ impl<'s, 'b> BlobReader<'s, 'b> {
         ensures lies { LiesOn (data_of self.new) (F.state flash.new) }
         ensures ready { Reads self.old (F.state flash.old) → Reads self.new (F.state flash.new) }
         ensures more { IfOk result (λ more. more ≡ nat_lt 0 (count_left self.old)) }
+        ensures done { count_left self.old ≡ 0 → (result ≡ Ok false) × (F.state flash.new ≡ F.state flash.old) }
         ensures some { IfOk result (λ more. more ≡ true → 1 ≤ length (chunk_of self.new)) }
         ensures chunk { count_left self.old ≡ length (chunk_of self.new) + count_left self.new }
         ensures none { OnErr result (chunk_of self.new ≡ []) }
@@ -130,7 +132,7 @@ impl<'s, 'b> BlobReader<'s, 'b> {
 
     /// Gives the buffer back as it is.
     pub fn close(self)
-        ensures same { self.exit.1.0.now ≡ self.entry.buf.now }
+        ensures same { self.exit.1.0.now ≡ held_by self.entry }
     {}
 
     /// The bytes that the last step gave: none before the first one, and where it answered false or failed.

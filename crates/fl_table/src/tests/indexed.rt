@@ -62,49 +62,16 @@ fn blank_flash(alloc: Global) -> Result<Vec<u8>, NoMemory>
     Ok(vec![in alloc; 255; 896]?)
 }
 
-fn run_blank(alloc: Global, steps: &[(Step, Answer)]) -> Result<(usize, u64), ConfigRefusal> {
-    let bytes = blank_flash(alloc)?;
-    run_indexed(alloc, bytes, steps)
-}
-
-const FLUSHED: Answer = Flushed(Ok(()));
-
 #[test]
-fn bitmaps_are_sealed_before_the_sixth_page(rt: HostRuntime) -> Result<(), Fail> {
+fn bitmaps_wait_for_their_page(rt: HostRuntime) -> Result<(), Fail> {
     let steps = [
         (Mount, found(0, 0, 0)),
         (Put(1), TAKEN),
-        (Flush, FLUSHED),
-        (Put(2), TAKEN),
-        (Flush, FLUSHED),
-        (Put(3), TAKEN),
-        (Flush, FLUSHED),
-        (Put(4), TAKEN),
-        (Flush, FLUSHED),
-        (Put(5), TAKEN),
-        (Flush, FLUSHED),
-        (Put(6), TAKEN),
-        (Flush, FLUSHED),
-        // One bitmap waits, and four more are noted.
-        (Mount, found(4, 4, 0)),
-        (Put(7), TAKEN),
-        (Flush, FLUSHED),
-        (Put(8), TAKEN),
-        (Flush, FLUSHED),
-        (Put(9), TAKEN),
-        (Flush, FLUSHED),
-        (Put(10), TAKEN),
-        (Flush, FLUSHED),
-        (Put(11), TAKEN),
-        (Flush, FLUSHED),
-        (Mount, found(3, 3, 0)),
+        (Flush, Flushed(Ok(()))),
+        (Mount, found(1, 1, 0)),
     ];
-    assert_eq!(rt; run_blank(rt.alloc(), &steps[..11])?, (11, 10));
-    // An index page is sealed before the sixth data page, and another one before the eleventh.
-    assert_eq!(rt; run_blank(rt.alloc(), &steps[..13])?, (13, 14));
-    assert_eq!(rt; run_blank(rt.alloc(), &steps[..22])?, (22, 22));
-    assert_eq!(rt; run_blank(rt.alloc(), &steps[..24])?, (24, 26));
-    assert_eq!(rt; run_blank(rt.alloc(), &steps)?, (25, 26));
+    let bytes = blank_flash(rt.alloc())?;
+    assert_eq!(rt; run_indexed(rt.alloc(), bytes, &steps)?, (4, 2));
     Ok(())
 }
 

@@ -1,5 +1,5 @@
 use Rattle.fl_ring.proofs.Exists.{lies_exists}
-use Rattle.fl_page.proofs.Reading.{OnlyReads-read}
+use Rattle.fl_page.proofs.Reading.{OnlyReads-read, IsCaused-read}
 use Rattle.fl_index.proofs.lookup.hold.Goals as goal
 
 pub read-requires-clause-exists : goal.read-requires-clause-exists
@@ -8,3 +8,6 @@ read-requires-clause-exists g c =
 
 pub returns-clause-counts : goal.returns-clause-counts
 returns-clause-counts g c = OnlyReads-read _ _ _ _ _ _ c.read.ensures
+
+pub returns-clause-cause : goal.returns-clause-cause
+returns-clause-cause g c = IsCaused-read _ _ _ _ _ _ c.read.ensures

@@ -1,7 +1,8 @@
 use Rattle.std.proofs.Common.{arith, rules, ◌≡◌, ◌∙◌, ◌≤◌, ◌+◌, Some}
+use Rattle.std.proofs.lemmas.Result.{err_from_is_err_and}
 use Rattle.fl_page.specs.Contents.{contents_of}
 use Rattle.fl_page.specs.Steps.{Ascends}
-use Rattle.fl_page.proofs.Reading.{OnlyReads-then}
+use Rattle.fl_page.proofs.Reading.{OnlyReads-then, IsCaused-later}
 use Rattle.fl_ops.specs.Pairs.{pairs_from}
 use Rattle.fl_ops.proofs.Continuing.{Continues-then}
 use Rattle.fl_ops.proofs.Joins.{pair-equal}
@@ -42,3 +43,8 @@ returns-in_err-step_lesser-clause-reads_only g c = OnlyReads-then _ _ _ c.loop-l
 
 pub returns-then-not-branch-2-clause-reads_only : goal.returns-then-not-branch-2-clause-reads_only
 returns-then-not-branch-2-clause-reads_only g c = OnlyReads-then _ _ _ c.loop-left.invariant.reads_only c.step_lesser.ensures.reads_only
+
+pub returns-in_err-step_lesser-clause-cause : goal.returns-in_err-step_lesser-clause-cause
+returns-in_err-step_lesser-clause-cause g c =
+    let p = err_from_is_err_and c.from_residual-in_err-step_lesser.result c.from_residual-in_err-step_lesser.ensures.1 in
+    rw (p.1, p.2) (IsCaused-later (g.F.Flash.state c.args.flash.now) (g.F.Flash.state c.loop-left.flash) (g.F.Flash.state c.step_lesser.new.flash) c.in_err-step_lesser.field-0.0 c.loop-left.invariant.reads_only c.in_err-step_lesser.ensures.cause)

@@ -1,13 +1,10 @@
-use Rattle.std.proofs.Common.{ap, arith, le_trans}
-use Rattle.fl_words.specs.Config.{Lines}
-use Rattle.fl_session.specs.Built.{are_built}
+use Rattle.std.proofs.Common.{arith, le_trans}
 use Rattle.fl_session.proofs.Beginning.{configured-first, configured-more, at-command, at-end, ends-begin, ends-incomplete, ends-empty, configure-ends, finish-begins, finish-ends}
 use Rattle.fl_session.proofs.begin.read_config.Goals as goal
 
 pub lines-init : goal.lines-init
 lines-init g c = record {
   numbered = omega (arith, c.requires.fresh.most);
-  built = ap (λ (l : Lines). are_built l.plans) c.requires.first;
   later = omega arith;
   configured = λ knots text told. configured-first knots text _ _ _ c.requires.first c.requires.fresh told;
 }
@@ -15,21 +12,21 @@ lines-init g c = record {
 pub returns-in-Ok-false-clause-begins : goal.returns-in-Ok-false-clause-begins
 returns-in-Ok-false-clause-begins g c =
     let n = rw c.in-Ok-Some.field-0-is at c.in-Ok-Some.ensures in
-    let e = rw c.in-Ok-false.field-0-test at c.in-Ok-false.ensures.by in
+    let e = rw c.in-Ok-false.field-0-test at c.in-Ok-false.ensures in
     finish-begins _ _ _ _ _ _ _ _ c.finish.ensures.ok
     (λ knots text told. at-command knots text _ _ _ _ _ _ _ _ _ _ _ (c.lines.invariant.configured knots text told) n e)
 
 pub returns-in-Ok-false-clause-ends : goal.returns-in-Ok-false-clause-ends
 returns-in-Ok-false-clause-ends g c =
     let n = rw c.in-Ok-Some.field-0-is at c.in-Ok-Some.ensures in
-    let e = rw c.in-Ok-false.field-0-test at c.in-Ok-false.ensures.by in
+    let e = rw c.in-Ok-false.field-0-test at c.in-Ok-false.ensures in
     finish-ends _ _ _ _ c.finish.ensures.incomplete
     (λ none knots text told. ends-incomplete knots text _ _ _ _ (at-command knots text _ _ _ _ _ _ _ _ _ _ _ (c.lines.invariant.configured knots text told) n e) (none knots))
 
 pub returns-in-Err-configure-clause-ends : goal.returns-in-Err-configure-clause-ends
 returns-in-Err-configure-clause-ends g c = λ knots text told.
     let n = rw c.in-Ok-Some.field-0-is at c.in-Ok-Some.ensures in
-    configure-ends knots text _ _ _ _ _ _ _ _ _ _ _ c.in-Err-configure.status (c.lines.invariant.configured knots text told) n c.in-Err-configure.ensures.by
+    configure-ends knots text _ _ _ _ _ _ _ _ _ _ _ c.in-Err-configure.status (c.lines.invariant.configured knots text told) n c.in-Err-configure.ensures
 
 pub returns-in-Ok-None-clause-begins : goal.returns-in-Ok-None-clause-begins
 returns-in-Ok-None-clause-begins g c =
@@ -50,11 +47,10 @@ returns-in-Err-clause-ends g c = λ knots text told.
 pub lines-preserved : goal.lines-preserved
 lines-preserved g c =
     let n = rw c.in-Ok-Some.field-0-is at c.in-Ok-Some.ensures in
-    let e = rw c.in-Ok-true.field-0-test at c.in-Ok-true.ensures.by in
+    let e = rw c.in-Ok-true.field-0-test at c.in-Ok-true.ensures in
     let shrinks = n.advances.shrinks n.next.0 in
     record {
       numbered = omega (arith, c.lines.invariant.numbered, shrinks);
-      built = c.in-Ok-true.ensures.built c.lines.invariant.built;
       later = le_trans c.lines.invariant.later n.advances.later;
       configured = λ knots text told. configured-more knots text _ _ _ _ _ _ _ _ _ _ _ (c.lines.invariant.configured knots text told) n e;
     }

@@ -1,5 +1,4 @@
-use Rattle.std.proofs.Common.{◌≡◌, ℕ, ◌+◌, ◌^◌, ◌<◌, ◌≤◌, List, Some, true}
-use Rattle.fl_session.specs.Built.{are_built}
+use Rattle.std.proofs.Common.{◌≡◌, ℕ, ◌+◌, ◌^◌, ◌<◌, ◌≤◌, List, Some}
 use Rattle.fl_session.proofs.Beginning.{Configured}
 use Rattle.fl_session.proofs.begin.read_config.Given as goal
 
@@ -8,7 +7,6 @@ invariant-lines g l =
     let S = g.S.Source in
     record {
       numbered : l.number + l.lines.most < 2 ^ 32;
-      built : are_built (l.config).plans ≡ true;
       later : S.faults l.fn.script ≤ S.faults l.script;
       configured : (knots : ℕ) (text : List ℕ) → S.left l.fn.script ≡ Some text → Configured knots text (l.config) l.number l.lines (S.left l.script);
     }

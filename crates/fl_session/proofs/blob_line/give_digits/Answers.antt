@@ -1,7 +1,7 @@
-use Rattle.std.proofs.Common.{ℕ, true, false, List, refl, ◌∙◌, subst, arith}
+use Rattle.std.proofs.Common.{ℕ, List, refl, ◌∙◌, subst, arith}
 use Rattle.std.proofs.lemmas.Result.{err_from_is_err_and}
 use Rattle.fl_base.specs.Causes.{Appends, AppendsFront}
-use Rattle.fl_page.proofs.Reading.{OnlyReads-same, OnlyReads-then}
+use Rattle.fl_page.proofs.Reading.{OnlyReads-same, OnlyReads-then, IsCaused-later}
 use Rattle.fl_var.specs.Reading.{chunk_of}
 use Rattle.fl_words.specs.Reply.{hex_text}
 use Rattle.fl_session.proofs.BlobLines.{gave-none, gave-chunk, gave-failed, gave-all, gave-unread}
@@ -84,3 +84,8 @@ returns-clause-gives g c = λ ready whole.
     let steps = rw c.if-branch.false at (c.in_ok-step.ensures.steps so_far.ready) in
     gave-all c.args.reader.now c.loop-reader.reader c.step.new.self (g.F.Flash.state c.args.flash.now) (g.F.Flash.state c.loop-reader.flash) (g.F.Flash.state c.step.new.flash)
     (g.K.Sink.written c.args.out.now) (g.K.Sink.written c.loop-reader.out) so_far steps.0
+
+pub returns-in_err-step-clause-unread : goal.returns-in_err-step-clause-unread
+returns-in_err-step-clause-unread g c =
+    let p = err_from_is_err_and c.from_residual.result c.from_residual.ensures.1 in
+    rw (p.1, p.2) (IsCaused-later (g.F.Flash.state c.args.flash.now) (g.F.Flash.state c.loop-reader.flash) (g.F.Flash.state c.step.new.flash) c.in_err-step.field-0.0 c.loop-reader.invariant.counts c.in_err-step.ensures.fails)

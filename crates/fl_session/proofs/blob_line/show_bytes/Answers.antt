@@ -1,4 +1,4 @@
-use Rattle.std.proofs.Common.{◌≡◌, ◌+◌, ℕ, codes, Err, List, [], ◌∷◌, ◌++◌, subst}
+use Rattle.std.proofs.Common.{◌≡◌, ℕ, codes, Err, List, [], ◌∷◌, ◌++◌, subst}
 use Rattle.std.proofs.lemmas.Result.{err_from_is_err_and}
 use Rattle.fl_script.specs.Written.{Written}
 use Rattle.fl_var.specs.Reading.{bytes_left}
@@ -12,14 +12,14 @@ pub returns-in_err-write_reply-clause-shows : goal.returns-in_err-write_reply-cl
 returns-in_err-write_reply-clause-shows g c = λ ready whole on.
     let bytes = bytes_left c.args.reader.now (g.F.Flash.state c.args.flash.now) in
     let p = err_from_is_err_and c.from_residual.result c.from_residual.ensures.1 in
-    rw (p.1, p.2) (shows-line bytes (g.K.Sink.written c.args.out.now) (g.K.Sink.written c.write_reply.new.out) _ _ _
+    rw (p.1, p.2) (shows-line bytes (g.K.Sink.written c.args.out.now) (g.K.Sink.written c.write_reply.new.out) _ _ _ _ _
     (front-more (g.K.Sink.written c.args.out.now) (g.K.Sink.written c.write_reply.new.out) (codes "bytes ") (hex_text bytes ++ 10 ∷ []) c.in_err-write_reply.ensures.text))
 
 pub returns-in-Ok-clause-shows : goal.returns-in-Ok-clause-shows
 returns-in-Ok-clause-shows g c = λ ready whole on.
     let bytes = bytes_left c.args.reader.now (g.F.Flash.state c.args.flash.now) in
     let given = rw c.in-Ok.is at (c.give_digits.ensures.gives ready whole) in
-    shows-line bytes (g.K.Sink.written c.args.out.now) _ _ _ _
+    shows-line bytes (g.K.Sink.written c.args.out.now) _ _ _ _ _ _
     (written-after (g.K.Sink.written c.args.out.now) (g.K.Sink.written c.write_reply.new.out) _ _ (codes "bytes ") (hex_text bytes ++ 10 ∷ []) c.in_ok-write_reply.ensures.text
     (written-after (g.K.Sink.written c.write_reply.new.out) (g.K.Sink.written c.give_digits.new.out) _ _ (hex_text bytes) (10 ∷ []) given c.write_reply-in-Ok.ensures.text))
 
@@ -28,7 +28,7 @@ returns-in-Err-Sink-clause-shows g c = λ ready whole on.
     let bytes = bytes_left c.args.reader.now (g.F.Flash.state c.args.flash.now) in
     let sunk : c.in-Err-Sink.field-0 ≡ Sink c.in-Err-Sink.failed = c.in-Err-Sink.field-0-is in
     let given = rw (c.in-Err-Sink.is, sunk) at (c.give_digits.ensures.gives ready whole) in
-    shows-line bytes (g.K.Sink.written c.args.out.now) _ _ _ (Err c.in-Err-Sink.failed)
+    shows-line bytes (g.K.Sink.written c.args.out.now) _ _ _ _ _ (Err c.in-Err-Sink.failed)
     (written-after (g.K.Sink.written c.args.out.now) (g.K.Sink.written c.write_reply.new.out) _ (Err c.in-Err-Sink.failed) (codes "bytes ") (hex_text bytes ++ 10 ∷ []) c.in_ok-write_reply.ensures.text
     (front-more (g.K.Sink.written c.write_reply.new.out) (g.K.Sink.written c.give_digits.new.out) (hex_text bytes) (10 ∷ []) given))
 
@@ -39,7 +39,7 @@ returns-in_err-write_reply-in-Err-Read-clause-shows g c = λ ready whole on.
     let given = rw (c.in-Err-Read.is, unread) at (c.give_digits.ensures.gives ready whole) in
     let caused = rw (c.in-Err-Read.is, unread) at c.give_digits.ensures.unread in
     let rose = rose-with (g.F.Flash.state c.args.flash.now) (g.F.Flash.state c.give_digits.new.flash) c.in-Err-Read.fault on caused in
-    shows-unended bytes (g.K.Sink.written c.args.out.now) (g.K.Sink.written c.write_reply-in-Err-Read.new.out) _ _ c.from_residual-in_err-write_reply-in-Err-Read.result c.in-Err-Read.fault (g.K.Sink.written c.write_reply.new.out) (g.K.Sink.written c.give_digits.new.out)
+    shows-unended bytes (g.K.Sink.written c.args.out.now) (g.K.Sink.written c.write_reply-in-Err-Read.new.out) _ _ _ _ c.from_residual-in_err-write_reply-in-Err-Read.result c.in-Err-Read.fault (g.K.Sink.written c.write_reply.new.out) (g.K.Sink.written c.give_digits.new.out)
     given rose c.in_ok-write_reply.ensures.text c.in_err-write_reply-in-Err-Read.ensures.text c.from_residual-in_err-write_reply-in-Err-Read.ensures.0
 
 pub returns-in_ok-write_reply-in-Err-Read-clause-shows : goal.returns-in_ok-write_reply-in-Err-Read-clause-shows
@@ -51,5 +51,5 @@ returns-in_ok-write_reply-in-Err-Read-clause-shows g c = λ ready whole on.
     let rose = rose-with (g.F.Flash.state c.args.flash.now) (g.F.Flash.state c.give_digits.new.flash) c.in-Err-Read.fault on caused in
     let said : Written (g.K.Sink.written c.write_reply-in-Err-Read.new.out) (g.K.Sink.written c.write_reply-in-Err-Read-2.new.out) c.write_reply-in-Err-Read-2.result (text (read_reply c.in-Err-Read.fault)) =
     subst (λ (l : List ℕ). Written (g.K.Sink.written c.write_reply-in-Err-Read.new.out) (g.K.Sink.written c.write_reply-in-Err-Read-2.new.out) c.write_reply-in-Err-Read-2.result l) c.read_reply.ensures c.write_reply-in-Err-Read-2.ensures.text in
-    shows-unread bytes (g.K.Sink.written c.args.out.now) (g.K.Sink.written c.write_reply-in-Err-Read-2.new.out) _ _ c.write_reply-in-Err-Read-2.result c.in-Err-Read.fault (g.K.Sink.written c.write_reply.new.out) (g.K.Sink.written c.give_digits.new.out)
+    shows-unread bytes (g.K.Sink.written c.args.out.now) (g.K.Sink.written c.write_reply-in-Err-Read-2.new.out) _ _ _ _ c.write_reply-in-Err-Read-2.result c.in-Err-Read.fault (g.K.Sink.written c.write_reply.new.out) (g.K.Sink.written c.give_digits.new.out)
     (g.K.Sink.written c.write_reply-in-Err-Read.new.out) given rose c.in_ok-write_reply.ensures.text c.in_ok-write_reply-in-Err-Read.ensures.text said

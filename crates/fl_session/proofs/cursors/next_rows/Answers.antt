@@ -1,12 +1,13 @@
-use Rattle.std.proofs.Common.{◌≡◌, false, List, ℕ, sym, subst}
+use Rattle.std.proofs.Common.{◌∙◌, List, ℕ, sym, subst}
 use Rattle.fl_page.specs.Contents.{contents_of}
 use Rattle.fl_script.specs.Written.{Written}
 use Rattle.fl_session.proofs.Following.{nexts-given, nexts-fault, reads-within}
+use Rattle.fl_session.proofs.RowLines.{blobs-as}
 use Rattle.fl_session.proofs.Resumed.{is-standing, left-there, nexts-by}
 use Rattle.fl_session.proofs.cursors.next_rows.Goals as goal
 
 pub returns-in-Ok-clause-nexts : goal.returns-in-Ok-clause-nexts
-returns-in-Ok-clause-nexts g c = λ first plan t tells on stands none.
+returns-in-Ok-clause-nexts g c = λ first plan t tells on stands.
     let reaches = g.met.F.Flash.reaches c.args.flash.now in
     let told = c.resume-cursor.ensures.told (contents_of (g.F.Flash.state c.args.flash.now)) (is-standing c.args.table.now (g.F.Flash.state c.args.flash.now) first plan t tells reaches c.requires.lies stands) in
     let are = left-there c.args.table.now (g.F.Flash.state c.args.flash.now) first plan t tells reaches c.requires.lies stands c.resume-cursor.result c.resume-cursor.ensures.table in
@@ -14,11 +15,11 @@ returns-in-Ok-clause-nexts g c = λ first plan t tells on stands none.
     let most = (c.give_rows-given.ensures.reads told).most in
     let within = reads-within plan t c.resume-cursor.result (contents_of (g.F.Flash.state c.args.flash.now)) _ _ c.resume-cursor.ensures.mark limit most in
     nexts-by c.resume-cursor.ensures.mark (sym c.park.ensures.mark)
-    (nexts-given plan t c.args.count c.resume-cursor.result c.give_rows-given.new.cursor (contents_of (g.F.Flash.state c.args.flash.now)) _ (g.K.Sink.written c.give_rows-given.new.out) _ (g.F.Flash.state c.args.flash.now) (g.F.Flash.state c.give_rows-given.new.flash) _ none are within
+    (nexts-given plan c.form_of-form.result.blobs t c.args.count c.resume-cursor.result c.give_rows-given.new.cursor (contents_of (g.F.Flash.state c.args.flash.now)) _ (g.K.Sink.written c.give_rows-given.new.out) _ (g.F.Flash.state c.args.flash.now) (g.F.Flash.state c.give_rows-given.new.flash) _ (c.form_of-form.ensures.blobs ∙ blobs-as c.args.table.now (g.F.Flash.state c.args.flash.now) first plan t stands) are within
     c.in-Ok.given (c.in-Ok.ensures.gives told) (subst (λ (l : List ℕ). Written (g.K.Sink.written c.give_rows-given.new.out) (g.K.Sink.written c.write_reply.new.out) c.write_reply.result l) c.ending.ensures c.write_reply.ensures.text))
 
 pub returns-in-Err-clause-nexts : goal.returns-in-Err-clause-nexts
-returns-in-Err-clause-nexts g c = λ first plan t tells on stands none.
+returns-in-Err-clause-nexts g c = λ first plan t tells on stands.
     let reaches = g.met.F.Flash.reaches c.args.flash.now in
     let told = c.resume-cursor.ensures.told (contents_of (g.F.Flash.state c.args.flash.now)) (is-standing c.args.table.now (g.F.Flash.state c.args.flash.now) first plan t tells reaches c.requires.lies stands) in
     let are = left-there c.args.table.now (g.F.Flash.state c.args.flash.now) first plan t tells reaches c.requires.lies stands c.resume-cursor.result c.resume-cursor.ensures.table in
@@ -26,5 +27,5 @@ returns-in-Err-clause-nexts g c = λ first plan t tells on stands none.
     let most = (c.give_rows-given.ensures.reads told).most in
     let within = reads-within plan t c.resume-cursor.result (contents_of (g.F.Flash.state c.args.flash.now)) _ _ c.resume-cursor.ensures.mark limit most in
     nexts-by c.resume-cursor.ensures.mark (sym c.park.ensures.mark)
-    (nexts-fault plan t c.args.count c.resume-cursor.result c.give_rows-given.new.cursor (contents_of (g.F.Flash.state c.args.flash.now)) _ (g.K.Sink.written c.give_rows-given.new.out) _ (g.F.Flash.state c.args.flash.now) (g.F.Flash.state c.give_rows-given.new.flash) _ none are within
+    (nexts-fault plan c.form_of-form.result.blobs t c.args.count c.resume-cursor.result c.give_rows-given.new.cursor (contents_of (g.F.Flash.state c.args.flash.now)) _ (g.K.Sink.written c.give_rows-given.new.out) _ (g.F.Flash.state c.args.flash.now) (g.F.Flash.state c.give_rows-given.new.flash) _ (c.form_of-form.ensures.blobs ∙ blobs-as c.args.table.now (g.F.Flash.state c.args.flash.now) first plan t stands) are within
     c.in-Err.fault (c.in-Err.ensures.gives told) on c.in-Err.ensures.unread c.write_fault.ensures.says)

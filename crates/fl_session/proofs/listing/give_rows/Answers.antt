@@ -7,7 +7,7 @@ use Rattle.fl_cursor.proofs.Stepping.{steps-after}
 use Rattle.fl_cursor.proofs.Whole.{keeps-then}
 use Rattle.fl_model.specs.Row.{Row}
 use Rattle.fl_page.specs.Contents.{Contents, contents_of}
-use Rattle.fl_page.proofs.Reading.{OnlyReads-same, OnlyReads-then}
+use Rattle.fl_page.proofs.Reading.{OnlyReads-same, OnlyReads-then, IsCaused-later}
 use Rattle.fl_words.specs.Reply.{text}
 use Rattle.fl_session.specs.Rows.{row_reply}
 use Rattle.fl_session.proofs.Giving.{gave-none, gave-next, gave-failed, gives-fault, gives-all, least-ended}
@@ -23,7 +23,7 @@ loop-given-init g c = record {
   told = λ told. told;
   most = λ told. omega arith;
   least = λ told below. omega arith;
-  gave = λ told. ([], refl, gave-none c.args.cursor.now (contents_of (g.F.Flash.state c.args.flash.now)) (g.K.Sink.written c.args.out.now));
+  gave = λ told. ([], refl, gave-none c.args.form.blobs c.args.cursor.now (contents_of (g.F.Flash.state c.args.flash.now)) (g.K.Sink.written c.args.out.now));
 }
 
 pub returns-in_err-advance-clause-counts : goal.returns-in_err-advance-clause-counts
@@ -45,7 +45,7 @@ returns-in_err-advance-clause-gives g c = λ told.
     subst (λ (k : Contents). IfBad (MayBeBad (table_of c.loop-given.cursor) k) c.in_err-advance.field-0.0) inv.counts.contents c.in_err-advance.ensures.bad_page in
     let so_far = inv.gave told in
     let steps = steps-after mid new held reads now (Err c.in_err-advance.field-0.0) tt fails bad tt (inv.told told) in
-    rw (p.1, p.2) (gives-fault c.args.cursor.now mid new held (g.K.Sink.written c.args.out.now) (g.K.Sink.written c.loop-given.out) so_far.0 so_far.2 c.args.count (present_of c.advance.new.self) e steps fails.notes
+    rw (p.1, p.2) (gives-fault c.args.form.blobs c.args.cursor.now mid new held (g.K.Sink.written c.args.out.now) (g.K.Sink.written c.loop-given.out) so_far.0 so_far.2 c.args.count (present_of c.advance.new.self) e steps fails.notes
     (omega (arith, so_far.1, c.loop-given-test.true)))
 
 pub returns-then-not-branch-clause-counts : goal.returns-then-not-branch-clause-counts
@@ -65,7 +65,7 @@ returns-then-not-branch-clause-gives g c = λ told.
     let end : has_ended c.advance.new.self ≡ true = rw c.if-not-branch.true at c.in_ok-advance.ensures.end in
     let so_far = inv.gave told in
     let steps = steps-after mid new held reads now (Ok false) goes tt tt end (inv.told told) in
-    gives-all c.args.cursor.now mid new held (g.K.Sink.written c.args.out.now) (g.K.Sink.written c.loop-given.out) so_far.0 so_far.2 c.args.count c.loop-given.given so_far.1 steps.0 steps.1 goes.notes c.loop-given-test.true
+    gives-all c.args.form.blobs c.args.cursor.now mid new held (g.K.Sink.written c.args.out.now) (g.K.Sink.written c.loop-given.out) so_far.0 so_far.2 c.args.count c.loop-given.given so_far.1 steps.0 steps.1 goes.notes c.loop-given-test.true
 
 pub returns-in_err-show_row-clause-counts : goal.returns-in_err-show_row-clause-counts
 returns-in_err-show_row-clause-counts g c = OnlyReads-then _ _ _ c.loop-given.invariant.counts c.advance.ensures.reads_only
@@ -83,9 +83,9 @@ returns-in_err-show_row-clause-gives g c = λ told.
     (rw c.if-not-branch.false at c.in_ok-advance.ensures.goes) in
     let so_far = inv.gave told in
     let p = err_from_is_err_and c.from_residual-in_err-show_row.result c.from_residual-in_err-show_row.ensures.1 in
-    let wrote : AppendsFront (g.K.Sink.written c.loop-given.out) (g.K.Sink.written c.show_row.new.out) (text (row_reply (present_of c.advance.new.self))) =
-    subst (λ (r : Row). AppendsFront (g.K.Sink.written c.loop-given.out) (g.K.Sink.written c.show_row.new.out) (text (row_reply r))) c.row.ensures.row c.in_err-show_row.ensures.text in
-    rw (p.1, p.2) (gave-failed c.args.cursor.now mid new held (g.K.Sink.written c.args.out.now) (g.K.Sink.written c.loop-given.out) so_far.0 so_far.2 c.args.count (present_of c.advance.new.self) (g.K.Sink.written c.show_row.new.out)
+    let wrote : AppendsFront (g.K.Sink.written c.loop-given.out) (g.K.Sink.written c.show_row.new.out) (text (row_reply c.args.form.blobs (present_of c.advance.new.self))) =
+    subst (λ (r : Row). AppendsFront (g.K.Sink.written c.loop-given.out) (g.K.Sink.written c.show_row.new.out) (text (row_reply c.args.form.blobs r))) c.row.ensures.row c.in_err-show_row.ensures.text in
+    rw (p.1, p.2) (gave-failed c.args.form.blobs c.args.cursor.now mid new held (g.K.Sink.written c.args.out.now) (g.K.Sink.written c.loop-given.out) so_far.0 so_far.2 c.args.count (present_of c.advance.new.self) (g.K.Sink.written c.show_row.new.out)
     (goes.gives (inv.told told)) (omega (arith, so_far.1, c.loop-given-test.true)) wrote)
 
 pub loop-given-preserved : goal.loop-given-preserved
@@ -115,11 +115,11 @@ loop-given-preserved g c =
           omega (arith, before, more);
       gave = λ told.
           let so_far = inv.gave told in
-          let wrote : Appends (g.K.Sink.written c.loop-given.out) (g.K.Sink.written c.show_row.new.out) (text (row_reply (present_of c.advance.new.self))) =
-          subst (λ (r : Row). Appends (g.K.Sink.written c.loop-given.out) (g.K.Sink.written c.show_row.new.out) (text (row_reply r))) c.row.ensures.row c.in_ok-show_row.ensures.text in (
+          let wrote : Appends (g.K.Sink.written c.loop-given.out) (g.K.Sink.written c.show_row.new.out) (text (row_reply c.args.form.blobs (present_of c.advance.new.self))) =
+          subst (λ (r : Row). Appends (g.K.Sink.written c.loop-given.out) (g.K.Sink.written c.show_row.new.out) (text (row_reply c.args.form.blobs r))) c.row.ensures.row c.in_ok-show_row.ensures.text in (
             so_far.0 ++ present_of c.advance.new.self ∷ [],
             length-append so_far.0 (present_of c.advance.new.self ∷ []) ∙ ap (λ n. n + 1) so_far.1,
-            gave-next c.args.cursor.now mid new held (g.K.Sink.written c.args.out.now) (g.K.Sink.written c.loop-given.out) so_far.0 so_far.2 (present_of c.advance.new.self) (g.K.Sink.written c.show_row.new.out)
+            gave-next c.args.form.blobs c.args.cursor.now mid new held (g.K.Sink.written c.args.out.now) (g.K.Sink.written c.loop-given.out) so_far.0 so_far.2 (present_of c.advance.new.self) (g.K.Sink.written c.show_row.new.out)
                 (goes.gives (inv.told told)) goes.notes.0 wrote,
           );
     }
@@ -170,3 +170,8 @@ returns-clause-gives g c = λ told.
 
 pub returns-clause-reads : goal.returns-clause-reads
 returns-clause-reads g c = λ told. record { most = omega (arith, c.loop-given.invariant.most told); least = λ less below. absurd (omega (arith, less)) }
+
+pub returns-in_err-advance-clause-unread : goal.returns-in_err-advance-clause-unread
+returns-in_err-advance-clause-unread g c =
+    let p = err_from_is_err_and c.from_residual.result c.from_residual.ensures.1 in
+    rw (p.1, p.2) (IsCaused-later (g.F.Flash.state c.args.flash.now) (g.F.Flash.state c.loop-given.flash) (g.F.Flash.state c.advance.new.flash) c.in_err-advance.field-0.0 c.loop-given.invariant.counts c.in_err-advance.ensures.cause)

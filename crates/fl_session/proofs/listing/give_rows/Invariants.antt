@@ -20,5 +20,5 @@ invariant-loop-given g l = record {
   least : IsTold l.initial.cursor (contents_of (g.F.Flash.state l.initial.flash)) → (g.F.Flash.state l.flash).work.reads < 2 ^ 64 - 1 →
       (g.F.Flash.state l.initial.flash).work.reads + least_of l.initial.cursor (contents_of (g.F.Flash.state l.initial.flash)) ≤ (g.F.Flash.state l.flash).work.reads + least_of l.cursor (contents_of (g.F.Flash.state l.initial.flash));
   gave : IsTold l.initial.cursor (contents_of (g.F.Flash.state l.initial.flash)) →
-      (rows : List Row) × (length rows ≡ l.given) × Gave l.initial.cursor l.cursor (contents_of (g.F.Flash.state l.initial.flash)) (g.K.Sink.written l.initial.out) (g.K.Sink.written l.out) rows;
+      (rows : List Row) × (length rows ≡ l.given) × Gave l.fn.form.blobs l.initial.cursor l.cursor (contents_of (g.F.Flash.state l.initial.flash)) (g.K.Sink.written l.initial.out) (g.K.Sink.written l.out) rows;
 }

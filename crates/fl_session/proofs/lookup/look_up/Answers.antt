@@ -1,21 +1,22 @@
-use Rattle.std.proofs.Common.{◌≡◌, false, refl}
+use Rattle.std.proofs.Common.{◌∙◌, refl}
 use Rattle.fl_schema.specs.Schema.{row_of}
 use Rattle.fl_session.proofs.Lookups.{looks-absent, looks-found, looks-unread}
+use Rattle.fl_session.proofs.RowLines.{blobs-as}
 use Rattle.fl_session.proofs.lookup.look_up.Goals as goal
 
 pub returns-in-Ok-None-clause-looks : goal.returns-in-Ok-None-clause-looks
-returns-in-Ok-None-clause-looks g c = λ first plan t told on stands none.
+returns-in-Ok-None-clause-looks g c = λ first plan t told on stands.
     let found = rw c.in-Ok-None.field-0-is at (c.in-Ok-None.ensures.finds first plan t told stands) in
     looks-absent plan t c.args.key _ _ _ _ _ _ found (c.in-Ok-None.ensures.reads first plan t told stands) found.entry refl
 
 pub returns-in-Ok-Some-clause-looks : goal.returns-in-Ok-Some-clause-looks
-returns-in-Ok-Some-clause-looks g c = λ first plan t told on stands none.
+returns-in-Ok-Some-clause-looks g c = λ first plan t told on stands.
     let found = rw c.in-Ok-Some.field-0-is at (c.in-Ok-Some.ensures.finds first plan t told stands) in
-    looks-found plan t c.args.key _ _ _ _ c.find.new.buf c.in-Ok-Some.place (row_of c.row_at.result) _ none stands.facts found (c.in-Ok-Some.ensures.reads first plan t told stands) found.entry (c.row_at.ensures.stands _ first plan t stands) c.line_of.ensures
+    looks-found plan t c.args.key _ _ _ _ c.find.new.buf c.in-Ok-Some.place (row_of c.row_at.result) c.form_of-form.result.blobs _ (c.form_of-form.ensures.blobs ∙ blobs-as c.args.table.now _ first plan t stands) stands.facts found (c.in-Ok-Some.ensures.reads first plan t told stands) found.entry (c.row_at.ensures.stands _ first plan t stands) c.line_of.ensures
 
 pub returns-in-Err-Flash-clause-looks : goal.returns-in-Err-Flash-clause-looks
-returns-in-Err-Flash-clause-looks g c = λ first plan t told on stands none.
+returns-in-Err-Flash-clause-looks g c = λ first plan t told on stands.
     looks-unread plan t c.args.key c.args.table.now (g.F.Flash.state c.args.flash.now) (g.F.Flash.state c.find.new.flash) c.in-Err-Flash.field-0-0 _ on (rw c.in-Err-Flash.field-0-is at c.in-Err-Flash.ensures.fails) (c.in-Err-Flash.ensures.reads first plan t told stands) refl
 
 pub returns-in-Err-BadPage-clause-looks : goal.returns-in-Err-BadPage-clause-looks
-returns-in-Err-BadPage-clause-looks g c = λ first plan t told on stands none. absurd (rw c.in-Err-BadPage.field-0-is at (c.in-Err-BadPage.ensures.finds first plan t told stands))
+returns-in-Err-BadPage-clause-looks g c = λ first plan t told on stands. absurd (rw c.in-Err-BadPage.field-0-is at (c.in-Err-BadPage.ensures.finds first plan t told stands))

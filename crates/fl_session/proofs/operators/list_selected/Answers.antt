@@ -17,8 +17,8 @@ returns-clause-index_name g c = second-same c.answer_lines.ensures.names
 
 pub returns-clause-counted : goal.returns-clause-counted
 returns-clause-counted g c = λ told few on.
-    let left = left_of (input_of c.args.rows.now) (contents_of (g.F.Flash.state c.args.flash.now)) in
-    let passes = row_passes (comparison_of c.args.rows.now) in
-    let many : length (map row_reply (filter (row_passes (comparison_of c.args.rows.now)) (left_of (input_of c.args.rows.now) (contents_of (g.F.Flash.state c.args.flash.now))))) < 2 ^ 63 =
-    omega (arith, few, length-filter passes left, length-map (filter (row_passes (comparison_of c.args.rows.now)) (left_of (input_of c.args.rows.now) (contents_of (g.F.Flash.state c.args.flash.now)))) row_reply) in
+    let left = left_of (input_of c.args.lines.now.rows) (contents_of (g.F.Flash.state c.args.flash.now)) in
+    let passes = row_passes (comparison_of c.args.lines.now.rows) in
+    let many : length (map (row_reply c.args.lines.now.blobs) (filter (row_passes (comparison_of c.args.lines.now.rows)) (left_of (input_of c.args.lines.now.rows) (contents_of (g.F.Flash.state c.args.flash.now))))) < 2 ^ 63 =
+    omega (arith, few, length-filter passes left, length-map (filter (row_passes (comparison_of c.args.lines.now.rows)) (left_of (input_of c.args.lines.now.rows) (contents_of (g.F.Flash.state c.args.flash.now)))) (row_reply c.args.lines.now.blobs)) in
     c.answer_lines.ensures.counted told many on

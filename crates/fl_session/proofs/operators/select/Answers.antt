@@ -19,6 +19,7 @@ use Rattle.fl_session.specs.Rows.{row_reply}
 use Rattle.fl_session.proofs.Operating.{few-asked, selected-lines}
 use Rattle.fl_session.proofs.CountedLines.{counted-wider}
 use Rattle.fl_session.proofs.CursorMoves.{lies-read}
+use Rattle.fl_session.proofs.RowLines.{blobs-as}
 use Rattle.fl_session.proofs.operators.select.Goals as goal
 
 pub list_selected-requires : goal.list_selected-requires
@@ -34,7 +35,7 @@ pub returns-clause-lies : goal.returns-clause-lies
 returns-clause-lies g c = lies-read _ _ _ c.list_selected.ensures.reads_only c.requires.lies
 
 pub returns-clause-counted : goal.returns-clause-counted
-returns-clause-counted g c = λ first plan t tells on stands none.
+returns-clause-counted g c = λ first plan t tells on stands.
     let held = contents_of (g.F.Flash.state c.args.flash.now) in
     let cursor : c.new-rows.result.rows ≡ c.begin-cursor.result = c.new-rows.ensures.rows in
     let reaches = g.met.F.Flash.reaches c.args.flash.now in
@@ -49,9 +50,9 @@ returns-clause-counted g c = λ first plan t tells on stands none.
     let fits : FitsSigned w64 c.args.comparison.value = search rules in
     let asked : comparison_of c.new-rows.result ≡ record { column = c.args.comparison.column; op = c.args.comparison.op; value = c.args.comparison.value } =
     (c.new-rows.ensures.comparison ∙ ap (λ (v : ℤ). record { column = c.args.comparison.column; op = c.args.comparison.op; value = v }) (to_z-of_z w64 c.args.comparison.value fits)) in
-    let lines = ap (λ (k : Comparison). map row_reply (filter (row_passes k) (left_of c.new-rows.result.rows (contents_of (g.F.Flash.state c.args.flash.now))))) asked
-    ∙ (ap (λ (xs : List Row). map row_reply (filter (row_passes (record { column = c.args.comparison.column; op = c.args.comparison.op; value = c.args.comparison.value })) xs)) left
-    ∙ selected-lines plan (record { column = c.args.comparison.column; op = c.args.comparison.op; value = c.args.comparison.value }) (selected c.args.range None t.entries) none) in
+    let lines = ap (λ (k : Comparison). map (row_reply c.has_blobs-blobs.result) (filter (row_passes k) (left_of c.new-rows.result.rows (contents_of (g.F.Flash.state c.args.flash.now))))) asked
+    ∙ (ap (λ (xs : List Row). map (row_reply c.has_blobs-blobs.result) (filter (row_passes (record { column = c.args.comparison.column; op = c.args.comparison.op; value = c.args.comparison.value })) xs)) left
+    ∙ selected-lines plan c.has_blobs-blobs.result (record { column = c.args.comparison.column; op = c.args.comparison.op; value = c.args.comparison.value }) (selected c.args.range None t.entries) (c.has_blobs-blobs.ensures ∙ blobs-as c.args.table.now (g.F.Flash.state c.args.flash.now) first plan t stands)) in
     let limit = subst (λ (k : Cursor). most_of k (contents_of (g.F.Flash.state c.args.flash.now)) ≤ scan_limit 64 plan t c.args.range None c.args.range.low) (sym cursor)
     (c.begin-cursor.ensures.limit (g.F.Flash.state c.args.flash.now) first plan t tells reaches c.requires.lies stands) in
     let least = subst (λ (k : Cursor). least_reads plan t c.args.range None ≤ least_of k (contents_of (g.F.Flash.state c.args.flash.now))) (sym cursor)

@@ -2,12 +2,12 @@ use Rattle.std.proofs.Common.{◌+◌, ◌≤◌, Ok, Err, Option, sym, ◌∙�
 use Rattle.std.proofs.lemmas.Result.{err_from_is_err_and}
 use Rattle.fl_ops.proofs.Continuing.{Continues-then}
 use Rattle.fl_page.specs.Contents.{Contents, contents_of}
-use Rattle.fl_page.proofs.Reading.{OnlyReads-same, OnlyReads-then}
+use Rattle.fl_page.proofs.Reading.{OnlyReads-same, OnlyReads-then, IsCaused-later}
 use Rattle.fl_script.specs.declared.reply.Reply.{Reply}
 use Rattle.fl_session.specs.Lines.{LineSteps, IsFirstLine}
 use Rattle.fl_session.specs.Paired.{pair_lines}
 use Rattle.fl_session.proofs.Pairing.{continues-same}
-use Rattle.fl_session.proofs.LinesListed.{front-none, front-next, front-failed, front-unread}
+use Rattle.fl_session.proofs.LinesListed.{front-none, front-next, front-failed, front-unread, front-read}
 use Rattle.fl_session.proofs.pair_lines.list_pairs.Goals as goal
 
 pub loop-count-init : goal.loop-count-init
@@ -108,3 +108,14 @@ pub returns-clause-most : goal.returns-clause-most
 returns-clause-most g c = λ t u.
     let before = c.loop-count.invariant.most t u in
     omega (arith, before)
+
+pub returns-in_err-line-clause-failed : goal.returns-in_err-line-clause-failed
+returns-in_err-line-clause-failed g c = λ on.
+    let p = err_from_is_err_and c.from_residual.result c.from_residual.ensures.1 in
+    rw (p.1, p.2) (front-read (g.F.Flash.state c.args.flash.now) (g.F.Flash.state c.next_line.new.flash) c.in_err-line.field-0.0 on
+    (IsCaused-later _ (g.F.Flash.state c.loop-count.flash) _ c.in_err-line.field-0.0 c.loop-count.invariant.reads_only c.in_err-line.ensures.cause))
+
+pub returns-in_err-write_reply-clause-failed : goal.returns-in_err-write_reply-clause-failed
+returns-in_err-write_reply-clause-failed g c = λ on.
+    let p = err_from_is_err_and c.from_residual-in_err-write_reply.result c.from_residual-in_err-write_reply.ensures.1 in
+    rw (p.1, p.2) tt

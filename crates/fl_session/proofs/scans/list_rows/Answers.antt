@@ -1,14 +1,15 @@
-use Rattle.std.proofs.Common.{◌≡◌, ◌+◌, ◌-◌, ◌^◌, ◌<◌, ◌≤◌, false, length, arith}
+use Rattle.std.proofs.Common.{◌+◌, ◌-◌, ◌^◌, ◌<◌, ◌≤◌, ◌∙◌, length, arith}
 use Rattle.fl_model.specs.Limits.{scan_limit}
 use Rattle.fl_model.specs.Query.{selected}
 use Rattle.fl_page.specs.Contents.{contents_of}
 use Rattle.fl_session.proofs.Few.{few-selected}
 use Rattle.fl_session.proofs.Resumed.{is-standing}
 use Rattle.fl_session.proofs.Scanned.{scans-all, scans-fault}
+use Rattle.fl_session.proofs.RowLines.{blobs-as}
 use Rattle.fl_session.proofs.scans.list_rows.Goals as goal
 
 pub returns-in-Ok-clause-scans : goal.returns-in-Ok-clause-scans
-returns-in-Ok-clause-scans g c = λ first plan t tells on stands none.
+returns-in-Ok-clause-scans g c = λ first plan t tells on stands.
     let f = g.F.Flash.state c.args.flash.now in
     let reaches = g.met.F.Flash.reaches c.args.flash.now in
     let told = c.begin-cursor.ensures.told (contents_of (g.F.Flash.state c.args.flash.now)) (is-standing c.args.table.now (g.F.Flash.state c.args.flash.now) first plan t tells reaches c.requires.lies stands) in
@@ -18,11 +19,11 @@ returns-in-Ok-clause-scans g c = λ first plan t tells on stands none.
     let within : (g.F.Flash.state c.give_rows-listed.new.flash).work.reads ≤ (g.F.Flash.state c.args.flash.now).work.reads + scan_limit 64 plan t c.args.range c.args.span c.args.range.low = omega (arith, limit, reads.most) in
     let few : length (selected c.args.range c.args.span t.entries) < 2 ^ 64 - 1 = few-selected c.args.table.now f first plan t stands c.args.range c.args.span in
     let least = c.begin-cursor.ensures.least f first plan t tells reaches c.requires.lies stands in
-    scans-all plan t c.args.range c.args.span (2 ^ 64 - 1) c.begin-cursor.result c.give_rows-listed.new.cursor (contents_of f) _ (g.K.Sink.written c.give_rows-listed.new.out) _ f (g.F.Flash.state c.give_rows-listed.new.flash) _ none are few within
+    scans-all plan c.form_of-form.result.blobs t c.args.range c.args.span (2 ^ 64 - 1) c.begin-cursor.result c.give_rows-listed.new.cursor (contents_of f) _ (g.K.Sink.written c.give_rows-listed.new.out) _ f (g.F.Flash.state c.give_rows-listed.new.flash) _ (c.form_of-form.ensures.blobs ∙ blobs-as c.args.table.now f first plan t stands) are few within
     c.in-Ok.count (c.in-Ok.ensures.gives told) c.write_reply.ensures.text (λ less below. let some = (c.in-Ok.ensures.reads told).least less below in omega (arith, some, least))
 
 pub returns-in-Err-clause-scans : goal.returns-in-Err-clause-scans
-returns-in-Err-clause-scans g c = λ first plan t tells on stands none.
+returns-in-Err-clause-scans g c = λ first plan t tells on stands.
     let f = g.F.Flash.state c.args.flash.now in
     let reaches = g.met.F.Flash.reaches c.args.flash.now in
     let told = c.begin-cursor.ensures.told (contents_of (g.F.Flash.state c.args.flash.now)) (is-standing c.args.table.now (g.F.Flash.state c.args.flash.now) first plan t tells reaches c.requires.lies stands) in
@@ -31,5 +32,5 @@ returns-in-Err-clause-scans g c = λ first plan t tells on stands none.
     let reads = c.give_rows-listed.ensures.reads told in
     let within : (g.F.Flash.state c.give_rows-listed.new.flash).work.reads ≤ (g.F.Flash.state c.args.flash.now).work.reads + scan_limit 64 plan t c.args.range c.args.span c.args.range.low = omega (arith, limit, reads.most) in
     let few : length (selected c.args.range c.args.span t.entries) < 2 ^ 64 - 1 = few-selected c.args.table.now f first plan t stands c.args.range c.args.span in
-    scans-fault plan t c.args.range c.args.span (2 ^ 64 - 1) c.begin-cursor.result c.give_rows-listed.new.cursor (contents_of f) _ (g.K.Sink.written c.give_rows-listed.new.out) _ f (g.F.Flash.state c.give_rows-listed.new.flash) _ none are few within
+    scans-fault plan c.form_of-form.result.blobs t c.args.range c.args.span (2 ^ 64 - 1) c.begin-cursor.result c.give_rows-listed.new.cursor (contents_of f) _ (g.K.Sink.written c.give_rows-listed.new.out) _ f (g.F.Flash.state c.give_rows-listed.new.flash) _ (c.form_of-form.ensures.blobs ∙ blobs-as c.args.table.now f first plan t stands) are few within
     c.in-Err.fault (c.in-Err.ensures.gives told) on c.in-Err.ensures.unread c.write_fault.ensures.says

@@ -35,7 +35,7 @@ returns-in-Ok-open_image-clause-ends g c = λ text told l.
     let goes = opens-goes (medium_len w.0) (header w.0) (g.M.Media.state c.args.media.now) (Ok tt) (g.M.Media.state c.open_image.new.media) (c.in-Ok-open_image.ensures w.0 (makes-of 64 lines w.0 w.1)) in
     ends-opened 64 text lines c.in-Ok-read_config.begun.first c.in-Ok-read_config.begun.number _ _ _ _ _ w.0
     (g.M.Media.state c.args.media.now) (g.M.Media.state c.open_image.new.media) (g.M.Media.state c.run_session.new.media) c.args.media.ghost_name _
-    (c.in-Ok-read_config.ensures.begins 64 text l) w.1 c.in-Ok-read_config.ensures.built told (opens-as w.0 (g.M.Media.state c.args.media.now) (Ok tt) (g.M.Media.state c.open_image.new.media) (c.in-Ok-open_image.ensures w.0 (makes-of 64 lines w.0 w.1))) c.run_session.ensures.form goes.tells goes.faults c.run_session.ensures.goes.faults
+    (c.in-Ok-read_config.ensures.begins 64 text l) w.1 told (opens-as w.0 (g.M.Media.state c.args.media.now) (Ok tt) (g.M.Media.state c.open_image.new.media) (c.in-Ok-open_image.ensures w.0 (makes-of 64 lines w.0 w.1))) c.run_session.ensures.form goes.tells goes.faults c.run_session.ensures.goes.faults
     (c.run_session.ensures.runs w.0 w.1 (subst IsTrue (sym goes.tells) told))
 
 pub returns-in-Ok-open_image-clause-words : goal.returns-in-Ok-open_image-clause-words

@@ -2,7 +2,6 @@ use Rattle.std.proofs.Common.{◌≡◌, rules, sym, ◌∙◌, ap, subst}
 use Rattle.fl_flash.specs.Flash.{FlashState}
 use Rattle.fl_session.specs.declared.tables.Tables.{Tables}
 use Rattle.fl_session.proofs.Over.{whole-parts, session-runs, new-sound, session-keeps}
-use Rattle.fl_session.specs.Built.{are_built}
 use Rattle.fl_session.specs.Opening.{IsBlankBehind}
 use Rattle.fl_session.proofs.whole_run.run_session.Goals as goal
 
@@ -14,7 +13,7 @@ returns-clause-runs g c = λ configured w told.
     let e : g.M.Media.state c.media-1.given.0 ≡ g.M.Media.state c.end-media.result.now = search rules in
     session-runs configured lines _ _ _ _ _ _ _ _ _ _ c.geometry.result c.blocks-2.result _ (c.new-session.ensures.flash ∙ c.flash_on-flash.ensures) same (e ∙ c.end-media.ensures.state) told parts.device parts.plans
     (rw c.new-session.ensures.rooms.0 c.requires.tables)
-    c.new-session.ensures.off c.new-session.ensures.fresh parts.knots_are (ap are_built (sym parts.plans) ∙ c.requires.built)
+    c.new-session.ensures.off c.new-session.ensures.fresh parts.knots_are
     _ _ _ _ _ _ _ _
     (c.run_first-status.ensures.runs configured)
 

@@ -1,9 +1,20 @@
-use Rattle.std.proofs.Common.{Option, Some, sym, subst}
+use Rattle.std.proofs.Common.{Option, Some, inl, inr, sym, subst}
 use Rattle.fl_index.specs.declared.index.Index.{Index}
 use Rattle.fl_table.specs.Bitmaps.{MakesRoomOf}
+use Rattle.std.proofs.lemmas.Bool.{cases_lt}
+use Rattle.fl_index.specs.Memory.{waiting_in, per_page}
+use Rattle.fl_table.proofs.PowerOff.{off-either}
 use Rattle.fl_table.proofs.bitmaps.make_room.Goals as goal
 
 pub returns-in-Some-clause-ends : goal.returns-in-Some-clause-ends
 returns-in-Some-clause-ends g c = λ first plan table rose device.
     subst (λ (o : Option Index). MakesRoomOf o (g.F.Flash.state c.args.flash.now) first plan table rose device c.make_room.result (Some c.make_room.new.self) (g.F.Flash.state c.make_room.new.flash))
     (sym c.in-Some.is) (λ watched stands. c.make_room.ensures.ends first plan table rose device watched stands)
+
+pub returns-in-Some-clause-off : goal.returns-in-Some-clause-off
+returns-in-Some-clause-off g c =
+    let index = c.in-Some.index in
+    off-either (g.F.Flash.state c.args.flash.now) (g.F.Flash.state c.make_room.new.flash) c.make_room.result tt (elim (cases_lt (waiting_in index) (per_page index)) [
+      | inl less ↦ let still = c.make_room.ensures.nothing less in inl (still.0, still.2)
+      | inr full ↦ inr (c.make_room.ensures.off full)
+    ])

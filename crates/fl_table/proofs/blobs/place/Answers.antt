@@ -1,11 +1,12 @@
-use Rattle.std.proofs.Common.{rules, ◌≡◌, ℕ, Option, Some, None, Result, Ok, Err, List, sym, ◌∙◌, ap, subst}
+use Rattle.std.proofs.Common.{rules, ◌≡◌, ℕ, ◌≤◌, Option, Some, None, Result, Ok, Err, List, sym, ◌∙◌, ap, subst, arith}
 use Rattle.std.specs.Prelude.{option_map}
 use Rattle.std.specs.Borrow.{Bor}
 use Rattle.std.proofs.lemmas.Result.{err_from_is_err_and}
 use Rattle.fl_base.specs.declared.types.BlobRef.{BlobRef}
 use Rattle.fl_flash.specs.declared.flash.FlashFault.{FlashFault}
-use Rattle.fl_table.specs.Blobs.{PlaceEndsOf, PlaceEnds}
+use Rattle.fl_table.specs.Blobs.{PlaceEndsOf, PlaceEnds, pages_for}
 use Rattle.fl_table.proofs.BlobSteps.{place-ok, place-err, place-none}
+use Rattle.fl_table.proofs.PowerOff.{off-ok, off-err}
 use Rattle.fl_table.proofs.blobs.place.Goals as goal
 use Rattle.fl_var.specs.declared.var_data.VarData.{VarData}
 
@@ -42,3 +43,28 @@ returns-in_default-blob-clause-ends g c = λ first plan table item rose device b
     let none : c.args.blob ≡ None = search rules in
     subst (λ (o : Option VarData). PlaceEndsOf o f first plan item table rose device (Ok None) (Some c.in-Some.var) f) (sym is)
     (λ watched stands. place-none c.in-Some.var f first plan table item rose device (blob_is ∙ ap (option_map (λ (b : Bor (List ℕ)). b.now)) none) watched stands)
+
+pub returns-clause-off : goal.returns-clause-off
+returns-clause-off g c = λ some down.
+    let blob = option_map (λ (b : Bor (List ℕ)). b.now) c.args.blob in
+    let is : c.args.blobs.now ≡ Some c.in-Some.var = search rules in
+    let bytes : c.args.blob ≡ Some c.in-Some-blob.bytes = search rules in
+    let pages = ap (λ (o : Option VarData). pages_for o blob) is ∙ ap (λ (b : Option (Bor (List ℕ))). pages_for (Some c.in-Some.var) (option_map (λ (b : Bor (List ℕ)). b.now) b)) bytes in
+    absurd (off-ok (g.F.Flash.state c.args.flash.now) (g.F.Flash.state c.append.new.flash) c.in_ok-at.at (c.in_ok-at.ensures.off (omega (arith, some, pages))) down)
+
+pub returns-in_err-at-clause-off : goal.returns-in_err-at-clause-off
+returns-in_err-at-clause-off g c = λ some.
+    let blob = option_map (λ (b : Bor (List ℕ)). b.now) c.args.blob in
+    let is : c.args.blobs.now ≡ Some c.in-Some.var = search rules in
+    let bytes : c.args.blob ≡ Some c.in-Some-blob.bytes = search rules in
+    let pages = ap (λ (o : Option VarData). pages_for o blob) is ∙ ap (λ (b : Option (Bor (List ℕ))). pages_for (Some c.in-Some.var) (option_map (λ (b : Bor (List ℕ)). b.now) b)) bytes in
+    let p = err_from_is_err_and c.from_residual.result c.from_residual.ensures.1 in
+    rw (p.1, p.2) (off-err (g.F.Flash.state c.args.flash.now) (g.F.Flash.state c.append.new.flash) c.in_err-at.field-0.0 (c.in_err-at.ensures.off (omega (arith, some, pages))))
+
+pub returns-in_default-blob-clause-off : goal.returns-in_default-blob-clause-off
+returns-in_default-blob-clause-off g c = λ some.
+    let blob = option_map (λ (b : Bor (List ℕ)). b.now) c.args.blob in
+    let is : c.args.blobs.now ≡ Some c.in-Some.var = search rules in
+    let none : c.args.blob ≡ None = search rules in
+    let pages = ap (λ (o : Option VarData). pages_for o blob) is ∙ ap (λ (b : Option (Bor (List ℕ))). pages_for (Some c.in-Some.var) (option_map (λ (b : Bor (List ℕ)). b.now) b)) none in
+    absurd (omega (arith, some, pages))

@@ -1,6 +1,9 @@
-use Rattle.std.proofs.Common.{rules, ◌≡◌, Option, Some, sym, subst}
+use Rattle.std.proofs.Common.{rules, ◌≡◌, ◌⊎◌, inl, inr, ℕ, List, [], ◌∷◌, length, Ok, Option, Some, refl, sym, ap, subst, arith}
 use Rattle.fl_table.specs.Blobs.{RestEndsOf}
 use Rattle.fl_table.proofs.BlobSteps.{rest-ends}
+use Rattle.fl_flash.specs.Flash.{OffChangesNothing}
+use Rattle.fl_table.proofs.PowerOff.{off-either}
+use Rattle.fl_var.specs.Memory.{waiting_in}
 use Rattle.fl_table.proofs.blobs.seal_rest.Goals as goal
 use Rattle.fl_var.specs.declared.var_data.VarData.{VarData}
 
@@ -12,3 +15,12 @@ returns-in-Some-clause-ends g c = λ first plan table rose device.
     let is : c.args.blobs.now ≡ Some c.in-Some.var = search rules in
     subst (λ (o : Option VarData). RestEndsOf o f first plan table rose device c.seal_rest.result (Some c.seal_rest.new.self) h) (sym is)
     (λ watched stands. rest-ends c.in-Some.var c.seal_rest.new.self f h first plan table e.same stands rose device c.seal_rest.result e.empty (λ none. (e.quiet none).0) (e.ends plan table rose device watched stands.in_pages))
+
+pub returns-in-Some-clause-off : goal.returns-in-Some-clause-off
+returns-in-Some-clause-off g c =
+    off-either (g.F.Flash.state c.args.flash.now) (g.F.Flash.state c.seal_rest.new.flash) c.seal_rest.result tt (by_bytes (waiting_in c.in-Some.var) refl)
+  where
+    by_bytes : (bytes : List ℕ) → waiting_in c.in-Some.var ≡ bytes →
+        ((c.seal_rest.result ≡ Ok tt) × (g.F.Flash.state c.seal_rest.new.flash ≡ g.F.Flash.state c.args.flash.now)) ⊎ OffChangesNothing (g.F.Flash.state c.args.flash.now) c.seal_rest.result (g.F.Flash.state c.seal_rest.new.flash)
+    by_bytes [] none = inl (c.seal_rest.ensures.quiet none)
+    by_bytes (x ∷ xs) some = inr (c.seal_rest.ensures.off (omega (arith, ap length some)))

@@ -1,11 +1,13 @@
-use Rattle.std.proofs.Common.{rules, ◌≡◌, true, false, Ok, sym, ◌∙◌, ap, subst, arith}
+use Rattle.std.proofs.Common.{rules, ◌≡◌, ◌<◌, ◌^◌, true, false, Ok, sym, ◌∙◌, ap, subst, arith}
 use Rattle.std.specs.Borrow.{Bor}
 use Rattle.std.proofs.lemmas.Result.{err_from_is_err_and}
 use Rattle.fl_page.specs.Contents.{Contents, contents_of}
 use Rattle.fl_page.proofs.Reading.{OnlyReads-then}
+use Rattle.fl_table.specs.Memory.{next_in}
 use Rattle.fl_table.specs.declared.table.Table.{Table}
 use Rattle.fl_cursor.specs.Cursor.{is_end}
-use Rattle.fl_cursor.specs.Going.{Goes, Fails, pages_left}
+use Rattle.fl_cursor.specs.Going.{Goes, Fails, is_at_pages, pages_left}
+use Rattle.fl_cursor.proofs.Ending.{ends-kept}
 use Rattle.fl_cursor.proofs.Whole.{goes-then, fails-then, goes-nowhere, here-after, behind-pages}
 use Rattle.fl_cursor.proofs.cursor.Cursor.advance.Goals as goal
 
@@ -36,11 +38,23 @@ returns-then-step_in_page-clause-goes g c =
     (goes-then false held reads reads mid c.args.self.now _ c.find_start.new.self (goes-nowhere c.args.self.now held reads) c.in_ok-find_start.ensures.goes)
     (c.if-step_in_page.ensures.goes held mid)
 
+pub end_of_pages-end-requires : goal.end_of_pages-end-requires
+end_of_pages-end-requires g c = record {
+  next = c.next_number-next_number.ensures.exact
+      ∙ (ap (λ (t : Bor Table). next_in t.now) (sym c.in_ok-find_start.ensures.goes.keeps.table)
+      ∙ ap (λ (t : Bor Table). next_in t.now) (sym (c.if-step_in_page.ensures.goes (contents_of (g.F.Flash.state c.args.flash.now)) 0).keeps.table));
+}
+
 pub loop-self-init : goal.loop-self-init
 loop-self-init g c =
     let held = contents_of (g.F.Flash.state c.args.flash.now) in
     let reads = (g.F.Flash.state c.args.flash.now).work.reads in
     let mid = (g.F.Flash.state c.find_start.new.flash).work.reads in
+    let small : c.next_number-next_number.result < 2 ^ 32 = search rules in
+    let is : c.next_number-next_number.result ≡ next_in c.step_in_page.new.self.table.now =
+    c.next_number-next_number.ensures.exact
+    ∙ (ap (λ (t : Bor Table). next_in t.now) (sym c.in_ok-find_start.ensures.goes.keeps.table)
+    ∙ ap (λ (t : Bor Table). next_in t.now) (sym (c.if-step_in_page.ensures.goes held mid).keeps.table)) in
     record {
       reads_only = c.find_start.ensures.reads_only;
       goes = goes-then false held reads mid mid c.args.self.now c.find_start.new.self c.step_in_page.new.self
@@ -50,8 +64,13 @@ loop-self-init g c =
       begun = c.if-step_in_page.ensures.begun;
       outside = c.if-step_in_page.ensures.outside;
       ended = λ e. let was = c.in_ok-find_start.ensures.stays_ended e in ((c.if-step_in_page.ensures.stays_ended was.0).1, was.1);
+      behind = λ past. let was = c.in_ok-find_start.ensures.behind past in ((c.if-step_in_page.ensures.behind was.0).1, was.1);
+      few = omega (arith, small, is);
       end = search rules;
     }
+
+pub step_in_page-requires-in-Pages-clause-few : goal.step_in_page-requires-in-Pages-clause-few
+step_in_page-requires-in-Pages-clause-few g c = subst (λ (t : Bor Table). next_in t.now < 2 ^ 32) (sym c.in_ok-read_page.ensures.goes.keeps.table) c.loop-self.invariant.few
 
 pub returns-in_err-read_page-clause-reads_only : goal.returns-in_err-read_page-clause-reads_only
 returns-in_err-read_page-clause-reads_only g c = OnlyReads-then _ _ _ c.loop-self.invariant.reads_only c.read_page.ensures.reads_only
@@ -111,7 +130,11 @@ loop-self-preserved g c =
       begun = c.if-step_in_page-2.ensures.begun;
       outside = c.if-step_in_page-2.ensures.outside;
       ended = λ e. absurd (no (sym (c.loop-self.invariant.ended e).0 ∙ ap is_end c.in-Pages.is));
-      end = c.loop-self.invariant.end;
+      behind = λ past. absurd (no (sym (ap is_at_pages c.in-Pages.is) ∙ (c.loop-self.invariant.behind past).0));
+      few = subst (λ (t : Bor Table). next_in t.now < 2 ^ 32) (sym (c.if-step_in_page-2.ensures.goes held now).keeps.table)
+          (subst (λ (t : Bor Table). next_in t.now < 2 ^ 32) (sym page.keeps.table) c.loop-self.invariant.few);
+      end = ends-kept c.read_page.new.self c.step_in_page-in-Pages.new.self c.end_of_pages-end.result (c.if-step_in_page-2.ensures.goes held now).keeps (c.if-step_in_page-2.ensures.goes held now).notes
+          (ends-kept c.loop-self.self c.read_page.new.self c.end_of_pages-end.result page.keeps page.notes c.loop-self.invariant.end);
     }
 
 pub step_pending-requires : goal.step_pending-requires
@@ -137,4 +160,5 @@ returns g c =
       fails = tt;
       end = c.step_pending.ensures.end;
       stays_ended = λ e. let was = c.loop-self.invariant.ended e in (ap (λ b. Ok b) (c.step_pending.ensures.stays_ended was.0), was.1);
+      behind = λ past. (c.step_pending.ensures.behind, (c.loop-self.invariant.behind past).1, tt);
     }

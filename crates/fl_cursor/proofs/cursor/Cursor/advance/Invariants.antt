@@ -1,8 +1,9 @@
-use Rattle.std.proofs.Common.{◌≡◌, true, false}
+use Rattle.std.proofs.Common.{◌≡◌, ◌<◌, ◌^◌, true, false}
 use Rattle.fl_page.specs.Contents.{contents_of, OnlyReads}
-use Rattle.fl_table.specs.Memory.{next_in}
 use Rattle.fl_cursor.specs.Cursor.{has_ended}
-use Rattle.fl_cursor.specs.Going.{Goes, is_start, is_in_page, pages_left}
+use Rattle.fl_table.specs.Memory.{next_in}
+use Rattle.fl_cursor.specs.Ends.{EndsPages}
+use Rattle.fl_cursor.specs.Going.{Goes, is_start, is_in_page, is_at_pages, pages_left}
 use Rattle.fl_cursor.specs.declared.place.Here.TheVariants.{Nowhere}
 use Rattle.fl_cursor.proofs.cursor.Cursor.advance.Given as goal
 
@@ -15,7 +16,9 @@ invariant-loop-self g l =
       begun : is_start l.self.place ≡ false;
       outside : is_in_page l.self.place ≡ false;
       ended : has_ended l.fn.self ≡ true → (has_ended l.self ≡ true) × (g.F.Flash.state l.flash ≡ g.F.Flash.state l.fn.flash);
-      end : l.end ≡ next_in l.fn.self.table.now;
+      behind : is_at_pages l.fn.self.place ≡ false → (is_at_pages l.self.place ≡ false) × (g.F.Flash.state l.flash ≡ g.F.Flash.state l.fn.flash);
+      few : next_in l.self.table.now < 2 ^ 32;
+      end : EndsPages l.self.table.now l.self.mark.top l.end;
     }
 
 abbrev pub decreases-loop-self : goal.decreases-loop-self

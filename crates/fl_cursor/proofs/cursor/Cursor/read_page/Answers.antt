@@ -7,29 +7,31 @@ use Rattle.fl_page.specs.Page.{IsGoodPage}
 use Rattle.fl_table.specs.Look.{layout_in, rows_noted}
 use Rattle.fl_table.specs.Memory.{next_in}
 use Rattle.fl_cursor.specs.Cursor.{IsPlaced}
+use Rattle.fl_cursor.proofs.Ending.{pages-end, within-end}
 use Rattle.fl_cursor.proofs.Indexed.{looked, looked-as, page-bytes}
-use Rattle.fl_cursor.proofs.Turning.{pages-end, page-skipped, page-missed, page-entered, page-void, page-fails, look-fails}
-use Rattle.fl_page.proofs.Reading.{OnlyReads-then}
+use Rattle.fl_cursor.proofs.Turning.{page-skipped, page-missed, page-entered, page-void, page-fails, look-fails}
+use Rattle.fl_page.proofs.Reading.{OnlyReads-then, IsCaused-later}
 use Rattle.std.proofs.lemmas.Result.{err_from_is_err_and}
 use Rattle.fl_mark.specs.Mark.{state_of_page}
 use Rattle.fl_mark.specs.declared.page_state.PageState.TheVariants.{Committed}
 use Rattle.fl_cursor.proofs.cursor.Cursor.read_page.Goals as goal
 
-pub returns-then-next-end-clause-goes : goal.returns-then-next-end-clause-goes
-returns-then-next-end-clause-goes g c =
-    pages-end c.args.self.now c.args.next c.requires.next (c.if-next-end.true ∙ c.requires.end) (contents_of (g.F.Flash.state c.args.flash.now)) (g.F.Flash.state c.args.flash.now).work.reads
+pub returns-then-end-next-clause-goes : goal.returns-then-end-next-clause-goes
+returns-then-end-next-clause-goes g c =
+    let placed = subst (IsPlaced c.args.self.now.table.now c.args.self.now.rows_buf.now.bytes) c.requires.next c.requires.ready.placed in
+    pages-end c.args.self.now c.args.next c.args.end c.requires.next placed.0 c.requires.end c.if-end-next.true (contents_of (g.F.Flash.state c.args.flash.now)) (g.F.Flash.state c.args.flash.now).work.reads
 
 pub returns-then-rows_of-eq0-clause-goes : goal.returns-then-rows_of-eq0-clause-goes
 returns-then-rows_of-eq0-clause-goes g c =
     let placed = subst (IsPlaced c.args.self.now.table.now c.args.self.now.rows_buf.now.bytes) c.requires.next c.requires.ready.placed in
-    let before : c.args.next < next_in c.args.self.now.table.now = omega (arith, placed.1, c.if-next-end.false, c.requires.end) in
+    let before : c.args.next < next_in c.args.self.now.table.now = within-end c.args.self.now c.args.end c.args.next c.requires.end c.if-end-next.false in
     let none : rows_noted c.args.self.now.table.now c.args.next ≡ 0 = search rules in
     page-skipped c.args.self.now c.args.next c.requires.next placed.0 before (contents_of (g.F.Flash.state c.args.flash.now)) (g.F.Flash.state c.args.flash.now).work.reads none
 
 pub returns-in_err-may_have-clause-fails : goal.returns-in_err-may_have-clause-fails
 returns-in_err-may_have-clause-fails g c =
     let placed = subst (IsPlaced c.args.self.now.table.now c.args.self.now.rows_buf.now.bytes) c.requires.next c.requires.ready.placed in
-    let before : c.args.next < next_in c.args.self.now.table.now = omega (arith, placed.1, c.if-next-end.false, c.requires.end) in
+    let before : c.args.next < next_in c.args.self.now.table.now = within-end c.args.self.now c.args.end c.args.next c.requires.end c.if-end-next.false in
     let some : rows_noted c.args.self.now.table.now c.args.next ≡ 0 → ⊥ = λ none. c.if-rows_of-eq0.false (c.rows_of.ensures.exact ∙ none) in
     let p = err_from_is_err_and c.from_residual.result c.from_residual.ensures.1 in
     let e = c.in_err-may_have.ensures in
@@ -40,7 +42,7 @@ returns-in_err-may_have-clause-fails g c =
 pub returns-then-not-branch-clause-goes : goal.returns-then-not-branch-clause-goes
 returns-then-not-branch-clause-goes g c =
     let placed = subst (IsPlaced c.args.self.now.table.now c.args.self.now.rows_buf.now.bytes) c.requires.next c.requires.ready.placed in
-    let before : c.args.next < next_in c.args.self.now.table.now = omega (arith, placed.1, c.if-next-end.false, c.requires.end) in
+    let before : c.args.next < next_in c.args.self.now.table.now = within-end c.args.self.now c.args.end c.args.next c.requires.end c.if-end-next.false in
     let some : rows_noted c.args.self.now.table.now c.args.next ≡ 0 → ⊥ = λ none. c.if-rows_of-eq0.false (c.rows_of.ensures.exact ∙ none) in
     let missed : c.in_ok-may_have.field-0 ≡ false = search rules in
     let e = c.in_ok-may_have.ensures in
@@ -58,10 +60,15 @@ returns-then-not-branch-2-clause-reads_only g c = OnlyReads-then _ _ _ c.may_hav
 pub returns-clause-reads_only : goal.returns-clause-reads_only
 returns-clause-reads_only g c = OnlyReads-then _ _ _ c.may_have.ensures.counts c.read_page.ensures.counts
 
+pub returns-in_err-read_page-clause-cause : goal.returns-in_err-read_page-clause-cause
+returns-in_err-read_page-clause-cause g c =
+    let p = err_from_is_err_and c.from_residual-in_err-read_page.result c.from_residual-in_err-read_page.ensures.1 in
+    rw (p.1, p.2) (IsCaused-later (g.F.Flash.state c.args.flash.now) (g.F.Flash.state c.may_have.new.flash) (g.F.Flash.state c.read_page.new.flash) c.in_err-read_page.field-0.0 c.may_have.ensures.counts c.in_err-read_page.ensures.cause)
+
 pub returns-in_err-read_page-clause-fails : goal.returns-in_err-read_page-clause-fails
 returns-in_err-read_page-clause-fails g c =
     let placed = subst (IsPlaced c.args.self.now.table.now c.args.self.now.rows_buf.now.bytes) c.requires.next c.requires.ready.placed in
-    let before : c.args.next < next_in c.args.self.now.table.now = omega (arith, placed.1, c.if-next-end.false, c.requires.end) in
+    let before : c.args.next < next_in c.args.self.now.table.now = within-end c.args.self.now c.args.end c.args.next c.requires.end c.if-end-next.false in
     let some : rows_noted c.args.self.now.table.now c.args.next ≡ 0 → ⊥ = λ none. c.if-rows_of-eq0.false (c.rows_of.ensures.exact ∙ none) in
     let wanted : c.in_ok-may_have.field-0 ≡ true = search rules in
     let p = err_from_is_err_and c.from_residual-in_err-read_page.result c.from_residual-in_err-read_page.ensures.1 in
@@ -75,7 +82,7 @@ returns-in_err-read_page-clause-fails g c =
 pub returns-then-not-branch-2-clause-goes : goal.returns-then-not-branch-2-clause-goes
 returns-then-not-branch-2-clause-goes g c =
     let placed = subst (IsPlaced c.args.self.now.table.now c.args.self.now.rows_buf.now.bytes) c.requires.next c.requires.ready.placed in
-    let before : c.args.next < next_in c.args.self.now.table.now = omega (arith, placed.1, c.if-next-end.false, c.requires.end) in
+    let before : c.args.next < next_in c.args.self.now.table.now = within-end c.args.self.now c.args.end c.args.next c.requires.end c.if-end-next.false in
     let some : rows_noted c.args.self.now.table.now c.args.next ≡ 0 → ⊥ = λ none. c.if-rows_of-eq0.false (c.rows_of.ensures.exact ∙ none) in
     let wanted : c.in_ok-may_have.field-0 ≡ true = search rules in
     let one = c.in_ok-read_page.ensures.one in
@@ -91,7 +98,7 @@ returns-then-not-branch-2-clause-goes g c =
 pub returns-clause-goes : goal.returns-clause-goes
 returns-clause-goes g c =
     let placed = subst (IsPlaced c.args.self.now.table.now c.args.self.now.rows_buf.now.bytes) c.requires.next c.requires.ready.placed in
-    let before : c.args.next < next_in c.args.self.now.table.now = omega (arith, placed.1, c.if-next-end.false, c.requires.end) in
+    let before : c.args.next < next_in c.args.self.now.table.now = within-end c.args.self.now c.args.end c.args.next c.requires.end c.if-end-next.false in
     let some : rows_noted c.args.self.now.table.now c.args.next ≡ 0 → ⊥ = λ none. c.if-rows_of-eq0.false (c.rows_of.ensures.exact ∙ none) in
     let wanted : c.in_ok-may_have.field-0 ≡ true = search rules in
     let one = c.in_ok-read_page.ensures.one in

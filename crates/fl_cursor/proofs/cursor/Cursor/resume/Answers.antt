@@ -1,4 +1,4 @@
-use Rattle.std.proofs.Common.{◌≡◌, length, refl, ◌∙◌, ap}
+use Rattle.std.proofs.Common.{length, refl, ◌∙◌, ap}
 use Rattle.fl_flash.specs.Buffer.{BufferState}
 use Rattle.fl_page.specs.Contents.{contents_of}
 use Rattle.fl_cursor.specs.Asked.{asked_by}

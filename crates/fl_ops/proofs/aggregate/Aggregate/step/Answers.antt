@@ -1,9 +1,10 @@
 use Rattle.std.proofs.Common.{arith, rules, ℕ, ◌≡◌, ◌∙◌, ◌<◌, ◌≤◌, ◌+◌, ◌*◌, ◌/◌, ◌^◌, true, Some, [], ◌∷◌, refl, sym, ap}
 use Rattle.fl_model.specs.Query.{is_above}
 use Rattle.fl_model.specs.Operators.{Group, column_of, aggregate}
+use Rattle.std.proofs.lemmas.Result.{err_from_is_err_and}
 use Rattle.fl_page.specs.Contents.{contents_of}
 use Rattle.fl_page.specs.Steps.{Ascends}
-use Rattle.fl_page.proofs.Reading.{OnlyReads-then, OnlyReads-reads}
+use Rattle.fl_page.proofs.Reading.{OnlyReads-then, OnlyReads-reads, IsCaused-later}
 use Rattle.fl_ops.specs.Columns.{record_of, records_of}
 use Rattle.fl_ops.specs.Groups.{ungrouped}
 use Rattle.fl_ops.specs.Tally.{tally_of, tally_more, tallied, HasBounds}
@@ -178,3 +179,8 @@ returns-then-group_number-group-clause-steps g c = λ told.
     ∙ ap (λ (k : ℕ). tallied N c.loop-self.tally ∷ aggregate k W (record_of next ∷ after)) (sym c.loop-self.invariant.column)
     ∙ ap (λ (k : ℕ). tallied N c.loop-self.tally ∷ aggregate c.loop-self.self.column k (record_of next ∷ after)) (sym c.loop-self.invariant.width)
     ∙ ap (λ (group : Group). group ∷ aggregate c.loop-self.self.column c.loop-self.self.width (record_of next ∷ after)) (sym c.group.ensures)
+
+pub returns-in_err-step-clause-cause : goal.returns-in_err-step-clause-cause
+returns-in_err-step-clause-cause g c =
+    let p = err_from_is_err_and c.from_residual-in_err-step.result c.from_residual-in_err-step.ensures.1 in
+    rw (p.1, p.2) (IsCaused-later (g.F.Flash.state c.args.flash.now) (g.F.Flash.state c.loop-self.flash) (g.F.Flash.state c.step.new.flash) c.in_err-step.field-0.0 c.loop-self.invariant.reads_only c.in_err-step.ensures.cause)

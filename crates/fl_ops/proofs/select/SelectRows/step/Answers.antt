@@ -1,7 +1,8 @@
 use Rattle.std.proofs.Common.{arith, rules, ◌+◌, ◌≤◌}
 use Rattle.std.proofs.lemmas.Grind.{common_steps}
+use Rattle.std.proofs.lemmas.Result.{err_from_is_err_and}
 use Rattle.fl_page.specs.Contents.{contents_of}
-use Rattle.fl_page.proofs.Reading.{OnlyReads-then, OnlyReads-reads}
+use Rattle.fl_page.proofs.Reading.{OnlyReads-then, OnlyReads-reads, IsCaused-later}
 use Rattle.fl_ops.proofs.Calls.{calls}
 use Rattle.fl_ops.proofs.select.SelectRows.step.Goals as goal
 
@@ -29,3 +30,8 @@ returns-then-compares-clause-least g c = λ told below.
     let step : (g.F.Flash.state c.loop-number.flash).work.reads + g.R.Rows.least c.loop-number.self.rows (contents_of (g.F.Flash.state c.args.flash.now))
     ≤ (g.F.Flash.state c.step.new.flash).work.reads + g.R.Rows.least c.step.new.self (contents_of (g.F.Flash.state c.args.flash.now)) = search rules in
     omega (arith, step, c.loop-number.invariant.least told (omega (arith, before, below)))
+
+pub returns-in_err-step-clause-cause : goal.returns-in_err-step-clause-cause
+returns-in_err-step-clause-cause g c =
+    let p = err_from_is_err_and c.from_residual.result c.from_residual.ensures.1 in
+    rw (p.1, p.2) (IsCaused-later (g.F.Flash.state c.args.flash.now) (g.F.Flash.state c.loop-number.flash) (g.F.Flash.state c.step.new.flash) c.in_err-step.field-0.0 c.loop-number.invariant.reads_only c.in_err-step.ensures.cause)

@@ -44,7 +44,7 @@ returns-clause-step g c = λ config old h.
     (λ at moment is w. step-is config old moment (words.Agg at c.args.range c.args.column c.args.width) is w) (λ now moment read. read)
     c.in-Ok.at c.index.result.now _ _ (λ moment read. read) h c.in-Ok.ensures here c.aggregate.ensures.reads_only (has-read _ _ c.aggregate.ensures.reads_only _ small refl)
     (λ first plan planned. has-column c.index.result.now.table first plan _ within planned)
-    (λ first plan table tells on stands none. c.aggregate.ensures.counted first plan table tells on stands)
+    (λ first plan table tells on stands. c.aggregate.ensures.counted first plan table tells on stands)
 
 pub index-requires : goal.index-requires
 index-requires g c = reached-within c.args.self.now.tables.entries.items _ _ _ c.in-Ok.at c.args.self.now.tables.entries.ok.0 c.in-Ok.ensures

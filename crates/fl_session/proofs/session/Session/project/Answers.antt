@@ -47,7 +47,7 @@ returns-clause-step g c = λ config old h.
     (λ at moment is w. step-is config old moment (words.Project at c.args.range c.args.columns.now.items) is w) (λ now moment read. read)
     c.in-Ok.at c.index.result.now _ _ (λ moment read. read) h c.in-Ok.ensures here c.project.ensures.reads_only (has-read _ _ c.project.ensures.reads_only _ small refl)
     (λ first plan planned. lacked-column c.index.result.now.table first plan c.args.columns.now.items None none planned)
-    (λ first plan table tells on stands none. rw c.as_slice-columns.ensures.value at (c.project.ensures.counted first plan table tells on stands))
+    (λ first plan table tells on stands. rw c.as_slice-columns.ensures.value at (c.project.ensures.counted first plan table tells on stands))
 
 pub index-requires : goal.index-requires
 index-requires g c = reached-within c.args.self.now.tables.entries.items _ _ _ c.in-Ok.at c.args.self.now.tables.entries.ok.0 c.in-Ok.ensures

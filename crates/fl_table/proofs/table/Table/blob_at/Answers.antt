@@ -1,14 +1,32 @@
-use Rattle.std.proofs.Common.{◌≡◌, ◌+◌, Some, IfSome, Option, sym, subst}
+use Rattle.std.proofs.Common.{◌≡◌, ◌+◌, Option, Some, None, Result, Ok, Err, ap, sym, ◌∙◌, subst}
+use Rattle.std.specs.Prelude.{IfOk, IfSome}
+use Rattle.fl_page.specs.declared.fault.ReadFault.{ReadFault}
 use Rattle.fl_table.specs.Blobs.{Stand}
-use Rattle.fl_var.specs.Reading.{Opens}
+use Rattle.fl_var.specs.Memory as memory
+use Rattle.fl_var.specs.declared.reader.BlobReader.{BlobReader}
 use Rattle.fl_var.specs.declared.var_data.VarData.{VarData}
+use Rattle.fl_table.proofs.HeldBlobs.{standing-bytes}
 use Rattle.fl_table.proofs.table.Table.blob_at.Goals as goal
 
-pub returns-clause-opens : goal.returns-clause-opens
-returns-clause-opens g c = λ told.
-    subst (λ (o : Option VarData). IfSome o (λ var. Opens var (g.F.Flash.state c.args.flash.now) c.args.at c.open.result)) (sym c.in-Some.is) (c.open.ensures.opens told)
+-- what follows from what is said of the reader that is answered
+opened : (P Q : BlobReader → Type 0) (result : Result (Option BlobReader) ReadFault) → IfOk result (λ reader. IfSome reader P) → ((r : BlobReader) → P r → Q r) → IfOk result (λ reader. IfSome reader Q)
+opened P Q (Ok (Some r)) h then = then r h
+opened P Q (Ok None) h then = h
+opened P Q (Err e) h then = h
+
+pub returns-clause-var : goal.returns-clause-var
+returns-clause-var g c = opened _ _ c.open_blob.result c.open_blob.ensures.data
+    (λ r h. (ap Some h.0 ∙ sym c.in-Some.is, h.1))
+
+pub returns-clause-data : goal.returns-clause-data
+returns-clause-data g c = opened _ _ c.open_blob.result c.open_blob.ensures.data
+    (λ r h. subst (λ (v : VarData). memory.LiesOn v (g.F.Flash.state c.open_blob.new.flash)) (sym h.0) c.open_blob.ensures.lies)
 
 pub returns-clause-finds : goal.returns-clause-finds
-returns-clause-finds g c = λ first plan table i entry bytes told stands slot blob at.
-    c.open.ensures.finds (first + plan.data_blocks + plan.index_blocks) plan table i entry bytes told
-    (subst (λ (o : Option VarData). Stand o (g.F.Flash.state c.args.flash.now) (first + plan.data_blocks + plan.index_blocks) plan table) c.in-Some.is stands.blobs) slot blob at
+returns-clause-finds g c = λ first plan table i entry bytes told stands slot blob at_is.
+    let f = g.F.Flash.state c.args.flash.now in
+    let v = c.in-Some.var in
+    let here = first + plan.data_blocks + plan.index_blocks in
+    let standing = subst (λ (o : Option VarData). Stand o f here plan table) c.in-Some.is stands.blobs in
+    c.open_blob.ensures.finds plan table entry bytes told standing.in_pages blob at_is
+    (λ ring ring_is kept some. standing-bytes v f here plan table standing i entry bytes slot blob c.args.at at_is ring ring_is kept some)

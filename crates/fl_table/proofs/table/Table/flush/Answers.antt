@@ -1,7 +1,11 @@
-use Rattle.std.proofs.Common.{◌≡◌, arith}
+use Rattle.std.proofs.Common.{◌≡◌, Result, Ok, Err, ap, arith}
 use Rattle.std.proofs.lemmas.Result.{err_from_is_err_and}
 use Rattle.fl_table.proofs.SealAnswers.{writer-count}
 use Rattle.fl_table.proofs.Putting.{flush-idle}
+use Rattle.fl_flash.specs.declared.flash.FlashFault.{FlashFault}
+use Rattle.fl_flash.specs.declared.flash.FlashFault.TheVariants.{PowerLost}
+use Rattle.fl_table.specs.declared.faults.FlushFault.TheVariants as flush
+use Rattle.fl_table.proofs.PowerOff.{off-ok}
 use Rattle.fl_table.proofs.table.Table.flush.Goals as goal
 
 pub returns-then-count-eq0-clause-ends : goal.returns-then-count-eq0-clause-ends
@@ -19,3 +23,18 @@ returns-in_err-seal-clause-ends g c = λ first plan table rose device watched st
 
 pub returns-clause-ends : goal.returns-clause-ends
 returns-clause-ends g c = λ first plan table rose device watched stands. c.in_ok-seal.ensures.ends first plan table rose device watched stands
+
+pub returns-then-count-eq0-clause-off : goal.returns-then-count-eq0-clause-off
+returns-then-count-eq0-clause-off g c = λ running some. absurd (omega (arith, some, c.if-count-eq0.true, c.count.ensures))
+
+pub returns-in_err-seal-clause-off : goal.returns-in_err-seal-clause-off
+returns-in_err-seal-clause-off g c = λ running some down.
+    let p = err_from_is_err_and c.from_residual.result c.from_residual.ensures.1 in
+    let h = c.in_err-seal.ensures.off down in
+    rw (p.1, p.2) (ap (λ (e : FlashFault). Err (flush.Flash e)) (same h.0), h.1)
+  where
+    same : ◌≡◌ {A = Result (Unit {0}) FlashFault} (Err c.in_err-seal.field-0.0) (Err PowerLost) → c.in_err-seal.field-0.0 ≡ PowerLost
+    same e = cc
+
+pub returns-clause-off : goal.returns-clause-off
+returns-clause-off g c = λ running some down. absurd (off-ok (g.F.Flash.state c.args.flash.now) (g.F.Flash.state c.seal.new.flash) c.in_ok-seal.field-0 c.in_ok-seal.ensures.off down)

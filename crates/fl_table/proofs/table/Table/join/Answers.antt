@@ -15,6 +15,7 @@ use Rattle.fl_table.proofs.Joining.{entry_of, entry-row, join-done, join-breaks,
 use Rattle.fl_table.proofs.Plain.{table-facts}
 use Rattle.fl_table.proofs.Pointed.{points-added}
 use Rattle.fl_table.proofs.SealAnswers.{planned-same}
+use Rattle.fl_table.proofs.PowerOff.{off-ok, off-err}
 use Rattle.fl_table.proofs.table.Table.join.Goals as goal
 use Rattle.fl_var.specs.declared.var_data.VarData.{VarData}
 
@@ -140,3 +141,9 @@ invariant_of-self g c =
           let few = pages-few t.blobs (option_map (λ (b : Bor (List ℕ)). b.now) c.args.blob) c.requires.few in
           omega (arith, after-most c.place.new.blobs, c.in-Ok.ensures.next, few, c.requires.blobs_left);
     }
+
+pub returns-clause-off : goal.returns-clause-off
+returns-clause-off g c = λ some down. absurd (off-ok (g.F.Flash.state c.args.flash.now) (g.F.Flash.state c.place.new.flash) c.in-Ok.at (c.in-Ok.ensures.off some) down)
+
+pub returns-in-Err-clause-off : goal.returns-in-Err-clause-off
+returns-in-Err-clause-off g c = λ some. off-err (g.F.Flash.state c.args.flash.now) (g.F.Flash.state c.place.new.flash) c.in-Err.fault (c.in-Err.ensures.off some)

@@ -65,3 +65,8 @@ returns-clause-ends g c = λ first plan table rose device watched stands.
     let full = is-full t f first plan table stands lt in
     subst (λ (rings : List RingName). SealsEnd first plan rings table rose device c.seal.result c.seal.new.self (g.F.Flash.state c.seal.new.flash)) (sym (full-room_seals plan table full))
     (c.seal.ensures.ends first plan table rose device watched (search rules))
+
+pub returns-then-not-is_full-clause-off : goal.returns-then-not-is_full-clause-off
+returns-then-not-is_full-clause-off g c = λ full.
+    let t = c.args.self.now in
+    absurd (full (ltb-false (length t.writer.body) (t.writer.end + layout_len (layout_of t.schema)) (sym c.is_full.ensures.room ∙ c.if-not-is_full.true)))

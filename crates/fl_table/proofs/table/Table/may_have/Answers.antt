@@ -87,6 +87,7 @@ returns-in-Err-clause-looks g c = λ first plan table told stands fresh scanning
     subst (λ (s : Option Span). LooksOn c.args.self.now.bitmaps s c.args.number c.args.buf.now (g.F.Flash.state c.args.flash.now).work.reads (Err c.in-Err.fault) (g.F.Flash.state c.bitmap_of.new.flash).work.reads c.forget.new.self) (sym c.in-Some.is)
     (looks-failed t.bitmaps index is c.in-Some.span c.args.number c.args.buf.now f (g.F.Flash.state c.bitmap_of.new.flash) c.forget.new.self c.in-Err.fault
     (c.in-Err.ensures.most (first + plan.data_blocks) plan table (next_to_read index c.args.buf.now) told indexed known scans)
+    (c.in-Err.ensures.again (first + plan.data_blocks) plan table (next_to_read index c.args.buf.now) told indexed known scans)
     (ap (λ (b : BufferState). b.holds) c.forget.ensures))
 
 pub returns-in-Err-clause-bad : goal.returns-in-Err-clause-bad

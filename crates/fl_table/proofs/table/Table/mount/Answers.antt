@@ -1,6 +1,6 @@
-use Rattle.std.proofs.Common.{◌≡◌, ◌+◌, ℕ, Option, IsTrue, sym, ◌∙◌, ap, subst, inr}
+use Rattle.std.proofs.Common.{◌≡◌, ◌+◌, ℕ, Option, Err, IsTrue, sym, ◌∙◌, ap, subst, inr}
 use Rattle.std.proofs.lemmas.Result.{err_from_is_err_and, IfErr-weaker, IfOk-weaker}
-use Rattle.fl_flash.specs.Flash.{page_at}
+use Rattle.fl_flash.specs.Flash.{FlashState, page_at}
 use Rattle.std.specs.Option.{unwrap_or}
 use Rattle.fl_index.specs.declared.index.Index.{Index}
 use Rattle.fl_base.specs.declared.types.Geometry.{Geometry}
@@ -13,6 +13,8 @@ use Rattle.fl_table.proofs.Following.{watched-front, watched-then}
 use Rattle.fl_table.proofs.MountJoined.{mount-fails, mount-then, still-found, finds-as, refuses-by, stand-outside}
 use Rattle.fl_table.proofs.Outsides.{blobs-outside}
 use Rattle.fl_table.proofs.SealAnswers.{planned-same}
+use Rattle.fl_ring.specs.declared.fault.RingFault.{RingFault}
+use Rattle.fl_table.specs.Causes.{of_ring}
 use Rattle.fl_table.proofs.table.Table.mount.Goals as goal
 
 pub returns-in_err-end-clause-ends : goal.returns-in_err-end-clause-ends
@@ -101,3 +103,15 @@ returns-clause-outside g c = λ told page out index blobs.
     let shape : shape_at c.forget.new.self.place c.forget.new.self.geometry ≡ shape_at t.place t.geometry =
     ap (λ (p : RingPlace). shape_at p c.forget.new.self.geometry) c.forget.ensures.same.place ∙ ap (λ (x : Geometry). shape_at t.place x) c.forget.ensures.same.geometry in
     c.mount_rows.ensures.outside (subst IsTrue (sym c.in_ok-end.ensures.goes.tells) told) page (subst (λ (r : Shape). IsOutside r page) (sym shape) out) (blobs-outside t.blobs c.forget.new.self.blobs page c.forget.ensures.same.blobs blobs) ∙ first
+
+pub returns-in_err-end-clause-off : goal.returns-in_err-end-clause-off
+returns-in_err-end-clause-off g c = λ down.
+    let p = err_from_is_err_and c.from_residual.result c.from_residual.ensures.1 in
+    let h = c.in_err-end.ensures.off down in
+    rw (p.1, p.2) (ap (λ (e : RingFault). Err (of_ring e)) h.0, h.1)
+
+pub returns-clause-off : goal.returns-clause-off
+returns-clause-off g c = λ down.
+    let first = c.in_ok-end.ensures.off down in
+    let h = c.mount_rows.ensures.off (ap (λ (f : FlashState). f.is_on) first.1 ∙ down) in
+    (h.0, h.1 ∙ first.1)

@@ -1,4 +1,4 @@
-use Rattle.std.proofs.Common.{◌≡◌, ℕ, ◌+◌, ◌≤◌, Bor, List, None, length, option_map, not, ◌&&◌, ◌||◌, IsTrue, arith, sym, ◌∙◌, ap, subst}
+use Rattle.std.proofs.Common.{◌≡◌, ℕ, ◌+◌, ◌≤◌, Bor, List, Option, Some, None, Result, Ok, Err, length, option_map, not, ◌&&◌, ◌||◌, IsTrue, arith, sym, ◌∙◌, ap, subst}
 use Rattle.std.proofs.lemmas.Result.{err_from_is_err_and}
 use Rattle.fl_model.specs.Table.{after_seals, make_room_seals}
 use Rattle.fl_table.specs.Refusal.{put_refusal}
@@ -9,6 +9,11 @@ use Rattle.fl_table.proofs.Blobbing.{pages-most}
 use Rattle.fl_table.proofs.Outsides.{outside-then}
 use Rattle.fl_table.proofs.Following.{watched-front, watched-then}
 use Rattle.fl_table.proofs.PutAnswers.{accepts, and-true, broken-ends, join-fails, map-twice, put-ends, refused-ends}
+use Rattle.fl_flash.specs.declared.flash.FlashFault.{FlashFault}
+use Rattle.fl_flash.specs.declared.flash.FlashFault.TheVariants.{PowerLost}
+use Rattle.fl_table.specs.declared.faults.PutRefusal.{PutRefusal}
+use Rattle.fl_table.specs.declared.faults.PutRefusal.TheVariants as put
+use Rattle.fl_table.proofs.PowerOff.{put-off}
 use Rattle.fl_table.proofs.table.Table.put.Goals as goal
 
 pub returns-in-Some-clause-ends : goal.returns-in-Some-clause-ends
@@ -113,3 +118,40 @@ returns-in-Some-clause-running g c =
 pub returns-in-Some-clause-cause : goal.returns-in-Some-clause-cause
 returns-in-Some-clause-cause g c =
     calm-cause (g.F.Flash.state c.args.flash.now) c.in-Some.refusal (refusal-calm c.args.self.now c.args.key c.args.values.now _ c.in-Some.refusal (sym c.refusal.ensures ∙ c.in-Some.is))
+
+pub returns-in-Some-clause-off : goal.returns-in-Some-clause-off
+returns-in-Some-clause-off g c = λ none. absurd (no (sym none ∙ (sym c.refusal.ensures ∙ c.in-Some.is)))
+  where
+    no : ◌≡◌ {A = Option PutRefusal} None (Some c.in-Some.refusal) → ⊥
+    no e = cc
+
+pub returns-in_err-make_room-clause-off : goal.returns-in_err-make_room-clause-off
+returns-in_err-make_room-clause-off g c = λ none busy down.
+    let t = c.args.self.now in
+    let p = err_from_is_err_and c.from_residual.result c.from_residual.ensures.1 in
+    let h = c.in_err-make_room.ensures.off (λ room. no (c.in_err-make_room.ensures.quiet room).0) down in
+    rw (p.1, p.2) (ap (λ (e : FlashFault). Err (put.Flash e)) (same h.0), h.1)
+  where
+    no : ◌≡◌ {A = Result (Unit {0}) FlashFault} (Err c.in_err-make_room.field-0.0) (Ok tt) → ⊥
+    no e = cc
+
+    same : ◌≡◌ {A = Result (Unit {0}) FlashFault} (Err c.in_err-make_room.field-0.0) (Err PowerLost) → c.in_err-make_room.field-0.0 ≡ PowerLost
+    same e = cc
+
+pub returns-in_err-join-clause-off : goal.returns-in_err-join-clause-off
+returns-in_err-join-clause-off g c = λ none busy down.
+    let p = err_from_is_err_and c.from_residual-in_err-join.result c.from_residual-in_err-join.ensures.1 in
+    let h = put-off c.args.self.now c.make_room.new.self (g.F.Flash.state c.args.flash.now) (g.F.Flash.state c.make_room.new.flash) (g.F.Flash.state c.join.new.flash) (option_map (λ (b : Bor (List ℕ)). b.now) c.args.blob)
+    c.in_ok-make_room.field-0 (Err c.in_err-join.field-0.0) c.in_ok-make_room.ensures.off c.in_ok-make_room.ensures.quiet c.in_err-join.ensures.off busy down in
+    rw (p.1, p.2) (ap (λ (e : FlashFault). Err (put.Flash e)) (same h.0), h.1)
+  where
+    same : ◌≡◌ {A = Result (Unit {0}) FlashFault} (Err c.in_err-join.field-0.0) (Err PowerLost) → c.in_err-join.field-0.0 ≡ PowerLost
+    same e = cc
+
+pub returns-clause-off : goal.returns-clause-off
+returns-clause-off g c = λ none busy down.
+    absurd (no (put-off c.args.self.now c.make_room.new.self (g.F.Flash.state c.args.flash.now) (g.F.Flash.state c.make_room.new.flash) (g.F.Flash.state c.join.new.flash) (option_map (λ (b : Bor (List ℕ)). b.now) c.args.blob)
+    c.in_ok-make_room.field-0 (Ok c.in_ok-join.field-0) c.in_ok-make_room.ensures.off c.in_ok-make_room.ensures.quiet c.in_ok-join.ensures.off busy down).0)
+  where
+    no : ◌≡◌ {A = Result (Unit {0}) FlashFault} (Ok c.in_ok-join.field-0) (Err PowerLost) → ⊥
+    no e = cc

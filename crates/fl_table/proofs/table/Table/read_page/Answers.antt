@@ -2,7 +2,7 @@ use Rattle.std.proofs.Common.{rules, ◌≡◌, ◌≤◌, true, false, Ok, Err,
 use Rattle.fl_flash.specs.Flash.{page_at}
 use Rattle.fl_model.specs.Ring as rings
 use Rattle.fl_page.specs.declared.fault.ReadFault.TheVariants.{BadPage}
-use Rattle.fl_page.proofs.Reading.{OnlyReads-read}
+use Rattle.fl_page.proofs.Reading.{OnlyReads-read, IsCaused-read}
 use Rattle.fl_ring.proofs.Exists.{lies_exists}
 use Rattle.fl_table.specs.Kept.{place_of, IsFound}
 use Rattle.fl_table.specs.Look.{layout_in}
@@ -55,3 +55,6 @@ returns-in-Ok-clause-counts g c = OnlyReads-read _ _ _ _ _ _ c.read.ensures
 
 pub returns-in-Err-of-clause-counts : goal.returns-in-Err-of-clause-counts
 returns-in-Err-of-clause-counts g c = OnlyReads-read _ _ _ _ _ _ c.read.ensures
+
+pub returns-in-Err-clause-cause : goal.returns-in-Err-clause-cause
+returns-in-Err-clause-cause g c = IsCaused-read _ _ _ _ (Err c.in-Err.fault) _ c.in-Err.ensures

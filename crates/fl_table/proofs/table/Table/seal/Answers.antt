@@ -1,4 +1,4 @@
-use Rattle.std.proofs.Common.{◌≡◌, ◌∷◌, [], ◌++◌, List, Err, IsTrue, arith, sym, subst}
+use Rattle.std.proofs.Common.{◌≡◌, ◌∷◌, [], ◌++◌, List, Err, IsTrue, arith, sym, ap, subst}
 use Rattle.std.proofs.lemmas.Result.{err_from_is_err_and, IfErr-weaker}
 use Rattle.fl_model.specs.Table.{RingName, DataRing, after_seals}
 use Rattle.fl_table.specs.Bitmaps.{bitmap_seals}
@@ -9,6 +9,8 @@ use Rattle.fl_flash.specs.Flash.{page_at}
 use Rattle.fl_table.proofs.Outsides.{outside-then}
 use Rattle.fl_table.proofs.Plain.{some-table_seals}
 use Rattle.fl_table.proofs.SealAnswers.{writer-count}
+use Rattle.fl_flash.specs.declared.flash.FlashFault.{FlashFault}
+use Rattle.fl_table.proofs.PowerOff.{off-then}
 use Rattle.fl_table.proofs.table.Table.seal.Goals as goal
 
 pub returns-in_err-seal_bitmaps-clause-ends : goal.returns-in_err-seal_bitmaps-clause-ends
@@ -91,3 +93,22 @@ returns-in_err-seal_blobs-clause-outside g c = λ told.
     let first = g.F.Flash.state c.seal_bitmaps.new.flash in
     outside-then c.args.self.now c.seal_bitmaps.new.self (page_at old) (page_at first) (page_at (g.F.Flash.state c.seal_blobs.new.flash)) c.in_ok-seal_bitmaps.ensures.same (c.in_ok-seal_bitmaps.ensures.outside told)
     (c.in_err-seal_blobs.ensures.outside (subst IsTrue (sym c.in_ok-seal_bitmaps.ensures.goes.tells) told))
+
+pub returns-in_err-seal_bitmaps-clause-off : goal.returns-in_err-seal_bitmaps-clause-off
+returns-in_err-seal_bitmaps-clause-off g c =
+    let p = err_from_is_err_and c.from_residual.result c.from_residual.ensures.1 in
+    rw (p.1, p.2) (λ down. let h = c.in_err-seal_bitmaps.ensures.off down in (ap (λ (e : FlashFault). Err e) h.0, h.1))
+
+pub returns-in_err-seal_blobs-clause-off : goal.returns-in_err-seal_blobs-clause-off
+returns-in_err-seal_blobs-clause-off g c =
+    let p = err_from_is_err_and c.from_residual-in_err-seal_blobs.result c.from_residual-in_err-seal_blobs.ensures.1 in
+    rw (p.1, p.2) (off-then (g.F.Flash.state c.args.flash.now) (g.F.Flash.state c.seal_bitmaps.new.flash) (g.F.Flash.state c.seal_blobs.new.flash) c.in_ok-seal_bitmaps.field-0 (Err c.in_err-seal_blobs.field-0.0)
+    c.in_ok-seal_bitmaps.ensures.off (λ down. let h = c.in_err-seal_blobs.ensures.off down in (ap (λ (e : FlashFault). Err e) h.0, h.1)))
+
+pub returns-clause-off : goal.returns-clause-off
+returns-clause-off g c =
+    let first = g.F.Flash.state c.seal_bitmaps.new.flash in
+    let mid = g.F.Flash.state c.seal_blobs.new.flash in
+    let new = g.F.Flash.state c.seal_rows.new.flash in
+    off-then (g.F.Flash.state c.args.flash.now) first new c.in_ok-seal_bitmaps.field-0 c.seal_rows.result c.in_ok-seal_bitmaps.ensures.off
+    (off-then first mid new c.in_ok-seal_blobs.field-0 c.seal_rows.result c.in_ok-seal_blobs.ensures.off c.seal_rows.ensures.off)

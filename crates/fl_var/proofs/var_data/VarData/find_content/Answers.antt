@@ -1,7 +1,7 @@
-use Rattle.std.proofs.Common.{rules, ◌≡◌, ◌+◌, ◌-◌, ◌^◌, ◌<◌, ◌≤◌, ℕ, List, length, sym, ◌∙◌, ap, subst, arith}
+use Rattle.std.proofs.Common.{rules, ◌≡◌, ◌+◌, ◌-◌, ◌^◌, ◌<◌, ◌≤◌, ℕ, List, length, sym, ◌∙◌, ap, subst, arith, Err}
 use Rattle.fl_var.specs.Memory.{next_in, waiting_in}
 use Rattle.fl_var.proofs.PageImages.{next-state, next-count, next-has, next-bad, waiting-length}
-use Rattle.fl_page.proofs.Reading.{OnlyReads-read}
+use Rattle.fl_page.proofs.Reading.{OnlyReads-read, IsCaused-read}
 use Rattle.fl_var.proofs.var_data.VarData.find_content.Goals as goal
 
 pub returns-then-len-eq0-clause-bad : goal.returns-then-len-eq0-clause-bad
@@ -32,3 +32,6 @@ returns-in-Ok-clause-counts g c = OnlyReads-read _ _ _ _ _ _ c.read.ensures
 
 pub returns-in-Err-used_in-clause-counts : goal.returns-in-Err-used_in-clause-counts
 returns-in-Err-used_in-clause-counts g c = OnlyReads-read _ _ _ _ _ _ c.read.ensures
+
+pub returns-in-Err-clause-fails : goal.returns-in-Err-clause-fails
+returns-in-Err-clause-fails g c = IsCaused-read _ _ _ _ (Err c.in-Err.fault) _ c.in-Err.ensures

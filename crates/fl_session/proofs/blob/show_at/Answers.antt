@@ -1,0 +1,56 @@
+use Rattle.std.proofs.Common.{rules, ◌+◌, ◌/◌, ◌≤◌, length, sym, ◌∙◌, ap, arith}
+use Rattle.fl_base.specs.declared.types.BlobRef.{BlobRef}
+use Rattle.fl_page.proofs.Reading.{OnlyReads-then}
+use Rattle.fl_table.proofs.HeldBlobs.{standing-bytes}
+use Rattle.fl_var.specs.Reading.{data_of}
+use Rattle.fl_session.proofs.BlobShows.{says-empty, opened-ready, buffer-fits, data-lies, room-same, data-stands}
+use Rattle.fl_session.proofs.blob.show_at.Goals as goal
+
+pub returns-then-at-eq0-clause-says : goal.returns-then-at-eq0-clause-says
+returns-then-at-eq0-clause-says g c = λ first plan t i entry bytes tells on stands slot blob_is at_is.
+    says-empty _ _ _ _ _ _ _ t entry bytes blob_is (sym (ap (λ (a : BlobRef). a.length) at_is) ∙ c.if-at-eq0.true) c.write_reply.ensures.text
+
+pub blob_reader-reader-requires-clause-room : goal.blob_reader-reader-requires-clause-room
+blob_reader-reader-requires-clause-room g c = c.requires.room ∙ buffer-fits c.args.table.now (g.F.Flash.state c.args.flash.now) c.requires.lies c.requires.blobs
+
+pub open-stands-requires : goal.open-stands-requires
+open-stands-requires g c = record { lies = data-lies c.args.table.now (g.F.Flash.state c.args.flash.now) c.requires.lies _ c.blob_reader-reader.ensures.var }
+
+pub returns-clause-counts : goal.returns-clause-counts
+returns-clause-counts g c = OnlyReads-then _ _ _ c.open-stands.ensures.counts c.show_opened-written.ensures.counts
+
+pub returns-clause-says : goal.returns-clause-says
+returns-clause-says g c = λ first plan t i entry bytes tells on stands slot blob_is at_is.
+    let f = g.F.Flash.state c.args.flash.now in
+    let v = data_of c.blob_reader-reader.result in
+    let full : 1 ≤ c.args.at.length = search rules in
+    let some : 1 ≤ length bytes = omega (arith, ap (λ (a : BlobRef). a.length) at_is, full) in
+    let all = data-stands c.args.table.now f c.requires.lies v c.blob_reader-reader.ensures.var first plan t stands in
+    c.show_opened-written.ensures.says t entry bytes f on (record {
+      some = some;
+      only = c.open-stands.ensures.reads;
+      counts = c.open-stands.ensures.counts;
+      ready = opened-ready v f c.args.at c.open-stands.result c.open-stands.new.self (c.open-stands.ensures.opens tells);
+      finds = c.open-stands.ensures.finds plan t entry bytes tells all.in_pages blob_is at_is
+          (λ ring ring_is here some. standing-bytes v f (first + plan.data_blocks + plan.index_blocks) plan t all i entry bytes slot blob_is c.args.at at_is ring ring_is here some);
+      fails = c.open-stands.ensures.fails;
+    })
+
+pub returns-clause-reads : goal.returns-clause-reads
+returns-clause-reads g c = λ first plan t i entry bytes tells stands slot blob_is at_is.
+    let f = g.F.Flash.state c.args.flash.now in
+    let v = data_of c.blob_reader-reader.result in
+    let full : 1 ≤ c.args.at.length = search rules in
+    let some : 1 ≤ length bytes = omega (arith, ap (λ (a : BlobRef). a.length) at_is, full) in
+    let all = data-stands c.args.table.now f c.requires.lies v c.blob_reader-reader.ensures.var first plan t stands in
+    let more = c.show_opened-written.ensures.reads t entry bytes f (record {
+      some = some;
+      only = c.open-stands.ensures.reads;
+      counts = c.open-stands.ensures.counts;
+      ready = opened-ready v f c.args.at c.open-stands.result c.open-stands.new.self (c.open-stands.ensures.opens tells);
+      finds = c.open-stands.ensures.finds plan t entry bytes tells all.in_pages blob_is at_is
+          (λ ring ring_is here some. standing-bytes v f (first + plan.data_blocks + plan.index_blocks) plan t all i entry bytes slot blob_is c.args.at at_is ring ring_is here some);
+      fails = c.open-stands.ensures.fails;
+    }) in
+    let room = ap (λ n. c.args.at.length / n) (room-same c.args.table.now f c.requires.lies v c.blob_reader-reader.ensures.var) in
+    omega (arith, more, c.open-stands.ensures.few, room)

@@ -1,0 +1,40 @@
+use Rattle.std.proofs.Common.{◌≡◌, ◌-◌, ◌^◌, ◌<◌, Some, rules, refl, ap, arith}
+use Rattle.std.specs.List.{slice_get}
+use Rattle.fl_flash.specs.declared.flash.Work.{Work}
+use Rattle.fl_session.proofs.Blobbing.{blob-executes, blob-refused}
+use Rattle.fl_session.proofs.Costing.{has-read}
+use Rattle.fl_session.proofs.Getting.{goes-reads}
+use Rattle.fl_session.proofs.Owning.{reached-here, reached-within}
+use Rattle.fl_session.proofs.Sound.{sound-read}
+use Rattle.fl_session.proofs.session.Session.blob.Goals as goal
+
+pub returns-in-Err-clause-step : goal.returns-in-Err-clause-step
+returns-in-Err-clause-step g c = λ config old h. blob-refused _ config old _ _ _ _ c.args.name c.args.key c.in-Err.refusal _ _ _ h c.in-Err.ensures c.write_reply.ensures.text
+
+pub index-requires : goal.index-requires
+index-requires g c = reached-within c.args.self.now.tables.entries.items _ _ _ c.in-Ok.at c.args.self.now.tables.entries.ok.0 c.in-Ok.ensures
+
+pub show_blob-requires-clause-running : goal.show_blob-requires-clause-running
+show_blob-requires-clause-running g c =
+    let here : slice_get c.args.self.now.tables.entries.items c.in-Ok.at ≡ Some c.index.result.now = reached-here c.args.self.now.tables.entries.items _ _ c.in-Ok.at c.index.result.now c.in-Ok.ensures c.index.ensures in
+    c.requires.sound.running c.in-Ok.ensures.mounted_is c.in-Ok.at c.index.result.now here
+
+pub show_blob-requires-clause-lies : goal.show_blob-requires-clause-lies
+show_blob-requires-clause-lies g c =
+    let here : slice_get c.args.self.now.tables.entries.items c.in-Ok.at ≡ Some c.index.result.now = reached-here c.args.self.now.tables.entries.items _ _ c.in-Ok.at c.index.result.now c.in-Ok.ensures c.index.ensures in
+    c.requires.sound.lie c.in-Ok.at c.index.result.now here
+
+pub returns-clause-goes : goal.returns-clause-goes
+returns-clause-goes g c = goes-reads _ _ c.show_blob.ensures.counts
+
+pub returns-clause-sound : goal.returns-clause-sound
+returns-clause-sound g c = sound-read c.args.self.now.tables.entries.items _ _ _ _ _ _ _ (goes-reads _ _ c.show_blob.ensures.counts) c.show_blob.ensures.room refl (refl, refl) c.requires.sound.cursors c.requires.sound
+
+pub returns-clause-step : goal.returns-clause-step
+returns-clause-step g c = λ config old h.
+    let before : c.work-before.result.reads ≡ c.args.self.now.flash.work.reads = ap (λ (w : Work). w.reads) c.work-before.ensures in
+    let fits : c.work-before.result.reads < 2 ^ 64 = search rules in
+    let small : c.args.self.now.flash.work.reads < 2 ^ 64 = omega (arith, fits, before) in
+    let here : slice_get c.args.self.now.tables.entries.items c.in-Ok.at ≡ Some c.index.result.now = reached-here c.args.self.now.tables.entries.items _ _ c.in-Ok.at c.index.result.now c.in-Ok.ensures c.index.ensures in
+    blob-executes _ config old _ c.in-Ok.at c.index.result.now c.args.name _ _ _ (c.show_blob.new.flash.work.reads - c.args.self.now.flash.work.reads) c.args.key _ _ _ _ h c.in-Ok.ensures here c.show_blob.ensures.counts
+    (has-read _ _ c.show_blob.ensures.counts _ small refl) refl c.show_blob.ensures.shows

@@ -1,0 +1,38 @@
+use Rattle.std.proofs.Common.{rules, ◌≡◌, ◌<◌, ◌≤◌, Err, refl, arith}
+use Rattle.fl_var.specs.Memory.{room_in}
+use Rattle.fl_var.proofs.Found.{found-none, found-some, found-err}
+use Rattle.fl_var.proofs.Sealings.{pages-size}
+use Rattle.fl_var.proofs.Wholes.{pages-few}
+use Rattle.fl_var.proofs.reader.BlobReader.open.Goals as goal
+
+pub returns-in-Err-clause-finds : goal.returns-in-Err-clause-finds
+returns-in-Err-clause-finds g c = λ plan table entry bytes told stands blob_is at_is holds.
+    let v = c.args.self.now.var.now in
+    let f = g.F.Flash.state c.args.flash.now in
+    let some : 1 ≤ c.args.at.length = search rules in
+    let sizes = pages-size v f (g.met.F.Flash.reaches c.args.flash.now) c.requires.lies.geometry c.requires.lies.within in
+    found-err v f plan table stands sizes c.args.at entry bytes blob_is at_is some holds (Err c.in-Err.fault) c.in-Err.fault refl (c.in-Err.ensures.bad told)
+
+pub returns-in-Ok-None-clause-finds : goal.returns-in-Ok-None-clause-finds
+returns-in-Ok-None-clause-finds g c = λ plan table entry bytes told stands blob_is at_is holds.
+    let v = c.args.self.now.var.now in
+    let f = g.F.Flash.state c.args.flash.now in
+    let some : 1 ≤ c.args.at.length = search rules in
+    let sizes = pages-size v f (g.met.F.Flash.reaches c.args.flash.now) c.requires.lies.geometry c.requires.lies.within in
+    found-none v f plan table stands sizes c.args.at entry bytes blob_is at_is some holds (c.in-Ok-None.ensures.gone told c.in-Ok-None.field-0-is)
+
+pub returns-in-Ok-Some-clause-finds : goal.returns-in-Ok-Some-clause-finds
+returns-in-Ok-Some-clause-finds g c = λ plan table entry bytes told stands blob_is at_is holds.
+    let v = c.args.self.now.var.now in
+    let f = g.F.Flash.state c.args.flash.now in
+    let some : 1 ≤ c.args.at.length = search rules in
+    let sizes = pages-size v f (g.met.F.Flash.reaches c.args.flash.now) c.requires.lies.geometry c.requires.lies.within in
+    let here = rw c.in-Ok-Some.field-0-is at (c.in-Ok-Some.ensures.stands told) in
+    let h = found-some v f plan table stands sizes c.args.at entry bytes blob_is at_is some holds here.0 in
+    (h.0, h.1, λ left. h.2)
+
+pub returns-in-Ok-Some-clause-few : goal.returns-in-Ok-Some-clause-few
+returns-in-Ok-Some-clause-few g c =
+    let within = rw c.in-Ok-Some.field-0-is at c.in-Ok-Some.ensures.within in
+    let inside : c.args.at.offset < room_in c.args.self.now.var.now = omega (arith, within.1, within.3) in
+    pages-few c.args.at.length c.args.at.offset (room_in c.args.self.now.var.now) inside
