@@ -28,15 +28,15 @@ use Rattle.fl_cursor.proofs.Passing.{passes-all, passes-same, passes-end, passes
 use Rattle.fl_cursor.proofs.Taking.{takes-row, moves-on}
 use Rattle.fl_cursor.proofs.Walks.{reached, passed, stopped}
 
-pub length-buffered : (t : Table) → length (buffered_rows t) ≡ pending_in t
+pub length-buffered : {KNOTS SLOTS : ℕ} (t : Table KNOTS SLOTS) → length (buffered_rows t) ≡ pending_in t
 length-buffered t = length-rows_from (pending_in t) (layout_in t) (drop 16 t.writer.body)
 
-pub few-pending : (t : Table) → pending_in t ≤ 4096
+pub few-pending : {KNOTS SLOTS : ℕ} (t : Table KNOTS SLOTS) → pending_in t ≤ 4096
 few-pending t =
     let wide : pending_in t * 1 ≤ pending_in t * layout_len (layout_in t) = mul-le-mul_left (pending_in t) t.some_row in
     omega (arith, wide, t.rows_end, t.rows_room, t.page, t.served.page_greatest)
 
-module _ (old : Cursor) (row : ℕ) (here_is : old.place ≡ Pending row) (contents : Contents) (reads : ℕ) where
+module _ {KNOTS SLOTS : ℕ} (old : Cursor KNOTS SLOTS) (row : ℕ) (here_is : old.place ≡ Pending row) (contents : Contents) (reads : ℕ) where
   abbrev rows : List Row
   rows = buffered_rows old.table.now
 

@@ -61,7 +61,7 @@ stand-moved (Some index) old new first plan table same h = record {
 }
 
 -- what stands on a flash stands on each that holds the same
-pub stands-moved : (t : Table) (f : FlashState) (h : IsStanding t (contents_of f)) → Stands t f h.first h.plan h.table
+pub stands-moved : {KNOTS SLOTS : ℕ} (t : Table KNOTS SLOTS) (f : FlashState) (h : IsStanding t (contents_of f)) → Stands t f h.first h.plan h.table
 stands-moved t f h = record {
   planned = h.stands.planned;
   facts = h.stands.facts;
@@ -79,7 +79,7 @@ stands-moved t f h = record {
 
 -- ---- the page with the key
 
-module _ (t : Table) (contents : Contents) (h : IsStanding t contents) where
+module _ {KNOTS SLOTS : ℕ} (t : Table KNOTS SLOTS) (contents : Contents) (h : IsStanding t contents) where
   first_of : ℕ → Option ℕ
   first_of n = first_key (rows_on t contents n)
 
@@ -119,13 +119,13 @@ module _ (t : Table) (contents : Contents) (h : IsStanding t contents) where
             later = λ n past within. sym (told-starts key n (omega (arith, from, past)) within) ∙ is.later n past (omega (arith, within, next));
           }
 
-none-begins : (t : Table) (contents : Contents) (key n : ℕ) → ((k : ℕ) → oldest_in t ≤ k → k < oldest_in t + n → begins_by key (rows_on t contents k) ≡ false) → start_among t contents key n ≡ oldest_in t
+none-begins : {KNOTS SLOTS : ℕ} (t : Table KNOTS SLOTS) (contents : Contents) (key n : ℕ) → ((k : ℕ) → oldest_in t ≤ k → k < oldest_in t + n → begins_by key (rows_on t contents k) ≡ false) → start_among t contents key n ≡ oldest_in t
 none-begins t contents key zero none = refl
 none-begins t contents key (suc n) none =
     ap (λ b. cond b (oldest_in t + n) (start_among t contents key n)) (none (oldest_in t + n) (omega arith) (omega arith))
     ∙ none-begins t contents key n (λ k from before. none k from (omega (arith, before)))
 
-begins-at : (t : Table) (contents : Contents) (key i m : ℕ) → begins_by key (rows_on t contents (oldest_in t + i)) ≡ true →
+begins-at : {KNOTS SLOTS : ℕ} (t : Table KNOTS SLOTS) (contents : Contents) (key i m : ℕ) → begins_by key (rows_on t contents (oldest_in t + i)) ≡ true →
     ((k : ℕ) → oldest_in t + i < k → k < oldest_in t + i + 1 + m → begins_by key (rows_on t contents k) ≡ false) → start_among t contents key (suc i + m) ≡ oldest_in t + i
 begins-at t contents key i zero here later =
     ap (start_among t contents key) (let e : suc i + 0 ≡ suc i = omega arith in e) ∙ ap (λ b. cond b (oldest_in t + i) (start_among t contents key i)) here
@@ -136,7 +136,7 @@ begins-at t contents key i (suc m) here later =
     ∙ begins-at t contents key i m here (λ k past before. later k past (omega (arith, before))))
 
 -- it is where the rows are read from
-pub start-is : (t : Table) (contents : Contents) (key : ℕ) (page : Option ℕ) → IsPageOf (λ n. first_key (rows_on t contents n)) (oldest_in t) (next_in t) key page → start_of t contents key ≡ unwrap_or page (oldest_in t)
+pub start-is : {KNOTS SLOTS : ℕ} (t : Table KNOTS SLOTS) (contents : Contents) (key : ℕ) (page : Option ℕ) → IsPageOf (λ n. first_key (rows_on t contents n)) (oldest_in t) (next_in t) key page → start_of t contents key ≡ unwrap_or page (oldest_in t)
 start-is t contents key None is = none-begins t contents key (next_in t - oldest_in t) (λ k from before. is k from (omega (arith, before)))
 start-is t contents key (Some page) is =
     let i = page - oldest_in t in
@@ -149,7 +149,7 @@ start-is t contents key (Some page) is =
 
 -- ---- the pages in front of it
 
-pub over-split : (t : Table) (contents : Contents) (k m number : ℕ) → rows_over t contents number (k + m) ≡ rows_over t contents number k ++ rows_over t contents (number + k) m
+pub over-split : {KNOTS SLOTS : ℕ} (t : Table KNOTS SLOTS) (contents : Contents) (k m number : ℕ) → rows_over t contents number (k + m) ≡ rows_over t contents number k ++ rows_over t contents (number + k) m
 over-split t contents zero m number = ap (rows_over t contents number) (let e : 0 + m ≡ m = omega arith in e) ∙ ap (λ n. rows_over t contents n m) (let e : number ≡ number + 0 = omega arith in e)
 over-split t contents (suc k) m number =
     ap (rows_over t contents number) (let e : suc k + m ≡ suc (k + m) = omega arith in e)
@@ -157,7 +157,7 @@ over-split t contents (suc k) m number =
     ∙ (sym (append_assoc (rows_on t contents number) (rows_over t contents (number + 1) k) (rows_over t contents (number + 1 + k) m))
     ∙ ap (λ n. (rows_on t contents number ++ rows_over t contents (number + 1) k) ++ rows_over t contents n m) (let e : number + 1 + k ≡ number + suc k = omega arith in e)))
 
-pub asked-split : (t : Table) (contents : Contents) (asked : Cursor) (k m number : ℕ) → pages_asked t contents asked number (k + m) ≡ pages_asked t contents asked number k + pages_asked t contents asked (number + k) m
+pub asked-split : {KNOTS SLOTS : ℕ} (t : Table KNOTS SLOTS) (contents : Contents) (asked : Cursor) (k m number : ℕ) → pages_asked t contents asked number (k + m) ≡ pages_asked t contents asked number k + pages_asked t contents asked (number + k) m
 asked-split t contents asked zero m number =
     let e : 0 + m ≡ m = omega arith in
     let s : number ≡ number + 0 = omega arith in
@@ -175,7 +175,7 @@ none-raised asked (row ∷ rows) below =
     ap (λ b. (((b && nat_le row.key asked.range.high) && in_span asked.span (slice_get row.values 0)) && is_up_to asked.top row.key) || list_any (is_asked (raised asked)) rows) low
     ∙ none-raised asked rows below.1
 
-pub raised-below : (t : Table) (contents : Contents) (asked : Cursor) (n number : ℕ) → AllByRecursion (λ row. row.key < lowest_of asked) (rows_over t contents number n) → pages_asked t contents (raised asked) number n ≡ 0
+pub raised-below : {KNOTS SLOTS : ℕ} (t : Table KNOTS SLOTS) (contents : Contents) (asked : Cursor) (n number : ℕ) → AllByRecursion (λ row. row.key < lowest_of asked) (rows_over t contents number n) → pages_asked t contents (raised asked) number n ≡ 0
 raised-below t contents asked zero number below = refl
 raised-below t contents asked (suc n) number below =
     let here = none-raised asked (rows_on t contents number) (each-front (λ row. row.key < lowest_of asked) (rows_on t contents number) (rows_over t contents (number + 1) n) below) in
@@ -209,7 +209,7 @@ any-fewer p q (row ∷ rows) implies = by_row (p row) refl (any-fewer p q rows i
     by_row true is le = let e : cond (q row || list_any q rows) 1 0 ≡ 1 = ap (λ b. cond {A = ℕ} (b || list_any q rows) 1 0) (implies row is) in omega (arith, e)
     by_row false is le = under (q row) le
 
-pub raised-fewer : (t : Table) (contents : Contents) (asked : Cursor) (n number : ℕ) → asked.range.low ≤ lowest_of asked → pages_asked t contents (raised asked) number n ≤ pages_asked t contents asked number n
+pub raised-fewer : {KNOTS SLOTS : ℕ} (t : Table KNOTS SLOTS) (contents : Contents) (asked : Cursor) (n number : ℕ) → asked.range.low ≤ lowest_of asked → pages_asked t contents (raised asked) number n ≤ pages_asked t contents asked number n
 raised-fewer t contents asked zero number low = omega arith
 raised-fewer t contents asked (suc n) number low =
     let here = any-fewer (is_asked (raised asked)) (is_asked asked) (rows_on t contents number) (λ row is. raised-asked asked row low is) in
@@ -229,12 +229,12 @@ first-stored : (entries : List Entry) → option_map (λ (entry : Entry). entry.
 first-stored [] = refl
 first-stored (e ∷ entries) = refl
 
-pub pending-same : (t : Table) (contents : Contents) (h : IsStanding t contents) (key : ℕ) → is_pending_key h.table key ≡ begins_by key (buffered_rows t)
+pub pending-same : {KNOTS SLOTS : ℕ} (t : Table KNOTS SLOTS) (contents : Contents) (h : IsStanding t contents) (key : ℕ) → is_pending_key h.table key ≡ begins_by key (buffered_rows t)
 pending-same t contents h key =
     ap (λ (o : Option ℕ). unwrap_or (option_map (λ first. nat_le first key) o) false) (first-stored (pending_entries h.table) ∙ ap first_key (sym (standing-buffered t contents h)))
 
-pub few-reads : (t : Table) (contents : Contents) (h : IsStanding t contents) (key reads reads_now : ℕ) → reads_now ≤ reads + (next_in t - oldest_in t) + 1 →
-    (is_pending_key h.table key ≡ false → reads_now ≤ reads + lookup_limit 64 h.plan h.table key) → reads_now ≤ reads + most_to_find t key
+pub few-reads : {KNOTS SLOTS : ℕ} (t : Table KNOTS SLOTS) (contents : Contents) (h : IsStanding t contents) (key reads reads_now : ℕ) → reads_now ≤ reads + (next_in t - oldest_in t) + 1 →
+    (is_pending_key h.table key ≡ false → reads_now ≤ reads + lookup_limit KNOTS h.plan h.table key) → reads_now ≤ reads + most_to_find t key
 few-reads t contents h key reads reads_now most limit = by_pending (begins_by key (buffered_rows t)) refl
   where
     by_pending : (b : Bool) → begins_by key (buffered_rows t) ≡ b → reads_now ≤ reads + cond b (next_in t - oldest_in t + 1) (most_reads t.index (next_in t - oldest_in t) t.voids key)

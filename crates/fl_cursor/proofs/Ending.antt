@@ -32,7 +32,7 @@ no : true ≡ false → ⊥
 no e = cc
 
 -- pages none of which begins by a key have greater keys alone
-over-above : (t : Table) (contents : Contents) (key n number : ℕ) (before rest : List Row) → ((k : ℕ) → number ≤ k → k < number + n → begins_by key (rows_on t contents k) ≡ false) →
+over-above : {KNOTS SLOTS : ℕ} (t : Table KNOTS SLOTS) (contents : Contents) (key n number : ℕ) (before rest : List Row) → ((k : ℕ) → number ≤ k → k < number + n → begins_by key (rows_on t contents k) ≡ false) →
     Ascends None (before ++ (rows_over t contents number n ++ rest)) → Above key (rows_over t contents number n)
 over-above t contents key zero number before rest none up = tt
 over-above t contents key (suc n) number before rest none up =
@@ -47,7 +47,7 @@ over-above t contents key (suc n) number before rest none up =
         (lt, each-front (λ x. key < x.key) (rows ++ rows_over t contents (number + 1) n) rest (each-weaker (λ x. row.key < x.key) (λ x. key < x.key) ((rows ++ rows_over t contents (number + 1) n) ++ rest) (λ x le. omega (arith, lt, le)) greater))
 
 -- behind these pages are the pending rows
-pages-past : (old : Cursor) (next key : ℕ) → old.place ≡ Pages next → is_last (asked_of old).top key ≡ true → (contents : Contents) (reads : ℕ) →
+pages-past : {KNOTS SLOTS : ℕ} (old : Cursor KNOTS SLOTS) (next key : ℕ) → old.place ≡ Pages next → is_last (asked_of old).top key ≡ true → (contents : Contents) (reads : ℕ) →
     (IsTold old contents → Above key (rows_over (table_of old) contents next (next_in (table_of old) - next))) → Goes false contents reads old reads (record old { place = Pending 0 })
 pages-past old next key here_is last contents reads above =
     moves-on old contents reads (Pending 0) (omega arith)
@@ -64,7 +64,7 @@ pages-past old next key here_is last contents reads above =
     let nothing = due-nothing (asked_of old).span (table_of old).bitmaps (index_page old) in
     omega (arith, least, asked, looked, nothing))
 
-pub pages-end : (old : Cursor) (next end : ℕ) → old.place ≡ Pages next → oldest_in (table_of old) ≤ next → EndsPages (table_of old) (mark_of old).top end → end ≤ next → (contents : Contents) (reads : ℕ) →
+pub pages-end : {KNOTS SLOTS : ℕ} (old : Cursor KNOTS SLOTS) (next end : ℕ) → old.place ≡ Pages next → oldest_in (table_of old) ≤ next → EndsPages (table_of old) (mark_of old).top end → end ≤ next → (contents : Contents) (reads : ℕ) →
     Goes false contents reads old reads (record old { place = Pending 0 })
 pages-end old next end here_is from ends past contents reads = by_top (mark_of old).top refl ends
   where
@@ -83,7 +83,7 @@ pages-end old next end here_is from ends past contents reads = by_top (mark_of o
     by_top (Some top) is ends = pages-past old next top here_is (ap (λ (o : Option ℕ). is_last o top) is ∙ le-leb top top (omega arith)) contents reads (above-last top ends)
 
 -- a page before the end is kept
-pub within-end : (old : Cursor) (end next : ℕ) → EndsPages (table_of old) (mark_of old).top end → next < end → next < next_in (table_of old)
+pub within-end : {KNOTS SLOTS : ℕ} (old : Cursor KNOTS SLOTS) (end next : ℕ) → EndsPages (table_of old) (mark_of old).top end → next < end → next < next_in (table_of old)
 within-end old end next ends lt = by_top (mark_of old).top ends
   where
     by_top : (top : Option ℕ) → EndsPages (table_of old) top end → next < next_in (table_of old)
@@ -91,12 +91,12 @@ within-end old end next ends lt = by_top (mark_of old).top ends
     by_top (Some top) is = omega (arith, lt, is.0)
 
 -- it stays so where the table and what is asked for stay
-pub ends-kept : (old new : Cursor) (end : ℕ) → Keeps old new → mark_of new ≡ mark_of old → EndsPages (table_of old) (mark_of old).top end → EndsPages (table_of new) (mark_of new).top end
-ends-kept old new end keeps mark ends =
-    subst (λ (t : Bor Table). EndsPages t.now (mark_of new).top end) (sym keeps.table) (subst (λ (m : Bookmark). EndsPages (table_of old) m.top end) (sym mark) ends)
+pub ends-kept : {KNOTS SLOTS : ℕ} (old new : Cursor KNOTS SLOTS) (end : ℕ) → Keeps old new → mark_of new ≡ mark_of old → EndsPages (table_of old) (mark_of old).top end → EndsPages (table_of new) (mark_of new).top end
+ends-kept {KNOTS} {SLOTS} old new end keeps mark ends =
+    subst (λ (t : Bor (Table KNOTS SLOTS)). EndsPages t.now (mark_of new).top end) (sym keeps.table) (subst (λ (m : Bookmark). EndsPages (table_of old) m.top end) (sym mark) ends)
 
 -- the pages that the table ends by a key
-pub ends-by : (t : Table) (key end : ℕ) → end ≤ next_in t → ((contents : Contents) (h : IsStanding t contents) → IfSome (page_at h.table key) (λ page. page < end)) → EndsPages t (Some key) end
+pub ends-by : {KNOTS SLOTS : ℕ} (t : Table KNOTS SLOTS) (key end : ℕ) → end ≤ next_in t → ((contents : Contents) (h : IsStanding t contents) → IfSome (page_at h.table key) (λ page. page < end)) → EndsPages t (Some key) end
 ends-by t key end within past = (within, λ contents h n from behind before. by_page contents n from behind before (page_at h.table key) (past contents h) (standing-start t contents h key))
   where
     by_page : (contents : Contents) (n : ℕ) → oldest_in t ≤ n → end ≤ n → n < next_in t → (o : Option ℕ) → IfSome o (λ page. page < end) →

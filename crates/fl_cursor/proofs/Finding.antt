@@ -48,7 +48,7 @@ first-front [] ys row e = absurd (none e)
     none e = cc
 first-front (x ∷ xs) ys row e = e
 
-module _ (old : Cursor) (here_is : old.place ≡ Start) (buf : MutBor BufferState) (contents : Contents) (reads reads_now : ℕ) (named : buf.ghost_name ≡ old.rows_buf.ghost_name) (room : length buf.now.bytes ≡ length old.rows_buf.now.bytes)
+module _ {KNOTS SLOTS : ℕ} (old : Cursor KNOTS SLOTS) (here_is : old.place ≡ Start) (buf : MutBor BufferState) (contents : Contents) (reads reads_now : ℕ) (named : buf.ghost_name ≡ old.rows_buf.ghost_name) (room : length buf.now.bytes ≡ length old.rows_buf.now.bytes)
     (later : reads_now < 2 ^ 64 - 1 → reads ≤ reads_now) (few : IsTold old contents → reads_now ≤ reads + most_to_find (table_of old) (lowest_of (asked_of old))) where
   abbrev low : ℕ
   low = lowest_of (asked_of old)

@@ -48,7 +48,7 @@ same-row rows from j k r row at one other =
 pub drop-same : (rows : List Row) (from j k : ℕ) → k ≡ from + j → drop (suc j) (drop from rows) ≡ drop (k + 1) rows
 drop-same rows from j k at = drop-drop (suc j) from rows ∙ ap (λ n. drop n rows) (let e : from + suc j ≡ k + 1 = omega (arith, at) in e)
 
-module _ (old : Cursor) (number row : ℕ) (here_is : old.place ≡ InPage number row) (placed : IsPlaced (table_of old) (buffer_of old) (InPage number row)) (contents : Contents) (reads : ℕ) where
+module _ {KNOTS SLOTS : ℕ} (old : Cursor KNOTS SLOTS) (number row : ℕ) (here_is : old.place ≡ InPage number row) (placed : IsPlaced (table_of old) (buffer_of old) (InPage number row)) (contents : Contents) (reads : ℕ) where
   abbrev rows : List Row
   rows = rows_in (layout_in old.table.now) old.rows_buf.now.bytes
 

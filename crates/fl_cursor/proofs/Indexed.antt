@@ -73,7 +73,7 @@ looking-none bitmaps (InPage number row) buf none = scanning-none bitmaps (numbe
 looking-none bitmaps (Pending row) buf none = tt
 looking-none bitmaps Ended buf none = tt
 
-module _ (old : Cursor) (next : ℕ) (here_is : old.place ≡ Pages next) (from : oldest_in (table_of old) ≤ next) (before : next < next_in (table_of old)) (f new : FlashState) (result : Result Bool ReadFault) (index : MutBor BufferState) where
+module _ {KNOTS SLOTS : ℕ} (old : Cursor KNOTS SLOTS) (next : ℕ) (here_is : old.place ≡ Pages next) (from : oldest_in (table_of old) ≤ next) (before : next < next_in (table_of old)) (f new : FlashState) (result : Result Bool ReadFault) (index : MutBor BufferState) where
   pub looked : index.ghost_name ≡ old.index_buf.ghost_name → length index.now.bytes ≡ length old.index_buf.now.bytes → OnlyReads f new → (HoldGood (table_of old).bitmaps (index_page old) → HoldGood (table_of old).bitmaps index.now) →
       (IsTrue f.media.tells → AreFresh (table_of old).bitmaps f (index_page old) → AreFresh (table_of old).bitmaps new index.now) →
       ((first : ℕ) (plan : Plan) (table : model.Table) → IsTrue f.media.tells → Stands (table_of old) f first plan table → AreFresh (table_of old).bitmaps f (index_page old) → AreScanning (table_of old).bitmaps next (index_page old) →
@@ -124,11 +124,11 @@ module _ (old : Cursor) (next : ℕ) (here_is : old.place ≡ Pages next) (from 
       by_result told some (Err fault) shown = tt
 
 -- what was answered, by another name
-pub looked-as : {old : Cursor} {next reads mid : ℕ} {contents : Contents} {index : MutBor BufferState} {a b : Bool} → a ≡ b → Looked old next contents reads (Ok a) mid index → Looked old next contents reads (Ok b) mid index
+pub looked-as : {KNOTS SLOTS : ℕ} {old : Cursor KNOTS SLOTS} {next reads mid : ℕ} {contents : Contents} {index : MutBor BufferState} {a b : Bool} → a ≡ b → Looked old next contents reads (Ok a) mid index → Looked old next contents reads (Ok b) mid index
 looked-as {old} {next} {reads} {mid} {contents} {index} e h = subst (λ x. Looked old next contents reads (Ok x) mid index) e h
 
 -- a bad index page that is answered
-pub bad-index : (t : Table) (f : FlashState) (buf : BufferState) (fault : ReadFault) → HoldGood t.bitmaps buf → looking.IfBad (λ bad. IsTrue f.media.tells → HoldGood t.bitmaps buf → IsBadIndex t.bitmaps f bad) fault →
+pub bad-index : {KNOTS SLOTS : ℕ} (t : Table KNOTS SLOTS) (f : FlashState) (buf : BufferState) (fault : ReadFault) → HoldGood t.bitmaps buf → looking.IfBad (λ bad. IsTrue f.media.tells → HoldGood t.bitmaps buf → IsBadIndex t.bitmaps f bad) fault →
     IfBad (MayBeBad t (contents_of f)) fault
 bad-index t f buf (Flash fault) good h = tt
 bad-index t f buf (BadPage bad) good h = λ tells. inr (by_index t.bitmaps (h tells good))
@@ -138,7 +138,7 @@ bad-index t f buf (BadPage bad) good h = λ tells. inr (by_index t.bitmaps (h te
     by_index (Some index) e = record { from = e.from; before = e.before; committed = e.committed; not_good = e.not_good; told = e.told }
 
 -- the bytes that were read after the look
-pub page-bytes : (t : Table) (number : ℕ) (f new : FlashState) (bytes : List ℕ) → IsStanding t (contents_of f) → OnlyReads f new → (IsTrue new.media.tells → bytes ≡ page_at new (place_of t number)) → bytes ≡ bytes_at t (contents_of f) number
+pub page-bytes : {KNOTS SLOTS : ℕ} (t : Table KNOTS SLOTS) (number : ℕ) (f new : FlashState) (bytes : List ℕ) → IsStanding t (contents_of f) → OnlyReads f new → (IsTrue new.media.tells → bytes ≡ page_at new (place_of t number)) → bytes ≡ bytes_at t (contents_of f) number
 page-bytes t number f new bytes standing counts read =
     read (subst (λ (k : Contents). IsTrue k.tells) (sym counts.contents) (standing-tells t (contents_of f) standing))
     ∙ ap (λ (k : Contents). page_of k.bytes k.start k.geometry.page (place_of t number)) counts.contents

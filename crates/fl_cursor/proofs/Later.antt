@@ -121,7 +121,7 @@ or-true : (b c : Bool) → c ≡ true → (b || c) ≡ true
 or-true true c e = refl
 or-true false c e = e
 
-looked-any : (t : Table) (contents : Contents) (top : Option ℕ) (q : ℕ → Bool) (n number k : ℕ) → number ≤ k → k < number + n → list_any (λ row. is_up_to top row.key) (rows_on t contents k) ≡ true → q k ≡ true →
+looked-any : {KNOTS SLOTS : ℕ} (t : Table KNOTS SLOTS) (contents : Contents) (top : Option ℕ) (q : ℕ → Bool) (n number k : ℕ) → number ≤ k → k < number + n → list_any (λ row. is_up_to top row.key) (rows_on t contents k) ≡ true → q k ≡ true →
     list_any q (pages_looked_up t contents top number n) ≡ true
 looked-any t contents top q zero number k low high up is = absurd (omega (arith, low, high))
 looked-any t contents top q (suc n) number k low high up is = elim (cases_lt number k) [
@@ -167,7 +167,7 @@ has-first P zero entries some more h = absurd (omega (arith, some))
 has-first P (suc c) [] some more h = absurd (omega (arith, more))
 has-first P (suc c) (e ∷ es) some more h = record { entry = e; first = refl; holds = h.0 }
 
-module _ (t : Table) (contents : Contents) where
+module _ {KNOTS SLOTS : ℕ} (t : Table KNOTS SLOTS) (contents : Contents) where
   -- what holds of all rows of pages holds of the first one of each
   pub first-over : (P : Row → Type 0) (n : ℕ) (row : Row) → oldest_in t ≤ n → n < next_in t → slice_get (rows_on t contents n) 0 ≡ Some row → AllByRecursion P (rows_over t contents (oldest_in t) (next_in t - oldest_in t)) → P row
   first-over P n row low high first all =
@@ -180,7 +180,7 @@ module _ (t : Table) (contents : Contents) where
       let here = each-front P (rows_on t contents n) (rows_over t contents (n + 1) m) (subst (λ j. AllByRecursion P (rows_over t contents j (suc m))) at part) in
       first-each P (rows_on t contents n) row first here
 
-module _ (t : Table) (contents : Contents) (h : IsStanding t contents) where
+module _ {KNOTS SLOTS : ℕ} (t : Table KNOTS SLOTS) (contents : Contents) (h : IsStanding t contents) where
   -- the rows of an earlier page are below those of a later one
   earlier : (a b : ℕ) (x y : Row) → oldest_in t ≤ a → a < b → b < next_in t → slice_get (rows_on t contents a) 0 ≡ Some x → slice_get (rows_on t contents b) 0 ≡ Some y → x.key < y.key
   earlier a b x y low lt high first_x first_y =

@@ -114,7 +114,7 @@ none-past asked (row ∷ rows) past = ap (λ b. b || list_any (is_asked (raised 
         let from = leb-true (lowest_of asked) row.key (both (nat_le (lowest_of asked) row.key) (nat_le row.key asked.range.high) matching.0).0 in
         no (sym (by_top asked.top parts.1 from) ∙ past))
 
-pages-past : (t : Table) (contents : Contents) (asked : Cursor) (n number : ℕ) → is_up_to asked.top (lowest_of asked) ≡ false → pages_asked t contents (raised asked) number n ≡ 0
+pages-past : {KNOTS SLOTS : ℕ} (t : Table KNOTS SLOTS) (contents : Contents) (asked : Cursor) (n number : ℕ) → is_up_to asked.top (lowest_of asked) ≡ false → pages_asked t contents (raised asked) number n ≡ 0
 pages-past t contents asked zero number past = refl
 pages-past t contents asked (suc n) number past =
     let here = none-past asked (rows_on t contents number) past in
@@ -136,7 +136,7 @@ any-asked asked (x ∷ xs) h e = by_here (matches asked.range asked.span x.kept)
     by_here true is others e = ap (λ b. b || list_any (is_asked asked) (map stored_row xs)) (h.0 is)
     by_here false is others e = or-true (is_asked asked (stored_row x)) (list_any (is_asked asked) (map stored_row xs)) (others e)
 
-module _ (t : Table) (contents : Contents) (h : IsStanding t contents) where
+module _ {KNOTS SLOTS : ℕ} (t : Table KNOTS SLOTS) (contents : Contents) (h : IsStanding t contents) where
   module _ (asked : Cursor) (all : AllByRecursion (λ (e : Entry). matches asked.range asked.span e.kept ≡ true → is_asked asked (stored_row e) ≡ true) h.table.entries) where
     abbrev before : ℕ → ℕ
     before i = sum (take i h.table.rows.counts)

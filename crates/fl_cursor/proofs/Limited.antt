@@ -70,7 +70,7 @@ pub bounded-min : (high : ℕ) (last : Option ℕ) → IsBounded (option_map (λ
 bounded-min high None = tt
 bounded-min high (Some key) = omega arith
 
-module _ (t : Table) (contents : Contents) (h : IsStanding t contents) where
+module _ {KNOTS SLOTS : ℕ} (t : Table KNOTS SLOTS) (contents : Contents) (h : IsStanding t contents) where
   -- a page with rows that isn't skipped counts
   wanted : (span : Option Span) (number : ℕ) → oldest_in t ≤ number → number < next_in t → is_skipped t contents span number ≡ false → (0 < rows_noted t number) × (is_wanted h.plan h.table span number ≡ true)
   wanted span number from before skipped = by_count (cases_lt 0 (rows_noted t number))
@@ -146,7 +146,7 @@ module _ (t : Table) (contents : Contents) (h : IsStanding t contents) where
   -- the limit of a key that isn't pending
   abbrev beyond : Cursor → ℕ
   beyond asked =
-      lookup_limit 64 h.plan h.table (lowest_of asked) + 2 + voids_of h.table
+      lookup_limit KNOTS h.plan h.table (lowest_of asked) + 2 + voids_of h.table
       + (cond (has_index h.plan && is_spanned asked.span) (unwrap_or (option_map (λ (ring : Ring). full_pages ring.counts) h.table.index) 0) 0)
       + count_by (counted asked.span asked.range.high (first_page h.table (lowest_of asked))) (numbers_of h.table)
 
@@ -171,11 +171,11 @@ module _ (t : Table) (contents : Contents) (h : IsStanding t contents) where
           omega (arith, same, few, has)
 
   start-limit : (asked : Cursor) (index : BufferState) (page : List ℕ) → index.holds ≡ None → IsBounded asked.top asked.range.high → begins_by (lowest_of asked) (buffered_rows t) ≡ false →
-      most_from t contents asked index page Start ≤ scan_limit 64 h.plan h.table asked.range asked.span (lowest_of asked)
+      most_from t contents asked index page Start ≤ scan_limit KNOTS h.plan h.table asked.range asked.span (lowest_of asked)
   start-limit asked index page empty bounded none =
       let low = lowest_of asked in
       let pending : is_pending_key h.table (lowest_of asked) ≡ false = pending-same t contents h (lowest_of asked) ∙ none in
-      let finds : most_to_find t (lowest_of asked) ≡ lookup_limit 64 h.plan h.table (lowest_of asked) =
+      let finds : most_to_find t (lowest_of asked) ≡ lookup_limit KNOTS h.plan h.table (lowest_of asked) =
       ap (λ b. cond b (next_in t - oldest_in t + 1) (most_reads t.index (next_in t - oldest_in t) t.voids (lowest_of asked))) none
       ∙ limit-told t h.flash h.first h.plan h.table low (next_in t - oldest_in t) h.stands pending (pages-is t h.flash h.first h.plan h.table h.stands) in
       let oldest = oldest-is t h.flash h.first h.plan h.table h.stands in
@@ -200,7 +200,7 @@ module _ (t : Table) (contents : Contents) (h : IsStanding t contents) where
       subst (λ (b : Bool). most_from t contents asked index page Start ≤ cond b 0 (beyond asked)) (sym pending) most
 
   pub begun-limit : (asked : Cursor) (index : BufferState) (page : List ℕ) (place : Place) → index.holds ≡ None → IsBounded asked.top asked.range.high → IsBegun asked t place →
-      most_from t contents asked index page place ≤ scan_limit 64 h.plan h.table asked.range asked.span (lowest_of asked)
+      most_from t contents asked index page place ≤ scan_limit KNOTS h.plan h.table asked.range asked.span (lowest_of asked)
   begun-limit asked index page Start empty bounded begun = start-limit asked index page empty bounded begun
   begun-limit asked index page (Pending row) empty bounded begun = omega arith
   begun-limit asked index page Ended empty bounded begun = omega arith

@@ -59,7 +59,7 @@ due-nothing (Some span) (Some index) buf = by_values (asks_values (Some span))
     by_values false = refl
 
 -- pages that are looked up lie behind the one that comes next
-pub looked-from : (t : Table) (contents : Contents) (top : Option ℕ) (n number : ℕ) → AllByRecursion (λ k. number ≤ k) (pages_looked_up t contents top number n)
+pub looked-from : {KNOTS SLOTS : ℕ} (t : Table KNOTS SLOTS) (contents : Contents) (top : Option ℕ) (n number : ℕ) → AllByRecursion (λ k. number ≤ k) (pages_looked_up t contents top number n)
 looked-from t contents top zero number = tt
 looked-from t contents top (suc n) number =
     by_rows (list_any (λ row. is_up_to top row.key) (rows_on t contents number))
@@ -75,7 +75,7 @@ none-up : (top : Option ℕ) (key : ℕ) (rows : List Row) → is_last top key �
 none-up top key [] last h = refl
 none-up top key (row ∷ rows) last h = ap (λ b. b || list_any (λ row. is_up_to top row.key) rows) (past-last top key row.key last h.0) ∙ none-up top key rows last h.1
 
-pub looked-over : (t : Table) (contents : Contents) (top : Option ℕ) (key n number : ℕ) → is_last top key ≡ true → Above key (rows_over t contents number n) → pages_looked_up t contents top number n ≡ []
+pub looked-over : {KNOTS SLOTS : ℕ} (t : Table KNOTS SLOTS) (contents : Contents) (top : Option ℕ) (key n number : ℕ) → is_last top key ≡ true → Above key (rows_over t contents number n) → pages_looked_up t contents top number n ≡ []
 looked-over t contents top key zero number last h = refl
 looked-over t contents top key (suc n) number last h =
     let here = none-up top key (rows_on t contents number) last (each-front (λ (row : Row). key < row.key) (rows_on t contents number) (rows_over t contents (number + 1) n) h) in
@@ -83,7 +83,7 @@ looked-over t contents top key (suc n) number last h =
     ∙ looked-over t contents top key n (number + 1) last (each-back (λ (row : Row). key < row.key) (rows_on t contents number) (rows_over t contents (number + 1) n) h)
 
 -- a page less is looked up from the next one on
-pub looked-less : (t : Table) (contents : Contents) (asked : Cursor) (index : BufferState) (number : ℕ) → index_least t contents asked index (number + 1) ≤ index_least t contents asked index number
+pub looked-less : {KNOTS SLOTS : ℕ} (t : Table KNOTS SLOTS) (contents : Contents) (asked : Cursor) (index : BufferState) (number : ℕ) → index_least t contents asked index (number + 1) ≤ index_least t contents asked index number
 looked-less t contents asked index number = elim (cases_lt number (next_in t)) [
   | inl lt ↦
       let one : next_in t - number ≡ suc (next_in t - (number + 1)) = omega (arith, lt) in

@@ -66,7 +66,7 @@ ascends-front bound (first ∷ rows) row later h = (first-below (Some first.key)
         let there = first-below (Some x.key) xs row later h.1 in
         omega (arith, here, there)
 
-pub starts-nowhere : (t : Table) (contents : Contents) (asked : Cursor) → is_up_to asked.top (lowest_of asked) ≡ false → Passes asked (rows_of t contents) []
+pub starts-nowhere : {KNOTS SLOTS : ℕ} (t : Table KNOTS SLOTS) (contents : Contents) (asked : Cursor) → is_up_to asked.top (lowest_of asked) ≡ false → Passes asked (rows_of t contents) []
 starts-nowhere t contents asked past = passes-end asked (rows_of t contents) (rows_of t contents) (passes-all asked (rows_of t contents)) (none-up-to asked (rows_of t contents) past)
 
 -- rows behind a row whose key is at most the lowest one
@@ -77,6 +77,6 @@ starts-behind asked front ahead row first le ascends =
     passes-over asked (front ++ ahead) front ahead (passes-all asked (front ++ ahead)) (none-below asked front
     (each-weaker (λ x. x.key < row.key) (λ x. x.key < lowest_of asked) front (λ x lt. omega (arith, lt, le)) lesser))
 
-pub starts-pending : (t : Table) (contents : Contents) (asked : Cursor) (row : Row) → IsStanding t contents → slice_get (buffered_rows t) 0 ≡ Some row → row.key ≤ lowest_of asked → Passes asked (rows_of t contents) (buffered_rows t)
+pub starts-pending : {KNOTS SLOTS : ℕ} (t : Table KNOTS SLOTS) (contents : Contents) (asked : Cursor) (row : Row) → IsStanding t contents → slice_get (buffered_rows t) 0 ≡ Some row → row.key ≤ lowest_of asked → Passes asked (rows_of t contents) (buffered_rows t)
 starts-pending t contents asked row standing first le =
     starts-behind asked (rows_over t contents (oldest_in t) (next_in t - oldest_in t)) (buffered_rows t) row first le (standing-ascends t contents standing)

@@ -40,13 +40,13 @@ end-is (InPage number row) e = absurd (no e)
 end-is (Pending row) e = absurd (no e)
 
 -- at the end no row is left
-pub ended-none : (cursor : Cursor) (contents : Contents) → IsTold cursor contents → has_ended cursor ≡ true → left_of cursor contents ≡ []
+pub ended-none : {KNOTS SLOTS : ℕ} (cursor : Cursor KNOTS SLOTS) (contents : Contents) → IsTold cursor contents → has_ended cursor ≡ true → left_of cursor contents ≡ []
 ended-none cursor contents told e =
     passes-left (asked_of cursor) (rows_of (table_of cursor) contents) (rows_behind (table_of cursor) contents (buffer_of cursor) cursor.place) told.passes
     ∙ ap (λ (p : Place). filter (is_left (asked_of cursor)) (rows_behind (table_of cursor) contents (buffer_of cursor) p)) (end-is cursor.place e)
 
 -- over a flash that stands for the table no index page is bad
-none-bad : (t : Table) (contents : Contents) (h : IsStanding t contents) (bad : BadPageOf) (bitmaps : Option Index) → t.bitmaps ≡ bitmaps → AreBadIn bitmaps contents bad → ⊥
+none-bad : {KNOTS SLOTS : ℕ} (t : Table KNOTS SLOTS) (contents : Contents) (h : IsStanding t contents) (bad : BadPageOf) (bitmaps : Option Index) → t.bitmaps ≡ bitmaps → AreBadIn bitmaps contents bad → ⊥
 none-bad t contents h bad None is e = e
 none-bad t contents h bad (Some index) is e =
     let same = ap (λ (c : Contents). page_of c.bytes c.start c.geometry.page (place_in index bad.wanted)) h.same in
@@ -54,7 +54,7 @@ none-bad t contents h bad (Some index) is e =
     let good = kept-good index h.flash (h.first + h.plan.data_blocks) h.plan h.table (index-stands t h.flash h.first h.plan h.table h.stands index is) lies h.reaches bad.wanted e.from e.before (ap state_of_page same ∙ e.committed) in
     e.not_good (subst (IsGoodPage (per_page index) bad.wanted) same good)
 
-module _ (old new : Cursor) (contents : Contents) (reads reads_now : ℕ) where
+module _ {KNOTS SLOTS : ℕ} (old new : Cursor KNOTS SLOTS) (contents : Contents) (reads reads_now : ℕ) where
   pub told-after : (result : Result Bool ReadFault) → IfOk result (λ more. Goes more contents reads old reads_now new) → OnErr result (Fails contents reads old reads_now new) → IsTold old contents → IsTold new contents
   told-after (Ok more) goes fails told = goes.told told
   told-after (Err fault) goes fails told = fails.told told
@@ -62,7 +62,7 @@ module _ (old new : Cursor) (contents : Contents) (reads reads_now : ℕ) where
   same-left : Fails contents reads old reads_now new → left_of new contents ≡ left_of old contents
   same-left fails =
       ap (λ (m : Bookmark). filter (is_left (asked_by m)) (rows_of (table_of new) contents)) fails.notes
-      ∙ ap (λ (t : Bor Table). filter (is_left (asked_of old)) (rows_of t.now contents)) fails.keeps.table
+      ∙ ap (λ (t : Bor (Table KNOTS SLOTS)). filter (is_left (asked_of old)) (rows_of t.now contents)) fails.keeps.table
 
   pub steps-after : (result : Result Bool ReadFault) → IfOk result (λ more. Goes more contents reads old reads_now new) → OnErr result (Fails contents reads old reads_now new) → IfErr result (IfBad (MayBeBad (table_of old) contents)) →
       IfOk result (λ more. OnFalse more (has_ended new ≡ true)) → IsTold old contents → Steps result (left_of old contents) (present_of new) (left_of new contents)

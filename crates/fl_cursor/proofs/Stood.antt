@@ -60,7 +60,7 @@ take_none : {X : Type 0} (xs : List X) → take 0 xs ≡ []
 take_none [] = refl
 take_none (x ∷ xs) = refl
 
-module _ (t : Table) (contents : Contents) (h : IsStanding t contents) where
+module _ {KNOTS SLOTS : ℕ} (t : Table KNOTS SLOTS) (contents : Contents) (h : IsStanding t contents) where
   abbrev table : model.Table
   table = h.table
 
@@ -223,7 +223,7 @@ entries-ascend last (e ∷ entries) up head = (
       (λ b at. lt-ltb e.kept.key b.kept.key (up 0 1 e b (omega arith) refl at)),
 )
 
-pub standing-ascends : (t : Table) (contents : Contents) (h : IsStanding t contents) → Ascends None (rows_of t contents)
+pub standing-ascends : {KNOTS SLOTS : ℕ} (t : Table KNOTS SLOTS) (contents : Contents) (h : IsStanding t contents) → Ascends None (rows_of t contents)
 standing-ascends t contents h =
     subst (Ascends None) (sym (standing-rows t contents h)) (entries-ascend None h.table.entries h.stands.facts.ascending (λ b at. refl))
 
@@ -236,5 +236,5 @@ left-entries asked (e ∷ entries) = by_test (is_left asked (stored_row e)) (lef
     by_test true h = ap (λ (xs : List Row). stored_row e ∷ xs) h
     by_test false h = h
 
-pub standing-tells : (t : Table) (contents : Contents) → IsStanding t contents → IsTrue contents.tells
+pub standing-tells : {KNOTS SLOTS : ℕ} (t : Table KNOTS SLOTS) (contents : Contents) → IsStanding t contents → IsTrue contents.tells
 standing-tells t contents h = subst (λ (b : Bool). IsTrue b) (ap (λ (c : Contents). c.tells) h.same) h.tells

@@ -17,11 +17,11 @@ use Rattle.fl_cursor.specs.declared.place.Place.TheVariants.{Ended}
 use Rattle.fl_cursor.proofs.Passing.{passes-taken, passes-end, passes-above, gives-taken, none-past, taken}
 
 -- what is asked for doesn't change with the key given last
-pub pages-taken : (t : Table) (contents : Contents) (asked : model.Cursor) (key n number : ℕ) → pages_asked t contents (taken asked key) number n ≡ pages_asked t contents asked number n
+pub pages-taken : {KNOTS SLOTS : ℕ} (t : Table KNOTS SLOTS) (contents : Contents) (asked : model.Cursor) (key n number : ℕ) → pages_asked t contents (taken asked key) number n ≡ pages_asked t contents asked number n
 pages-taken t contents asked key zero number = refl
 pages-taken t contents asked key (suc n) number = ap (λ m. cond (list_any (is_asked asked) (rows_on t contents number)) 1 0 + m) (pages-taken t contents asked key n (number + 1))
 
-module _ (old : Cursor) (contents : Contents) (reads : ℕ) (place : Place) (placed : IsPlaced (table_of old) (buffer_of old) place) where
+module _ {KNOTS SLOTS : ℕ} (old : Cursor KNOTS SLOTS) (contents : Contents) (reads : ℕ) (place : Place) (placed : IsPlaced (table_of old) (buffer_of old) place) where
   -- it goes on from another place, and the rows before that are passed
   pub moves-on : (IsTold old contents → Passes (asked_of old) (rows_of (table_of old) contents) (rows_behind (table_of old) contents (buffer_of old) place)) → (IsTold old contents → IsLooking (table_of old).bitmaps place (index_page old)) →
       (IsTold old contents → most_from (table_of old) contents (asked_of old) (index_page old) (buffer_of old) place ≤ most_from (table_of old) contents (asked_of old) (index_page old) (buffer_of old) old.place) →

@@ -28,7 +28,7 @@ use Rattle.fl_cursor.proofs.Stood.{standing-committed}
 use Rattle.fl_cursor.proofs.Taking.{moves-on}
 
 -- with other pages in its buffers it goes on from another place
-pub turns : (old : Cursor) (buf index : MutBor BufferState) (place : Place) (contents : Contents) (reads reads_now : ℕ) → buf.ghost_name ≡ old.rows_buf.ghost_name → length buf.now.bytes ≡ length old.rows_buf.now.bytes →
+pub turns : {KNOTS SLOTS : ℕ} (old : Cursor KNOTS SLOTS) (buf index : MutBor BufferState) (place : Place) (contents : Contents) (reads reads_now : ℕ) → buf.ghost_name ≡ old.rows_buf.ghost_name → length buf.now.bytes ≡ length old.rows_buf.now.bytes →
     index.ghost_name ≡ old.index_buf.ghost_name → length index.now.bytes ≡ length old.index_buf.now.bytes → (HoldGood (table_of old).bitmaps (index_page old) → HoldGood (table_of old).bitmaps index.now) →
     IsPlaced (table_of old) buf.now.bytes place → (reads_now < 2 ^ 64 - 1 → reads ≤ reads_now) →
     (IsTold old contents → Passes (asked_of old) (rows_of (table_of old) contents) (rows_behind (table_of old) contents buf.now.bytes place)) →
@@ -50,7 +50,7 @@ turns old buf index place contents reads reads_now named room index_named index_
 }
 
 -- What a look at the index made of the buffer of index pages.
-pub record Looked (old : Cursor) (next : ℕ) (contents : Contents) (reads : ℕ) (result : Result Bool ReadFault) (mid : ℕ) (index : MutBor BufferState) : Type 0 where
+pub record Looked {KNOTS SLOTS : ℕ} (old : Cursor KNOTS SLOTS) (next : ℕ) (contents : Contents) (reads : ℕ) (result : Result Bool ReadFault) (mid : ℕ) (index : MutBor BufferState) : Type 0 where
   pub named : index.ghost_name ≡ old.index_buf.ghost_name
   pub room : length index.now.bytes ≡ length old.index_buf.now.bytes
   pub good : HoldGood (table_of old).bitmaps (index_page old) → HoldGood (table_of old).bitmaps index.now
@@ -61,7 +61,7 @@ pub record Looked (old : Cursor) (next : ℕ) (contents : Contents) (reads : ℕ
   pub misses : IsTold old contents → (rows_noted (table_of old) next ≡ 0 → ⊥) → result ≡ Ok false →
       NotLeft (asked_of old) (rows_on (table_of old) contents next) × (list_any (is_asked (asked_of old)) (rows_on (table_of old) contents next) ≡ false)
 
-module _ (old : Cursor) (next : ℕ) (here_is : old.place ≡ Pages next) (from : oldest_in (table_of old) ≤ next) (before : next < next_in (table_of old)) (contents : Contents) (reads : ℕ) where
+module _ {KNOTS SLOTS : ℕ} (old : Cursor KNOTS SLOTS) (next : ℕ) (here_is : old.place ≡ Pages next) (from : oldest_in (table_of old) ≤ next) (before : next < next_in (table_of old)) (contents : Contents) (reads : ℕ) where
   abbrev behind : List Row
   behind = rows_from old.table.now contents (next + 1)
 

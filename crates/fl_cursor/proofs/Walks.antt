@@ -93,7 +93,7 @@ found-within asked rows from k e =
     slice_get-short rows k h.row (ap (slice_get rows) h.at ∙ (sym (slice_get-drop from rows h.j) ∙ h.here))
 
 -- no page behind the last key has a row that is asked for
-pub asked-over : (t : Table) (contents : Contents) (asked : Cursor) (key n number : ℕ) → is_last asked.top key ≡ true → Above key (rows_over t contents number n) → pages_asked t contents asked number n ≡ 0
+pub asked-over : {KNOTS SLOTS : ℕ} (t : Table KNOTS SLOTS) (contents : Contents) (asked : Cursor) (key n number : ℕ) → is_last asked.top key ≡ true → Above key (rows_over t contents number n) → pages_asked t contents asked number n ≡ 0
 asked-over t contents asked key zero number last h = refl
 asked-over t contents asked key (suc n) number last h =
     let here = none-asked asked key (rows_on t contents number) last (each-front (λ row. key < row.key) (rows_on t contents number) (rows_over t contents (number + 1) n) h) in

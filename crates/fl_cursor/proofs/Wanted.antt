@@ -123,7 +123,7 @@ missed-by true n = sym (not-not (n == 0)) ∙ ap not (mask-meets n)
     not-not false = refl
 missed-by false n = refl
 
-module _ (t : Table) (contents : Contents) (h : IsStanding t contents) where
+module _ {KNOTS SLOTS : ℕ} (t : Table KNOTS SLOTS) (contents : Contents) (h : IsStanding t contents) where
   -- a page is missed where the model doesn't want it
   module _ (number : ℕ) (from : oldest_in t ≤ number) (before : number < next_in t) where
     abbrev place : ℕ

@@ -13,10 +13,10 @@ use Rattle.fl_cursor.specs.declared.place.Here.TheVariants.{Nowhere}
 use Rattle.fl_cursor.specs.declared.place.Place.{Place}
 use Rattle.fl_cursor.specs.declared.place.Place.TheVariants.{Start, Pages, InPage, Pending, Ended}
 
-pub keeps-then : (a b c : Cursor) → Keeps a b → Keeps b c → Keeps a c
+pub keeps-then : {KNOTS SLOTS : ℕ} (a b c : Cursor KNOTS SLOTS) → Keeps a b → Keeps b c → Keeps a c
 keeps-then a b c h k = record { table = k.table ∙ h.table; rows_name = k.rows_name ∙ h.rows_name; rows_room = k.rows_room ∙ h.rows_room; index_name = k.index_name ∙ h.index_name; index_room = k.index_room ∙ h.index_room }
 
-notes-then : (taken : Bool) (a b c : Cursor) → mark_of b ≡ mark_of a → Notes taken b c → Notes taken a c
+notes-then : {KNOTS SLOTS : ℕ} (taken : Bool) (a b c : Cursor KNOTS SLOTS) → mark_of b ≡ mark_of a → Notes taken b c → Notes taken a c
 notes-then false a b c e h = h ∙ e
 notes-then true a b c e h = (
   h.0 ∙ ap (λ (m : Bookmark). record m { after = Some (present_of c).key }) e,
@@ -29,7 +29,7 @@ gives-then : (taken : Bool) (before mid after : List Row) (row : Row) → mid �
 gives-then false before mid after row e h = h ∙ e
 gives-then true before mid after row e h = sym e ∙ h
 
-pub goes-then : (taken : Bool) (contents : Contents) (reads mid now : ℕ) (a b c : Cursor) → Goes false contents reads a mid b → Goes taken contents mid b now c → Goes taken contents reads a now c
+pub goes-then : {KNOTS SLOTS : ℕ} (taken : Bool) (contents : Contents) (reads mid now : ℕ) (a b c : Cursor KNOTS SLOTS) → Goes false contents reads a mid b → Goes taken contents mid b now c → Goes taken contents reads a now c
 goes-then taken contents reads mid now a b c h k = record {
   keeps = keeps-then a b c h.keeps k.keeps;
   notes = notes-then taken a b c h.notes k.notes;
@@ -55,7 +55,7 @@ goes-then taken contents reads mid now a b c h k = record {
       omega (arith, first, second);
 }
 
-pub fails-then : (contents : Contents) (reads mid now : ℕ) (a b c : Cursor) → Goes false contents reads a mid b → Fails contents mid b now c → Fails contents reads a now c
+pub fails-then : {KNOTS SLOTS : ℕ} (contents : Contents) (reads mid now : ℕ) (a b c : Cursor KNOTS SLOTS) → Goes false contents reads a mid b → Fails contents mid b now c → Fails contents reads a now c
 fails-then contents reads mid now a b c h k = record {
   keeps = keeps-then a b c h.keeps k.keeps;
   notes = k.notes ∙ h.notes;
@@ -72,7 +72,7 @@ fails-then contents reads mid now a b c h k = record {
 }
 
 -- a cursor that holds no row yet
-pub goes-nowhere : (a : Cursor) (contents : Contents) (reads : ℕ) → Goes false contents reads a reads (record a { here = Nowhere })
+pub goes-nowhere : {KNOTS SLOTS : ℕ} (a : Cursor KNOTS SLOTS) (contents : Contents) (reads : ℕ) → Goes false contents reads a reads (record a { here = Nowhere })
 goes-nowhere a contents reads = record {
   keeps = record { table = refl; rows_name = refl; rows_room = refl; index_name = refl; index_room = refl };
   notes = refl;
@@ -86,7 +86,7 @@ goes-nowhere a contents reads = record {
 }
 
 -- there is a row just where one was taken
-pub here-after : (taken : Bool) (a c : Cursor) → Notes taken a c → OnFalse taken (here_of c ≡ here_of a) → here_of a ≡ Nowhere → is_here c ≡ taken
+pub here-after : {KNOTS SLOTS : ℕ} (taken : Bool) (a c : Cursor KNOTS SLOTS) → Notes taken a c → OnFalse taken (here_of c ≡ here_of a) → here_of a ≡ Nowhere → is_here c ≡ taken
 here-after true a c notes same none = notes.2
 here-after false a c notes same none = ap (is_here_at (table_of c) (buffer_of c)) (same ∙ none)
 

@@ -46,5 +46,5 @@ ascends-above test bound above (row ∷ rows) asks ascends = by_test (test row) 
     by_test true is rest = (asks row is, Ascends-filter test (Some row.key) rows ascends.1)
     by_test false is rest = rest
 
-pub left-ascends : (cursor : Cursor) (contents : Contents) → IsTold cursor contents → Ascends (above_of (asked_of cursor)) (left_of cursor contents)
+pub left-ascends : {KNOTS SLOTS : ℕ} (cursor : Cursor KNOTS SLOTS) (contents : Contents) → IsTold cursor contents → Ascends (above_of (asked_of cursor)) (left_of cursor contents)
 left-ascends cursor contents told = ascends-above (is_left (asked_of cursor)) (above_of (asked_of cursor)) None _ (left-above (asked_of cursor)) told.ascends

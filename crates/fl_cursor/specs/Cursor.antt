@@ -38,38 +38,38 @@ use Rattle.fl_cursor.specs.declared.place.Here.{Here}
 use Rattle.fl_cursor.specs.declared.place.Here.TheVariants.{Nowhere, PageRow, PendingRow}
 use Rattle.fl_cursor.specs.declared.cursor.Cursor.{Cursor}
 
-abbrev pub table_of : Cursor → Table
+abbrev pub table_of : {KNOTS SLOTS : ℕ} → Cursor KNOTS SLOTS → Table KNOTS SLOTS
 table_of cursor = cursor.table.now
 
 -- what it keeps of itself
-abbrev pub mark_of : Cursor → Bookmark
+abbrev pub mark_of : {KNOTS SLOTS : ℕ} → Cursor KNOTS SLOTS → Bookmark
 mark_of cursor = cursor.mark
 
 -- the cursor of the model that it is
-abbrev pub asked_of : Cursor → model.Cursor
+abbrev pub asked_of : {KNOTS SLOTS : ℕ} → Cursor KNOTS SLOTS → model.Cursor
 asked_of cursor = asked_by cursor.mark
 
 -- its references to the buffers of rows and of index pages, and what these hold
-abbrev pub rows_name : Cursor → GName
+abbrev pub rows_name : {KNOTS SLOTS : ℕ} → Cursor KNOTS SLOTS → GName
 rows_name cursor = cursor.rows_buf.ghost_name
 
-abbrev pub index_name : Cursor → GName
+abbrev pub index_name : {KNOTS SLOTS : ℕ} → Cursor KNOTS SLOTS → GName
 index_name cursor = cursor.index_buf.ghost_name
 
-abbrev pub rows_page : Cursor → BufferState
+abbrev pub rows_page : {KNOTS SLOTS : ℕ} → Cursor KNOTS SLOTS → BufferState
 rows_page cursor = cursor.rows_buf.now
 
-abbrev pub index_page : Cursor → BufferState
+abbrev pub index_page : {KNOTS SLOTS : ℕ} → Cursor KNOTS SLOTS → BufferState
 index_page cursor = cursor.index_buf.now
 
 -- the bytes in its buffer of rows
-abbrev pub buffer_of : Cursor → List ℕ
+abbrev pub buffer_of : {KNOTS SLOTS : ℕ} → Cursor KNOTS SLOTS → List ℕ
 buffer_of cursor = cursor.rows_buf.now.bytes
 
-abbrev pub place_of : Cursor → Place
+abbrev pub place_of : {KNOTS SLOTS : ℕ} → Cursor KNOTS SLOTS → Place
 place_of cursor = cursor.place
 
-abbrev pub here_of : Cursor → Here
+abbrev pub here_of : {KNOTS SLOTS : ℕ} → Cursor KNOTS SLOTS → Here
 here_of cursor = cursor.here
 
 -- it found that no row is left
@@ -80,7 +80,7 @@ is_end (Pages next) = false
 is_end (InPage number row) = false
 is_end (Pending row) = false
 
-abbrev pub has_ended : Cursor → Bool
+abbrev pub has_ended : {KNOTS SLOTS : ℕ} → Cursor KNOTS SLOTS → Bool
 has_ended cursor = is_end cursor.place
 
 -- ---- the present row
@@ -89,41 +89,41 @@ abbrev pub is_good : RowLayout → ℕ → List ℕ → Bool
 is_good layout number page =
     (page_number page == number) && nat_le 1 (page_count page) && nat_le (page_count page) ((length page - 24) / layout_len layout)
 
-abbrev pub is_here_at : Table → List ℕ → Here → Bool
+abbrev pub is_here_at : {KNOTS SLOTS : ℕ} → Table KNOTS SLOTS → List ℕ → Here → Bool
 is_here_at t page Nowhere = false
 is_here_at t page (PageRow number row) = is_good (layout_in t) number page && nat_lt row (page_count page) && nat_le (length page) 4096
 is_here_at t page (PendingRow row) = nat_lt row (pending_in t)
 
 -- whether there is one
-abbrev pub is_here : Cursor → Bool
+abbrev pub is_here : {KNOTS SLOTS : ℕ} → Cursor KNOTS SLOTS → Bool
 is_here cursor = is_here_at (table_of cursor) (buffer_of cursor) cursor.here
 
 abbrev no_row : Row
 no_row = record { key = 0; values = []; blob = None }
 
-abbrev pub row_at : Table → List ℕ → Here → Row
+abbrev pub row_at : {KNOTS SLOTS : ℕ} → Table KNOTS SLOTS → List ℕ → Here → Row
 row_at t page Nowhere = no_row
 row_at t page (PageRow number row) = unwrap_or (slice_get (rows_in (layout_in t) page) row) no_row
 row_at t page (PendingRow row) = unwrap_or (slice_get (buffered_rows t) row) no_row
 
-abbrev pub present_of : Cursor → Row
+abbrev pub present_of : {KNOTS SLOTS : ℕ} → Cursor KNOTS SLOTS → Row
 present_of cursor = row_at (table_of cursor) (buffer_of cursor) cursor.here
 
 -- ---- the rows left
 
 -- the rows from a place on
-abbrev pub rows_behind : Table → Contents → List ℕ → Place → List Row
+abbrev pub rows_behind : {KNOTS SLOTS : ℕ} → Table KNOTS SLOTS → Contents → List ℕ → Place → List Row
 rows_behind t contents page Start = rows_of t contents
 rows_behind t contents page (Pages next) = rows_from t contents next
 rows_behind t contents page (InPage number row) = drop row (rows_in (layout_in t) page) ++ rows_from t contents (number + 1)
 rows_behind t contents page (Pending row) = drop row (buffered_rows t)
 rows_behind t contents page Ended = []
 
-abbrev pub ahead_of : Cursor → Contents → List Row
+abbrev pub ahead_of : {KNOTS SLOTS : ℕ} → Cursor KNOTS SLOTS → Contents → List Row
 ahead_of cursor contents = rows_behind (table_of cursor) contents (buffer_of cursor) cursor.place
 
 -- the rows that it has still to give, among all rows of the table
-abbrev pub left_of : Cursor → Contents → List Row
+abbrev pub left_of : {KNOTS SLOTS : ℕ} → Cursor KNOTS SLOTS → Contents → List Row
 left_of cursor contents = filter (is_left (asked_of cursor)) (rows_of (table_of cursor) contents)
 
 -- none of the rows before these is still to be given
@@ -133,7 +133,7 @@ pub record Passes (cursor : model.Cursor) (rows ahead : List Row) : Type 0 where
   pub passed : AllByRecursion (λ row. is_left cursor row ≡ false) before
 
 -- a flash that holds this stands for the table
-pub record IsStanding (t : Table) (contents : Contents) : Type 0 where
+pub record IsStanding {KNOTS SLOTS : ℕ} (t : Table KNOTS SLOTS) (contents : Contents) : Type 0 where
   pub flash : FlashState
   pub same : contents_of flash ≡ contents
   pub tells : IsTrue flash.media.tells
@@ -159,7 +159,7 @@ IsLooking bitmaps (Pending row) buf = Unit {0}
 IsLooking bitmaps Ended buf = Unit {0}
 
 -- the rows left are told over such a flash
-pub record IsTold (cursor : Cursor) (contents : Contents) : Type 0 where
+pub record IsTold {KNOTS SLOTS : ℕ} (cursor : Cursor KNOTS SLOTS) (contents : Contents) : Type 0 where
   pub standing : IsStanding (table_of cursor) contents
   pub ascends : Ascends None (rows_of (table_of cursor) contents)
   pub passes : Passes (asked_of cursor) (rows_of (table_of cursor) contents) (ahead_of cursor contents)
@@ -169,7 +169,7 @@ pub record IsTold (cursor : Cursor) (contents : Contents) : Type 0 where
 -- ---- going over a flash
 
 -- the place is one of the table, and a page that the place is in is in the buffer
-abbrev pub IsPlaced : Table → List ℕ → Place → Type 0
+abbrev pub IsPlaced : {KNOTS SLOTS : ℕ} → Table KNOTS SLOTS → List ℕ → Place → Type 0
 IsPlaced t page Start = is_running t ≡ true
 IsPlaced t page (Pages next) = (oldest_in t ≤ next) × (next ≤ next_in t)
 IsPlaced t page (InPage number row) =
@@ -178,7 +178,7 @@ IsPlaced t page (Pending row) = row ≤ pending_in t
 IsPlaced t page Ended = Unit {0}
 
 -- the table lies on a flash of this shape, and each buffer has room for one of its pages
-pub record IsReady (cursor : Cursor) (contents : Contents) : Type 0 where
+pub record IsReady {KNOTS SLOTS : ℕ} (cursor : Cursor KNOTS SLOTS) (contents : Contents) : Type 0 where
   pub flash : FlashState
   pub same : contents_of flash ≡ contents
   pub lies : LiesOn (table_of cursor) flash
@@ -190,7 +190,7 @@ pub record IsReady (cursor : Cursor) (contents : Contents) : Type 0 where
 
 -- Where the flash tells its bytes, the page at the place of the kept number that was wanted is committed, and has
 -- another number or a count that no page has.
-pub record IsBadPage (t : Table) (contents : Contents) (bad : BadPage) : Type 0 where
+pub record IsBadPage {KNOTS SLOTS : ℕ} (t : Table KNOTS SLOTS) (contents : Contents) (bad : BadPage) : Type 0 where
   pub from : oldest_in t ≤ bad.wanted
   pub before : bad.wanted < next_in t
   pub committed : state_of_page (bytes_at t contents bad.wanted) ≡ Committed
@@ -212,7 +212,7 @@ abbrev pub AreBadIn : Option Index → Contents → BadPage → Type 0
 AreBadIn None contents bad = ⊥
 AreBadIn (Some index) contents bad = IsBadIndexPage index contents bad
 
-abbrev pub MayBeBad : Table → Contents → BadPage → Type 0
+abbrev pub MayBeBad : {KNOTS SLOTS : ℕ} → Table KNOTS SLOTS → Contents → BadPage → Type 0
 MayBeBad t contents bad = IsTrue contents.tells → IsBadPage t contents bad ⊎ AreBadIn t.bitmaps contents bad
 
 -- a fault that is about a page says this

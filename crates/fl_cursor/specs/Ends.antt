@@ -9,7 +9,7 @@ use Rattle.fl_cursor.specs.Listed.{rows_on}
 use Rattle.fl_cursor.specs.Reads.{begins_by}
 
 -- no kept page from this number on begins by the last key that may be given, over any flash that stands for the table
-abbrev pub EndsPages : Table → Option ℕ → ℕ → Type 0
+abbrev pub EndsPages : {KNOTS SLOTS : ℕ} → Table KNOTS SLOTS → Option ℕ → ℕ → Type 0
 EndsPages t None end = end ≡ next_in t
 EndsPages t (Some top) end =
     (end ≤ next_in t)

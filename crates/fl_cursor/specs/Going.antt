@@ -14,7 +14,7 @@ use Rattle.fl_cursor.specs.declared.place.Place.TheVariants.{Start, Pages, InPag
 use Rattle.fl_cursor.specs.declared.cursor.Cursor.{Cursor}
 
 -- it holds the same table and the same references
-pub record Keeps (old new : Cursor) : Type 0 where
+pub record Keeps {KNOTS SLOTS : ℕ} (old new : Cursor KNOTS SLOTS) : Type 0 where
   pub table : new.table ≡ old.table
   pub rows_name : new.rows_buf.ghost_name ≡ old.rows_buf.ghost_name
   pub rows_room : length new.rows_buf.now.bytes ≡ length old.rows_buf.now.bytes
@@ -22,14 +22,14 @@ pub record Keeps (old new : Cursor) : Type 0 where
   pub index_room : length new.index_buf.now.bytes ≡ length old.index_buf.now.bytes
 
 -- The key of a row that was taken is the key given last, and nothing else is noted.
-abbrev pub Notes : Bool → Cursor → Cursor → Type 0
+abbrev pub Notes : {KNOTS SLOTS : ℕ} → Bool → Cursor KNOTS SLOTS → Cursor KNOTS SLOTS → Type 0
 Notes false old new = mark_of new ≡ mark_of old
 Notes true old new =
     (mark_of new ≡ record (mark_of old) { after = Some (present_of new).key })
     × (is_left (asked_of old) (present_of new) ≡ true) × (is_here new ≡ true) × ((present_of new).key < 2 ^ 64)
 
 -- It took the row with this key, and goes on from the place where a greater one may be given.
-abbrev pub took : ℕ → Here → Place → Cursor → Cursor
+abbrev pub took : {KNOTS SLOTS : ℕ} → ℕ → Here → Place → Cursor KNOTS SLOTS → Cursor KNOTS SLOTS
 took key here place cursor = record cursor {
   mark = record cursor.mark { after = Some key };
   here = here;
@@ -42,7 +42,7 @@ Gives true before row after = before ≡ row ∷ after
 Gives false before row after = after ≡ before
 
 -- how many pages a place may still go to
-abbrev pub pages_left : Table → Place → ℕ
+abbrev pub pages_left : {KNOTS SLOTS : ℕ} → Table KNOTS SLOTS → Place → ℕ
 pages_left t Start = 1 + (next_in t - oldest_in t)
 pages_left t (Pages next) = 1 + (next_in t - next)
 pages_left t (InPage number row) = next_in t - number
@@ -73,7 +73,7 @@ is_at_pages (Pending row) = false
 is_at_pages Ended = false
 
 -- It went on, and took a row or didn't; the count of reads rose from one number to another.
-pub record Goes (taken : Bool) (contents : Contents) (reads : ℕ) (old : Cursor) (reads_now : ℕ) (new : Cursor) : Type 0 where
+pub record Goes {KNOTS SLOTS : ℕ} (taken : Bool) (contents : Contents) (reads : ℕ) (old : Cursor KNOTS SLOTS) (reads_now : ℕ) (new : Cursor KNOTS SLOTS) : Type 0 where
   pub keeps : Keeps old new
   pub notes : Notes taken old new
   pub ready : (held : Contents) → IsReady old held → IsReady new held
@@ -85,7 +85,7 @@ pub record Goes (taken : Bool) (contents : Contents) (reads : ℕ) (old : Cursor
   pub least : IsTold old contents → reads_now < 2 ^ 64 - 1 → reads + least_of old contents ≤ reads_now + least_of new contents
 
 -- A read failed: the key given last stays, and no more reads are left than before.
-pub record Fails (contents : Contents) (reads : ℕ) (old : Cursor) (reads_now : ℕ) (new : Cursor) : Type 0 where
+pub record Fails {KNOTS SLOTS : ℕ} (contents : Contents) (reads : ℕ) (old : Cursor KNOTS SLOTS) (reads_now : ℕ) (new : Cursor KNOTS SLOTS) : Type 0 where
   pub keeps : Keeps old new
   pub notes : mark_of new ≡ mark_of old
   pub ready : (held : Contents) → IsReady old held → IsReady new held

@@ -45,37 +45,37 @@ is_indexed_in None number = false
 is_indexed_in (Some index) number = is_waiting index number || is_some (listing_in index number)
 
 -- the bitmap of an indexed page with these rows tells that none has a value in the span
-abbrev pub is_missed : Table → Option Span → ℕ → List Row → Bool
+abbrev pub is_missed : {KNOTS SLOTS : ℕ} → Table KNOTS SLOTS → Option Span → ℕ → List Row → Bool
 is_missed t None number rows = false
 is_missed t (Some span) number rows = is_indexed_in t.bitmaps number && (bit_and (bitmap_in t.buckets rows) (mask_for t.buckets span) == 0)
 
 -- it isn't read, because it has no rows or because its bitmap tells so
-abbrev pub is_skipped : Table → Contents → Option Span → ℕ → Bool
+abbrev pub is_skipped : {KNOTS SLOTS : ℕ} → Table KNOTS SLOTS → Contents → Option Span → ℕ → Bool
 is_skipped t contents span number = (rows_noted t number == 0) || is_missed t span number (rows_on t contents number)
 
 -- the pages to be read from this one on, up to the first with a row behind which none may be given
-abbrev pub pages_to_last : Table → Contents → Option Span → Option ℕ → ℕ → ℕ → ℕ
+abbrev pub pages_to_last : {KNOTS SLOTS : ℕ} → Table KNOTS SLOTS → Contents → Option Span → Option ℕ → ℕ → ℕ → ℕ
 pages_to_last t contents span top number zero = 0
 pages_to_last t contents span top number (suc n) =
     if is_skipped t contents span number then pages_to_last t contents span top (number + 1) n
     else 1 + (if has_last top (rows_on t contents number) then 0 else pages_to_last t contents span top (number + 1) n)
 
 -- the pages from this one on that are looked up: those with a row up to the last key that may be given
-abbrev pub pages_looked_up : Table → Contents → Option ℕ → ℕ → ℕ → List ℕ
+abbrev pub pages_looked_up : {KNOTS SLOTS : ℕ} → Table KNOTS SLOTS → Contents → Option ℕ → ℕ → ℕ → List ℕ
 pages_looked_up t contents top number zero = []
 pages_looked_up t contents top number (suc n) =
     if list_any (λ row. is_up_to top row.key) (rows_on t contents number) then number ∷ pages_looked_up t contents top (number + 1) n
     else pages_looked_up t contents top (number + 1) n
 
 -- so many index pages may still be read from this page on, and so many have to be
-abbrev pub index_most : Table → model.Cursor → BufferState → ℕ → ℕ
+abbrev pub index_most : {KNOTS SLOTS : ℕ} → Table KNOTS SLOTS → model.Cursor → BufferState → ℕ → ℕ
 index_most t asked index number = unread_of asked.span t.bitmaps number index
 
-abbrev pub index_least : Table → Contents → model.Cursor → BufferState → ℕ → ℕ
+abbrev pub index_least : {KNOTS SLOTS : ℕ} → Table KNOTS SLOTS → Contents → model.Cursor → BufferState → ℕ → ℕ
 index_least t contents asked index number = due_of asked.span t.bitmaps (pages_looked_up t contents asked.top number (next_in t - number)) index
 
 -- the pages from this one on with a row that is asked for
-abbrev pub pages_asked : Table → Contents → model.Cursor → ℕ → ℕ → ℕ
+abbrev pub pages_asked : {KNOTS SLOTS : ℕ} → Table KNOTS SLOTS → Contents → model.Cursor → ℕ → ℕ → ℕ
 pages_asked t contents asked number zero = 0
 pages_asked t contents asked number (suc n) =
     (if list_any (is_asked asked) (rows_on t contents number) then 1 else 0) + pages_asked t contents asked (number + 1) n
@@ -85,16 +85,16 @@ abbrev pub begins_by : ℕ → List Row → Bool
 begins_by key rows = unwrap_or (option_map (λ first. nat_le first key) (first_key rows)) false
 
 -- the last of the first n kept pages that begins so, or the oldest one where none does
-abbrev pub start_among : Table → Contents → ℕ → ℕ → ℕ
+abbrev pub start_among : {KNOTS SLOTS : ℕ} → Table KNOTS SLOTS → Contents → ℕ → ℕ → ℕ
 start_among t contents key zero = oldest_in t
 start_among t contents key (suc n) = if begins_by key (rows_on t contents (oldest_in t + n)) then oldest_in t + n else start_among t contents key n
 
 -- the page from which the rows with at least this key are read
-abbrev pub start_of : Table → Contents → ℕ → ℕ
+abbrev pub start_of : {KNOTS SLOTS : ℕ} → Table KNOTS SLOTS → Contents → ℕ → ℕ
 start_of t contents key = start_among t contents key (next_in t - oldest_in t)
 
 -- at most so many reads look its page up
-abbrev pub most_to_find : Table → ℕ → ℕ
+abbrev pub most_to_find : {KNOTS SLOTS : ℕ} → Table KNOTS SLOTS → ℕ → ℕ
 most_to_find t key =
     if begins_by key (buffered_rows t) then next_in t - oldest_in t + 1 else most_reads t.index (next_in t - oldest_in t) t.voids key
 
@@ -103,7 +103,7 @@ abbrev pub raised : model.Cursor → model.Cursor
 raised asked = record asked { range = record { low = lowest_of asked; high = asked.range.high } }
 
 -- from a place on, where the buffers hold this index page and this page
-abbrev pub most_from : Table → Contents → model.Cursor → BufferState → List ℕ → Place → ℕ
+abbrev pub most_from : {KNOTS SLOTS : ℕ} → Table KNOTS SLOTS → Contents → model.Cursor → BufferState → List ℕ → Place → ℕ
 most_from t contents asked index page Start =
     let start = start_of t contents (lowest_of asked) in
     most_to_find t (lowest_of asked) + (pages_to_last t contents asked.span asked.top start (next_in t - start) + index_most t asked index start)
@@ -114,7 +114,7 @@ most_from t contents asked index page (InPage number row) =
 most_from t contents asked index page (Pending row) = 0
 most_from t contents asked index page Ended = 0
 
-abbrev pub least_from : Table → Contents → model.Cursor → BufferState → Place → ℕ
+abbrev pub least_from : {KNOTS SLOTS : ℕ} → Table KNOTS SLOTS → Contents → model.Cursor → BufferState → Place → ℕ
 least_from t contents asked index Start =
     pages_asked t contents (raised asked) (oldest_in t) (next_in t - oldest_in t) + index_least t contents asked index (start_of t contents (lowest_of asked) + 1)
 least_from t contents asked index (Pages next) = pages_asked t contents asked next (next_in t - next) + index_least t contents asked index next
@@ -123,17 +123,17 @@ least_from t contents asked index (Pending row) = 0
 least_from t contents asked index Ended = 0
 
 -- at most so many reads, up to the first that fails
-abbrev pub most_of : Cursor → Contents → ℕ
+abbrev pub most_of : {KNOTS SLOTS : ℕ} → Cursor KNOTS SLOTS → Contents → ℕ
 most_of cursor contents = most_from (table_of cursor) contents (asked_of cursor) (index_page cursor) (buffer_of cursor) cursor.place
 
 -- at least so many, where none fails
-abbrev pub least_of : Cursor → Contents → ℕ
+abbrev pub least_of : {KNOTS SLOTS : ℕ} → Cursor KNOTS SLOTS → Contents → ℕ
 least_of cursor contents = least_from (table_of cursor) contents (asked_of cursor) (index_page cursor) cursor.place
 
 -- ---- the place where it begins
 
 -- At the pages, where the lowest key isn't pending; else the pages are done.
-abbrev pub IsBegun : model.Cursor → Table → Place → Type 0
+abbrev pub IsBegun : {KNOTS SLOTS : ℕ} → model.Cursor → Table KNOTS SLOTS → Place → Type 0
 IsBegun asked t Start = begins_by (lowest_of asked) (buffered_rows t) ≡ false
 IsBegun asked t (Pending row) = begins_by (lowest_of asked) (buffered_rows t) ≡ true
 IsBegun asked t Ended = is_up_to asked.top (lowest_of asked) ≡ false

@@ -19,7 +19,10 @@ use fl_flash::PageBuf;
 use fl_table::Table;
 
 /// The greatest key of the range that the table may have now.
-fn last_wanted(table: &Table, range: KeyRange) -> Option<u64>
+fn last_wanted<const KNOTS: usize, const SLOTS: usize>(
+    table: &Table<KNOTS, SLOTS>,
+    range: KeyRange,
+) -> Option<u64>
     ensures exact { result ≡ option_map (λ last. min range.high last) (last_key_in table.now) }
     ensures stands { (f : FlashState) → (first : ℕ) → (plan : Plan) → (t : model.Table) → Stands table.now f first plan t → result ≡ option_map (λ last. min range.high last.kept.key) (last_entry t) }
 {
@@ -32,8 +35,8 @@ fn last_wanted(table: &Table, range: KeyRange) -> Option<u64>
 /// The rows of a table that are asked for, in the order of their keys, each lent as a slice of its page. It holds the
 /// table and two buffers for pages, one for rows and one for index pages, until it is parked.
 #[derive(Drop)]
-pub struct Cursor<'s, 'r, 'i> {
-    pub(crate) table: &'s Table,
+pub struct Cursor<'s, 'r, 'i, const KNOTS: usize, const SLOTS: usize> {
+    pub(crate) table: &'s Table<KNOTS, SLOTS>,
     pub(crate) rows_buf: &'r mut PageBuf,
     pub(crate) index_buf: &'i mut PageBuf,
     pub(crate) mark: Bookmark,
@@ -41,7 +44,7 @@ pub struct Cursor<'s, 'r, 'i> {
     pub(crate) here: Here,
 }
 
-impl<'s, 'r, 'i> Cursor<'s, 'r, 'i> {
+impl<'s, 'r, 'i, const KNOTS: usize, const SLOTS: usize> Cursor<'s, 'r, 'i, KNOTS, SLOTS> {
     ghost use Rattle.fl_model.specs.Limits.{scan_limit, least_reads};
     ghost use Rattle.fl_cursor.specs.Asked.{asked_by, lowest_of};
     ghost use Rattle.fl_cursor.specs.Reads.{most_of, least_of, IsBegun, IsBounded};
@@ -50,12 +53,12 @@ impl<'s, 'r, 'i> Cursor<'s, 'r, 'i> {
     /// A cursor over the rows whose keys are in the range and whose first values are in the span. Rows that are put from
     /// now on never come. Both buffers forget the page that they hold.
     pub fn begin(
-        table: &'s Table,
+        table: &'s Table<KNOTS, SLOTS>,
         range: KeyRange,
         span: Option<Span>,
         rows_buf: &'r mut PageBuf,
         index_buf: &'i mut PageBuf,
-    ) -> Cursor<'s, 'r, 'i>
+    ) -> Cursor<'s, 'r, 'i, KNOTS, SLOTS>
         requires running { is_running table.now ≡ true }
         ensures mark { mark_of result ≡ record { after = None; top = option_map (λ last. min range.high last) (last_key_in table.now); range = range; span = span } }
         ensures model { (f : FlashState) → (first : ℕ) → (plan : Plan) → (t : model.Table) → Stands table.now f first plan t → asked_of result ≡ query.begin range span t }
@@ -70,7 +73,7 @@ impl<'s, 'r, 'i> Cursor<'s, 'r, 'i> {
         ensures told { (contents : Contents) → IsStanding table.now contents → IsTold result contents }
         ensures limit { (f : FlashState) → (first : ℕ) → (plan : Plan) → (t : model.Table) → IsTrue f.media.tells → f.start + extent f.geometry f.blocks ≤ length f.media.content →
             LiesOn table.now f → Stands table.now f first plan t →
-            most_of result (contents_of f) ≤ scan_limit 64 plan t range span range.low }
+            most_of result (contents_of f) ≤ scan_limit KNOTS plan t range span range.low }
         ensures least { (f : FlashState) → (first : ℕ) → (plan : Plan) → (t : model.Table) → IsTrue f.media.tells → f.start + extent f.geometry f.blocks ≤ length f.media.content →
             LiesOn table.now f → Stands table.now f first plan t → least_reads plan t range span ≤ least_of result (contents_of f) }
     {
@@ -88,11 +91,11 @@ impl<'s, 'r, 'i> Cursor<'s, 'r, 'i> {
     /// The cursor that was parked as this bookmark. No page is taken from a buffer that wasn't read since: the buffer of
     /// index pages forgets the page that it holds.
     pub fn resume(
-        table: &'s Table,
+        table: &'s Table<KNOTS, SLOTS>,
         mark: Bookmark,
         rows_buf: &'r mut PageBuf,
         index_buf: &'i mut PageBuf,
-    ) -> Cursor<'s, 'r, 'i>
+    ) -> Cursor<'s, 'r, 'i, KNOTS, SLOTS>
         requires running { is_running table.now ≡ true }
         ensures mark { mark_of result ≡ mark }
         ensures table { table_of result ≡ table.now }
@@ -104,7 +107,7 @@ impl<'s, 'r, 'i> Cursor<'s, 'r, 'i> {
         ensures told { (contents : Contents) → IsStanding table.now contents → IsTold result contents }
         ensures limit { (f : FlashState) → (first : ℕ) → (plan : Plan) → (t : model.Table) → IsTrue f.media.tells → f.start + extent f.geometry f.blocks ≤ length f.media.content →
             LiesOn table.now f → Stands table.now f first plan t → IsBounded mark.top mark.range.high →
-            most_of result (contents_of f) ≤ scan_limit 64 plan t mark.range mark.span (lowest_of (asked_by mark)) }
+            most_of result (contents_of f) ≤ scan_limit KNOTS plan t mark.range mark.span (lowest_of (asked_by mark)) }
         ensures begun { IsBegun (asked_by mark) table.now (place_of result) }
     {
         index_buf.forget();

@@ -10,7 +10,11 @@ impl Bookmark {
 
     /// The number after the last kept page that may have a row that is still to be given, where `next` is that of the
     /// next page.
-    pub(crate) fn end_of_pages(&self, table: &Table, next: u32) -> u32
+    pub(crate) fn end_of_pages<const KNOTS: usize, const SLOTS: usize>(
+        &self,
+        table: &Table<KNOTS, SLOTS>,
+        next: u32,
+    ) -> u32
         requires next { next ≡ next_in table.now }
         ensures { EndsPages table.now self.now.top result }
     {

@@ -14,7 +14,9 @@ ghost use Rattle.fl_cursor.specs.Cursor.{table_of, asked_of, left_of};
 use crate::Cursor;
 
 /// The rows that a cursor has left are those that the cursor of the model has left, in the table as it is now.
-pub fn cursor_is_the_models(cursor: &Cursor<'_, '_, '_>)
+pub fn cursor_is_the_models<const KNOTS: usize, const SLOTS: usize>(
+    cursor: &Cursor<'_, '_, '_, KNOTS, SLOTS>,
+)
     ensures left { (f : FlashState) → (first : ℕ) → (plan : Plan) → (t : model.Table) → IsTrue f.media.tells → f.start + extent f.geometry f.blocks ≤ length f.media.content →
         LiesOn (table_of cursor.now) f → Stands (table_of cursor.now) f first plan t → left_of cursor.now (contents_of f) ≡ map stored_row (query.left_of (asked_of cursor.now) t.entries) }
 {}

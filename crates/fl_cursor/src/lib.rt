@@ -14,6 +14,3 @@ mod walk;
 pub use bookmark::Bookmark;
 pub use cursor::Cursor;
 pub use laws::cursor_is_the_models;
-
-#[cfg(test)]
-mod tests;

@@ -7,7 +7,7 @@ use fl_flash::Flash;
 use fl_page::{ReadFault, RowHere, Rows};
 use fl_schema::RowRef;
 
-impl RowHere for Cursor<'_, '_, '_> {
+impl<const KNOTS: usize, const SLOTS: usize> RowHere for Cursor<'_, '_, '_, KNOTS, SLOTS> {
     ghost use Rattle.fl_table.specs.Look.{layout_in};
     ghost use Rattle.fl_cursor.specs.Asked.{above_of};
     ghost use Rattle.fl_cursor.specs.Cursor.{table_of, asked_of, is_here, present_of};
@@ -35,7 +35,8 @@ impl RowHere for Cursor<'_, '_, '_> {
     }
 }
 
-impl<F: Flash> Rows<F> for Cursor<'_, '_, '_> {
+impl<F: Flash, const KNOTS: usize, const SLOTS: usize> Rows<F>
+    for Cursor<'_, '_, '_, KNOTS, SLOTS> {
     ghost use Rattle.fl_cursor.specs.Cursor.{table_of, has_ended, left_of, rows_name, index_name, IsReady, IsTold, MayBeBad};
     ghost use Rattle.fl_cursor.specs.Reads.{most_of, least_of};
     ghost use Rattle.fl_cursor.specs.Ascending.{left-ascends};

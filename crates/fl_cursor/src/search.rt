@@ -41,7 +41,11 @@ impl Bookmark {
         Sought::Behind
     }
 
-    pub(crate) fn first_pending(&self, table: &Table, from: usize) -> Sought
+    pub(crate) fn first_pending<const KNOTS: usize, const SLOTS: usize>(
+        &self,
+        table: &Table<KNOTS, SLOTS>,
+        from: usize,
+    ) -> Sought
         requires within { from ≤ pending_in table.now }
         ensures { result ≡ first_left (asked_by self.now) (drop from (buffered_rows table.now)) from }
     {

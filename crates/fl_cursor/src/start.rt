@@ -25,7 +25,10 @@ impl Bookmark {
     }
 
     /// The place from which no row is missed. Where the lowest key is at least the first pending one, no page is read.
-    pub(crate) fn first_place(&self, table: &Table) -> Place
+    pub(crate) fn first_place<const KNOTS: usize, const SLOTS: usize>(
+        &self,
+        table: &Table<KNOTS, SLOTS>,
+    ) -> Place
         requires { is_running table.now ≡ true }
         ensures placed { (page : List ℕ) → IsPlaced table.now page result }
         ensures outside { is_in_page result ≡ false }

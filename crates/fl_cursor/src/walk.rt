@@ -12,7 +12,7 @@ use fl_base::Steps;
 use fl_flash::Flash;
 use fl_page::ReadFault;
 
-impl Cursor<'_, '_, '_> {
+impl<const KNOTS: usize, const SLOTS: usize> Cursor<'_, '_, '_, KNOTS, SLOTS> {
     ghost use Rattle.fl_flash.specs.Flash.{FlashState};
     ghost use Rattle.fl_cursor.specs.Cursor.{table_of, mark_of, asked_of, buffer_of, place_of, here_of, is_here, has_ended, IsReady, IsTold, IsPlaced, IfBad, MayBeBad};
     ghost use Rattle.fl_cursor.specs.Ends.{EndsPages};

@@ -1,7 +1,8 @@
 // Replies that are held back, and handed out in larger pieces.
-ghost use Rattle.std.specs.Prelude.{◌≡◌, ◌≤◌, ◌⊎◌, [], length, IfOk, OnOk, OnErr};
+ghost use Rattle.std.specs.Prelude.{◌≡◌, ◌<◌, ◌≤◌, ◌⊎◌, [], length, IfOk, OnOk, OnErr};
 ghost use Rattle.std.specs.Io.KnownBytes.{Keeps};
 ghost use Rattle.fl_base.specs.Causes.{HasCause, Rose};
+ghost use Rattle.fl_base.specs.Memory.{next_count};
 ghost use Rattle.fl_base.specs.Stream.{Reads};
 ghost use Rattle.fl_edge.specs.Replies.{written_of};
 
@@ -15,7 +16,8 @@ use std::marker::Model;
 const ROOM: usize = 65_536;
 
 /// A writer as a sink that holds back what is written, at most 65,536 bytes, until there is no room for more or
-/// `hand_out` is called. Once a call has failed, each further one fails, and what the writer didn't take stays held back.
+/// `hand_out` is called. Once a call has failed, each further one fails and hands nothing out, and what the writer didn't
+/// take stays held back.
 #[derive(Drop)]
 pub struct ReplyBuffer<W: Write + Drop> {
     writer: BufWriter<W, Global>,
@@ -48,6 +50,8 @@ impl<W: Write + Drop> ReplyBuffer<W> {
         ensures all { OnOk result (self.new.held ≡ []) }
         ensures cause { HasCause self.old.faults self.new.faults result }
         ensures for_good { OnOk result ((self.old.faults ≡ 0) × (self.new.faults ≡ 0)) }
+        ensures stopped { 0 < self.old.faults → (self.new.handed ≡ self.old.handed) × (self.new.held ≡ self.old.held) }
+        ensures one_fault { OnErr result (self.new.faults ≡ next_count self.old.faults) }
     {
         if self.faults == 0 && self.writer.flush().is_ok() {
             return Ok(());
@@ -63,6 +67,8 @@ impl<W: Write + Drop> ReplyBuffer<W> {
         ensures all { OnOk result (self.new.held ≡ []) }
         ensures failed { OnErr result (Rose self.old.faults self.new.faults ⊎ ((self.new.faults ≡ self.old.faults) × (self.new.held ≡ []))) }
         ensures for_good { OnOk result ((self.old.faults ≡ 0) × (self.new.faults ≡ 0)) }
+        ensures stopped { 0 < self.old.faults → (self.new.handed ≡ self.old.handed) × (self.new.held ≡ self.old.held) }
+        ensures most { self.new.faults ≤ next_count self.old.faults }
         ensures count { IfOk result (λ n. n ≤ length into.new) }
         ensures bytes { Reads (R.remaining reader.old) (R.remaining reader.new) result into.new }
     {
@@ -74,8 +80,9 @@ impl<W: Write + Drop> ReplyBuffer<W> {
 }
 
 impl<W: Write + Drop> Sink for ReplyBuffer<W> {
-    ghost use Rattle.std.specs.Prelude.{◌≡◌, ◌≤◌, ◌<◌, length, IfOk, OnOk};
+    ghost use Rattle.std.specs.Prelude.{◌≡◌, ◌≤◌, ◌<◌, length, IfOk, OnOk, OnErr};
     ghost use Rattle.fl_base.specs.Causes.{HasCause};
+    ghost use Rattle.fl_base.specs.Memory.{next_count};
     ghost use Rattle.fl_base.specs.Stream.{Writes};
     ghost use Rattle.fl_edge.specs.Replies.{written_of};
 
@@ -89,6 +96,8 @@ impl<W: Write + Drop> Sink for ReplyBuffer<W> {
         ensures bytes { Writes (written_of self.old) (written_of self.new) result from.now }
         ensures cause { HasCause self.old.faults self.new.faults result }
         ensures for_good { OnOk result ((self.old.faults ≡ 0) × (self.new.faults ≡ 0)) }
+        ensures stopped { 0 < self.old.faults → (self.new.handed ≡ self.old.handed) × (self.new.held ≡ self.old.held) }
+        ensures one_fault { OnErr result (self.new.faults ≡ next_count self.old.faults) }
     {
         if self.faults == 0 {
             if let Ok(count) = write_retried(&mut self.writer, from) {

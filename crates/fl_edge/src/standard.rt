@@ -1,6 +1,7 @@
 // Standard input as a source and standard output as a sink, over one buffer of replies.
-ghost use Rattle.std.specs.Prelude.{◌≡◌};
+ghost use Rattle.std.specs.Prelude.{◌≡◌, OnOk, OnErr};
 ghost use Rattle.fl_base.specs.Causes.{HasCause};
+ghost use Rattle.fl_base.specs.Memory.{next_count};
 
 use crate::reply_buffer::ReplyBuffer;
 use fl_base::{Sink, SinkFailed, Source, SourceFailed};
@@ -66,7 +67,9 @@ impl<'b, W: Write + Drop> StandardOutput<'b, W> {
     /// Hands out what is held back, as at the end of a run. It fails where that can't be handed out now, or couldn't
     /// before a read.
     pub fn hand_out(&mut self) -> Result<(), SinkFailed>
-        ensures { HasCause (⟦<StandardOutput<'b, W> as Sink>⟧.faults self.old) (⟦<StandardOutput<'b, W> as Sink>⟧.faults self.new) result }
+        ensures cause { HasCause (⟦<StandardOutput<'b, W> as Sink>⟧.faults self.old) (⟦<StandardOutput<'b, W> as Sink>⟧.faults self.new) result }
+        ensures no_fault { OnOk result (⟦<StandardOutput<'b, W> as Sink>⟧.faults self.new ≡ ⟦<StandardOutput<'b, W> as Sink>⟧.faults self.old) }
+        ensures one_fault { OnErr result (⟦<StandardOutput<'b, W> as Sink>⟧.faults self.new ≡ next_count (⟦<StandardOutput<'b, W> as Sink>⟧.faults self.old)) }
     {
         if let Ok(mut replies) = self.replies.try_borrow_mut() {
             if replies.hand_out().is_ok() {

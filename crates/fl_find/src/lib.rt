@@ -11,8 +11,6 @@ mod laws;
 mod row;
 mod search;
 mod seek;
-#[cfg(test)]
-mod tests;
 
 pub use index::LearnedIndex;
 pub use keys::PageKeys;

@@ -6,8 +6,6 @@ mod lookup;
 mod mount;
 mod page;
 mod seal;
-#[cfg(test)]
-mod tests;
 mod waiting;
 
 pub use index::Index;

@@ -180,7 +180,7 @@ blob-caused m Without h = no-fault m (reply.NoBlob ∷ []) h refl
 blob-caused m Lost h = no-fault m (reply.Gone ∷ []) h refl
 blob-caused m (Stands []) h = no-fault m (reply.BytesEmpty ∷ []) h refl
 blob-caused m (Stands (byte ∷ bytes)) (inl h) = no-fault m (reply.Bytes (byte ∷ bytes) ∷ []) h refl
-blob-caused m (Stands (byte ∷ bytes)) (inr (rose, (n, within, h))) = one-fault m (reply.Bytes (take n (byte ∷ bytes)) ∷ reply.ReadFault ∷ []) rose h (omega arith)
+blob-caused m (Stands (byte ∷ bytes)) (inr (rose, (n, some, within, h))) = one-fault m (reply.Bytes (take n (byte ∷ bytes)) ∷ reply.ReadFault ∷ []) rose h (omega arith)
 
 entry-caused : (m : Moment) (table : Table) (o : Option Entry) → MatchOption o (m.replies ≡ reply.Absent ∷ []) (λ entry. BlobReplies m.rose (blob_of table entry) m.replies) → IsCaused m
 entry-caused m table None h = no-fault m (reply.Absent ∷ []) h refl

@@ -182,14 +182,14 @@ GetStep config old moment key at =
     × (moment.last ≡ None)
     × ((moment.replies ≡ found_reply at.plan (entry_at key at.table.entries) ∷ []) ⊎ (IsTrue moment.rose × (moment.replies ≡ reply.ReadFault ∷ [])))
 
--- a blob's bytes; where a read fails, a front of them may stand before the fault
+-- a blob's bytes; where a read fails, some of them, and not all, may stand before the fault
 abbrev pub BlobReplies : Bool → BlobState → List Reply → Type 0
 BlobReplies rose Without replies = replies ≡ reply.NoBlob ∷ []
 BlobReplies rose Lost replies = replies ≡ reply.Gone ∷ []
 BlobReplies rose (Stands []) replies = replies ≡ reply.BytesEmpty ∷ []
 BlobReplies rose (Stands (byte ∷ bytes)) replies =
     (replies ≡ reply.Bytes (byte ∷ bytes) ∷ [])
-    ⊎ (IsTrue rose × ((n : ℕ) × (n ≤ length (byte ∷ bytes)) × (replies ≡ reply.Bytes (take n (byte ∷ bytes)) ∷ reply.ReadFault ∷ [])))
+    ⊎ (IsTrue rose × ((n : ℕ) × (1 ≤ n) × (n < length (byte ∷ bytes)) × (replies ≡ reply.Bytes (take n (byte ∷ bytes)) ∷ reply.ReadFault ∷ [])))
 
 abbrev pub BlobStep : Machine → Moment → ℕ → Located → Type 0
 BlobStep old moment key at =

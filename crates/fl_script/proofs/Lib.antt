@@ -3,9 +3,11 @@ pub mod Digits16
 pub mod Blobs
 pub mod Digits
 pub mod Few
+pub mod DigitPairs
 pub mod Lists
 pub mod Long
 pub mod Puts
 pub mod Reading
+pub mod Spaces
 pub mod Splitting
 pub mod Texts

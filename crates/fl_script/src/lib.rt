@@ -2,6 +2,7 @@
 #![tactic(auto)]
 
 mod command;
+mod hexadecimal;
 mod put;
 mod queries;
 mod read;

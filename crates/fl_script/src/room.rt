@@ -3,6 +3,7 @@ ghost use Rattle.std.specs.Prelude.{◌≡◌, ◌≤◌, [], length, take, IfOk
 ghost use Rattle.fl_words.specs.Grammar as grammar;
 
 use crate::LineFault;
+use crate::hexadecimal::decode_pairs;
 use crate::read::LINE_BYTES;
 use crate::word::is;
 use fl_base::NoMemory;
@@ -45,12 +46,13 @@ fn decode_front(word: &[u8], room: &mut [u8]) -> Result<usize, LineFault>
         return Ok(0);
     }
     let count = word.len() / 2;
-    if count == 0 {
+    if count == 0 || word.len() % 2 != 0 {
         return Err(LineFault::Form);
     }
-    match hex::decode_to_slice(word, &mut room[..count]) {
-        Ok(()) => Ok(count),
-        Err(_) => Err(LineFault::Form),
+    if decode_pairs(word, &mut room[..count]) {
+        Ok(count)
+    } else {
+        Err(LineFault::Form)
     }
 }
 

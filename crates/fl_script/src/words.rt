@@ -3,6 +3,8 @@ ghost use Rattle.std.specs.Prelude.{◌≡◌, ◌<◌, ◌≤◌, ◌∷◌, []
 ghost use Rattle.std.specs.List.{All, prefix_len};
 ghost use Rattle.fl_words.specs.Grammar as grammar;
 
+use memchr::memchr;
+
 /// One more than any line has: a put has its first word, a name, a key, 16 values, `blob` and a blob word.
 pub(crate) const MOST_WORDS: usize = 22;
 
@@ -26,11 +28,10 @@ fn spaces(line: &[u8]) -> usize
 }
 
 /// How many bytes of the line stand before a space.
-#[tactic(auto, using(crate::proofs::Splitting::prefix_fits))]
 fn word_len(line: &[u8]) -> usize
     ensures { (result ≡ prefix_len (λ byte. not (byte == 32)) line.now) × (result ≤ length line.now) }
 {
-    line.iter().take_while(|byte| **byte != b' ').count()
+    memchr(b' ', line).unwrap_or(line.len())
 }
 
 /// The first word, and the rest of the line behind it.

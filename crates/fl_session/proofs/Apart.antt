@@ -66,7 +66,7 @@ outside-ring first at blocks plan r page begins size from upto (inr behind) =
     inr (omega (arith, behind, begins, size, k, add-mul at blocks plan.geometry.block))
 
 -- what a call of a table leaves of the pages outside its blocks
-beside-stands : (t : Table) (first : ℕ) (plan : Plan) (old new : ℕ → List ℕ) → IsPlanned t first plan → OutsideStands t old new → (page : ℕ) → IsBeside first plan page → new page ≡ old page
+beside-stands : (t : Table 64 64) (first : ℕ) (plan : Plan) (old new : ℕ → List ℕ) → IsPlanned t first plan → OutsideStands t old new → (page : ℕ) → IsBeside first plan page → new page ≡ old page
 beside-stands t first plan old new planned outside page beside =
     outside page (subst (λ r. IsOutside r page) (sym (planned-ring t first plan planned)) (outside-ring first first plan.data_blocks plan (shape_in first plan) page refl refl (omega arith) (omega arith) beside)) (by-index t.bitmaps planned.index) (by-var t.blobs planned.var)
   where
@@ -134,7 +134,7 @@ module _ (f g : FlashState) (first : ℕ) (plan : Plan) (same-rows : (n : ℕ) �
       by-index None has i = tt
       by-index (Some ring) has i = subst (λ (at : ℕ → List ℕ). IsRingImage (shape_of plan IndexRing) ring at (HoldsBitmaps plan table ring)) (sym (fun_ext (λ n. same-index (sym has) n))) i
 
-  stands-apart : (t : Table) (table : model.Table) → Stands t f first plan table → Stands t g first plan table
+  stands-apart : (t : Table 64 64) (table : model.Table) → Stands t f first plan table → Stands t g first plan table
   stands-apart t table h =
       let facts = table-parts plan table h.facts in
       record {
@@ -163,7 +163,7 @@ module _ (f g : FlashState) (first : ℕ) (plan : Plan) (same-rows : (n : ℕ) �
   rests-apart table h = record { settled = h.settled; pages = holds-apart table (table-parts plan table h.settled.facts) h.pages }
 
 -- .. where all pages do
-pub stands-pages : (f g : FlashState) → page_at g ≡ page_at f → (t : Table) (first : ℕ) (plan : Plan) (table : model.Table) → Stands t f first plan table → Stands t g first plan table
+pub stands-pages : (f g : FlashState) → page_at g ≡ page_at f → (t : Table 64 64) (first : ℕ) (plan : Plan) (table : model.Table) → Stands t f first plan table → Stands t g first plan table
 stands-pages f g same t first plan table h =
     stands-apart f g first plan (λ n. ap (λ (at : ℕ → List ℕ). at (place_in first plan DataRing n)) same) (λ has n. ap (λ (at : ℕ → List ℕ). at (place_in first plan IndexRing n)) same) (λ has n. ap (λ (at : ℕ → List ℕ). at (place_in first plan VarRing n)) same) t table h
 

@@ -1,5 +1,5 @@
 -- The digits of a blob, chunk by chunk.
-use Rattle.std.proofs.Common.{◌≡◌, ℕ, ◌+◌, ◌/◌, ◌%◌, ◌≤◌, Bool, true, false, inl, inr, IsErr, Option, Result, Ok, Err, List, [], ◌∷◌, ◌++◌, length, take, refl, sym, ◌∙◌, ap, subst, arith, append_assoc, append-nil, length-append, codes}
+use Rattle.std.proofs.Common.{◌≡◌, ℕ, zero, suc, ◌+◌, ◌/◌, ◌%◌, ◌<◌, ◌≤◌, Bool, true, false, inl, inr, IsErr, Option, Result, Ok, Err, List, [], ◌∷◌, ◌++◌, length, take, refl, sym, ◌∙◌, ap, subst, arith, append_assoc, append-nil, length-append, codes}
 use Rattle.std.proofs.lemmas.Grind.{flat_map-append}
 use Rattle.std.proofs.lemmas.List.{take_at}
 use Rattle.fl_base.specs.Causes.{Rose, Appends, AppendsFront}
@@ -10,11 +10,11 @@ use Rattle.fl_page.specs.declared.fault.ReadFault.TheVariants.{Flash, BadPage}
 use Rattle.fl_script.proofs.Sending.{appends-append, sent-failed, written-err}
 use Rattle.fl_script.specs.Written.{Written}
 use Rattle.fl_search.specs.Search.{RoseSome}
-use Rattle.fl_var.specs.Reading.{pages_left, bytes_left, Reads, IsWholeIn, NoneBad}
+use Rattle.fl_var.specs.Reading.{count_left, pages_left, has_here, bytes_left, Reads, IsWholeIn, NoneBad}
 use Rattle.fl_var.specs.declared.reader.BlobReader.{BlobReader}
 use Rattle.fl_words.specs.Reply as words
 use Rattle.fl_words.specs.Reply.{hex_digit, hex_text, text, texts}
-use Rattle.fl_session.specs.BlobLine.{GivesDigits, ShowsBytes, read_reply}
+use Rattle.fl_session.specs.BlobLine.{GivesDigits, IsTurned, ShowsBytes, read_reply}
 use Rattle.fl_session.specs.declared.listing.ListFault.TheVariants.{Read}
 use Rattle.fl_session.proofs.Resumed.{rose-read, read-counted}
 use Rattle.fl_session.proofs.RowLines.{appends-none}
@@ -30,21 +30,25 @@ pub record Gave (first : BlobReader) (first_f : FlashState) (told : Option (List
   pub ready : Reads reader f
   pub whole : IsWholeIn reader f
   pub few : f.work.reads + pages_left reader ≤ first_f.work.reads + pages_left first
+  pub count : count_left first ≡ length given + count_left reader
+  pub begun : length given ≡ 0 → has_here reader ≡ has_here first
 
 pub gave-none : (reader : BlobReader) (f : FlashState) (told : Option (List ℕ)) → Reads reader f → IsWholeIn reader f → Gave reader f told reader f told
-gave-none reader f told ready whole = record { given = []; left = refl; wrote = appends-none told; ready = ready; whole = whole; few = omega arith }
+gave-none reader f told ready whole = record { given = []; left = refl; wrote = appends-none told; ready = ready; whole = whole; few = omega arith; count = omega arith; begun = λ none. refl }
 
 module _ (first mid new : BlobReader) (first_f f g : FlashState) (told told_mid : Option (List ℕ)) (gave : Gave first first_f told mid f told_mid) where
   -- one more chunk
   pub gave-chunk : (chunk : List ℕ) (told_now : Option (List ℕ)) → bytes_left mid f ≡ chunk ++ bytes_left new g → Appends told_mid told_now (hex_text chunk) → Reads new g → IsWholeIn new g → g.work.reads + pages_left new ≤ f.work.reads + pages_left mid →
-      Gave first first_f told new g told_now
-  gave-chunk chunk told_now left wrote ready whole few = record {
+      count_left mid ≡ length chunk + count_left new → 1 ≤ length chunk → Gave first first_f told new g told_now
+  gave-chunk chunk told_now left wrote ready whole few counted some = record {
     given = gave.given ++ chunk;
     left = gave.left ∙ (ap (λ (l : List ℕ). gave.given ++ l) left ∙ sym (append_assoc gave.given chunk (bytes_left new g)));
     wrote = subst (λ (l : List ℕ). Appends told told_now l) (sym (hex-append gave.given chunk)) (appends-append told told_mid told_now (hex_text gave.given) (hex_text chunk) gave.wrote wrote);
     ready = ready;
     whole = whole;
     few = omega (arith, few, gave.few);
+    count = omega (arith, gave.count, counted, length-append gave.given chunk);
+    begun = λ none. absurd (omega (arith, none, some, length-append gave.given chunk));
   }
 
   -- the sink failed in a chunk
@@ -58,12 +62,17 @@ module _ (first mid new : BlobReader) (first_f f g : FlashState) (told told_mid 
   pub gave-all : bytes_left mid f ≡ [] → Appends told told_mid (hex_text (bytes_left first first_f))
   gave-all none = subst (λ (l : List ℕ). Appends told told_mid (hex_text l)) (sym (gave.left ∙ (ap (λ (l : List ℕ). gave.given ++ l) none ∙ append-nil gave.given))) gave.wrote
 
-  -- a read failed
-  pub gave-unread : (e : ReadFault) → NoneBad {T = Bool} (Err e) → GivesDigits (bytes_left first first_f) told told_mid (Err (Read e))
-  gave-unread (BadPage bad) none = none
-  gave-unread (Flash fault) none =
+  -- a read failed, though a byte was left: so it wasn't the first step
+  pub gave-unread : (e : ReadFault) → NoneBad {T = Bool} (Err e) → IsTurned first first_f → 1 ≤ count_left mid → (has_here mid ≡ true → ⊥) → GivesDigits (bytes_left first first_f) told told_mid (Err (Read e))
+  gave-unread (BadPage bad) none turned left unheld = none
+  gave-unread (Flash fault) none turned left unheld =
       let all : take (length gave.given) (bytes_left first first_f) ≡ gave.given = ap (take (length gave.given)) gave.left ∙ take_at gave.given (bytes_left mid f) (length gave.given) refl in
-      (length gave.given, omega (arith, ap length gave.left, length-append gave.given (bytes_left mid f)), subst (λ (l : List ℕ). Appends told told_mid (hex_text l)) (sym all) gave.wrote)
+      let some : 1 ≤ length gave.given = by_given (length gave.given) (λ none. unheld (gave.begun none ∙ turned.here)) in
+      (length gave.given, some, omega (arith, turned.count, gave.count, left), subst (λ (l : List ℕ). Appends told told_mid (hex_text l)) (sym all) gave.wrote)
+    where
+      by_given : (n : ℕ) → (n ≡ 0 → ⊥) → 1 ≤ n
+      by_given zero h = absurd (h refl)
+      by_given (suc n) h = omega arith
 
 -- ---- the line
 
@@ -110,12 +119,12 @@ module _ {E : Type 0} (bytes : List ℕ) (told now : Option (List ℕ)) (faults 
       no e = cc
 
   -- a front of it, and then the fault
-  pub shows-fault : (n : ℕ) → n ≤ length bytes → Rose faults faults_now → RoseSome reads reads_now → Written told now result (codes "bytes " ++ (hex_text (take n bytes) ++ (10 ∷ [] ++ text words.ReadFault))) → ShowsBytes bytes told now faults faults_now reads reads_now result
-  shows-fault n le rose counted wrote = record {
+  pub shows-fault : (n : ℕ) → 1 ≤ n → n < length bytes → Rose faults faults_now → RoseSome reads reads_now → Written told now result (codes "bytes " ++ (hex_text (take n bytes) ++ (10 ∷ [] ++ text words.ReadFault))) → ShowsBytes bytes told now faults faults_now reads reads_now result
+  shows-fault n some lt rose counted wrote = record {
     rose = true;
     risen = λ t. rose;
     replies = words.Bytes (take n bytes) ∷ words.ReadFault ∷ [];
-    replied = inr (refl, (n, le, refl));
+    replied = inr (refl, (n, some, lt, refl));
     wrote = subst (λ (l : List ℕ). Written told now result l) (sym (fault-lines (take n bytes))) wrote;
     failed = λ unread. counted;
   }
@@ -126,9 +135,9 @@ module _ {E : Type 0} (bytes : List ℕ) (told now : Option (List ℕ)) (faults 
   shows-unread (BadPage bad) begun given ended gives rose first line wrote = absurd gives
   shows-unread (Flash fault) begun given ended gives rose first line wrote =
       let front = take gives.0 bytes in
-      shows-fault gives.0 gives.1 rose.0 rose.1
+      shows-fault gives.0 gives.1 gives.2 rose.0 rose.1
       (written-after told begun now result (codes "bytes ") (hex_text front ++ (10 ∷ [] ++ text words.ReadFault)) first
-      (written-after begun given now result (hex_text front) (10 ∷ [] ++ text words.ReadFault) gives.2
+      (written-after begun given now result (hex_text front) (10 ∷ [] ++ text words.ReadFault) gives.3
       (written-after given ended now result (10 ∷ []) (text words.ReadFault) line wrote)))
 
   -- the sink failed behind it
@@ -136,7 +145,7 @@ module _ {E : Type 0} (bytes : List ℕ) (told now : Option (List ℕ)) (faults 
   shows-unended (BadPage bad) begun given gives rose first line failed = absurd gives
   shows-unended (Flash fault) begun given gives rose first line failed =
       let front = take gives.0 bytes in
-      shows-fault gives.0 gives.1 rose.0 rose.1
+      shows-fault gives.0 gives.1 gives.2 rose.0 rose.1
       (written-after told begun now result (codes "bytes ") (hex_text front ++ (10 ∷ [] ++ text words.ReadFault)) first
-      (written-after begun given now result (hex_text front) (10 ∷ [] ++ text words.ReadFault) gives.2
+      (written-after begun given now result (hex_text front) (10 ∷ [] ++ text words.ReadFault) gives.3
       (written-err given now result (10 ∷ [] ++ text words.ReadFault) failed (front-more given now (10 ∷ []) (text words.ReadFault) line))))

@@ -68,7 +68,7 @@ named-in true bytes = by_blob (reference_in bytes)
     by_blob None = tt
     by_blob (Some at) = refl
 
-pub named-has : (t : Table) (row : RowRef) → layout_of_row row ≡ layout_in t → IfNamed (has_blobs t ≡ true) (found_in (row_of row).blob)
+pub named-has : (t : Table 64 64) (row : RowRef) → layout_of_row row ≡ layout_in t → IfNamed (has_blobs t ≡ true) (found_in (row_of row).blob)
 named-has t row layout =
     let same : (layout_of_row row).blobs ≡ has_blobs t = ap (λ (l : RowLayout). l.blobs) layout ∙ t.has_blobs in
     subst (λ b. IfNamed (b ≡ true) (found_in (row_of row).blob)) same (named-in (layout_of_row row).blobs (drop ((layout_of_row row).key_bytes + columns_len (layout_of_row row).columns) (bytes_of row)))
@@ -88,7 +88,7 @@ finds-row plan table key buf place row shows at =
     by_blob (Some bytes) e = record { entry = shows.entry; found = shows.found; slot = here.0; here = here.1; bytes = bytes; blob_is = e; at_is = refl }
 
 -- why a lookup fails
-pub lookup-caused : (t : Table) (f g : FlashState) (e : ReadFault) → LookupFails t f e g → IsCaused f e g
+pub lookup-caused : (t : Table 64 64) (f g : FlashState) (e : ReadFault) → LookupFails t f e g → IsCaused f e g
 lookup-caused t f g (Flash PowerLost) h = h.0
 lookup-caused t f g (Flash Media) h = h
 lookup-caused t f g (BadPage bad) h = tt
@@ -100,7 +100,7 @@ finds-unread knots plan table key before now buf (BadPage bad) h = h
 
 -- ---- a reader of a table's variable data, over a flash on which the table lies
 
-module _ (t : Table) (f : FlashState) (lies : LiesAll t f) where
+module _ (t : Table 64 64) (f : FlashState) (lies : LiesAll t f) where
   pub buffer-fits : has_blobs t ≡ true → f.geometry.page ≡ blob_page_len t
   buffer-fits some = by_blobs t.blobs some lies.blobs
     where
@@ -198,7 +198,7 @@ module _ {E : Type 0} (told now : Option (List ℕ)) (faults faults_now reads re
   }
     where
       by_bytes : (bytes : List ℕ) → 1 ≤ length bytes →
-          (shows.replies ≡ words.Bytes bytes ∷ []) ⊎ (IsTrue shows.rose × ((n : ℕ) × (n ≤ length bytes) × (shows.replies ≡ words.Bytes (take n bytes) ∷ words.ReadFault ∷ []))) →
+          (shows.replies ≡ words.Bytes bytes ∷ []) ⊎ (IsTrue shows.rose × ((n : ℕ) × (1 ≤ n) × (n < length bytes) × (shows.replies ≡ words.Bytes (take n bytes) ∷ words.ReadFault ∷ []))) →
           BlobReplies shows.rose (StandsWith bytes) shows.replies
       by_bytes [] some h = absurd (omega (arith, some))
       by_bytes (byte ∷ bytes) some h = h
@@ -212,7 +212,7 @@ unread-rose f g (BadPage bad) table entry bytes on fails finds = absurd finds
 -- ---- the whole reply
 
 -- a flash that stands for a table has pages with the content of the plan's
-pub content-same : (t : Table) (f : FlashState) (first : ℕ) (plan : Plan) (table : model.Table) → Stands t f first plan table → content_in t ≡ content_per_page plan
+pub content-same : (t : Table 64 64) (f : FlashState) (first : ℕ) (plan : Plan) (table : model.Table) → Stands t f first plan table → content_in t ≡ content_per_page plan
 content-same t f first plan table h = ap (λ (g : Geometry). g.page - 16) (sym h.planned.geometry)
 
 length-named : (table : model.Table) (key : ℕ) (at : BlobRef) → NamesBlob table key at → length_of_blob (entry_at key table.entries) ≡ at.length

@@ -34,7 +34,7 @@ use Rattle.fl_session.proofs.Owning.{own-of}
 use Rattle.fl_session.proofs.Stating.{stat-answers}
 use Rattle.fl_session.proofs.Working.{has_risen, session-watched, put-answers, flush-answers}
 
-pub put-call : (config : Config) (old : Machine) (entries : List Entry) (at : ℕ) (entry : Entry) (u : Table) (asked : List ℕ) (notes : Notes) (f g : FlashState) (mounted : Bool) (key : ℕ) (values : List ℤ) (blob : Option (List ℕ)) (result : Result (Unit {0}) PutRefusal) (breaks : Bool) (said : List ℕ) →
+pub put-call : (config : Config) (old : Machine) (entries : List Entry) (at : ℕ) (entry : Entry) (u : Table 64 64) (asked : List ℕ) (notes : Notes) (f g : FlashState) (mounted : Bool) (key : ℕ) (values : List ℤ) (blob : Option (List ℕ)) (result : Result (Unit {0}) PutRefusal) (breaks : Bool) (said : List ℕ) →
     SessionStands config entries f mounted notes old → IsReached entries mounted asked at → slice_get entries at ≡ Some entry → Goes f g → IsSamePlan entry.table u → (IsTrue f.media.tells → OutsideStands entry.table (page_at f) (page_at g)) →
     ((first : ℕ) (plan : Plan) (table : model.Table) (rose : Bool) (device : Device) → IsWatched f g rose device → Stands entry.table f first plan table → PutEnds first plan (record { key = key; values = values; blob = blob }) table rose device result u g) →
     IfErr result (λ e. RefusedSame entry.table f e u g) → breaks ≡ put_breaks result → said ≡ text (put_reply result) →
@@ -46,7 +46,7 @@ put-call config old entries at entry u asked notes f g mounted key values blob r
     subst (λ s. Answers config old (command.Put asked key values blob) (SessionStands config (entries_with entries at entry u) g (not breaks) notes) f.media.faults g.media.faults s) (sym e)
     (put-answers config old entries at entry asked notes u f g h' here own goes same outside key values blob result (not breaks) (ap not b) end refused)
 
-pub flush-call : (config : Config) (old : Machine) (entries : List Entry) (at : ℕ) (entry : Entry) (u : Table) (asked : List ℕ) (notes : Notes) (f g : FlashState) (mounted : Bool) (result : Result (Unit {0}) FlushFault) (breaks : Bool) (said : List ℕ) →
+pub flush-call : (config : Config) (old : Machine) (entries : List Entry) (at : ℕ) (entry : Entry) (u : Table 64 64) (asked : List ℕ) (notes : Notes) (f g : FlashState) (mounted : Bool) (result : Result (Unit {0}) FlushFault) (breaks : Bool) (said : List ℕ) →
     SessionStands config entries f mounted notes old → IsReached entries mounted asked at → slice_get entries at ≡ Some entry → Goes f g → IsSamePlan entry.table u → (IsTrue f.media.tells → OutsideStands entry.table (page_at f) (page_at g)) →
     ((first : ℕ) (plan : Plan) (table : model.Table) (rose : Bool) (device : Device) → IsWatched f g rose device → Stands entry.table f first plan table → FlushEnds first plan table rose device result u g) →
     breaks ≡ flush_breaks result → said ≡ text (flush_reply result) →

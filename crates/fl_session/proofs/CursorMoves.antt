@@ -47,7 +47,7 @@ use Rattle.fl_session.proofs.TablesChanged.{at-place}
 use Rattle.fl_session.proofs.Working.{medium-goes}
 
 -- reads leave a table where it lies
-pub lies-read : (t : Table) (f g : FlashState) → OnlyReads f g → LiesOn t f → LiesOn t g
+pub lies-read : (t : Table 64 64) (f g : FlashState) → OnlyReads f g → LiesOn t f → LiesOn t g
 lies-read t f g only lies = lies-on t f g (goes-reads f g only) lies
 
 -- the session after reads, with a cursor that was moved

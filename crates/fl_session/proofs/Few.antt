@@ -29,7 +29,7 @@ length-filter p (x ∷ xs) = by_test (p x) (length-filter p xs)
     by_test true h = omega (arith, h)
     by_test false h = omega (arith, h)
 
-module _ (t : Table) (f : FlashState) (first : ℕ) (plan : Plan) (table : model.Table) (stands : Stands t f first plan table) where
+module _ (t : Table 64 64) (f : FlashState) (first : ℕ) (plan : Plan) (table : model.Table) (stands : Stands t f first plan table) where
   few-in-page : rows_per_page plan ≤ 4096
   few-in-page =
       let page : plan.geometry.page ≤ 4096 = omega (arith, t.served.page_greatest, ap (λ (g : Geometry). g.page) stands.planned.geometry) in

@@ -57,7 +57,7 @@ ending-read count given = by_test (given == count)
     by_test true = refl
     by_test false = refl
 
-module _ (plan : Plan) (blobs : Bool) (table : model.Table) (count : ℕ) (first new : Cursor) (contents : Contents) (told mid now : Option (List ℕ)) (f g : FlashState) (result : Result (Unit {0}) SinkFailed) (noted : blobs ≡ has_var plan)
+module _ (plan : Plan) (blobs : Bool) (table : model.Table) (count : ℕ) (first new : Cursor 64 64) (contents : Contents) (told mid now : Option (List ℕ)) (f g : FlashState) (result : Result (Unit {0}) SinkFailed) (noted : blobs ≡ has_var plan)
     (are : left_of first contents ≡ map stored_row (query.left_of (asked_by (mark_of first)) table.entries))
     (within : IsBounded (mark_of first).top (mark_of first).range.high → g.work.reads ≤ f.work.reads + scan_limit 64 plan table (mark_of first).range (mark_of first).span (lowest_of (asked_by (mark_of first)))) where
   abbrev all : List Entry
@@ -179,7 +179,7 @@ module _ (plan : Plan) (blobs : Bool) (table : model.Table) (count : ℕ) (first
   nexts-fault (Read (BadPage bad)) gives on why says = absurd gives
 
 -- the reads of a cursor that is resumed
-pub reads-within : (plan : Plan) (table : model.Table) (first : Cursor) (contents : Contents) (reads reads_now : ℕ) {mark : Bookmark} → mark_of first ≡ mark →
+pub reads-within : (plan : Plan) (table : model.Table) (first : Cursor 64 64) (contents : Contents) (reads reads_now : ℕ) {mark : Bookmark} → mark_of first ≡ mark →
     (IsBounded mark.top mark.range.high → most_of first contents ≤ scan_limit 64 plan table mark.range mark.span (lowest_of (asked_by mark))) → reads_now ≤ reads + most_of first contents →
     IsBounded (mark_of first).top (mark_of first).range.high → reads_now ≤ reads + scan_limit 64 plan table (mark_of first).range (mark_of first).span (lowest_of (asked_by (mark_of first)))
 reads-within plan table first contents reads reads_now {mark} is limit most =

@@ -60,7 +60,7 @@ module _ (f g : FlashState) (only : OnlyReads f g) where
   }
 
   -- a table still stands
-  pub stands-read : (t : Table) (first : ℕ) (plan : Plan) (table : model.Table) → Stands t f first plan table → Stands t g first plan table
+  pub stands-read : (t : Table 64 64) (first : ℕ) (plan : Plan) (table : model.Table) → Stands t f first plan table → Stands t g first plan table
   stands-read t first plan table h = stands-pages f g (looks-pages f g (record { reads = only; power = only.power; cuts = only.cuts })) t first plan table h
 
   pub tells-read : IsTrue f.media.tells → IsTrue g.media.tells

@@ -31,10 +31,10 @@ lines-more : (blobs : Bool) (rows : List Row) (row : Row) (others : List Row) �
 lines-more blobs rows row others = ap texts (map-append (row_reply blobs) rows (row ∷ others)) ∙ flat_map-append text (map (row_reply blobs) rows) (map (row_reply blobs) (row ∷ others))
 
 -- none was given yet
-pub gave-none : (blobs : Bool) (cursor : Cursor) (contents : Contents) (told : Option (List ℕ)) → Gave blobs cursor cursor contents told told []
+pub gave-none : (blobs : Bool) (cursor : Cursor 64 64) (contents : Contents) (told : Option (List ℕ)) → Gave blobs cursor cursor contents told told []
 gave-none blobs cursor contents told = record { left = refl; mark = refl; wrote = appends-none told }
 
-module _ (blobs : Bool) (first mid new : Cursor) (contents : Contents) (told told_mid : Option (List ℕ)) (rows : List Row) (gave : Gave blobs first mid contents told told_mid rows) where
+module _ (blobs : Bool) (first mid new : Cursor 64 64) (contents : Contents) (told told_mid : Option (List ℕ)) (rows : List Row) (gave : Gave blobs first mid contents told told_mid rows) where
   -- the cursor went on, and gave no more
   pub gave-same : mark_of new ≡ mark_of mid → left_of new contents ≡ left_of mid contents → Gave blobs first new contents told told_mid rows
   gave-same mark left = record { left = gave.left ∙ ap (λ (l : List Row). rows ++ l) (sym left); mark = mark ∙ gave.mark; wrote = gave.wrote }
@@ -79,7 +79,7 @@ module _ (blobs : Bool) (first mid new : Cursor) (contents : Contents) (told tol
   gives-all count given many none left mark less = (rows, gave-same mark (left ∙ sym none), many, omega (arith, less), λ _. left)
 
 -- at the end nothing more is read
-pub least-ended : (cursor : Cursor) (contents : Contents) → has_ended cursor ≡ true → least_of cursor contents ≡ 0
+pub least-ended : (cursor : Cursor 64 64) (contents : Contents) → has_ended cursor ≡ true → least_of cursor contents ≡ 0
 least-ended cursor contents e = by_place cursor.place e
   where
     by_place : (place : Place) → is_end place ≡ true → least_from (table_of cursor) contents (asked_of cursor) (index_page cursor) place ≡ 0

@@ -47,8 +47,8 @@ pub goes-same : (f : FlashState) → Goes f f
 goes-same f = goes-set f f.is_on f.armed
 
 -- .. and a table
-pub same-plan : (t : Table) → IsSamePlan t t
+pub same-plan : (t : Table 64 64) → IsSamePlan t t
 same-plan t = record { geometry = refl; layout = refl; place = refl; buckets = refl; error = refl; bitmaps = plan-same t.bitmaps; blobs = variable.plan-same t.blobs; limit = refl }
 
-pub same-on : (old mid new : Table) → IsSamePlan old mid → IsSamePlan mid new → IsSamePlan old new
+pub same-on : (old mid new : Table 64 64) → IsSamePlan old mid → IsSamePlan mid new → IsSamePlan old new
 same-on old mid new a b = record { geometry = b.geometry ∙ a.geometry; layout = b.layout ∙ a.layout; place = b.place ∙ a.place; buckets = b.buckets ∙ a.buckets; error = b.error ∙ a.error; bitmaps = plan-then old.bitmaps mid.bitmaps new.bitmaps a.bitmaps b.bitmaps; blobs = variable.plan-then old.blobs mid.blobs new.blobs a.blobs b.blobs; limit = b.limit ∙ a.limit }

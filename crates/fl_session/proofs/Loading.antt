@@ -45,7 +45,7 @@ abbrev pub amid : Machine → Device → List model.Table → Machine
 amid old device tables = record old { device = device; tables = tables }
 
 -- So many records were put to the table at a place, and what the rest of the load is to the machine, the whole is.
-pub record LoadedSoFar (config : Config) (entries : List Entry) (at : ℕ) (entry : Entry) (asked : List ℕ) (notes : Notes) (old : Machine) (t : Table) (f : FlashState) (rose : Bool) (count step seed loaded random : ℕ) : Type 0 where
+pub record LoadedSoFar (config : Config) (entries : List Entry) (at : ℕ) (entry : Entry) (asked : List ℕ) (notes : Notes) (old : Machine) (t : Table 64 64) (f : FlashState) (rose : Bool) (count step seed loaded random : ℕ) : Type 0 where
   pub device : Device
   pub tables : List model.Table
   pub stands : SessionStands config (entries_with entries at entry t) f true notes (amid old device tables)
@@ -55,16 +55,16 @@ pub record LoadedSoFar (config : Config) (entries : List Entry) (at : ℕ) (entr
       LoadsFrom config old moment plan at step seed count 1 (next_random seed) 0 old.device old.tables
 
 -- the entry of a table that a load has changed
-abbrev pub entry_now : Entry → Table → Entry
+abbrev pub entry_now : Entry → Table 64 64 → Entry
 entry_now entry t = record { name = entry.name; table = t }
 
-entry-there : (entries : List Entry) (at : ℕ) (entry : Entry) (t : Table) → slice_get entries at ≡ Some entry → slice_get (entries_with entries at entry t) at ≡ Some (entry_now entry t)
+entry-there : (entries : List Entry) (at : ℕ) (entry : Entry) (t : Table 64 64) → slice_get entries at ≡ Some entry → slice_get (entries_with entries at entry t) at ≡ Some (entry_now entry t)
 entry-there entries at entry t here = set-there entries at entry (entry_now entry t) here
 
-entries-again : (entries : List Entry) (at : ℕ) (entry : Entry) (t u : Table) → entries_with (entries_with entries at entry t) at (entry_now entry t) u ≡ entries_with entries at entry u
+entries-again : (entries : List Entry) (at : ℕ) (entry : Entry) (t u : Table 64 64) → entries_with (entries_with entries at entry t) at (entry_now entry t) u ≡ entries_with entries at entry u
 entries-again entries at entry t u = set-set entries at (entry_now entry t) (entry_now entry u)
 
-still-named : (entries : List Entry) (at : ℕ) (entry : Entry) (t : Table) (asked : List ℕ) → slice_get entries at ≡ Some entry → IsNamed entries asked at → IsNamed (entries_with entries at entry t) asked at
+still-named : (entries : List Entry) (at : ℕ) (entry : Entry) (t : Table 64 64) (asked : List ℕ) → slice_get entries at ≡ Some entry → IsNamed entries asked at → IsNamed (entries_with entries at entry t) asked at
 still-named entries at entry t asked here named = record {
   entry = entry_now entry t;
   here = entry-there entries at entry t here;
@@ -72,7 +72,7 @@ still-named entries at entry t asked here named = record {
   first = λ i other lt e. named.first i other lt (sym (set-elsewhere entries at i (entry_now entry t) (λ is. absurd (omega (arith, lt, is)))) ∙ e);
 }
 
-pub loaded-none : (config : Config) (entries : List Entry) (at : ℕ) (entry : Entry) (asked : List ℕ) (notes : Notes) (old : Machine) (t : Table) (f : FlashState) (rose : Bool) (count step seed random : ℕ) → random ≡ next_random seed →
+pub loaded-none : (config : Config) (entries : List Entry) (at : ℕ) (entry : Entry) (asked : List ℕ) (notes : Notes) (old : Machine) (t : Table 64 64) (f : FlashState) (rose : Bool) (count step seed random : ℕ) → random ≡ next_random seed →
     SessionStands config entries f true notes old → slice_get entries at ≡ Some entry → entry.table ≡ t →
     LoadedSoFar config entries at entry asked notes old t f rose count step seed 0 random
 loaded-none config entries at entry asked notes old t f rose count step seed random e h here is =
@@ -113,7 +113,7 @@ loads-next config old moment plan at step seed count loaded s device tables tabl
 abbrev pub made : ℕ → List ℤ → Record
 made key values = record { key = key; values = values; blob = None }
 
-made-is : (t : Table) (f : FlashState) (first : ℕ) (plan : Plan) (table : model.Table) (step seed i s key : ℕ) (values : List ℤ) (last : Option ℕ) → Stands t f first plan table → last ≡ option_map (λ entry. entry.kept.key) (last_entry table) →
+made-is : (t : Table 64 64) (f : FlashState) (first : ℕ) (plan : Plan) (table : model.Table) (step seed i s key : ℕ) (values : List ℤ) (last : Option ℕ) → Stands t f first plan table → last ≡ option_map (λ entry. entry.kept.key) (last_entry table) →
     key ≡ load_key (unwrap_or last 0) step s → values ≡ load_values i seed 1 (layout_in t).columns → made key values ≡ load_record plan table step seed i s
 made-is t f first plan table step seed i s key values last stands e k v =
     let key_is : key ≡ (load_record plan table step seed i s).key = k ∙ ap (λ o. load_key (unwrap_or o 0) step s) e in
@@ -150,7 +150,7 @@ ends-load config entries now at entry asked notes old f g count step seed mounte
     }
 
 -- all records were put
-pub load-finished : (config : Config) (entries : List Entry) (at : ℕ) (entry : Entry) (asked : List ℕ) (notes : Notes) (old : Machine) (u : Table) (f g : FlashState) (count step seed loaded random : ℕ) → SessionStands config entries f true notes old →
+pub load-finished : (config : Config) (entries : List Entry) (at : ℕ) (entry : Entry) (asked : List ℕ) (notes : Notes) (old : Machine) (u : Table 64 64) (f g : FlashState) (count step seed loaded random : ℕ) → SessionStands config entries f true notes old →
     slice_get entries at ≡ Some entry → IsNamed entries asked at → loaded ≡ count → LoadedSoFar config entries at entry asked notes old u g (has_risen f g) count step seed loaded random →
     Answers config old (command.Load asked count step seed) (SessionStands config (entries_with entries at entry u) g true notes) f.media.faults g.media.faults (texts (load_replies count (Ok tt)))
 load-finished config entries at entry asked notes old u f g count step seed loaded random h here named e so_far =
@@ -177,7 +177,7 @@ stops-load old c rose at loaded tables now fault g others (CutIn before) k h = r
 stops-load old c rose at loaded tables now fault g others (FailedIn before) k h = record { replies_are = ap (λ x. reply.Loaded loaded ∷ fault_reply x ∷ []) h.0; after_is = refl; last_is = ap (last_of at tables) k }
 
 -- One put of a load.
-module _ (config : Config) (entries : List Entry) (at : ℕ) (entry : Entry) (asked : List ℕ) (notes : Notes) (old : Machine) (t u : Table) (f g : FlashState) (rose : Bool) (count step seed loaded random : ℕ)
+module _ (config : Config) (entries : List Entry) (at : ℕ) (entry : Entry) (asked : List ℕ) (notes : Notes) (old : Machine) (t u : Table 64 64) (f g : FlashState) (rose : Bool) (count step seed loaded random : ℕ)
     (here : slice_get entries at ≡ Some entry) (named : IsNamed entries asked at) (so_far : LoadedSoFar config entries at entry asked notes old t f rose count step seed loaded random) (left : loaded < count)
     (goes : Goes f g) (same : IsSamePlan t u) (outside : IsTrue f.media.tells → OutsideStands t (page_at f) (page_at g)) where
   abbrev pub mid_old : Machine

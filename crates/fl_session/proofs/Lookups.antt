@@ -115,7 +115,7 @@ looks-found plan table key faults faults_now reads reads_now buf place row blobs
     }
 
 -- a page wasn't read
-pub looks-unread : (plan : Plan) (table : model.Table) (key : ℕ) (t : Table) (old new : FlashState) (e : FlashFault) (said : List ℕ) → old.is_on ≡ true → LookupFails t old (fault.Flash e) new → new.work.reads ≤ old.work.reads + lookup_limit 64 plan table key → said ≡ text reply.ReadFault →
+pub looks-unread : (plan : Plan) (table : model.Table) (key : ℕ) (t : Table 64 64) (old new : FlashState) (e : FlashFault) (said : List ℕ) → old.is_on ≡ true → LookupFails t old (fault.Flash e) new → new.work.reads ≤ old.work.reads + lookup_limit 64 plan table key → said ≡ text reply.ReadFault →
     Looks plan table key old.media.faults new.media.faults old.work.reads new.work.reads said
 looks-unread plan table key t old new PowerLost said on fails within is = never (sym fails.0 ∙ on)
 looks-unread plan table key t old new Media said on fails within is = record {

@@ -136,7 +136,7 @@ mounted-none plans start rose device entries f counts power stand = record {
     none = fun_ext (λ i. sym (le-ltb i 0 (omega arith)))
 
 -- One more is mounted.
-module _ (plans : List Plan) (start : List model.Table) (rose : Bool) (device : Device) (k : ℕ) (entries : List Entry) (entry : Entry) (u : Table) (f g : FlashState)
+module _ (plans : List Plan) (start : List model.Table) (rose : Bool) (device : Device) (k : ℕ) (entries : List Entry) (entry : Entry) (u : Table 64 64) (f g : FlashState)
     (so_far : MountedSoFar plans start rose device k entries f) (here : slice_get entries k ≡ Some entry) (goes : Goes f g) (same : IsSamePlan entry.table u) (outside : OutsideStands entry.table (page_at f) (page_at g)) where
   pub own : AtPlace f (λ i. nat_lt i k) plans entries so_far.shown k entry
   own = at-place f (λ i. nat_lt i k) plans entries so_far.shown k entry so_far.stand here

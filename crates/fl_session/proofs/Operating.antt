@@ -26,7 +26,7 @@ pub second-same : {X : Type 0} {a b c d : X} → a ∷ b ∷ [] ≡ c ∷ d ∷ 
 second-same e = cc
 
 -- an operator gets not too many records
-pub few-asked : (t : Table) (f : FlashState) (first : ℕ) (plan : Plan) (table : model.Table) (range : KeyRange) → Stands t f first plan table → length (map stored_row (selected range None table.entries)) < 2 ^ 63
+pub few-asked : (t : Table 64 64) (f : FlashState) (first : ℕ) (plan : Plan) (table : model.Table) (range : KeyRange) → Stands t f first plan table → length (map stored_row (selected range None table.entries)) < 2 ^ 63
 few-asked t f first plan table range h =
     omega (arith, length-map (selected range None table.entries) stored_row, length-filter (λ entry. matches range None entry.kept) table.entries, few-entries t f first plan table h)
 

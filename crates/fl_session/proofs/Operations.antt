@@ -43,13 +43,13 @@ use Rattle.fl_session.proofs.Refusing.{answers-refused}
 use Rattle.fl_session.proofs.Scanned.{on-ok-weaker}
 
 -- one column that is there, and one that isn't
-pub has-column : (t : Table) (first : ℕ) (plan : Plan) (column : ℕ) → column ≤ length (layout_in t).columns → IsPlanned t first plan → no_column plan (column ∷ []) ≡ None
+pub has-column : (t : Table 64 64) (first : ℕ) (plan : Plan) (column : ℕ) → column ≤ length (layout_in t).columns → IsPlanned t first plan → no_column plan (column ∷ []) ≡ None
 has-column t first plan column le h =
     let columns = ap (λ (l : RowLayout). length l.columns) h.layout in
     let is : nat_lt (length plan.columns) column ≡ false = grind (arith, nat_tests, columns, le) in
     rw is refl
 
-pub lacks-column : (t : Table) (first : ℕ) (plan : Plan) (column : ℕ) → length (layout_in t).columns < column → IsPlanned t first plan → no_column plan (column ∷ []) ≡ Some column
+pub lacks-column : (t : Table 64 64) (first : ℕ) (plan : Plan) (column : ℕ) → length (layout_in t).columns < column → IsPlanned t first plan → no_column plan (column ∷ []) ≡ Some column
 lacks-column t first plan column lt h =
     let columns = ap (λ (l : RowLayout). length l.columns) h.layout in
     let is : nat_lt (length plan.columns) column ≡ true = grind (arith, nat_tests, columns, lt) in
@@ -62,7 +62,7 @@ session-still config entries notes f g m only h =
     subst (λ cost. SessionStands config entries g true notes (record m { cost = cost })) (sym h.cost_is) read
 
 -- the first column that isn't there
-pub lacked-column : (t : Table) (first : ℕ) (plan : Plan) (columns : List ℕ) (lacked : Option ℕ) → lacked ≡ lacked_column (layout_in t) columns → IsPlanned t first plan → no_column plan columns ≡ lacked
+pub lacked-column : (t : Table 64 64) (first : ℕ) (plan : Plan) (columns : List ℕ) (lacked : Option ℕ) → lacked ≡ lacked_column (layout_in t) columns → IsPlanned t first plan → no_column plan columns ≡ lacked
 lacked-column t first plan columns lacked is h = ap (λ (l : RowLayout). lacked_column l columns) h.layout ∙ sym is
 
 module _ (E : Type 0) (config : Config) (old : Machine) (entries : List Entry) (asked : List ℕ) (notes : Notes) (f : FlashState) (mounted : Bool) (command : List ℕ → Command) (columns : List ℕ) (range : KeyRange) (lines : Located → List Reply)

@@ -23,14 +23,14 @@ use Rattle.fl_table.specs.Standing.{Stands}
 use Rattle.fl_table.specs.declared.table.Table.{Table}
 use Rattle.fl_session.specs.Nexts.{Nexts}
 
-module _ (t : Table) (f : FlashState) (first : ℕ) (plan : Plan) (table : model.Table) (tells : IsTrue f.media.tells) (reaches : f.start + extent f.geometry f.blocks ≤ length f.media.content) (lies : LiesOn t f) (stands : Stands t f first plan table) where
+module _ (t : Table 64 64) (f : FlashState) (first : ℕ) (plan : Plan) (table : model.Table) (tells : IsTrue f.media.tells) (reaches : f.start + extent f.geometry f.blocks ≤ length f.media.content) (lies : LiesOn t f) (stands : Stands t f first plan table) where
   abbrev pub is-standing : IsStanding t (contents_of f)
   is-standing = record { flash = f; same = refl; tells = tells; reaches = reaches; lies = lies; first = first; plan = plan; table = table; stands = stands }
 
   -- it has left what the model's cursor has left
-  pub left-there : (cursor : Cursor) → table_of cursor ≡ t → left_of cursor (contents_of f) ≡ map stored_row (query.left_of (asked_by (mark_of cursor)) table.entries)
+  pub left-there : (cursor : Cursor 64 64) → table_of cursor ≡ t → left_of cursor (contents_of f) ≡ map stored_row (query.left_of (asked_by (mark_of cursor)) table.entries)
   left-there cursor is =
-      ap (λ (x : Table). filter (is_left (asked_of cursor)) (rows_of x (contents_of f))) is
+      ap (λ (x : Table 64 64). filter (is_left (asked_of cursor)) (rows_of x (contents_of f))) is
       ∙ (ap (filter (is_left (asked_of cursor))) (standing-rows t (contents_of f) is-standing) ∙ left-entries (asked_of cursor) table.entries)
 
 -- a read failed with the power on, so the medium did

@@ -28,7 +28,7 @@ appends-none None = tt
 appends-none (Some bytes) = ap (λ (l : List ℕ). Some l) (sym (append-nil bytes))
 
 -- a table has blobs where its plan has variable data
-pub blobs-as : (t : Table) (f : FlashState) (first : ℕ) (plan : Plan) (table : model.Table) → Stands t f first plan table → has_blobs t ≡ has_var plan
+pub blobs-as : (t : Table 64 64) (f : FlashState) (first : ℕ) (plan : Plan) (table : model.Table) → Stands t f first plan table → has_blobs t ≡ has_var plan
 blobs-as t f first plan table h = sym t.has_blobs ∙ sym (ap (λ (l : RowLayout). l.blobs) h.planned.layout)
 
 -- the line of an entry

@@ -51,7 +51,7 @@ none-unread lines last other unread =
     let is : ends_unread (lines ++ last ∷ []) ≡ false = ap (λ (end : Option Reply). unwrap_or (option_map is_read_fault end) false) (last_or-push None lines last) ∙ other in
     absurd (no (sym is ∙ unread))
 
-module _ (plan : Plan) (blobs : Bool) (table : model.Table) (range : KeyRange) (span : Option Span) (count : ℕ) (first new : Cursor) (contents : Contents) (told mid now : Option (List ℕ)) (f g : FlashState) (result : Result (Unit {0}) SinkFailed)
+module _ (plan : Plan) (blobs : Bool) (table : model.Table) (range : KeyRange) (span : Option Span) (count : ℕ) (first new : Cursor 64 64) (contents : Contents) (told mid now : Option (List ℕ)) (f g : FlashState) (result : Result (Unit {0}) SinkFailed)
     (noted : blobs ≡ has_var plan) (are : left_of first contents ≡ map stored_row (selected range span table.entries)) (few : length (selected range span table.entries) < count)
     (within : g.work.reads ≤ f.work.reads + scan_limit 64 plan table range span range.low) where
   abbrev wanted : List Entry

@@ -42,14 +42,14 @@ executes-nothing E config old c stands f told e s =
     (executes-by E config old command.Nothing stands f f told told (Ok tt) (saying command.Nothing [] old) refl (record { replies_are = refl; after_is = refl; last_is = refl }) s (refl, omega arith) tt (λ t. cc) w)
 
 -- a table rests where what it has in memory is lost
-stands-rests : (t : Table) (f : FlashState) (first : ℕ) (plan : Plan) (table : model.Table) → Stands t f first plan table → Rests f first plan (lose table)
+stands-rests : (t : Table 64 64) (f : FlashState) (first : ℕ) (plan : Plan) (table : model.Table) → Stands t f first plan table → Rests f first plan (lose table)
 stands-rests t f first plan table h =
     record {
       settled = record { facts = table-facts plan (lose table) (plain-lose plan table (table-parts plan table h.facts)); lost = lost-twice table };
       pages = h.pages;
     }
 
-pub off-rests : (t : Table) (f : FlashState) (first : ℕ) (plan : Plan) (table : model.Table) (mounted : Bool) → MatchBool mounted (Stands t f first plan table) (Rests f first plan table) → Rests f first plan (lose table)
+pub off-rests : (t : Table 64 64) (f : FlashState) (first : ℕ) (plan : Plan) (table : model.Table) (mounted : Bool) → MatchBool mounted (Stands t f first plan table) (Rests f first plan table) → Rests f first plan (lose table)
 off-rests t f first plan table true h = stands-rests t f first plan table h
 off-rests t f first plan table false h = subst (λ x. Rests f first plan x) h.settled.lost h
 

@@ -42,7 +42,7 @@ var-within config plan blocks of within = by-var config.var of.var (ap (λ (p : 
     by-var (Some place) at size = omega (arith, at, size, within)
 
 -- the table of the next line
-new-table : (lines : Lines) (i : ℕ) (plan : Plan) (config : TableConfig) (name : List ℕ) (t : Table) → slice_get lines.plans i ≡ Some plan → lines.device ≡ Some config.geometry →
+new-table : (lines : Lines) (i : ℕ) (plan : Plan) (config : TableConfig) (name : List ℕ) (t : Table 64 64) → slice_get lines.plans i ≡ Some plan → lines.device ≡ Some config.geometry →
     IfSome (slice_get lines.plans i) (λ plan. IsConfigOf config plan) → IfSome (slice_get lines.plans i) (λ plan. name ≡ plan.name) → config.rows.first_block ≡ sum_by blocks_of (take i lines.plans) →
     ((plan : Plan) → IsConfigOf config plan → IsPlanned t config.rows.first_block plan) → ((f : FlashState) → f.geometry ≡ config.geometry → config.rows.first_block + config.rows.blocks ≤ f.blocks → IfSome config.index (λ place. place.first_block + place.blocks ≤ f.blocks) → IfSome config.var (λ place. place.first_block + place.blocks ≤ f.blocks) → pages f < 2 ^ 32 → LiesOn t f) → IsNewTable (record { name = name; table = t }) (first_of lines.plans i) plan lines
 new-table lines i plan config name t p device is named first planned lies =
@@ -56,7 +56,7 @@ new-table lines i plan config name t p device is named first planned lies =
       lies = λ f geometry within few. lies f (geometry ∙ sym (geometry-of config plan of)) (omega (arith, within, first, ap (λ (p : Plan). p.data_blocks) of.is)) (index-within config plan f.blocks of (omega (arith, within, first))) (var-within config plan f.blocks of (omega (arith, within, first))) few;
     }
 
-pub made-more : (lines : Lines) (n : ℕ) (entries : List Entry) (config : TableConfig) (name : List ℕ) (t : Table) → MadeSoFar lines n entries → lines.device ≡ Some config.geometry →
+pub made-more : (lines : Lines) (n : ℕ) (entries : List Entry) (config : TableConfig) (name : List ℕ) (t : Table 64 64) → MadeSoFar lines n entries → lines.device ≡ Some config.geometry →
     IfSome (slice_get lines.plans n) (λ plan. IsConfigOf config plan) → IfSome (slice_get lines.plans n) (λ plan. name ≡ plan.name) → config.rows.first_block ≡ sum_by blocks_of (take n lines.plans) →
     ((plan : Plan) → IsConfigOf config plan → IsPlanned t config.rows.first_block plan) → ((f : FlashState) → f.geometry ≡ config.geometry → config.rows.first_block + config.rows.blocks ≤ f.blocks → IfSome config.index (λ place. place.first_block + place.blocks ≤ f.blocks) → IfSome config.var (λ place. place.first_block + place.blocks ≤ f.blocks) → pages f < 2 ^ 32 → LiesOn t f) → MadeSoFar lines (n + 1) (entries ++ record { name = name; table = t } ∷ [])
 made-more lines n entries config name t so_far device is named first planned lies = record {

@@ -108,7 +108,7 @@ ends-broken c rose old at now fault f (CutIn before) new k h = record { replies_
 ends-broken c rose old at now fault f (FailedIn before) new k h = record { replies_are = ap (λ x. fault_reply x ∷ []) h.0; after_is = refl; last_is = ap (last_of at old.tables) k }
 
 -- A session before a call of one of its tables, which leaves the pages of the others, and after it.
-module _ (config : Config) (old : Machine) (entries : List Entry) (at : ℕ) (entry : Entry) (asked : List ℕ) (notes : Notes) (u : Table) (f g : FlashState) (h : SessionStands config entries f true notes old) (here : slice_get entries at ≡ Some entry)
+module _ (config : Config) (old : Machine) (entries : List Entry) (at : ℕ) (entry : Entry) (asked : List ℕ) (notes : Notes) (u : Table 64 64) (f g : FlashState) (h : SessionStands config entries f true notes old) (here : slice_get entries at ≡ Some entry)
     (own : Own config old f asked at entry) (goes : Goes f g) (same : IsSamePlan entry.table u) (outside : IsTrue f.media.tells → OutsideStands entry.table (page_at f) (page_at g)) where
   abbrev pub now_there : Entry
   now_there = record { name = entry.name; table = u }

@@ -15,7 +15,7 @@ use Rattle.fl_ring.specs.Looking as looking
 use Rattle.fl_script.specs.Written.{Written}
 use Rattle.fl_search.specs.Search.{RoseSome}
 use Rattle.fl_var.specs.Reading as reading
-use Rattle.fl_var.specs.Reading.{turned, Reads, IfUnread}
+use Rattle.fl_var.specs.Reading.{has_here, count_left, turned, Reads, IfUnread}
 use Rattle.fl_var.specs.declared.reader.BlobReader.{BlobReader}
 use Rattle.fl_words.specs.Reply as words
 use Rattle.fl_words.specs.Reply.{texts}
@@ -68,6 +68,8 @@ pub record WasOpened (table : model.Table) (entry : model.Entry) (bytes : List �
   pub only : looking.OnlyReads f 1 g
   pub counts : OnlyReads f g
   pub ready : stands ≡ Ok true → Reads reader f
+  pub here : stands ≡ Ok true → has_here reader ≡ true
+  pub counted : stands ≡ Ok true → count_left reader ≡ length bytes
   pub finds : reading.Finds table entry bytes f (turned stands reader)
   pub fails : IfErr stands (λ e. IfUnread f e g)
 

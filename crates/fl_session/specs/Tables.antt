@@ -49,7 +49,7 @@ Names entries name (Some at) = IsNamed entries name at
 Names entries name None = (i : ℕ) (other : Entry) → slice_get entries i ≡ Some other → other.name ≡ name → ⊥
 
 -- the tables with another one in the place of an entry's
-abbrev pub entries_with : List Entry → ℕ → Entry → Table → List Entry
+abbrev pub entries_with : List Entry → ℕ → Entry → Table 64 64 → List Entry
 entries_with entries at entry t = set entries at (record { name = entry.name; table = t })
 
 -- each table lies on the flash, and each is mounted and goes on

@@ -28,15 +28,14 @@ mod row_lines;
 mod rows;
 mod scans;
 mod session;
+mod sizes;
 mod status;
 mod tables;
 mod whole_run;
 mod words;
 
 pub use laws::commands_are_exact;
+pub use sizes::{KNOTS, SLOTS};
 pub use status::Status;
-pub use whole_run::{KNOTS, run};
+pub use whole_run::run;
 pub use words::image_of;
-
-#[cfg(test)]
-mod tests;

@@ -17,10 +17,11 @@ ghost use Rattle.fl_session.specs.declared.notes.Notes.{Notes};
 
 use crate::generator::Generator;
 use crate::replies::put_reply;
+use crate::sizes::Table;
 use fl_base::{Sink, SinkFailed};
 use fl_flash::Flash;
 use fl_script::{Reply, write_reply};
-use fl_table::{PutRefusal, Table};
+use fl_table::PutRefusal;
 
 /// How a load ended.
 #[derive(Clone, Copy, Debug)]

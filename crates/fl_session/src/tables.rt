@@ -6,10 +6,11 @@ ghost use Rattle.fl_model.specs.Table as model;
 ghost use Rattle.fl_model.specs.Work.{Device};
 ghost use Rattle.fl_ring.specs.Step.{IsWatched};
 
+use crate::sizes::Table;
 use fl_base::{Name, NoMemory};
 use fl_config::Config;
 use fl_flash::{Flash, PageBuf};
-use fl_table::{MountFault, Table};
+use fl_table::MountFault;
 use std::alloc::Global;
 
 /// A table and its name.

@@ -25,6 +25,7 @@ use crate::commands::run_commands;
 use crate::executor::Executor;
 use crate::lines::Lines;
 use crate::session::Session;
+use crate::sizes::KNOTS;
 use crate::tables::Tables;
 use crate::{Status, image_of};
 use fl_base::{Geometry, NoMemory, Sink, Source};
@@ -32,9 +33,6 @@ use fl_config::{Config, ImageRefusal};
 use fl_flash::{Flash, FlashRoom, Media, SimFlash};
 use fl_script::{Command, LineRoom};
 use std::alloc::Global;
-
-/// The knots that a table's spline keeps.
-pub const KNOTS: usize = 64;
 
 /// The bytes of the medium before the first page.
 const HEADER: u64 = 1024;

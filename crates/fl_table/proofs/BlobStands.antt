@@ -71,13 +71,13 @@ rest_few table = by_fill (nat_lt 0 table.fill)
     by_fill false = omega arith
 
 -- the rings have pages
-pub some-rows : (t : code.Table) (first : ℕ) (plan : Plan) (table : Table) (f : FlashState) → Stands t f first plan table → 0 < plan.data_blocks * plan.geometry.block
+pub some-rows : {KNOTS SLOTS : ℕ} (t : code.Table KNOTS SLOTS) (first : ℕ) (plan : Plan) (table : Table) (f : FlashState) → Stands t f first plan table → 0 < plan.data_blocks * plan.geometry.block
 some-rows t first plan table f s =
     let shape = planned-shape t first plan s.planned in
     let k : 3 * plan.geometry.block ≤ plan.data_blocks * plan.geometry.block = mul-le-mul_right plan.geometry.block shape.blocks in
     omega (arith, k, shape.pages)
 
-pub index-pages : (t : code.Table) (first : ℕ) (plan : Plan) (table : Table) → IsPlanned t first plan → IsTable plan table → (r : Ring) → table.index ≡ Some r → 0 < plan.index_blocks * plan.geometry.block
+pub index-pages : {KNOTS SLOTS : ℕ} (t : code.Table KNOTS SLOTS) (first : ℕ) (plan : Plan) (table : Table) → IsPlanned t first plan → IsTable plan table → (r : Ring) → table.index ≡ Some r → 0 < plan.index_blocks * plan.geometry.block
 index-pages t first plan table planned facts r is =
     let shape = planned-shape t first plan planned in
     let has : nat_lt 0 plan.index_blocks ≡ true = sym (facts.has_rings.0) ∙ ap is_some_ring is in
@@ -85,7 +85,7 @@ index-pages t first plan table planned facts r is =
     let k : 1 * plan.geometry.block ≤ plan.index_blocks * plan.geometry.block = mul-le-mul_right plan.geometry.block (omega (arith, blocks)) in
     omega (arith, k, shape.pages)
 
-pub some-index : (t : code.Table) (first : ℕ) (plan : Plan) (table : Table) (f : FlashState) → Stands t f first plan table → (r : Ring) → table.index ≡ Some r → 0 < plan.index_blocks * plan.geometry.block
+pub some-index : {KNOTS SLOTS : ℕ} (t : code.Table KNOTS SLOTS) (first : ℕ) (plan : Plan) (table : Table) (f : FlashState) → Stands t f first plan table → (r : Ring) → table.index ≡ Some r → 0 < plan.index_blocks * plan.geometry.block
 some-index t first plan table f s r is = index-pages t first plan table s.planned s.facts r is
 
 -- the fault of an operation
@@ -94,7 +94,7 @@ fault_ends Whole fault new a = absurd a
 fault_ends (CutIn before) fault new a = a
 fault_ends (FailedIn before) fault new a = a
 
-module _ (t : code.Table) (f new : FlashState) (first : ℕ) (plan : Plan) (table : Table) (rose : Bool) (device : Device) (stands : Stands t f first plan table) (watched : IsWatched f new rose device) where
+module _ {KNOTS SLOTS : ℕ} (t : code.Table KNOTS SLOTS) (f new : FlashState) (first : ℕ) (plan : Plan) (table : Table) (rose : Bool) (device : Device) (stands : Stands t f first plan table) (watched : IsWatched f new rose device) where
   facts : IsPlainTable plan table
   facts = table-parts plan table stands.facts
 
@@ -181,7 +181,7 @@ bitmaps-stand indexed f g first plan table ring fill planned pages facts after s
     bitmaps-moved indexed f g first plan table (record table { var = ring; fill = fill }) planned pages (keeps-same table (record table { var = ring; fill = fill }) refl refl refl) refl refl refl refl facts after same s
 
 -- the table in memory stands where it stands with any variable data
-pub rested-finishes : (t' : code.Table) (new : FlashState) (first : ℕ) (plan : Plan) (seals : List RingName) (table : Table) (rose : Bool) (device : Device) (left : Option VarData) → IsRested first plan seals table rose device left new →
+pub rested-finishes : {KNOTS SLOTS : ℕ} (t' : code.Table KNOTS SLOTS) (new : FlashState) (first : ℕ) (plan : Plan) (seals : List RingName) (table : Table) (rose : Bool) (device : Device) (left : Option VarData) → IsRested first plan seals table rose device left new →
     ((ring : Option Ring) (fill : ℕ) → IsPlainTable plan (record table { var = ring; fill = fill }) → HoldsTable (page_at new) first plan (lose (record table { var = ring; fill = fill })) →
     Stand left new (first + plan.data_blocks + plan.index_blocks) plan (record table { var = ring; fill = fill }) → Stands t' new first plan (record table { var = ring; fill = fill })) →
     Finishes first plan (seals_within plan seals table) table (after_seals plan seals table) rose device t' new

@@ -1,6 +1,6 @@
 -- What a lookup ends with, in the words of the table.
-use Rattle.std.proofs.Common.{◌≡◌, ℕ, ◌+◌, ◌*◌, ◌<◌, ◌≤◌, Bool, true, false, Option, Some, None, option_map, Ok, Err, List, map, length, drop, refl, sym, ◌∙◌, ap, subst, arith, IsTrue}
-use Rattle.std.specs.Prelude.{IfSome, MatchOption, if◌then◌else◌}
+use Rattle.std.proofs.Common.{◌≡◌, ℕ, ◌+◌, ◌*◌, ◌<◌, ◌≤◌, Bool, true, false, Option, Some, None, option_map, Result, Ok, Err, List, map, length, drop, refl, sym, ◌∙◌, ap, subst, arith, IsTrue}
+use Rattle.std.specs.Prelude.{IfOk, IfSome, MatchOption, if◌then◌else◌}
 use Rattle.std.specs.List.{slice_get}
 use Rattle.fl_find.specs.Index.{error_in, most_reads}
 use Rattle.fl_find.specs.Looking.{LookFails}
@@ -45,11 +45,11 @@ use Rattle.fl_table.proofs.PendingRows.{written-found, written-none, pending-fou
 use Rattle.fl_table.proofs.SealAnswers.{planned-ring}
 use Rattle.fl_table.proofs.States.{shape_in}
 
-some-same : (a b : Ring) → Some a ≡ Some b → a ≡ b
+pub some-same : (a b : Ring) → Some a ≡ Some b → a ≡ b
 some-same a b h = cc
 
 -- the kept pages hold what is written
-pub holds-pages : (t : Table) (f : FlashState) (first : ℕ) (plan : Plan) (table : model.Table) (ring : Ring) → Stands t f first plan table → LiesOn t f → f.start + extent f.geometry f.blocks ≤ length f.media.content →
+pub holds-pages : {KNOTS SLOTS : ℕ} (t : Table KNOTS SLOTS) (f : FlashState) (first : ℕ) (plan : Plan) (table : model.Table) (ring : Ring) → Stands t f first plan table → LiesOn t f → f.start + extent f.geometry f.blocks ≤ length f.media.content →
     t.ring ≡ Some ring → IsTrue f.media.tells → HoldsPages (layout_of t.schema) ring f plan table
 holds-pages t f first plan table ring stands lies reaches is tells =
     let same : stands.memory.ring ≡ ring = some-same stands.memory.ring ring (sym stands.memory.ring_is ∙ is) in
@@ -68,9 +68,9 @@ holds-pages t f first plan table ring stands lies reaches is tells =
 
 -- ---- a key that isn't pending
 
-module _ (t : Table) (f : FlashState) (first : ℕ) (plan : Plan) (table : model.Table) (stands : Stands t f first plan table) (key before now : ℕ) (buf : BufferState) where
-  pub finds-page : (place : Option PageRow) → is_pending_key table key ≡ false → LooksUp 64 plan (layout_of t.schema) table key before now (Ok place) buf →
-      Finds 64 plan table key before now buf (Ok (option_map at.InPage place))
+module _ {KNOTS SLOTS : ℕ} (t : Table KNOTS SLOTS) (f : FlashState) (first : ℕ) (plan : Plan) (table : model.Table) (stands : Stands t f first plan table) (key before now : ℕ) (buf : BufferState) where
+  pub finds-page : (place : Option PageRow) → is_pending_key table key ≡ false → LooksUp KNOTS plan (layout_of t.schema) table key before now (Ok place) buf →
+      Finds KNOTS plan table key before now buf (Ok (option_map at.InPage place))
   finds-page None is h = record { entry = written-none plan table stands.facts key is h.entry; exact = λ p covered. h.exact covered; some = tt }
   finds-page (Some place) is h = record {
     entry = record {
@@ -82,7 +82,7 @@ module _ (t : Table) (f : FlashState) (first : ℕ) (plan : Plan) (table : model
     some = h.some;
   }
 
-  pub finds-fault : (e : ReadFault) → is_pending_key table key ≡ false → LooksUp 64 plan (layout_of t.schema) table key before now (Err e) buf → Finds 64 plan table key before now buf (Err e)
+  pub finds-fault : (e : ReadFault) → is_pending_key table key ≡ false → LooksUp KNOTS plan (layout_of t.schema) table key before now (Err e) buf → Finds KNOTS plan table key before now buf (Err e)
   finds-fault (fault.Flash e) is h = is
   finds-fault (fault.BadPage bad) is h = h
 
@@ -90,7 +90,7 @@ module _ (t : Table) (f : FlashState) (first : ℕ) (plan : Plan) (table : model
 
   pub finds-pending : (place : Option ℕ) → is_pending_key table key ≡ true →
       MatchOption place (LacksKey (map stored_row (pending_entries table)) key) (λ i. HasKey (map stored_row (pending_entries table)) key i) →
-      Finds 64 plan table key before now buf (Ok (option_map at.Pending place))
+      Finds KNOTS plan table key before now buf (Ok (option_map at.Pending place))
   finds-pending None is h = record { entry = pending-none plan table stands.facts key is h; exact = λ p covered. absurd (no (sym is ∙ p)); some = tt }
     where
       no : true ≡ false → ⊥
@@ -104,14 +104,14 @@ module _ (t : Table) (f : FlashState) (first : ℕ) (plan : Plan) (table : model
 
 -- ---- over any bytes
 
-pub oldest-in : (t : Table) (ring : Ring) → t.ring ≡ Some ring → oldest_in t ≡ oldest_of ring
+pub oldest-in : {KNOTS SLOTS : ℕ} (t : Table KNOTS SLOTS) (ring : Ring) → t.ring ≡ Some ring → oldest_in t ≡ oldest_of ring
 oldest-in t ring is = rw is refl
 
-pub next-in : (t : Table) (ring : Ring) → t.ring ≡ Some ring → next_in t ≡ next_of ring
+pub next-in : {KNOTS SLOTS : ℕ} (t : Table KNOTS SLOTS) (ring : Ring) → t.ring ≡ Some ring → next_in t ≡ next_of ring
 next-in t ring is = rw is refl
 
 -- a page that a buffer holds
-pub holds-kept : (t : Table) (f : FlashState) (ring : Ring) (number : ℕ) (buf : BufferState) → t.ring ≡ Some ring → (oldest_of ring ≤ number) × (number < next_of ring) → Holds (layout_of t.schema) (shape_of ring) f number buf →
+pub holds-kept : {KNOTS SLOTS : ℕ} (t : Table KNOTS SLOTS) (f : FlashState) (ring : Ring) (number : ℕ) (buf : BufferState) → t.ring ≡ Some ring → (oldest_of ring ≤ number) × (number < next_of ring) → Holds (layout_of t.schema) (shape_of ring) f number buf →
     HoldsKept t f number buf
 holds-kept t f ring number buf is kept h = record {
   kept = (omega (arith, oldest-in t ring is, kept.0), omega (arith, next-in t ring is, kept.1));
@@ -121,25 +121,32 @@ holds-kept t f ring number buf is kept h = record {
   bytes = λ told. h.bytes told ∙ ap (page_at f) (sym (ring-place t ring number is));
 }
 
-pub here-page : (t : Table) (f : FlashState) (ring : Ring) (key : ℕ) (buf : BufferState) (place : Option PageRow) → length buf.bytes ≤ 4096 →
+pub here-page : {KNOTS SLOTS : ℕ} (t : Table KNOTS SLOTS) (f : FlashState) (ring : Ring) (key : ℕ) (buf : BufferState) (place : Option PageRow) → length buf.bytes ≤ 4096 →
     IfSome place (λ p. Holds (layout_of t.schema) (shape_of ring) f p.number buf) → IfSome place (λ p. HasKey (rows_on (layout_of t.schema) buf.bytes) key p.row) →
     IfSome (option_map at.InPage place) (IsRowAt t buf)
 here-page t f ring key buf None few holds has = tt
 here-page t f ring key buf (Some place) few holds has = (few, holds.good, slice_get-short (rows_on (layout_of t.schema) buf.bytes) place.row has.row has.here)
 
-pub holds-page : (t : Table) (f : FlashState) (ring : Ring) (buf : BufferState) (place : Option PageRow) → t.ring ≡ Some ring →
+pub holds-page : {KNOTS SLOTS : ℕ} (t : Table KNOTS SLOTS) (f : FlashState) (ring : Ring) (buf : BufferState) (place : Option PageRow) → t.ring ≡ Some ring →
     IfSome place (λ p. (oldest_of ring ≤ p.number) × (p.number < next_of ring)) → IfSome place (λ p. Holds (layout_of t.schema) (shape_of ring) f p.number buf) →
     IfSome (option_map at.InPage place) (HoldsIts t f buf)
 holds-page t f ring buf None is kept holds = tt
 holds-page t f ring buf (Some place) is kept holds = holds-kept t f ring place.number buf is kept holds
 
-pub holds-found : (t : Table) (f : FlashState) (ring : Ring) (buf : BufferState) (page : Option ℕ) → t.ring ≡ Some ring →
+pub holds-found : {KNOTS SLOTS : ℕ} (t : Table KNOTS SLOTS) (f : FlashState) (ring : Ring) (buf : BufferState) (page : Option ℕ) → t.ring ≡ Some ring →
     IfSome page (λ n. (oldest_of ring ≤ n) × (n < next_of ring)) → IfSome page (λ n. Holds (layout_of t.schema) (shape_of ring) f n buf) →
     IfSome page (λ n. HoldsKept t f n buf)
 holds-found t f ring buf None is kept holds = tt
 holds-found t f ring buf (Some number) is kept holds = holds-kept t f ring number buf is kept holds
 
-pub lookup-fails : (t : Table) (ring : Ring) (old : FlashState) (e : ReadFault) (new : FlashState) → t.ring ≡ Some ring → LookFails (layout_of t.schema) ring old e new → LookupFails t old e new
+-- .. where the look didn't fail
+pub holds-in : {KNOTS SLOTS : ℕ} (t : Table KNOTS SLOTS) (f : FlashState) (ring : Ring) (buf : BufferState) (page : Result (Option ℕ) ReadFault) → t.ring ≡ Some ring →
+    IfOk page (λ o. IfSome o (λ n. (oldest_of ring ≤ n) × (n < next_of ring))) → IfOk page (λ o. IfSome o (λ n. Holds (layout_of t.schema) (shape_of ring) f n buf)) →
+    IfOk page (λ o. IfSome o (λ n. HoldsKept t f n buf))
+holds-in t f ring buf (Ok page) is kept holds = holds-found t f ring buf page is kept holds
+holds-in t f ring buf (Err e) is kept holds = tt
+
+pub lookup-fails : {KNOTS SLOTS : ℕ} (t : Table KNOTS SLOTS) (ring : Ring) (old : FlashState) (e : ReadFault) (new : FlashState) → t.ring ≡ Some ring → LookFails (layout_of t.schema) ring old e new → LookupFails t old e new
 lookup-fails t ring old (fault.Flash PowerLost) new is h = (h.0, omega (arith, oldest-in t ring is, next-in t ring is, h.1))
 lookup-fails t ring old (fault.Flash Media) new is h = h
 lookup-fails t ring old (fault.BadPage bad) new is h = (λ told. of (h.0 told), h.1)
@@ -168,7 +175,7 @@ row-within layout page view row less is =
     let many : length (rows_of view) ≡ count_of view = length-rows_from (count_of view) (layout_of_page view) (drop 16 (page_of view)) in
     omega (arith, less, ap (λ (rows : List Row). length rows) (rows-some layout page row less), ap (λ (rows : List Row). length rows) is, many)
 
-pub row-shown : (t : Table) (first : ℕ) (plan : Plan) (page : List ℕ) (view : PageView 8) (at : ℕ) (row : Row) → IsPlanned t first plan → at < length (rows_on (layout_of t.schema) page) →
+pub row-shown : {KNOTS SLOTS : ℕ} (t : Table KNOTS SLOTS) (first : ℕ) (plan : Plan) (page : List ℕ) (view : PageView 8) (at : ℕ) (row : Row) → IsPlanned t first plan → at < length (rows_on (layout_of t.schema) page) →
     rows_of view ≡ rows_in (layout_of t.schema) page → slice_get (rows_of view) at ≡ Some row → slice_get (rows_on (row_layout plan) page) at ≡ Some row
 row-shown t first plan page view at row planned less is e =
     ap (λ (l : RowLayout). slice_get (rows_on l page) at) planned.layout
@@ -176,11 +183,15 @@ row-shown t first plan page view at row planned less is e =
 
 -- ---- the greatest number of reads
 
-pub limit-told : (t : Table) (f : FlashState) (first : ℕ) (plan : Plan) (table : model.Table) (key pages : ℕ) → Stands t f first plan table → is_pending_key table key ≡ false → pages ≡ length table.rows.counts →
-    most_reads t.index pages t.voids key ≡ lookup_limit 64 plan table key
-limit-told t f first plan table key pages stands is many =
+pub limit-told : {KNOTS SLOTS : ℕ} (t : Table KNOTS SLOTS) (f : FlashState) (first : ℕ) (plan : Plan) (table : model.Table) (key pages : ℕ) → Stands t f first plan table → is_pending_key table key ≡ false → pages ≡ length table.rows.counts →
+    most_reads t.index pages t.voids key ≡ lookup_limit KNOTS plan table key
+limit-told {KNOTS} {SLOTS} t f first plan table key pages stands is many =
     ap (λ (l : List (ℕ × ℕ)). if is_covered l key then 2 * error_in t.index + 2 + t.voids else bits pages + 1 + t.voids) stands.memory.index.knots
-    ∙ (ap (λ e. if is_covered (retained 64 plan.error table.points) key then 2 * e + 2 + t.voids else bits pages + 1 + t.voids) (sym stands.planned.error)
-    ∙ (ap (λ v. if is_covered (retained 64 plan.error table.points) key then 2 * plan.error + 2 + v else bits pages + 1 + v) stands.memory.voids
-    ∙ (ap (λ n. if is_covered (retained 64 plan.error table.points) key then 2 * plan.error + 2 + voids_of table else bits n + 1 + voids_of table) many
-    ∙ sym (ap (λ (b : Bool). if b then 0 else if is_covered (retained 64 plan.error table.points) key then 2 * plan.error + 2 + voids_of table else bits (length table.rows.counts) + 1 + voids_of table) is))))
+    ∙ (ap (λ e. if is_covered (retained KNOTS plan.error table.points) key then 2 * e + 2 + t.voids else bits pages + 1 + t.voids) (sym stands.planned.error)
+    ∙ (ap (λ v. if is_covered (retained KNOTS plan.error table.points) key then 2 * plan.error + 2 + v else bits pages + 1 + v) stands.memory.voids
+    ∙ (ap (λ n. if is_covered (retained KNOTS plan.error table.points) key then 2 * plan.error + 2 + voids_of table else bits n + 1 + voids_of table) many
+    ∙ sym (ap (λ (b : Bool). if b then 0 else if is_covered (retained KNOTS plan.error table.points) key then 2 * plan.error + 2 + voids_of table else bits (length table.rows.counts) + 1 + voids_of table) is))))
+
+pub limit-pending : (knots : ℕ) (plan : Plan) (table : model.Table) (key : ℕ) → is_pending_key table key ≡ true → 0 ≡ lookup_limit knots plan table key
+limit-pending knots plan table key is =
+    sym (ap (λ (b : Bool). if b then 0 else if is_covered (retained knots plan.error table.points) key then 2 * plan.error + 2 + voids_of table else bits (length table.rows.counts) + 1 + voids_of table) is)

@@ -36,7 +36,7 @@ module _ (first : ℕ) (plan : Plan) (rings others : List RingName) (table : Tab
   }
 
   -- the first ones were done, and the others follow
-  pub seals-then : (t : code.Table) (mid : FlashState) (result : Result (Unit {0}) FlashFault) (last : code.Table) (new : FlashState) (h : Finishes first plan (seals_within plan rings table) table (after_seals plan rings table) rose device t mid) →
+  pub seals-then : {KNOTS SLOTS : ℕ} (t : code.Table KNOTS SLOTS) (mid : FlashState) (result : Result (Unit {0}) FlashFault) (last : code.Table KNOTS SLOTS) (new : FlashState) (h : Finishes first plan (seals_within plan rings table) table (after_seals plan rings table) rose device t mid) →
       SealsEnd first plan others (after_seals plan rings table) rose h.now.device result last new → SealsEnd first plan (rings ++ others) table rose device result last new
   seals-then t mid result last new h k = by_result result k
     where
@@ -59,7 +59,7 @@ module _ (first : ℕ) (plan : Plan) (rings others : List RingName) (table : Tab
       by_result (Err fault) k = record { now = k.now; did = did k.now k.did; answer = k.answer; counts = k.counts; rests = k.rests }
 
 -- the first seals were done, and others, which made this table
-pub finishes-then : (first : ℕ) (plan : Plan) (rings others : List RingName) (table last : Table) (rose : Bool) (device : Device) (t : code.Table) (mid : FlashState) (u : code.Table) (new : FlashState) →
+pub finishes-then : {KNOTS SLOTS : ℕ} (first : ℕ) (plan : Plan) (rings others : List RingName) (table last : Table) (rose : Bool) (device : Device) (t : code.Table KNOTS SLOTS) (mid : FlashState) (u : code.Table KNOTS SLOTS) (new : FlashState) →
     (h : Finishes first plan (seals_within plan rings table) table (after_seals plan rings table) rose device t mid) →
     Finishes first plan (seals_within plan others (after_seals plan rings table)) (after_seals plan rings table) last rose h.now.device u new →
     Finishes first plan (seals_within plan (rings ++ others) table) table last rose device u new
@@ -81,11 +81,11 @@ append-nil [] = refl
 append-nil (x ∷ xs) = ap (λ ys. x ∷ ys) (append-nil xs)
 
 -- how a seal of the pending rows alone ends
-abbrev pub RowsEnd : ℕ → Plan → Table → Bool → Device → Result (Unit {0}) FlashFault → code.Table → FlashState → Type 0
+abbrev pub RowsEnd : {KNOTS SLOTS : ℕ} → ℕ → Plan → Table → Bool → Device → Result (Unit {0}) FlashFault → code.Table KNOTS SLOTS → FlashState → Type 0
 RowsEnd first plan table rose device (Ok done) t new = Finishes first plan (seal_within plan DataRing table) table (after_seal plan DataRing table) rose device t new
 RowsEnd first plan table rose device (Err fault) t new = Breaks first plan (seal_within plan DataRing table) table rose device fault new
 
-pub ends-alone : (first : ℕ) (plan : Plan) (table : Table) (rose : Bool) (device : Device) (result : Result (Unit {0}) FlashFault) (t : code.Table) (new : FlashState) → RowsEnd first plan table rose device result t new →
+pub ends-alone : {KNOTS SLOTS : ℕ} (first : ℕ) (plan : Plan) (table : Table) (rose : Bool) (device : Device) (result : Result (Unit {0}) FlashFault) (t : code.Table KNOTS SLOTS) (new : FlashState) → RowsEnd first plan table rose device result t new →
     SealsEnd first plan (DataRing ∷ []) table rose device result t new
 ends-alone first plan table rose device (Ok u) t new h =
     subst (λ (ops : List (RingName × Kind)). Finishes first plan ops table (after_seal plan DataRing table) rose device t new) (sym (append-nil (seal_within plan DataRing table))) h

@@ -230,7 +230,7 @@ append-nil [] = refl
 append-nil (x ∷ xs) = ap (λ ys. x ∷ ys) (append-nil xs)
 
 -- These seals of the index ring were done, and the table stands beside them.
-pub record IsMade (t : code.Table) (first : ℕ) (plan : Plan) (rings : List RingName) (table : Table) (rose : Bool) (device : Device) (left : Option Index) (new : FlashState) : Type 0 where
+pub record IsMade {KNOTS SLOTS : ℕ} (t : code.Table KNOTS SLOTS) (first : ℕ) (plan : Plan) (rings : List RingName) (table : Table) (rose : Bool) (device : Device) (left : Option Index) (new : FlashState) : Type 0 where
   pub now : PartProgress Table
   pub did : TablePerforms plan rose (seals_within plan rings table) device table now
   pub whole : now.end ≡ Whole
@@ -242,7 +242,7 @@ pub record IsMade (t : code.Table) (first : ℕ) (plan : Plan) (rings : List Rin
   pub bitmaps : Stand left new (first + plan.data_blocks) plan (after_seals plan rings table)
 
 -- what a seal of the waiting bitmaps is told of its table
-module _ (t : code.Table) (f new : FlashState) (first : ℕ) (plan : Plan) (table : Table) (rose : Bool) (device : Device) (index : Index) (some : t.bitmaps ≡ Some index) (stands : Stands t f first plan table) (pending : table.pending ≡ 0 → ⊥)
+module _ {KNOTS SLOTS : ℕ} (t : code.Table KNOTS SLOTS) (f new : FlashState) (first : ℕ) (plan : Plan) (table : Table) (rose : Bool) (device : Device) (index : Index) (some : t.bitmaps ≡ Some index) (stands : Stands t f first plan table) (pending : table.pending ≡ 0 → ⊥)
     (left : memory.next_in index + (cond (memory.waiting_in index == memory.per_page index) 1 0) ≤ spent_from + 1) (outside : OutsideStands (memory.ring_shape index) (page_at f) (page_at new)) where
   planned : memory.IsPlanned index (first + plan.data_blocks) plan
   planned = subst (λ (o : Option Index). ArePlanned o (first + plan.data_blocks) plan) some stands.planned.index
@@ -369,11 +369,11 @@ module _ (t : code.Table) (f new : FlashState) (first : ℕ) (plan : Plan) (tabl
       up_by false le = omega (arith, le)
 
 -- how a call ends that makes room for one bitmap more
-abbrev pub MadeEnds : code.Table → ℕ → Plan → List RingName → Table → Bool → Device → Result (Unit {0}) FlashFault → Option Index → FlashState → Type 0
+abbrev pub MadeEnds : {KNOTS SLOTS : ℕ} → code.Table KNOTS SLOTS → ℕ → Plan → List RingName → Table → Bool → Device → Result (Unit {0}) FlashFault → Option Index → FlashState → Type 0
 MadeEnds t first plan rings table rose device (Ok done) now new = IsMade t first plan rings table rose device now new
 MadeEnds t first plan rings table rose device (Err fault) now new = Breaks first plan (seals_within plan rings table) table rose device fault new
 
-pub bitmaps-end : (t : code.Table) (f new : FlashState) (first : ℕ) (plan : Plan) (table : Table) (rose : Bool) (device : Device) (bitmaps : Option Index) (result : Result (Unit {0}) FlashFault) (now : Option Index) → t.bitmaps ≡ bitmaps → Stands t f first plan table →
+pub bitmaps-end : {KNOTS SLOTS : ℕ} (t : code.Table KNOTS SLOTS) (f new : FlashState) (first : ℕ) (plan : Plan) (table : Table) (rose : Bool) (device : Device) (bitmaps : Option Index) (result : Result (Unit {0}) FlashFault) (now : Option Index) → t.bitmaps ≡ bitmaps → Stands t f first plan table →
     (table.pending ≡ 0 → ⊥) → IsWatched f new rose device → next_after bitmaps ≤ spent_from + 1 → StandOutside bitmaps (page_at f) (page_at new) → OnOk result (RoomMade bitmaps now) → MakesRoomOf bitmaps f (first + plan.data_blocks) plan table rose device result now new →
     MadeEnds t first plan (bitmap_seals plan table) table rose device result now new
 bitmaps-end t f new first plan table rose device None result now is stands pending watched left outside made ends =
@@ -421,7 +421,7 @@ beside-is table new b =
     ∙ ap (λ (ps : List (ℕ × ℕ)). record new { entries = table.entries; rows = table.rows; var = table.var; pending = table.pending; fill = table.fill; points = ps }) b.points))))
 
 -- the table in memory stands where it stands with any index
-pub made-finishes : (t t' : code.Table) (new : FlashState) (first : ℕ) (plan : Plan) (rings : List RingName) (table : Table) (rose : Bool) (device : Device) (left : Option Index) → IsMade t first plan rings table rose device left new →
+pub made-finishes : {KNOTS SLOTS : ℕ} (t t' : code.Table KNOTS SLOTS) (new : FlashState) (first : ℕ) (plan : Plan) (rings : List RingName) (table : Table) (rose : Bool) (device : Device) (left : Option Index) → IsMade t first plan rings table rose device left new →
     ((index : Option model.Ring) (waiting : ℕ) (firsts : List ℕ) → IsTable plan (with_index table index waiting firsts) → HoldsTable (page_at new) first plan (lose (with_index table index waiting firsts)) →
     Stand left new (first + plan.data_blocks) plan (with_index table index waiting firsts) → Stands t' new first plan (with_index table index waiting firsts)) →
     Finishes first plan (seals_within plan rings table) table (after_seals plan rings table) rose device t' new

@@ -25,7 +25,7 @@ use Rattle.fl_model.specs.Facts.{is_some_ring}
 use Rattle.fl_ring.specs.Place.{next_of}
 use Rattle.fl_ring.specs.declared.ring.Ring.{Ring}
 use Rattle.fl_table.specs.Bitmaps as numbers
-use Rattle.fl_table.specs.Bitmaps.{ArePlanned, AreSamePlan, AreSameRing, AreRunning, AreBroken, EndAt, RoomMade, LieOn, Stand, HaveRoom, AreNoted}
+use Rattle.fl_table.specs.Bitmaps.{ArePlanned, AreSamePlan, AreSameRing, AreRunning, AreBroken, EndAt, RoomMade, LieOn, Stand, HaveRoom, NumberLeft, AreNoted}
 use Rattle.fl_table.specs.Pages.{bytes_in}
 use Rattle.fl_table.proofs.Moved.{KeepsPages, keeps-same, keeps-sealed, keeps-then, has-index, ring-moved, waits-moved, take-front, rows-drop}
 use Rattle.fl_table.proofs.Plain.{IsPlainTable, IsIndexed}
@@ -61,6 +61,10 @@ plan-then None (Some y) c h k = absurd h
 plan-then (Some x) None c h k = absurd h
 plan-then (Some x) (Some y) None h k = absurd k
 plan-then (Some x) (Some y) (Some z) h k = record { geometry = k.geometry ∙ h.geometry; place = k.place ∙ h.place; bits = k.bits ∙ h.bits }
+
+pub ring-same : (bitmaps : Option Index) → AreSameRing bitmaps bitmaps
+ring-same None = tt
+ring-same (Some index) = record { ring = refl; firsts = refl }
 
 pub ring-then : (a b c : Option Index) → AreSameRing a b → AreSameRing b c → AreSameRing a c
 ring-then None None None h k = tt
@@ -151,6 +155,30 @@ made-end None new n made h = λ index e. absurd (none index (sym made ∙ e))
     none index e = cc
 made-end (Some old) None n made h = absurd made
 made-end (Some old) (Some new) n made h = λ index e. subst (λ (o : Option Index). IfSome o (λ x. first_waiting x + waiting_in x ≡ n)) e (made.same ∙ h old refl)
+
+pub made-room : (old new : Option Index) → RoomMade old new → HaveRoom new
+made-room None new made = λ index e. absurd (none index (sym made ∙ e))
+  where
+    none : (index : Index) → ◌≡◌ {A = Option Index} None (Some index) → ⊥
+    none index e = cc
+made-room (Some old) None made = absurd made
+made-room (Some old) (Some new) made = λ index e. subst (λ (o : Option Index). IfSome o (λ x. waiting_in x < per_page x)) e made.room
+
+pub made-next : (old new : Option Index) → RoomMade old new → numbers.next_of new ≤ numbers.next_of old + 1
+made-next None new made = let e : numbers.next_of new ≡ 0 = ap numbers.next_of made in omega (arith, e)
+made-next (Some old) None made = absurd made
+made-next (Some old) (Some new) made = by_full (waiting_in old == per_page old) made.number
+  where
+    by_full : (b : Bool) → memory.next_in new ≡ cond b (memory.next_in old + 1) (memory.next_in old) → memory.next_in new ≤ memory.next_in old + 1
+    by_full true e = omega (arith, e)
+    by_full false e = omega (arith, e)
+
+-- where the waiting bitmaps have a number, a page of them has one
+pub number-left : (bitmaps : Option Index) → numbers.next_after bitmaps ≤ spent_from + 1 → NumberLeft bitmaps
+number-left bitmaps h = λ index e. few index (subst (λ (o : Option Index). numbers.next_after o ≤ spent_from + 1) e h)
+  where
+    few : (index : Index) → numbers.next_after (Some index) ≤ spent_from + 1 → memory.next_in index + 1 < 2 ^ 32
+    few index h = omega (arith, h)
 
 pub made-after : (old new : Option Index) → RoomMade old new → numbers.next_after new ≤ numbers.next_after old
 made-after None new made = let e : numbers.next_after new ≡ 0 = ap numbers.next_after made in omega (arith, e)

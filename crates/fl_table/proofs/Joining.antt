@@ -150,7 +150,7 @@ entry-row plan item table = ap (λ (o : Option BlobRef). record { key = item.key
         ap place len
 
 -- The record's blob was placed, and these are the parts of its table that tell so.
-pub record IsJoined (t : code.Table) (f new : FlashState) (first : ℕ) (plan : Plan) (table : Table) (rose : Bool) (device : Device) (item : Record) (at : Option BlobRef) (left : Option VarData) : Type 0 where
+pub record IsJoined {KNOTS SLOTS : ℕ} (t : code.Table KNOTS SLOTS) (f new : FlashState) (first : ℕ) (plan : Plan) (table : Table) (rose : Bool) (device : Device) (item : Record) (at : Option BlobRef) (left : Option VarData) : Type 0 where
   pub now : PartProgress Table
   pub did : TablePerforms plan rose (seals_within plan (place_seals plan (blob_len item) table) table) device table now
   pub whole : now.end ≡ Whole
@@ -165,7 +165,7 @@ pub record IsJoined (t : code.Table) (f new : FlashState) (first : ℕ) (plan : 
   pub bitmaps : bitmaps.Stand t.bitmaps new (first + plan.data_blocks) plan (joined_to table (entry_of plan item table) ring fill)
   pub blobs : Stand left new (first + plan.data_blocks + plan.index_blocks) plan (joined_to table (entry_of plan item table) ring fill)
 
-module _ (t : code.Table) (f new : FlashState) (first : ℕ) (plan : Plan) (table : Table) (rose : Bool) (device : Device) (item : Record) (stands : Stands t f first plan table) (watched : IsWatched f new rose device) (ok : IsAcceptedBy plan table item.key item.values item.blob)
+module _ {KNOTS SLOTS : ℕ} (t : code.Table KNOTS SLOTS) (f new : FlashState) (first : ℕ) (plan : Plan) (table : Table) (rose : Bool) (device : Device) (item : Record) (stands : Stands t f first plan table) (watched : IsWatched f new rose device) (ok : IsAcceptedBy plan table item.key item.values item.blob)
     (index_left : bitmaps.next_of t.bitmaps ≤ spent_from) where
   facts : IsPlainTable plan table
   facts = table-parts plan table stands.facts

@@ -35,10 +35,10 @@ use Rattle.fl_table.proofs.States.{shape_in}
 use Rattle.fl_find.specs.Pages.{rows_on, rows_where}
 
 -- where a number stands
-pub ring-place : (t : Table) (ring : Ring) (number : ℕ) → t.ring ≡ Some ring → place_of t number ≡ place (shape_of ring) number
+pub ring-place : {KNOTS SLOTS : ℕ} (t : Table KNOTS SLOTS) (ring : Ring) (number : ℕ) → t.ring ≡ Some ring → place_of t number ≡ place (shape_of ring) number
 ring-place t ring number is = ap (λ (r : Option Ring). unwrap_or (option_map (λ ring. place (shape_of ring) number) r) 0) is
 
-pub place-is : (t : Table) (f : FlashState) (first : ℕ) (plan : Plan) (table : model.Table) (number : ℕ) → Stands t f first plan table → place_of t number ≡ place (shape_in first plan) number
+pub place-is : {KNOTS SLOTS : ℕ} (t : Table KNOTS SLOTS) (f : FlashState) (first : ℕ) (plan : Plan) (table : model.Table) (number : ℕ) → Stands t f first plan table → place_of t number ≡ place (shape_in first plan) number
 place-is t f first plan table number stands =
     ring-place t stands.memory.ring number stands.memory.ring_is ∙ ap (λ s. place s number) (t.lies stands.memory.ring stands.memory.ring_is ∙ planned-ring t first plan stands.planned)
 
@@ -59,7 +59,7 @@ rows-lose table i c e counted =
     let split : s + (m - s) ≡ m = omega (arith, le) in
     ap (λ n. take c (drop s (take n table.entries))) (sym split) ∙ (ap (take c) (drop-take s (m - s) table.entries) ∙ take-take c (m - s) (drop s table.entries) (omega (arith, le)))
 
-module _ (t : Table) (f : FlashState) (first : ℕ) (plan : Plan) (table : model.Table) (stands : Stands t f first plan table) (lies : LiesOn t f) (reaches : f.start + extent f.geometry f.blocks ≤ length f.media.content)
+module _ {KNOTS SLOTS : ℕ} (t : Table KNOTS SLOTS) (f : FlashState) (first : ℕ) (plan : Plan) (table : model.Table) (stands : Stands t f first plan table) (lies : LiesOn t f) (reaches : f.start + extent f.geometry f.blocks ≤ length f.media.content)
     (i c : ℕ) (e : slice_get table.rows.counts i ≡ Some c) where
   abbrev page : List ℕ
   page = page_at f (place (shape_in first plan) (rings.oldest table.rows + i))
@@ -120,7 +120,7 @@ module _ (t : Table) (f : FlashState) (first : ℕ) (plan : Plan) (table : model
   shows-page (Err (Flash fault)) h = tt
 
 -- the same for the bytes of a number that were read
-pub shows-rows : (t : Table) (f : FlashState) (first : ℕ) (plan : Plan) (table : model.Table) → Stands t f first plan table → LiesOn t f → f.start + extent f.geometry f.blocks ≤ length f.media.content →
+pub shows-rows : {KNOTS SLOTS : ℕ} (t : Table KNOTS SLOTS) (f : FlashState) (first : ℕ) (plan : Plan) (table : model.Table) → Stands t f first plan table → LiesOn t f → f.start + extent f.geometry f.blocks ≤ length f.media.content →
     (number c : ℕ) → rings.oldest table.rows ≤ number → slice_get table.rows.counts (number - rings.oldest table.rows) ≡ Some c →
     (bytes : List ℕ) → bytes ≡ page_at f (place_of t number) →
     (result : Result Bool ReadFault) → IsFound (layout_of t.schema) number bytes result → ShowsRows plan table (number - rings.oldest table.rows) c bytes result

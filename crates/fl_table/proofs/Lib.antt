@@ -60,4 +60,5 @@ pub mod PendingRows
 pub mod Finds
 pub mod VoidPages
 pub mod Slots
+pub mod Sizes
 pub mod Skips

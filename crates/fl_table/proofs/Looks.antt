@@ -18,7 +18,7 @@ use Rattle.fl_table.specs.declared.counts.TableCounts.{TableCounts}
 use Rattle.fl_table.specs.declared.table.Table.{Table}
 use Rattle.fl_table.proofs.SealAnswers.{counts-room, writer-count}
 
-module _ (t : Table) (f : FlashState) (first : ℕ) (plan : Plan) (table : model.Table) (stands : Stands t f first plan table) where
+module _ {KNOTS SLOTS : ℕ} (t : Table KNOTS SLOTS) (f : FlashState) (first : ℕ) (plan : Plan) (table : model.Table) (stands : Stands t f first plan table) where
   pub next-is : next_in t ≡ table.rows.next
   next-is = ap (λ (r : Option Ring). unwrap_or (option_map (λ ring. next_of ring) r) 0) stands.memory.ring_is ∙ stands.memory.next
 
@@ -66,7 +66,7 @@ module _ (t : Table) (f : FlashState) (first : ℕ) (plan : Plan) (table : model
       ∙ ap (λ (n : ℕ). record { rows = length table.entries; pending = table.pending; pages = length table.rows.counts; voids = n }) voids))
 
 -- what was counted over all kept pages
-pub counts-told : (t : Table) (counts : TableCounts) (n : ℕ) → n ≡ next_in t - oldest_in t → counts.rows ≡ sum (map (rows_noted t) (range_with_len (oldest_in t) n)) + pending_in t → counts.pending ≡ pending_in t → counts.pages ≡ next_in t - oldest_in t →
+pub counts-told : {KNOTS SLOTS : ℕ} (t : Table KNOTS SLOTS) (counts : TableCounts) (n : ℕ) → n ≡ next_in t - oldest_in t → counts.rows ≡ sum (map (rows_noted t) (range_with_len (oldest_in t) n)) + pending_in t → counts.pending ≡ pending_in t → counts.pages ≡ next_in t - oldest_in t →
     counts.voids ≡ count_by (λ count. count == 0) (map (rows_noted t) (range_with_len (oldest_in t) n)) → counts ≡ counts_in t
 counts-told t counts n last rows pending pages voids =
     let with_rows : ℕ → TableCounts = λ k. record { rows = k; pending = counts.pending; pages = counts.pages; voids = counts.voids } in

@@ -36,7 +36,7 @@ use Rattle.fl_table.specs.declared.faults.MountFault.TheVariants.{Flash, Ring as
 use Rattle.fl_table.specs.declared.table.Table.{Table}
 
 -- where its ring lies
-pub same-shape : (old new : Table) (f : FlashState) → IsSamePlan old new → f.geometry ≡ old.geometry → shape_at new.place f.geometry ≡ shape_at old.place old.geometry
+pub same-shape : {KNOTS SLOTS : ℕ} (old new : Table KNOTS SLOTS) (f : FlashState) → IsSamePlan old new → f.geometry ≡ old.geometry → shape_at new.place f.geometry ≡ shape_at old.place old.geometry
 same-shape old new f same geometry = ap (λ (p : RingPlace). shape_at p f.geometry) same.place ∙ ap (λ (g : Geometry). shape_at old.place g) geometry
 
 -- a fault in a later call is one in both
@@ -47,18 +47,18 @@ risen-later old mid new rose device w goes rises = w.risen (omega (arith, rises,
 abbrev pub OthersStill : FlashState → FlashState → ℕ → Plan → Type 0
 OthersStill f g first plan = (k : ℕ) → (bytes_in (page_at g) first plan IndexRing k ≡ bytes_in (page_at f) first plan IndexRing k) × (bytes_in (page_at g) first plan VarRing k ≡ bytes_in (page_at f) first plan VarRing k)
 
-pub index-still : (t : Table) (f mid : FlashState) (first : ℕ) (plan : Plan) → IsPlanned t first plan → f.geometry ≡ t.geometry → OutsideStands (shape_at t.place f.geometry) (page_at f) (page_at mid) → OthersStill f mid first plan
+pub index-still : {KNOTS SLOTS : ℕ} (t : Table KNOTS SLOTS) (f mid : FlashState) (first : ℕ) (plan : Plan) → IsPlanned t first plan → f.geometry ≡ t.geometry → OutsideStands (shape_at t.place f.geometry) (page_at f) (page_at mid) → OthersStill f mid first plan
 index-still t f mid first plan planned geometry outside =
     let stands = subst (λ (r : Shape). OutsideStands r (page_at f) (page_at mid)) (ap (λ (x : Geometry). shape_at t.place x) geometry ∙ planned-ring t first plan planned) outside in
     λ k. (index-stands (page_at f) (page_at mid) first plan stands k, var-stands (page_at f) (page_at mid) first plan stands k)
 
-pub index-read : (t : Table) (f mid g : FlashState) (n first : ℕ) (plan : Plan) → IsPlanned t first plan → f.geometry ≡ t.geometry → OnlyReads mid n g → OutsideStands (shape_at t.place f.geometry) (page_at f) (page_at mid) → OthersStill f g first plan
+pub index-read : {KNOTS SLOTS : ℕ} (t : Table KNOTS SLOTS) (f mid g : FlashState) (n first : ℕ) (plan : Plan) → IsPlanned t first plan → f.geometry ≡ t.geometry → OnlyReads mid n g → OutsideStands (shape_at t.place f.geometry) (page_at f) (page_at mid) → OthersStill f g first plan
 index-read t f mid g n first plan planned geometry reads outside k =
     let still = index-still t f mid first plan planned geometry outside k in
     (same_page mid g n (place_in first plan IndexRing k) reads ∙ still.0, same_page mid g n (place_in first plan VarRing k) reads ∙ still.1)
 
 -- the kept pages are read on a flash that a repair left
-module _ (old new : Table) (f mid g : FlashState) (n : ℕ) (same : IsSamePlan old new) (geometry : f.geometry ≡ old.geometry) (reads : OnlyReads mid n g) where
+module _ {KNOTS SLOTS : ℕ} (old new : Table KNOTS SLOTS) (f mid g : FlashState) (n : ℕ) (same : IsSamePlan old new) (geometry : f.geometry ≡ old.geometry) (reads : OnlyReads mid n g) where
   pub outside-stands : OutsideStands (shape_at new.place f.geometry) (page_at f) (page_at mid) → OutsideStands (shape_at old.place old.geometry) (page_at f) (page_at g)
   outside-stands h q out = same_page mid g n q reads ∙ subst (λ (r : Shape). OutsideStands r (page_at f) (page_at mid)) (same-shape old new f same geometry) h q out
 
@@ -111,7 +111,7 @@ module _ (old new : Table) (f mid g : FlashState) (n : ℕ) (same : IsSamePlan o
         }
 
 -- the ring was refused
-pub refuses-ring : (old new : Table) (f g : FlashState) (least : ℕ) (e : RingFault) → IsSamePlan old new → f.geometry ≡ old.geometry → FoundFault f (shape_at new.place f.geometry) least e → FailsAs f (shape_at new.place f.geometry) least e g →
+pub refuses-ring : {KNOTS SLOTS : ℕ} (old new : Table KNOTS SLOTS) (f g : FlashState) (least : ℕ) (e : RingFault) → IsSamePlan old new → f.geometry ≡ old.geometry → FoundFault f (shape_at new.place f.geometry) least e → FailsAs f (shape_at new.place f.geometry) least e g →
     RefusesData old f least (of_ring e) g
 refuses-ring old new f g least e same geometry found fails =
     by_fault e (subst (λ (r : Shape). FoundFault f r least e) (same-shape old new f same geometry) found) (subst (λ (r : Shape). FailsAs f r least e g) (same-shape old new f same geometry) fails)
@@ -124,7 +124,7 @@ refuses-ring old new f g least e same geometry found fails =
     by_fault (ring.NoNumber least) found fails = record { found = found; reads = fails }
 
 -- the ring was found, and the index ends behind it
-pub refuses-end : (old new : Table) (f g : FlashState) (least next : ℕ) (ring : Ring) → IsSamePlan old new → f.geometry ≡ old.geometry → HasNumbers f (shape_at new.place f.geometry) least ring g → next ≡ next_of ring → next < least →
+pub refuses-end : {KNOTS SLOTS : ℕ} (old new : Table KNOTS SLOTS) (f g : FlashState) (least next : ℕ) (ring : Ring) → IsSamePlan old new → f.geometry ≡ old.geometry → HasNumbers f (shape_at new.place f.geometry) least ring g → next ≡ next_of ring → next < least →
     RefusesData old f least (BadIndex least next) g
 refuses-end old new f g least next ring same geometry numbers is beyond = record {
   ring = ring;

@@ -81,7 +81,7 @@ pub record IsMounting (first : ℕ) (plan : Plan) (table : Table) (old : FlashSt
   pub indexed : HoldsIndexed (page_at old) first plan table
   pub var : HoldsVar (page_at old) first plan table
 
-pub mounting-of : (t : code.Table) (f : FlashState) (first : ℕ) (plan : Plan) (table : Table) → IsPlanned t first plan → f.geometry ≡ t.geometry → t.place.first_block + t.place.blocks ≤ f.blocks → f.start + extent f.geometry f.blocks ≤ length f.media.content → Rests f first plan table →
+pub mounting-of : {KNOTS SLOTS : ℕ} (t : code.Table KNOTS SLOTS) (f : FlashState) (first : ℕ) (plan : Plan) (table : Table) → IsPlanned t first plan → f.geometry ≡ t.geometry → t.place.first_block + t.place.blocks ≤ f.blocks → f.start + extent f.geometry f.blocks ≤ length f.media.content → Rests f first plan table →
     IsMounting first plan table f
 mounting-of t f first plan table planned geometry within reaches rests =
     let facts = table-parts plan table rests.settled.facts in
@@ -138,7 +138,7 @@ module _ (first : ℕ) (plan : Plan) (table : Table) (rose : Bool) (device : Dev
   still_var now new r still = var-same (page_at old) (page_at new) first plan now still (var-moved (page_at old) first plan table now r.var r.from is.var)
 
   -- the mount of the ring failed
-  pub ring-fails : (e : RingFault) (t : code.Table) (new : FlashState) → HaveSize first plan (page_at new) → OthersStill old new first plan →
+  pub ring-fails : {KNOTS SLOTS : ℕ} (e : RingFault) (t : code.Table KNOTS SLOTS) (new : FlashState) → HaveSize first plan (page_at new) → OthersStill old new first plan →
       ring_mount.MountEnds (shape_in first plan) rose device (renumbered (shape_in first plan) (index_end plan table) (state_of plan table)) (Err e) new → DataEnds first plan table rose device (Err (of_ring e)) t new
   ring-fails e t new sizes still h =
       by_fault e (subst (λ (s : RingState). ring_mount.MountEnds (shape_in first plan) rose device s (Err e) new) same_state h)
@@ -216,7 +216,7 @@ module _ (first : ℕ) (plan : Plan) (table : Table) (rose : Bool) (device : Dev
         }
 
     -- the pages that the ring reads hold the table's rows
-    pub reads-hold : (t : code.Table) → IsPlanned t first plan → place.shape_of ring ≡ shape_in first plan → HoldRows l.now.state (layout_of t.schema) (pages_of ring mid) (oldest_of ring) (next_of ring - oldest_of ring)
+    pub reads-hold : {KNOTS SLOTS : ℕ} (t : code.Table KNOTS SLOTS) → IsPlanned t first plan → place.shape_of ring ≡ shape_in first plan → HoldRows l.now.state (layout_of t.schema) (pages_of ring mid) (oldest_of ring) (next_of ring - oldest_of ring)
     reads-hold t planned is =
         let st = l.now.state in
         let on : OnRing (shape_in first plan) (page_at mid) (state_of plan l.now.state) = subst (λ (x : Table). OnRing (shape_in first plan) (page_at mid) (state_of plan x)) (sym (idle-lost l.now.state l.repaired.idle)) l.on in
@@ -233,7 +233,7 @@ module _ (first : ℕ) (plan : Plan) (table : Table) (rose : Bool) (device : Dev
         (subst (λ (k : ℕ). HoldRows l.now.state (row_layout plan) (λ number. page_at mid (place_at (shape_in first plan) number)) (model.oldest l.now.state.rows) k) (sym many) h)))
 
     -- no page is refused
-    pub reads-end : (t t' : code.Table) (e : MountFault) → IsPlanned t first plan → place.shape_of ring ≡ shape_in first plan → (Rose mid.media.faults new.media.faults → IsTrue rose) → is_of_pages e ≡ true → IfFlash (λ fault. ReadFails mid fault new) e →
+    pub reads-end : {KNOTS SLOTS : ℕ} (t t' : code.Table KNOTS SLOTS) (e : MountFault) → IsPlanned t first plan → place.shape_of ring ≡ shape_in first plan → (Rose mid.media.faults new.media.faults → IsTrue rose) → is_of_pages e ≡ true → IfFlash (λ fault. ReadFails mid fault new) e →
         IsTrue mid.media.tells → IfPage (λ fault. IsTrue mid.media.tells → AreRefused (layout_of t.schema) (pages_of ring mid) (oldest_of ring) (next_of ring - oldest_of ring) fault) e → DataEnds first plan table rose device (Err e) t' new
     reads-end t t' (mount.Flash fault) planned is risen only fails told refused = reads-fail fault fails risen
     reads-end t t' (mount.BadPage bad) planned is risen only fails told refused = absurd (not-refused _ _ _ _ (mount.BadPage bad) (reads-hold t planned is).read (refused told))
@@ -281,7 +281,7 @@ module _ (first : ℕ) (plan : Plan) (table : Table) (rose : Bool) (device : Dev
     ready_facts = table-facts plan (ready plan l.now.state) ready_plain
 
     -- what the table holds in memory then
-    pub started-memory : (t : code.Table) → IsPlanned t first plan → place.shape_of ring ≡ shape_in first plan → ((layout : RowLayout) → Gathers layout [] t.writer) → t.bitmap ≡ 0 →
+    pub started-memory : {KNOTS SLOTS : ℕ} (t : code.Table KNOTS SLOTS) → IsPlanned t first plan → place.shape_of ring ≡ shape_in first plan → ((layout : RowLayout) → Gathers layout [] t.writer) → t.bitmap ≡ 0 →
         t.last_key ≡ last_after (layout_of t.schema) (pages_of ring mid) (oldest_of ring) (next_of ring - oldest_of ring) →
         (next_of ring - oldest_of ring ≤ length t.counts.items → AreNoted (layout_of t.schema) (pages_of ring mid) (oldest_of ring) (next_of ring - oldest_of ring) t.counts.items) →
         IndexOf plan.error (points_after (layout_of t.schema) (pages_of ring mid) (oldest_of ring) (next_of ring - oldest_of ring)) t.index →
@@ -309,11 +309,11 @@ module _ (first : ℕ) (plan : Plan) (table : Table) (rose : Bool) (device : Dev
         }
 
     -- the blobs of its rows end there
-    pub ends-there : (t : code.Table) (end : ℕ) → IsPlanned t first plan → place.shape_of ring ≡ shape_in first plan → end ≡ ends_after (layout_of t.schema) (pages_of ring mid) (oldest_of ring) (next_of ring - oldest_of ring) → end ≡ blob_end l.now.state
+    pub ends-there : {KNOTS SLOTS : ℕ} (t : code.Table KNOTS SLOTS) (end : ℕ) → IsPlanned t first plan → place.shape_of ring ≡ shape_in first plan → end ≡ ends_after (layout_of t.schema) (pages_of ring mid) (oldest_of ring) (next_of ring - oldest_of ring) → end ≡ blob_end l.now.state
     ends-there t end planned is e = e ∙ (reads-hold t planned is).ends
 
     -- what it answers
-    pub mount-answer : (t : code.Table) (mounted : Mounted) → IsPlanned t first plan → place.shape_of ring ≡ shape_in first plan → mounted ≡ record {
+    pub mount-answer : {KNOTS SLOTS : ℕ} (t : code.Table KNOTS SLOTS) (mounted : Mounted) → IsPlanned t first plan → place.shape_of ring ≡ shape_in first plan → mounted ≡ record {
       rows = rows_after (layout_of t.schema) (pages_of ring mid) (oldest_of ring) (next_of ring - oldest_of ring);
       pages = next_of ring - oldest_of ring;
       voids = voids_after (layout_of t.schema) (pages_of ring mid) (oldest_of ring) (next_of ring - oldest_of ring);

@@ -183,7 +183,7 @@ module _ (old new : FlashState) (first : ℕ) (plan : Plan) (table : Table) (ros
       left-rests h.now.state h.stands.ring (front-left (λ (o : RingName × Kind). o.1) (effect_within plan) rose (repair_within plan IndexRing (renumber plan IndexRing table)) device (renumber plan IndexRing table) h.now h.did)
       h.stands.facts h.stands.pages
 
-  pub then-rows : (end : Option ℕ) (now : Index) (h : outcomes.MountsWell (first + plan.data_blocks) plan table rose device end now new) (result : Result Mounted MountFault) (t : code.Table) (last : FlashState) →
+  pub then-rows : {KNOTS SLOTS : ℕ} (end : Option ℕ) (now : Index) (h : outcomes.MountsWell (first + plan.data_blocks) plan table rose device end now new) (result : Result Mounted MountFault) (t : code.Table KNOTS SLOTS) (last : FlashState) →
       RingsEnd first plan (DataRing ∷ var_rings plan) h.now.state rose h.now.device result t last → MountEnds first plan table rose device result t last
   then-rows end now h result t last k = by_result result k
     where

@@ -73,7 +73,7 @@ none_listed plan table none facts = by_firsts table.firsts (by_ring table.index 
     by_firsts [] e = refl
     by_firsts (x ∷ xs) e = absurd (omega (arith, e))
 
-module _ (t : code.Table) (old new : FlashState) (first : ℕ) (plan : Plan) (table : Table) (rose : Bool) (device : Device) (planned : IsPlanned t first plan) (rests : Rests old first plan table) (watched : IsWatched old new rose device) where
+module _ {KNOTS SLOTS : ℕ} (t : code.Table KNOTS SLOTS) (old new : FlashState) (first : ℕ) (plan : Plan) (table : Table) (rose : Bool) (device : Device) (planned : IsPlanned t first plan) (rests : Rests old first plan table) (watched : IsWatched old new rose device) where
   facts : IsPlainTable plan table
   facts = table-parts plan table rests.settled.facts
 
@@ -116,7 +116,7 @@ module _ (t : code.Table) (old new : FlashState) (first : ℕ) (plan : Plan) (ta
         }
 
   -- the index failed
-  pub mount-fails : (bitmaps now : Option Index) (e : RingFault) (t' : code.Table) → t.bitmaps ≡ bitmaps → StandOutside bitmaps (page_at old) (page_at new) → MountEndsOf bitmaps old (first + plan.data_blocks) plan table rose device (Err e) now new →
+  pub mount-fails : (bitmaps now : Option Index) (e : RingFault) (t' : code.Table KNOTS SLOTS) → t.bitmaps ≡ bitmaps → StandOutside bitmaps (page_at old) (page_at new) → MountEndsOf bitmaps old (first + plan.data_blocks) plan table rose device (Err e) now new →
       MountEnds first plan table rose device (Err (of_ring e)) t' new
   mount-fails None now e t' is outside h = absurd (no h.0)
     where
@@ -133,7 +133,7 @@ module _ (t : code.Table) (old new : FlashState) (first : ℕ) (plan : Plan) (ta
       by_fault (ring.NoNumber least) m = absurd m
 
   -- the index was mounted, and then the data ring
-  pub mount-then : (bitmaps now : Option Index) (end : Option ℕ) (result : Result Found MountFault) (t' : code.Table) (last : FlashState) → t.bitmaps ≡ bitmaps → StandOutside bitmaps (page_at old) (page_at new) →
+  pub mount-then : (bitmaps now : Option Index) (end : Option ℕ) (result : Result Found MountFault) (t' : code.Table KNOTS SLOTS) (last : FlashState) → t.bitmaps ≡ bitmaps → StandOutside bitmaps (page_at old) (page_at new) →
       MountEndsOf bitmaps old (first + plan.data_blocks) plan table rose device (Ok end) now new →
       ((x : Table) (later : Device) → new.is_on ≡ true → SameDevice new later → Rests new first plan x → StandForRing now new (first + plan.data_blocks) plan x → unwrap_or end 0 ≡ index_end plan x →
       RingsEnd first plan (DataRing ∷ var_rings plan) x rose later result t' last) → MountEnds first plan table rose device result t' last
@@ -169,10 +169,10 @@ still-found (Some was) (Some mid) (Some now) old new end h same still = record {
 }
 
 -- what a mount of the data ring found, of a table of the same plan
-shape_as : (t t1 : code.Table) → IsSamePlan t t1 → ring_shape t1 ≡ ring_shape t
+shape_as : {KNOTS SLOTS : ℕ} (t t1 : code.Table KNOTS SLOTS) → IsSamePlan t t1 → ring_shape t1 ≡ ring_shape t
 shape_as t t1 same = ap (λ (p : RingPlace). shape_at p t1.geometry) same.place ∙ ap (λ (g : Geometry). shape_at t.place g) same.geometry
 
-reads_as : (t t1 : code.Table) (f new : FlashState) (least : ℕ) (ring : Ring) → IsSamePlan t t1 → ReadsRing t1 f least ring new → ReadsRing t f least ring new
+reads_as : {KNOTS SLOTS : ℕ} (t t1 : code.Table KNOTS SLOTS) (f new : FlashState) (least : ℕ) (ring : Ring) → IsSamePlan t t1 → ReadsRing t1 f least ring new → ReadsRing t f least ring new
 reads_as t t1 f new least ring same h = record {
   repaired = h.repaired;
   numbers = subst (λ (r : Shape). HasNumbers f r least ring h.repaired) (shape_as t t1 same) h.numbers;
@@ -180,7 +180,7 @@ reads_as t t1 f new least ring same h = record {
   reads = h.reads;
 }
 
-data_as : (t t1 : code.Table) (f : FlashState) (least : ℕ) (ring : Ring) (mounted : Found) (last : Option ℕ) (end : ℕ) (new : FlashState) → IsSamePlan t t1 → FindsData t1 f least ring mounted last end new → FindsData t f least ring mounted last end new
+data_as : {KNOTS SLOTS : ℕ} (t t1 : code.Table KNOTS SLOTS) (f : FlashState) (least : ℕ) (ring : Ring) (mounted : Found) (last : Option ℕ) (end : ℕ) (new : FlashState) → IsSamePlan t t1 → FindsData t1 f least ring mounted last end new → FindsData t f least ring mounted last end new
 data_as t t1 f least ring mounted last end new same h = record {
   ring_reads = reads_as t t1 f new least ring same h.ring_reads;
   read = subst (λ (l : RowLayout). AreRead l (pages_of ring new) (oldest_of ring) (next_of ring - oldest_of ring)) same.layout h.read;
@@ -193,7 +193,7 @@ data_as t t1 f least ring mounted last end new same h = record {
   end_is = h.end_is ∙ ap (λ (l : RowLayout). ends_after l (pages_of ring new) (oldest_of ring) (next_of ring - oldest_of ring)) same.layout;
 }
 
-pub finds-as : (t t1 : code.Table) (f : FlashState) (was least : ℕ) (mounted : Found) (now : code.Table) (new : FlashState) → FindsRows t1 f was mounted now new → IsSamePlan t t1 → t1.blobs ≡ t.blobs → was ≡ least → FindsRows t f least mounted now new
+pub finds-as : {KNOTS SLOTS : ℕ} (t t1 : code.Table KNOTS SLOTS) (f : FlashState) (was least : ℕ) (mounted : Found) (now : code.Table KNOTS SLOTS) (new : FlashState) → FindsRows t1 f was mounted now new → IsSamePlan t t1 → t1.blobs ≡ t.blobs → was ≡ least → FindsRows t f least mounted now new
 finds-as t t1 f was least mounted now new h same blobs e = subst (λ (n : ℕ). FindsRows t f n mounted now new) e (record {
   ring = h.ring;
   ring_is = h.ring_is;
@@ -204,14 +204,14 @@ finds-as t t1 f was least mounted now new h same blobs e = subst (λ (n : ℕ). 
   below = h.below;
 })
 
-bad_page_as : (t t1 : code.Table) (f : FlashState) (least : ℕ) (fault : MountFault) (new : FlashState) → IsSamePlan t t1 → HasBadPage t1 f least fault new → HasBadPage t f least fault new
+bad_page_as : {KNOTS SLOTS : ℕ} (t t1 : code.Table KNOTS SLOTS) (f : FlashState) (least : ℕ) (fault : MountFault) (new : FlashState) → IsSamePlan t t1 → HasBadPage t1 f least fault new → HasBadPage t f least fault new
 bad_page_as t t1 f least fault new same h = record {
   ring = h.ring;
   ring_reads = reads_as t t1 f new least h.ring same h.ring_reads;
   refused = subst (λ (l : RowLayout). AreRefused l (pages_of h.ring new) (oldest_of h.ring) (next_of h.ring - oldest_of h.ring) fault) same.layout h.refused;
 }
 
-refuses_as : (t t1 : code.Table) (f : FlashState) (least : ℕ) (fault : MountFault) (new : FlashState) → IsSamePlan t t1 → RefusesData t1 f least fault new → RefusesData t f least fault new
+refuses_as : {KNOTS SLOTS : ℕ} (t t1 : code.Table KNOTS SLOTS) (f : FlashState) (least : ℕ) (fault : MountFault) (new : FlashState) → IsSamePlan t t1 → RefusesData t1 f least fault new → RefusesData t f least fault new
 unfolding reads_as
 refuses_as t t1 f least (mount.Flash fault) new same (inl h) = inl (subst (λ (r : Shape). FailsAs f r least (ring.Flash fault) new) (shape_as t t1 same) h)
 refuses_as t t1 f least (mount.Flash fault) new same (inr h) = inr (record { ring = h.ring; ring_reads = reads_as t t1 f new least h.ring same h.ring_reads; fails = h.fails })
@@ -230,7 +230,7 @@ refuses_as t t1 f least (mount.BadIndex end next) new same h = record {
 }
 refuses_as t t1 f least (mount.BadBlob page next) new same h = h
 
-pub refuses-by : (t t1 : code.Table) (f : FlashState) (was least : ℕ) (fault : MountFault) (new : FlashState) → RefusesRows t1 f was fault new → IsSamePlan t t1 → t1.blobs ≡ t.blobs → was ≡ least → RefusesRows t f least fault new
+pub refuses-by : {KNOTS SLOTS : ℕ} (t t1 : code.Table KNOTS SLOTS) (f : FlashState) (was least : ℕ) (fault : MountFault) (new : FlashState) → RefusesRows t1 f was fault new → IsSamePlan t t1 → t1.blobs ≡ t.blobs → was ≡ least → RefusesRows t f least fault new
 refuses-by t t1 f was least fault new h same blobs e = subst (λ (n : ℕ). RefusesRows t f n fault new) e (by_part h)
   where
     by_part : RefusesRows t1 f was fault new → RefusesRows t f was fault new

@@ -55,7 +55,7 @@ four-each blocks pages b p =
     let columns : 3 * pages ≤ blocks * pages = mul-le-mul_right pages b in
     omega (arith, rows, columns)
 
-module _ (old new : Table) (f mid : FlashState) (same : IsSamePlan old new) (geometry : f.geometry ≡ old.geometry)
+module _ {KNOTS SLOTS : ℕ} (old new : Table KNOTS SLOTS) (f mid : FlashState) (same : IsSamePlan old new) (geometry : f.geometry ≡ old.geometry)
     (beside : Beside (shape_at new.place f.geometry) (search_reads (shape_at new.place f.geometry) + f.geometry.block) 1 1 f mid) where
   searched : Beside (shape_at old.place old.geometry) (search_reads (shape_at old.place old.geometry) + old.geometry.block) 1 1 f mid
   searched =

@@ -106,7 +106,7 @@ abbrev pub with_var : Table → Option Ring → ℕ → Table
 with_var table ring fill = record table { var = ring; fill = fill }
 
 -- All of it was mounted.
-pub record IsMountedAll (t : code.Table) (first : ℕ) (plan : Plan) (table st : Table) (rose : Bool) (device : Device) (left : Option VarData) (new : FlashState) : Type 0 where
+pub record IsMountedAll {KNOTS SLOTS : ℕ} (t : code.Table KNOTS SLOTS) (first : ℕ) (plan : Plan) (table st : Table) (rose : Bool) (device : Device) (left : Option VarData) (new : FlashState) : Type 0 where
   pub now : PartProgress Table
   pub did : TableMounts plan rose (DataRing ∷ var_rings plan) device table (TableMounted now)
   pub counts : SameDevice new now.device
@@ -119,7 +119,7 @@ pub record IsMountedAll (t : code.Table) (first : ℕ) (plan : Plan) (table st :
   pub bitmaps : bitmaps.Stand t.bitmaps new (first + plan.data_blocks) plan (with_var (ready plan st) ring fill)
   pub blobs : Stand left new (first + plan.data_blocks + plan.index_blocks) plan (with_var (ready plan st) ring fill)
 
-module _ (t : code.Table) (mid new : FlashState) (first : ℕ) (plan : Plan) (table : Table) (rose : Bool) (device : Device) (found : FoundRows) (w : DataWell first plan table rose device found t mid) (watched : IsWatched mid new rose w.now.device) where
+module _ {KNOTS SLOTS : ℕ} (t : code.Table KNOTS SLOTS) (mid new : FlashState) (first : ℕ) (plan : Plan) (table : Table) (rose : Bool) (device : Device) (found : FoundRows) (w : DataWell first plan table rose device found t mid) (watched : IsWatched mid new rose w.now.device) where
   abbrev st : Table
   st = w.now.state
 
@@ -240,7 +240,7 @@ module _ (t : code.Table) (mid new : FlashState) (first : ℕ) (plan : Plan) (ta
         goes last e = rw e refl
 
   -- how the calls end
-  pub rows-fail : (blobs now : Option VarData) (e : MountFault) (t' : code.Table) → t.blobs ≡ blobs → StandOutside blobs (page_at mid) (page_at new) → WithinEndsOf blobs mid (first + plan.data_blocks + plan.index_blocks) plan w.now.state rose w.now.device (Err e) now new →
+  pub rows-fail : (blobs now : Option VarData) (e : MountFault) (t' : code.Table KNOTS SLOTS) → t.blobs ≡ blobs → StandOutside blobs (page_at mid) (page_at new) → WithinEndsOf blobs mid (first + plan.data_blocks + plan.index_blocks) plan w.now.state rose w.now.device (Err e) now new →
       RingsEnd first plan (DataRing ∷ var_rings plan) table rose device (Err e) t' new
   rows-fail None now e t' is outside h = absurd (no h.0)
     where
@@ -280,7 +280,7 @@ module _ (t : code.Table) (mid new : FlashState) (first : ℕ) (plan : Plan) (ta
   rows-mount (Some v) (Some v') u is outside h = var-mounts v is outside v' (h watched (at_rest v is outside))
 
 -- the table that was started
-pub mounted-ends : (t t' : code.Table) (new : FlashState) (first : ℕ) (plan : Plan) (table st : Table) (rose : Bool) (device : Device) (found : FoundRows) (left : Option VarData) → (h : IsMountedAll t first plan table st rose device left new) → found.mounted ≡ mounted_of (ready plan st) →
+pub mounted-ends : {KNOTS SLOTS : ℕ} (t t' : code.Table KNOTS SLOTS) (new : FlashState) (first : ℕ) (plan : Plan) (table st : Table) (rose : Bool) (device : Device) (found : FoundRows) (left : Option VarData) → (h : IsMountedAll t first plan table st rose device left new) → found.mounted ≡ mounted_of (ready plan st) →
     Stands t' new first plan (with_var (ready plan st) h.ring h.fill) → RingsEnd first plan (DataRing ∷ var_rings plan) table rose device (Ok found.mounted) t' new
 mounted-ends t t' new first plan table st rose device found left h answer stands = record {
   now = h.now;
@@ -292,7 +292,7 @@ mounted-ends t t' new first plan table st rose device found left h answer stands
 }
 
 -- the data ring failed
-pub data-fails : (first : ℕ) (plan : Plan) (table : Table) (rose : Bool) (device : Device) (e : MountFault) (t t' : code.Table) (new : FlashState) → DataEnds first plan table rose device (Err e) t new → RingsEnd first plan (DataRing ∷ var_rings plan) table rose device (Err e) t' new
+pub data-fails : {KNOTS SLOTS : ℕ} (first : ℕ) (plan : Plan) (table : Table) (rose : Bool) (device : Device) (e : MountFault) (t t' : code.Table KNOTS SLOTS) (new : FlashState) → DataEnds first plan table rose device (Err e) t new → RingsEnd first plan (DataRing ∷ var_rings plan) table rose device (Err e) t' new
 data-fails first plan table rose device (mount.Flash fault) t t' new h = rings-fail first plan (DataRing ∷ []) (var_rings plan) table rose device fault new h
 data-fails first plan table rose device (mount.Ring fault) t t' new h = h
 data-fails first plan table rose device (mount.BadPage bad) t t' new h = h

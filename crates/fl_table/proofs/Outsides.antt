@@ -29,13 +29,13 @@ blobs-outside None (Some b) page same h = absurd same
 blobs-outside (Some a) None page same h = absurd same
 blobs-outside (Some a) (Some b) page same h = subst (λ (r : Shape). IsOutside r page) (sym (same-shape a b same)) h
 
-pub outside-same : (t u : Table) (old new : ℕ → List ℕ) → IsSamePlan t u → OutsideStands u old new → OutsideStands t old new
+pub outside-same : {KNOTS SLOTS : ℕ} (t u : Table KNOTS SLOTS) (old new : ℕ → List ℕ) → IsSamePlan t u → OutsideStands u old new → OutsideStands t old new
 outside-same t u old new same h = λ page rows index blobs.
     h page (subst (λ (r : Shape). IsOutside r page) (sym (ap (λ (p : RingPlace). shape_at p u.geometry) same.place ∙ ap (λ (g : Geometry). shape_at t.place g) (same.geometry))) rows)
     (bitmaps-outside t.bitmaps u.bitmaps page same.bitmaps index) (blobs-outside t.blobs u.blobs page same.blobs blobs)
 
 -- one call after another
-pub outside-then : (t u : Table) (a b c : ℕ → List ℕ) → IsSamePlan t u → OutsideStands t a b → OutsideStands u b c → OutsideStands t a c
+pub outside-then : {KNOTS SLOTS : ℕ} (t u : Table KNOTS SLOTS) (a b c : ℕ → List ℕ) → IsSamePlan t u → OutsideStands t a b → OutsideStands u b c → OutsideStands t a c
 outside-then t u a b c same h k = λ page rows index blobs. outside-same t u b c same k page rows index blobs ∙ h page rows index blobs
 
 -- a page outside the ring of variable data stands

@@ -63,7 +63,7 @@ module _ (layout : RowLayout) (page : ℕ → List ℕ) (number n at m : ℕ) (h
   ends-more so_far after e is =
       is ∙ (ap (λ k. blobs_end k (rows_on layout bytes)) e ∙ (ap (λ (b : List ℕ). blobs_end (ends_after layout page number n) (rows_on layout b)) at_here ∙ ap (ends_after layout page number) (sym more)))
 
-  pub points-more : (last first : Option ℕ) (error : ℕ) (index new : LearnedIndex 64 64) → last ≡ last_after layout page number n → AreRead layout page number n → IsRead layout at bytes last → first ≡ first_key (rows_on layout bytes) →
+  pub points-more : {KNOTS SLOTS : ℕ} (last first : Option ℕ) (error : ℕ) (index new : LearnedIndex KNOTS SLOTS) → last ≡ last_after layout page number n → AreRead layout page number n → IsRead layout at bytes last → first ≡ first_key (rows_on layout bytes) →
       IndexOf error (points_after layout page number n) index →
       ((error : ℕ) (points : List (ℕ × ℕ)) → IndexOf error points index → IfSome first (λ key. IsFurther points (key, at)) → IndexOf error (points ++ unwrap_or (option_map (λ key. (key, at) ∷ []) first) []) new) →
       IndexOf error (points_after layout page number m) new

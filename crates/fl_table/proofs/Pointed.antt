@@ -62,7 +62,7 @@ first-key table row = of (pending_entries table)
     of (e ∷ es) h = let same : stored_row e ≡ row = cc in ap (λ (r : Row). Some r.key) same
 
 -- the point of a page that is sealed joins the others
-pub index-sealed : (plan : Plan) (table : Table) (index new : LearnedIndex 64 64) (key number : ℕ) → IsTable plan table → HasPoints table → IndexOf plan.error table.points index →
+pub index-sealed : {KNOTS SLOTS : ℕ} (plan : Plan) (table : Table) (index new : LearnedIndex KNOTS SLOTS) (key number : ℕ) → IsTable plan table → HasPoints table → IndexOf plan.error table.points index →
     first_pending table ≡ Some key → number ≡ table.rows.next →
     ((error : ℕ) (points : List (ℕ × ℕ)) → IndexOf error points index → IsFurther points (key, number) → IndexOf error (points ++ (key, number) ∷ []) new) →
     IndexOf plan.error (after_seal plan DataRing table).points new

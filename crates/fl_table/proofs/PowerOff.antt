@@ -35,14 +35,14 @@ pub off-then : {T U : Type 0} (f mid g : FlashState) (x : T) (result : Result U 
 off-then {T} {U} f mid g x result still off = λ down. subst (λ (k : FlashState). OffChangesNothing k result g) (still down).1 off down
 
 -- a put that has something to write: it makes room, or places a blob
-pub put-off : (old mid : Table) (f g h : FlashState) (blob : Option (List ℕ)) (u : Unit {0}) (result : Result (Unit {0}) FlashFault) →
+pub put-off : {KNOTS SLOTS : ℕ} (old mid : Table KNOTS SLOTS) (f g h : FlashState) (blob : Option (List ℕ)) (u : Unit {0}) (result : Result (Unit {0}) FlashFault) →
     ((HasRoom old → ⊥) → OffChangesNothing {T = Unit {0}} f (Ok u) g) → (HasRoom old → (◌≡◌ {A = Result (Unit {0}) FlashFault} (Ok u) (Ok tt)) × (mid ≡ old) × (g ≡ f)) →
     (1 ≤ pages_for mid.blobs blob → OffChangesNothing g result h) → (HasRoom old → pages_for old.blobs blob ≡ 0 → ⊥) → OffChangesNothing f result h
-put-off old mid f g h blob u result off quiet later busy = λ down. by_room down (cases_lt (length old.writer.body) (old.writer.end + layout_len (layout_of old.schema)))
+put-off {KNOTS} {SLOTS} old mid f g h blob u result off quiet later busy = λ down. by_room down (cases_lt (length old.writer.body) (old.writer.end + layout_len (layout_of old.schema)))
   where
     some : HasRoom old → mid ≡ old → 1 ≤ pages_for mid.blobs blob
     some room same = elim (cases_lt 0 (pages_for old.blobs blob)) [
-      | inl pages ↦ omega (arith, pages, ap (λ (t : Table). pages_for t.blobs blob) same)
+      | inl pages ↦ omega (arith, pages, ap (λ (t : Table KNOTS SLOTS). pages_for t.blobs blob) same)
       | inr none ↦ absurd (busy room (omega (arith, none)))
     ]
 

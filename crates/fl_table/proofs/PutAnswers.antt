@@ -32,8 +32,8 @@ and-true true = refl
 and-true false = refl
 
 -- a refused record
-pub refused-ends : (t : code.Table) (f : FlashState) (first : ℕ) (plan : Plan) (table : Table) (key : ℕ) (values : List ℤ) (blob : Option (List ℕ)) (rose : Bool) (device : Device) → Stands t f first plan table →
-    (refusal : PutRefusal) → put_refusal t key values (option_map (λ (xs : List ℕ). length xs) blob) ≡ Some refusal → (after : code.Table) (new : FlashState) → PutEnds first plan (record { key = key; values = values; blob = blob }) table rose device (Err refusal) after new
+pub refused-ends : {KNOTS SLOTS : ℕ} (t : code.Table KNOTS SLOTS) (f : FlashState) (first : ℕ) (plan : Plan) (table : Table) (key : ℕ) (values : List ℤ) (blob : Option (List ℕ)) (rose : Bool) (device : Device) → Stands t f first plan table →
+    (refusal : PutRefusal) → put_refusal t key values (option_map (λ (xs : List ℕ). length xs) blob) ≡ Some refusal → (after : code.Table KNOTS SLOTS) (new : FlashState) → PutEnds first plan (record { key = key; values = values; blob = blob }) table rose device (Err refusal) after new
 refused-ends t f first plan table key values blob rose device s refusal e after new =
     let a = answered t f first plan table key values blob s refusal e in
     rw a.2 (by_refusal a.0 a.1)
@@ -47,14 +47,14 @@ refused-ends t f first plan table key values blob rose device s refusal e after 
     by_refusal model.Spent k = k
 
 -- an operation of the pages that make room failed
-pub broken-ends : (t : code.Table) (f : FlashState) (first : ℕ) (plan : Plan) (table : Table) (key : ℕ) (values : List ℤ) (blob : Option (List ℕ)) (rose : Bool) (device : Device) → Stands t f first plan table →
-    put_refusal t key values (option_map (λ (xs : List ℕ). length xs) blob) ≡ None → (fault : FlashFault) (after : code.Table) (new : FlashState) → Breaks first plan (seals_within plan (make_room_seals plan table) table) table rose device fault new →
+pub broken-ends : {KNOTS SLOTS : ℕ} (t : code.Table KNOTS SLOTS) (f : FlashState) (first : ℕ) (plan : Plan) (table : Table) (key : ℕ) (values : List ℤ) (blob : Option (List ℕ)) (rose : Bool) (device : Device) → Stands t f first plan table →
+    put_refusal t key values (option_map (λ (xs : List ℕ). length xs) blob) ≡ None → (fault : FlashFault) (after : code.Table KNOTS SLOTS) (new : FlashState) → Breaks first plan (seals_within plan (make_room_seals plan table) table) table rose device fault new →
     PutEnds first plan (record { key = key; values = values; blob = blob }) table rose device (Err (put.Flash fault)) after new
 broken-ends t f first plan table key values blob rose device s e fault after new h =
     (not-refused t f first plan table key values blob s e, put-stops first plan (record { key = key; values = values; blob = blob }) table rose device fault new h)
 
 -- a page has room for a row
-some-rows : (t : code.Table) (f : FlashState) (first : ℕ) (plan : Plan) (table : Table) → Stands t f first plan table → 1 ≤ rows_per_page plan
+some-rows : {KNOTS SLOTS : ℕ} (t : code.Table KNOTS SLOTS) (f : FlashState) (first : ℕ) (plan : Plan) (table : Table) → Stands t f first plan table → 1 ≤ rows_per_page plan
 some-rows t f first plan table s =
     let per_page : rows_per_page plan ≡ (t.geometry.page - 24) / layout_len (layout_of t.schema) =
     ap (λ g. (g.page - 24) / row_len plan) s.planned.geometry ∙ ap (λ (l : RowLayout). (t.geometry.page - 24) / layout_len l) s.planned.layout in
@@ -62,8 +62,8 @@ some-rows t f first plan table s =
     omega (arith, fits, per_page)
 
 -- room was made, and the record joins or not
-module _ (t : code.Table) (f : FlashState) (first : ℕ) (plan : Plan) (table : Table) (key : ℕ) (values : List ℤ) (blob : Option (List ℕ)) (rose : Bool) (device : Device) (s : Stands t f first plan table)
-    (e : put_refusal t key values (option_map (λ (xs : List ℕ). length xs) blob) ≡ None) (room : code.Table) (mid : FlashState)
+module _ {KNOTS SLOTS : ℕ} (t : code.Table KNOTS SLOTS) (f : FlashState) (first : ℕ) (plan : Plan) (table : Table) (key : ℕ) (values : List ℤ) (blob : Option (List ℕ)) (rose : Bool) (device : Device) (s : Stands t f first plan table)
+    (e : put_refusal t key values (option_map (λ (xs : List ℕ). length xs) blob) ≡ None) (room : code.Table KNOTS SLOTS) (mid : FlashState)
     (h : Finishes first plan (seals_within plan (make_room_seals plan table) table) table (after_seals plan (make_room_seals plan table) table) rose device room mid) where
   abbrev item : Record
   item = record { key = key; values = values; blob = blob }
@@ -73,10 +73,10 @@ module _ (t : code.Table) (f : FlashState) (first : ℕ) (plan : Plan) (table : 
       let ok = accepted plan table item (not-refused t f first plan table key values blob s e) in
       room-accepts plan table item (planned-shape t first plan s.planned) (table-parts plan table s.facts) (some-rows t f first plan table s) ok (has-room room mid first plan (after_seals plan (make_room_seals plan table) table) h.stands left)
 
-  pub join-fails : (fault : FlashFault) (after : code.Table) (new : FlashState) → JoinEnds first plan item (after_seals plan (make_room_seals plan table) table) rose h.now.device (Err fault) after new →
+  pub join-fails : (fault : FlashFault) (after : code.Table KNOTS SLOTS) (new : FlashState) → JoinEnds first plan item (after_seals plan (make_room_seals plan table) table) rose h.now.device (Err fault) after new →
       PutEnds first plan (record { key = key; values = values; blob = blob }) table rose device (Err (put.Flash fault)) after new
   join-fails fault after new k = (not-refused t f first plan table key values blob s e, put-breaks first plan item table rose device room mid h fault after new k)
 
-  pub put-ends : (after : code.Table) (new : FlashState) → JoinEnds first plan item (after_seals plan (make_room_seals plan table) table) rose h.now.device (Ok tt) after new →
+  pub put-ends : (after : code.Table KNOTS SLOTS) (new : FlashState) → JoinEnds first plan item (after_seals plan (make_room_seals plan table) table) rose h.now.device (Ok tt) after new →
       PutEnds first plan (record { key = key; values = values; blob = blob }) table rose device (Ok tt) after new
   put-ends after new k = (not-refused t f first plan table key values blob s e, put-finishes first plan item table rose device room mid h after new k)

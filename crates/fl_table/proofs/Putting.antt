@@ -89,7 +89,7 @@ pub last-more : (table after : Table) (entry : Entry) → after.entries ≡ tabl
 last-more table after entry entries = ap (λ (es : List Entry). last_or None es) entries ∙ last_or-push None table.entries entry
 
 -- a page has room for one row more just where fewer rows are pending than it holds
-module _ (t : code.Table) (f : FlashState) (first : ℕ) (plan : Plan) (table : Table) (s : Stands t f first plan table) where
+module _ {KNOTS SLOTS : ℕ} (t : code.Table KNOTS SLOTS) (f : FlashState) (first : ℕ) (plan : Plan) (table : Table) (s : Stands t f first plan table) where
   len : ℕ
   len = layout_len (layout_of t.schema)
 
@@ -134,7 +134,7 @@ append-nil (x ∷ xs) = ap (λ ys. x ∷ ys) (append-nil xs)
 pub no-seal : (plan : Plan) (table : Table) (rings : List RingName) → rings ≡ [] → [] ≡ seals_within plan rings table
 no-seal plan table rings e = sym (ap (λ (rs : List RingName). seals_within plan rs table) e)
 
-pub finishes-as : (first : ℕ) (plan : Plan) (operations others : List (RingName × Kind)) (table after else_after : Table) (rose : Bool) (device : Device) (t : code.Table) (new : FlashState) →
+pub finishes-as : {KNOTS SLOTS : ℕ} (first : ℕ) (plan : Plan) (operations others : List (RingName × Kind)) (table after else_after : Table) (rose : Bool) (device : Device) (t : code.Table KNOTS SLOTS) (new : FlashState) →
     operations ≡ others → after ≡ else_after → Finishes first plan operations table after rose device t new → Finishes first plan others table else_after rose device t new
 finishes-as first plan operations others table after else_after rose device t new e k h =
     subst (λ (ops : List (RingName × Kind)). Finishes first plan ops table else_after rose device t new) e (subst (λ (x : Table). Finishes first plan operations table x rose device t new) k h)
@@ -144,7 +144,7 @@ pub breaks-as : (first : ℕ) (plan : Plan) (operations others : List (RingName 
 breaks-as first plan operations others table rose device fault new e h = subst (λ (ops : List (RingName × Kind)). Breaks first plan ops table rose device fault new) e h
 
 -- nothing is pending
-pub flush-idle : (f : FlashState) (first : ℕ) (plan : Plan) (table : Table) (rose : Bool) (device : Device) (t : code.Table) → table.pending ≡ 0 → Stands t f first plan table → SameDevice f device → f.is_on ≡ true →
+pub flush-idle : {KNOTS SLOTS : ℕ} (f : FlashState) (first : ℕ) (plan : Plan) (table : Table) (rose : Bool) (device : Device) (t : code.Table KNOTS SLOTS) → table.pending ≡ 0 → Stands t f first plan table → SameDevice f device → f.is_on ≡ true →
     Finishes first plan (seals_within plan (table_seals plan table) table) table (flushed plan table) rose device t f
 flush-idle f first plan table rose device t none stands counts power =
     finishes-as first plan [] (seals_within plan (table_seals plan table) table) table table (flushed plan table) rose device t f
@@ -159,12 +159,12 @@ module _ (first : ℕ) (plan : Plan) (item : Record) (table : Table) (rose : Boo
   pub put-stops : (fault : FlashFault) (new : FlashState) → Breaks first plan (seals_within plan (make_room_seals plan table) table) table rose device fault new → Breaks first plan (seals_within plan (put_seals plan item table) table) table rose device fault new
   put-stops fault new h = seals-stop first plan (make_room_seals plan table) (place_seals plan (blob_len item) roomed) table rose device fault new h
 
-  module _ (room : code.Table) (mid : FlashState) (h : Finishes first plan (seals_within plan (make_room_seals plan table) table) table (after_seals plan (make_room_seals plan table) table) rose device room mid) where
-    pub put-breaks : (fault : FlashFault) (t : code.Table) (new : FlashState) → Breaks first plan (seals_within plan (place_seals plan (blob_len item) roomed) roomed) roomed rose h.now.device fault new →
+  module _ {KNOTS SLOTS : ℕ} (room : code.Table KNOTS SLOTS) (mid : FlashState) (h : Finishes first plan (seals_within plan (make_room_seals plan table) table) table (after_seals plan (make_room_seals plan table) table) rose device room mid) where
+    pub put-breaks : (fault : FlashFault) (t : code.Table KNOTS SLOTS) (new : FlashState) → Breaks first plan (seals_within plan (place_seals plan (blob_len item) roomed) roomed) roomed rose h.now.device fault new →
         Breaks first plan (seals_within plan (put_seals plan item table) table) table rose device fault new
     put-breaks fault t new k = seals-then first plan (make_room_seals plan table) (place_seals plan (blob_len item) roomed) table rose device room mid (Err fault) t new h k
 
-    pub put-finishes : (t : code.Table) (new : FlashState) → Finishes first plan (seals_within plan (place_seals plan (blob_len item) roomed) roomed) roomed (put_record plan item table) rose h.now.device t new →
+    pub put-finishes : (t : code.Table KNOTS SLOTS) (new : FlashState) → Finishes first plan (seals_within plan (place_seals plan (blob_len item) roomed) roomed) roomed (put_record plan item table) rose h.now.device t new →
         Finishes first plan (seals_within plan (put_seals plan item table) table) table (put_record plan item table) rose device t new
     put-finishes t new k = finishes-then first plan (make_room_seals plan table) (place_seals plan (blob_len item) roomed) table (put_record plan item table) rose device room mid t new h k
 

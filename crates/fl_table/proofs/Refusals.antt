@@ -1,9 +1,11 @@
 -- A table refuses as its model does.
 use Rattle.std.proofs.Common.{◌≡◌, ℕ, ◌+◌, Bool, true, false, cond, not, ◌&&◌, ◌||◌, ◌==◌, nat_le, nat_lt, Option, Some, None, IfSome, Err, subst, is_some, option_map, unwrap_or, List, length, refl, sym, ◌∙◌, ap, arith, ◌<◌, ◌≤◌}
-use Rattle.std.proofs.lemmas.Bool.{ltb-false, leb-false}
+use Rattle.std.proofs.lemmas.Bool.{ltb-false, leb-false, eqb-true}
+use Rattle.std.specs.Prelude.{if◌then◌else◌}
 use Rattle.std.proofs.Math.IntN.{ℤ}
 use Rattle.fl_flash.specs.Flash.{FlashState}
 use Rattle.fl_model.specs.Record.{Record, Plan, RowLayout, row_layout, has_var, key_limit, greatest_key, first_misfit}
+use Rattle.fl_model.specs.Row.{FitsRow}
 use Rattle.fl_model.specs.Table as model
 use Rattle.fl_model.specs.Table.{Table, Entry, Refusal, BadKey, BadColumns, BadValue, BadBlob, first_of as or_model, refuse_if, key_refusal, value_refusal, blob_refusal, refusal_of, is_spent, spent_from, last_entry, blob_len}
 use Rattle.fl_table.specs.Bitmaps as bitmaps
@@ -43,7 +45,7 @@ if_so : (b : Bool) (r : Refusal) → refused_if b (answer_of r) ≡ answer (refu
 if_so true r = refl
 if_so false r = refl
 
-module _ (t : code.Table) (f : FlashState) (first : ℕ) (plan : Plan) (table : Table) (key : ℕ) (values : List ℤ) (blob : Option (List ℕ)) (s : Stands t f first plan table) where
+module _ {KNOTS SLOTS : ℕ} (t : code.Table KNOTS SLOTS) (f : FlashState) (first : ℕ) (plan : Plan) (table : Table) (key : ℕ) (values : List ℤ) (blob : Option (List ℕ)) (s : Stands t f first plan table) where
   item : Record
   item = record { key = key; values = values; blob = blob }
 
@@ -151,11 +153,15 @@ not_so : (b : Bool) (r : PutRefusal) → refused_if b r ≡ None → b ≡ false
 not_so true r e = cc
 not_so false r e = refl
 
+not_not : (b : Bool) → not b ≡ false → b ≡ true
+not_not true e = refl
+not_not false e = cc
+
 or_false : (a b : Bool) → (a || b) ≡ false → (a ≡ false) × (b ≡ false)
 or_false true b e = cc
 or_false false b e = (refl, e)
 
-module _ (t : code.Table) (key : ℕ) (values : List ℤ) (blob : Option ℕ) (e : put_refusal t key values blob ≡ None) where
+module _ {KNOTS SLOTS : ℕ} (t : code.Table KNOTS SLOTS) (key : ℕ) (values : List ℤ) (blob : Option ℕ) (e : put_refusal t key values blob ≡ None) where
   last_two : (blob_refused t blob ≡ None) × (spent_refused t ≡ None)
   last_two =
       let a = neither (refused_if (not (is_running t)) Stopped) _ e in
@@ -163,6 +169,34 @@ module _ (t : code.Table) (key : ℕ) (values : List ℤ) (blob : Option ℕ) (e
       let c = neither (refused_if (not (length values == length (layout_of t.schema).columns)) (Columns (length (layout_of t.schema).columns))) _ b.1 in
       let d = neither (value_refused t key values) _ c.1 in
       neither (blob_refused t blob) (spent_refused t) d.1
+
+  pub told-running : is_running t ≡ true
+  told-running = not_not (is_running t) (not_so (not (is_running t)) Stopped (neither (refused_if (not (is_running t)) Stopped) _ e).0)
+
+  -- its row fits, as far as its blob isn't told
+  pub fits-row : FitsRow (layout_of t.schema) (record { key = key; values = values; blob = None })
+  fits-row =
+      let a = neither (refused_if (not (is_running t)) Stopped) _ e in
+      let b = neither (key_refused t.last_key key) _ a.1 in
+      let c = neither (refused_if (not (length values == length (layout_of t.schema).columns)) (Columns (length (layout_of t.schema).columns))) _ b.1 in
+      let d = neither (value_refused t key values) _ c.1 in
+      let fits = by_key (nat_lt (greatest_key (layout_of t.schema)) key) refl d.0 in
+      let many = not_not (length values == length (layout_of t.schema).columns) (not_so (not (length values == length (layout_of t.schema).columns)) (Columns (length (layout_of t.schema).columns)) c.0) in
+      record {
+        key = let n = ltb-false (greatest_key (layout_of t.schema)) key fits.0 in omega (arith, n);
+        as_many = eqb-true (length values) (length (layout_of t.schema).columns) many;
+        values = fits.1;
+        blob = tt;
+      }
+    where
+      no_misfit : (o : Option ℕ) → option_map (λ column. Value column) o ≡ None → o ≡ None
+      no_misfit None h = refl
+      no_misfit (Some n) h = cc
+
+      by_key : (b : Bool) → nat_lt (greatest_key (layout_of t.schema)) key ≡ b → (if b then Some (Value 0) else option_map (λ column. Value column) (first_misfit 1 (layout_of t.schema).columns values)) ≡ None →
+          (nat_lt (greatest_key (layout_of t.schema)) key ≡ false) × (first_misfit 1 (layout_of t.schema).columns values ≡ None)
+      by_key true k h = cc
+      by_key false k h = (k, no_misfit (first_misfit 1 (layout_of t.schema).columns values) h)
 
   pub not-spent : (next_in t < spent_from) × (bitmaps.next_of t.bitmaps < spent_from) × (variable.next_of t.blobs < spent_from)
   not-spent =
@@ -185,7 +219,7 @@ module _ (t : code.Table) (key : ℕ) (values : List ℤ) (blob : Option ℕ) (e
       most true = t.blobs_fit
       most false = omega arith
 
-pub few-blob : (t : code.Table) (key : ℕ) (values : List ℤ) (blob : Option (List ℕ)) → put_refusal t key values (option_map (λ (xs : List ℕ). length xs) blob) ≡ None → HasFew blob
+pub few-blob : {KNOTS SLOTS : ℕ} (t : code.Table KNOTS SLOTS) (key : ℕ) (values : List ℤ) (blob : Option (List ℕ)) → put_refusal t key values (option_map (λ (xs : List ℕ). length xs) blob) ≡ None → HasFew blob
 few-blob t key values None e = tt
 few-blob t key values (Some bytes) e = few-bytes t key values (Some (length bytes)) e (length bytes) refl
 
@@ -202,7 +236,7 @@ calm-if : (b : Bool) (r : PutRefusal) → put_breaks (Err r) ≡ false → IsCal
 calm-if true r h = h
 calm-if false r h = tt
 
-module _ (t : code.Table) (key : ℕ) (values : List ℤ) where
+module _ {KNOTS SLOTS : ℕ} (t : code.Table KNOTS SLOTS) (key : ℕ) (values : List ℤ) where
   calm-key : (o : Option ℕ) → IsCalm (key_refused o key)
   calm-key None = tt
   calm-key (Some last) = calm-if (nat_le key last) (Key last) refl

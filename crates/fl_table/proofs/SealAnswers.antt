@@ -14,7 +14,7 @@ use Rattle.fl_table.proofs.Plain.{table-parts, plain-lose}
 use Rattle.fl_table.proofs.Blobbing as blobbing
 use Rattle.fl_table.proofs.Settled.{settled-pages, settled-holds}
 use Rattle.fl_table.proofs.Moved.{indexed-moved, keeps-found}
-use Rattle.fl_table.proofs.Indexing.{still-planned, plan-same, planned-none, room-left}
+use Rattle.fl_table.proofs.Indexing.{still-planned, plan-same, plan-then, planned-none, room-left}
 use Rattle.fl_index.specs.declared.index.Index.{Index}
 use Rattle.fl_table.specs.Bitmaps.{ArePlanned, HaveRoom}
 use Rattle.fl_page.specs.Writer.{Gathers}
@@ -33,13 +33,13 @@ use Rattle.fl_table.proofs.Holding.{plain-on, have-size}
 use Rattle.fl_table.proofs.Sealings.{IsSealing}
 use Rattle.fl_table.proofs.States.{shape_in, state_of, state-oldest, HaveSize}
 
-pub planned-shape : (t : code.Table) (first : ℕ) (plan : Plan) → IsPlanned t first plan → model.IsShape (shape_of plan DataRing)
+pub planned-shape : {KNOTS SLOTS : ℕ} (t : code.Table KNOTS SLOTS) (first : ℕ) (plan : Plan) → IsPlanned t first plan → model.IsShape (shape_of plan DataRing)
 planned-shape t first plan h = record {
   blocks = omega (arith, h.blocks, t.some_blocks);
   pages = omega (arith, ap (λ g. g.block) h.geometry, t.served.block_least);
 }
 
-pub planned-few : (t : code.Table) (first : ℕ) (plan : Plan) → IsPlanned t first plan → IsTrue (has_index plan) → plan.data_blocks * plan.geometry.block + 6 ≤ 65536
+pub planned-few : {KNOTS SLOTS : ℕ} (t : code.Table KNOTS SLOTS) (first : ℕ) (plan : Plan) → IsPlanned t first plan → IsTrue (has_index plan) → plan.data_blocks * plan.geometry.block + 6 ≤ 65536
 planned-few t first plan h some = by_index t.bitmaps refl h.index
   where
     by_index : (o : Option Index) → t.bitmaps ≡ o → ArePlanned o (first + plan.data_blocks) plan → plan.data_blocks * plan.geometry.block + 6 ≤ 65536
@@ -49,13 +49,13 @@ planned-few t first plan h some = by_index t.bitmaps refl h.index
         no k = cc
     by_index (Some index) e planned = let few = t.few_pages index e in rw (h.blocks, h.geometry) few
 
-pub planned-ring : (t : code.Table) (first : ℕ) (plan : Plan) → IsPlanned t first plan → shape_at t.place t.geometry ≡ shape_in first plan
+pub planned-ring : {KNOTS SLOTS : ℕ} (t : code.Table KNOTS SLOTS) (first : ℕ) (plan : Plan) → IsPlanned t first plan → shape_at t.place t.geometry ≡ shape_in first plan
 planned-ring t first plan h = rw (h.begins, h.geometry, h.blocks) refl
 
-pub planned-large : (t : code.Table) (first : ℕ) (plan : Plan) → IsPlanned t first plan → 64 ≤ plan.geometry.page
+pub planned-large : {KNOTS SLOTS : ℕ} (t : code.Table KNOTS SLOTS) (first : ℕ) (plan : Plan) → IsPlanned t first plan → 64 ≤ plan.geometry.page
 planned-large t first plan h = omega (arith, ap (λ g. g.page) h.geometry, t.served.page_least)
 
-pub planned-same : (old new : code.Table) (first : ℕ) (plan : Plan) → IsPlanned old first plan → IsSamePlan old new → IsPlanned new first plan
+pub planned-same : {KNOTS SLOTS : ℕ} (old new : code.Table KNOTS SLOTS) (first : ℕ) (plan : Plan) → IsPlanned old first plan → IsSamePlan old new → IsPlanned new first plan
 planned-same old new first plan h same = record {
   geometry = h.geometry ∙ sym same.geometry;
   layout = h.layout ∙ sym same.layout;
@@ -68,10 +68,22 @@ planned-same old new first plan h same = record {
   error = h.error ∙ sym same.error;
 }
 
-pub plan-self : (t : code.Table) → IsSamePlan t t
+pub plan-self : {KNOTS SLOTS : ℕ} (t : code.Table KNOTS SLOTS) → IsSamePlan t t
 plan-self t = record { geometry = refl; layout = refl; place = refl; buckets = refl; error = refl; bitmaps = plan-same t.bitmaps; blobs = blobbing.plan-same t.blobs; limit = refl }
 
-pub counts-room : (t : code.Table) (first : ℕ) (plan : Plan) → IsPlanned t first plan → length t.counts.items ≡ plan.data_blocks * plan.geometry.block
+pub same-then : {KNOTS SLOTS : ℕ} (t u v : code.Table KNOTS SLOTS) → IsSamePlan t u → IsSamePlan u v → IsSamePlan t v
+same-then t u v h k = record {
+  geometry = k.geometry ∙ h.geometry;
+  layout = k.layout ∙ h.layout;
+  place = k.place ∙ h.place;
+  buckets = k.buckets ∙ h.buckets;
+  error = k.error ∙ h.error;
+  bitmaps = plan-then t.bitmaps u.bitmaps v.bitmaps h.bitmaps k.bitmaps;
+  blobs = blobbing.plan-then t.blobs u.blobs v.blobs h.blobs k.blobs;
+  limit = k.limit ∙ h.limit;
+}
+
+pub counts-room : {KNOTS SLOTS : ℕ} (t : code.Table KNOTS SLOTS) (first : ℕ) (plan : Plan) → IsPlanned t first plan → length t.counts.items ≡ plan.data_blocks * plan.geometry.block
 counts-room t first plan h = sym t.counts.ok.0 ∙ (t.counted ∙ rw (h.blocks, h.geometry) refl)
 
 -- what was written to a whole list stands in its place
@@ -87,7 +99,7 @@ note-same xs counts number next rows pending room e n r l =
     ∙ (ap (λ k. set counts (k % length counts) rows) n ∙ (ap (λ k. set counts (next % k) rows) l ∙ ap (set counts (next % room)) r))
 
 -- the pages of a flash on which it lies
-pub lies-size : (t : code.Table) (f : FlashState) (first : ℕ) (plan : Plan) → IsPlanned t first plan → f.geometry ≡ t.geometry → t.place.first_block + t.place.blocks ≤ f.blocks → f.start + extent f.geometry f.blocks ≤ length f.media.content →
+pub lies-size : {KNOTS SLOTS : ℕ} (t : code.Table KNOTS SLOTS) (f : FlashState) (first : ℕ) (plan : Plan) → IsPlanned t first plan → f.geometry ≡ t.geometry → t.place.first_block + t.place.blocks ≤ f.blocks → f.start + extent f.geometry f.blocks ≤ length f.media.content →
     HaveSize first plan (page_at f)
 lies-size t f first plan h geometry within reaches =
     have-size f first plan reaches (geometry ∙ sym h.geometry) (omega (arith, h.begins, h.blocks, within)) (omega (arith, h.blocks, t.some_blocks)) (omega (arith, ap (λ g. g.block) h.geometry, t.served.block_least))
@@ -96,13 +108,13 @@ lies-size t f first plan h geometry within reaches =
 pending-length : (plan : Plan) (table : Table) → sum table.rows.counts + table.pending ≡ length table.entries → length (pending_entries table) ≡ table.pending
 pending-length plan table counted = omega (arith, length-drop (length table.entries - table.pending) table.entries, counted)
 
-pub writer-count : (t : code.Table) (f : FlashState) (first : ℕ) (plan : Plan) (table : Table) → Stands t f first plan table → t.writer.count ≡ table.pending
+pub writer-count : {KNOTS SLOTS : ℕ} (t : code.Table KNOTS SLOTS) (f : FlashState) (first : ℕ) (plan : Plan) (table : Table) → Stands t f first plan table → t.writer.count ≡ table.pending
 writer-count t f first plan table s =
     let facts = table-parts plan table s.facts in
     s.memory.gathers.count ∙ (length-map (pending_entries table) stored_row ∙ pending-length plan table facts.kept.counted)
 
 -- the body that they make
-pub sealing-of : (t : code.Table) (f : FlashState) (first : ℕ) (plan : Plan) (table : Table) (w : WriterState) → Stands t f first plan table → 1 ≤ t.writer.count → HaveRoom t.bitmaps → AreEmpty t.blobs →
+pub sealing-of : {KNOTS SLOTS : ℕ} (t : code.Table KNOTS SLOTS) (f : FlashState) (first : ℕ) (plan : Plan) (table : Table) (w : WriterState) → Stands t f first plan table → 1 ≤ t.writer.count → HaveRoom t.bitmaps → AreEmpty t.blobs →
     ((layout : RowLayout) (rows : List Row) → Gathers layout rows t.writer → w.body ≡ rows_body (length t.writer.body) layout table.rows.next t.bitmap rows) → IsSealing (page_at f) first plan table w.body
 sealing-of t f first plan table w s some room empty body =
     let facts = table-parts plan table s.facts in
@@ -134,11 +146,11 @@ sealing-of t f first plan table w s some room empty body =
 one_ring : {a b : Ring} → Some a ≡ Some b → a ≡ b
 one_ring e = cc
 
-pub ring-next : (t : code.Table) (f : FlashState) (first : ℕ) (plan : Plan) (table : Table) (ring : Ring) → Stands t f first plan table → t.ring ≡ Some ring → place.next_of ring ≡ table.rows.next
+pub ring-next : {KNOTS SLOTS : ℕ} (t : code.Table KNOTS SLOTS) (f : FlashState) (first : ℕ) (plan : Plan) (table : Table) (ring : Ring) → Stands t f first plan table → t.ring ≡ Some ring → place.next_of ring ≡ table.rows.next
 ring-next t f first plan table ring s is = subst (λ (r : Ring). r.next ≡ table.rows.next) (one_ring (sym s.memory.ring_is ∙ is)) s.memory.next
 
 -- the ring is ready for a seal
-pub seal-ready : (t : code.Table) (f : FlashState) (first : ℕ) (plan : Plan) (table : Table) (ring : Ring) → Stands t f first plan table → t.ring ≡ Some ring → place.shape_of ring ≡ shape_in first plan → HaveSize first plan (page_at f) →
+pub seal-ready : {KNOTS SLOTS : ℕ} (t : code.Table KNOTS SLOTS) (f : FlashState) (first : ℕ) (plan : Plan) (table : Table) (ring : Ring) → Stands t f first plan table → t.ring ≡ Some ring → place.shape_of ring ≡ shape_in first plan → HaveSize first plan (page_at f) →
     IsReady ring f (state_of plan (lose table))
 seal-ready t f first plan table ring s is shape sizes =
     let facts = table-parts plan table s.facts in

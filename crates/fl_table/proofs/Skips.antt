@@ -7,7 +7,7 @@ use Rattle.fl_bitmap.specs.Widths.{is_bits}
 use Rattle.fl_flash.specs.Buffer.{BufferState}
 use Rattle.fl_flash.specs.Flash.{FlashState}
 use Rattle.fl_index.specs.Looking as looking
-use Rattle.fl_index.specs.Looking.{IfBad, HoldsGood, IsScanning, ScansOn, is_looked_at, next_to_read, unread, due, ShowsBitmap}
+use Rattle.fl_index.specs.Looking.{IfBad, HoldsGood, IsFresh, IsScanning, ScansOn, is_looked_at, next_to_read, unread, due, ShowsBitmap}
 use Rattle.fl_index.specs.Memory.{next_in, oldest_in}
 use Rattle.fl_index.specs.declared.index.Index.{Index}
 use Rattle.fl_index.proofs.Counts.{count-none}
@@ -22,7 +22,7 @@ use Rattle.fl_page.specs.declared.fault.ReadFault.TheVariants.{Flash, BadPage}
 use Rattle.fl_index.specs.Standing as standing
 use Rattle.fl_model.proofs.Lists.{slice_get-short}
 use Rattle.fl_table.specs.Bitmaps.{ArePlanned, Stand}
-use Rattle.fl_table.specs.Skipping.{AreScanning, HoldGood, IsBadIndex, LooksOn, ShowsPage, due_of}
+use Rattle.fl_table.specs.Skipping.{AreFresh, AreScanning, HoldGood, IsBadIndex, LooksOn, ShowsPage, due_of}
 use Rattle.fl_table.specs.Standing.{Stands}
 use Rattle.fl_table.specs.declared.table.Table.{Table}
 
@@ -124,7 +124,7 @@ shows-fault plan table span number n entries (BadPage bad) h = absurd h
 
 -- ---- the index of a table that stands
 
-module _ (t : Table) (f : FlashState) (first : ℕ) (plan : Plan) (table : model.Table) (stands : Stands t f first plan table) (index : Index) (is : t.bitmaps ≡ Some index) where
+module _ {KNOTS SLOTS : ℕ} (t : Table KNOTS SLOTS) (f : FlashState) (first : ℕ) (plan : Plan) (table : model.Table) (stands : Stands t f first plan table) (index : Index) (is : t.bitmaps ≡ Some index) where
   pub index-stands : standing.Stands index f (first + plan.data_blocks) plan table
   index-stands = subst (λ (o : Option Index). Stand o f (first + plan.data_blocks) plan table) is stands.bitmaps
 
@@ -138,6 +138,11 @@ module _ (t : Table) (f : FlashState) (first : ℕ) (plan : Plan) (table : model
     where
       no : IsTrue (is_bits 0) → ⊥
       no e = cc
+
+-- a buffer stays fresh where it does for the index
+pub fresh-still : (bitmaps : Option Index) (index : Index) → bitmaps ≡ Some index → (f g : FlashState) (old new : BufferState) → (IsFresh index f old → IsFresh index g new) → AreFresh bitmaps f old → AreFresh bitmaps g new
+fresh-still bitmaps index is f g old new still fresh =
+    subst (λ (o : Option Index). AreFresh o g new) (sym is) (still (subst (λ (o : Option Index). AreFresh o f old) is fresh))
 
 -- a bad page that the index answers
 pub bad-index : (bitmaps : Option Index) (index : Index) → bitmaps ≡ Some index → (f : FlashState) (buf : BufferState) (fault : ReadFault) → IfBad (λ bad. IsTrue f.media.tells → HoldsGood index buf → looking.IsBadPage index f bad) fault →

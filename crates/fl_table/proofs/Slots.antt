@@ -29,21 +29,21 @@ none-near shift key = by_slot (has_slot [] key) refl
     by_slot true e = rw e refl
     by_slot false e = rw e refl
 
-near-of : (knots : List (ℕ × ℕ)) (a b key : ℕ) → (0 < length knots → IsLeastShift 64 (last_key knots - first_key knots) a) → IsLeastShift 64 (last_key knots - first_key knots) b →
+near-of : {SLOTS : ℕ} (knots : List (ℕ × ℕ)) (a b key : ℕ) → (0 < length knots → IsLeastShift SLOTS (last_key knots - first_key knots) a) → IsLeastShift SLOTS (last_key knots - first_key knots) b →
     knots_in_slot knots a key ≡ knots_in_slot knots b key
-near-of [] a b key x y = none-near a key ∙ sym (none-near b key)
-near-of (knot ∷ knots) a b key x y =
-    ap (λ s. knots_in_slot (knot ∷ knots) s key) (least-one 64 (last_key (knot ∷ knots) - first_key (knot ∷ knots)) a b (x (omega arith)) y)
+near-of {SLOTS} [] a b key x y = none-near a key ∙ sym (none-near b key)
+near-of {SLOTS} (knot ∷ knots) a b key x y =
+    ap (λ s. knots_in_slot (knot ∷ knots) s key) (least-one SLOTS (last_key (knot ∷ knots) - first_key (knot ∷ knots)) a b (x (omega arith)) y)
 
-pub near-model : (t : Table) (f : FlashState) (first : ℕ) (plan : Plan) (table : model.Table) (key count : ℕ) → Stands t f first plan table → IsInSlot plan table key count → knots_near t key ≡ count
-near-model t f first plan table key count stands is =
+pub near-model : {KNOTS SLOTS : ℕ} (t : Table KNOTS SLOTS) (f : FlashState) (first : ℕ) (plan : Plan) (table : model.Table) (key count : ℕ) → Stands t f first plan table → IsInSlot KNOTS SLOTS plan table key count → knots_near t key ≡ count
+near-model {KNOTS} {SLOTS} t f first plan table key count stands is =
     let same = stands.memory.index.knots in
-    let narrow : 0 < length (retained 64 plan.error table.points) → IsLeastShift 64 (last_key (retained 64 plan.error table.points) - first_key (retained 64 plan.error table.points)) (shift_in t.index) =
-    subst (λ (l : List (ℕ × ℕ)). 0 < length l → IsLeastShift 64 (last_key l - first_key l) (shift_in t.index)) same (λ some. (t.index.follows some).shift) in
+    let narrow : 0 < length (retained KNOTS plan.error table.points) → IsLeastShift SLOTS (last_key (retained KNOTS plan.error table.points) - first_key (retained KNOTS plan.error table.points)) (shift_in t.index) =
+    subst (λ (l : List (ℕ × ℕ)). 0 < length l → IsLeastShift SLOTS (last_key l - first_key l) (shift_in t.index)) same (λ some. (t.index.follows some).shift) in
     ap (λ (l : List (ℕ × ℕ)). knots_in_slot l (shift_in t.index) key) same
-    ∙ (near-of (retained 64 plan.error table.points) (shift_in t.index) is.shift key narrow is.narrow ∙ sym is.count_is)
+    ∙ (near-of (retained KNOTS plan.error table.points) (shift_in t.index) is.shift key narrow is.narrow ∙ sym is.count_is)
 
-pub steps-model : (t : Table) (f : FlashState) (first : ℕ) (plan : Plan) (table : model.Table) (key count before now : ℕ) → Stands t f first plan table → IsInSlot plan table key count →
+pub steps-model : {KNOTS SLOTS : ℕ} (t : Table KNOTS SLOTS) (f : FlashState) (first : ℕ) (plan : Plan) (table : model.Table) (key count before now : ℕ) → Stands t f first plan table → IsInSlot KNOTS SLOTS plan table key count →
     now ≤ before + bits (knots_near t key) + 2 → now ≤ before + bits count + 2
 steps-model t f first plan table key count before now stands is few =
     subst (λ n. now ≤ before + bits n + 2) (near-model t f first plan table key count stands is) few

@@ -1,11 +1,18 @@
 -- Reads leave a table as it stands.
-use Rattle.std.proofs.Common.{◌≡◌, ℕ, ◌<◌, ◌^◌, ◌*◌, Bool, refl, sym, ◌∙◌, ap, subst, arith}
-use Rattle.fl_flash.specs.Flash.{FlashState, Goes, page_at, pages}
+use Rattle.std.proofs.Common.{◌≡◌, ℕ, ◌<◌, ◌^◌, ◌*◌, ◌+◌, ◌≤◌, Bool, true, false, Result, List, length, take, drop, refl, sym, ◌∙◌, ap, subst, arith}
+use Rattle.fl_flash.specs.Buffer.{BufferState}
+use Rattle.fl_flash.specs.Flash.{FlashState, Goes, ReadsPage, page_at, pages}
+use Rattle.fl_flash.specs.Media.{next_count}
+use Rattle.fl_flash.specs.Places.{extent}
+use Rattle.fl_page.specs.Contents as contents
+use Rattle.fl_page.specs.Contents.{Contents}
+use Rattle.fl_flash.specs.declared.flash.FlashFault.{FlashFault}
+use Rattle.fl_flash.specs.declared.flash.Work.{Work}
 use Rattle.fl_model.specs.Record.{Plan}
 use Rattle.fl_model.specs.Table as model
 use Rattle.fl_model.specs.Table.{IndexRing, VarRing, lose}
 use Rattle.fl_ring.specs.Looking.{OnlyReads}
-use Rattle.fl_ring.proofs.Readings.{same_page}
+use Rattle.fl_ring.proofs.Readings.{no_reads, same_page}
 use Rattle.fl_table.specs.Memory.{LiesOn}
 use Rattle.fl_table.specs.Pages.{place_in}
 use Rattle.fl_table.specs.Standing.{Stands}
@@ -16,7 +23,7 @@ use Rattle.fl_table.proofs.Moved.{keeps-same}
 use Rattle.fl_table.proofs.Blobbing as blobbing
 use Rattle.fl_table.proofs.Plain.{IsPlainTable, table-parts}
 
-pub stands-still : (t : Table) (f g : FlashState) (n first : ℕ) (plan : Plan) (table : model.Table) → OnlyReads f n g → Stands t f first plan table → Stands t g first plan table
+pub stands-still : {KNOTS SLOTS : ℕ} (t : Table KNOTS SLOTS) (f g : FlashState) (n first : ℕ) (plan : Plan) (table : model.Table) → OnlyReads f n g → Stands t f first plan table → Stands t g first plan table
 stands-still t f g n first plan table reads stands = record {
   planned = stands.planned;
   facts = stands.facts;
@@ -33,7 +40,7 @@ stands-still t f g n first plan table reads stands = record {
     facts = table-parts plan table stands.facts
 
 -- where it lies on a flash, it does on one of that size
-pub lies-moved : (t : Table) (f g : FlashState) → Goes f g → LiesOn t f → LiesOn t g
+pub lies-moved : {KNOTS SLOTS : ℕ} (t : Table KNOTS SLOTS) (f g : FlashState) → Goes f g → LiesOn t f → LiesOn t g
 lies-moved t f g goes lies = record {
   geometry = goes.geometry ∙ lies.geometry;
   within = omega (arith, lies.within, goes.blocks);
@@ -52,10 +59,63 @@ lies-moved t f g goes lies = record {
     pages-same : pages g ≡ pages f
     pages-same = ap (λ k. k * g.geometry.block) goes.blocks ∙ ap (λ x. f.blocks * x.block) goes.geometry
 
-pub lies-still : (t : Table) (f g : FlashState) (n : ℕ) → OnlyReads f n g → LiesOn t f → LiesOn t g
+pub lies-still : {KNOTS SLOTS : ℕ} (t : Table KNOTS SLOTS) (f g : FlashState) (n : ℕ) → OnlyReads f n g → LiesOn t f → LiesOn t g
 lies-still t f g n reads lies = lies-moved t f g reads.goes lies
 
 -- the power came on again
-pub lies-powered : (t : Table) (f : FlashState) (on : Bool) → LiesOn t f → LiesOn t (record f { is_on = on })
+pub lies-powered : {KNOTS SLOTS : ℕ} (t : Table KNOTS SLOTS) (f : FlashState) (on : Bool) → LiesOn t f → LiesOn t (record f { is_on = on })
 lies-powered t f on lies =
     lies-moved t f (record f { is_on = on }) (record { geometry = refl; blocks = refl; start = refl; origin = refl; tells = refl; size = refl; front = λ told. refl; back = λ told. refl; cuts = omega arith; faults = omega arith }) lies
+
+-- one read of a page
+pub read-once : (old new : FlashState) (page size : ℕ) (result : Result (Unit {0}) FlashFault) (into : BufferState) → ReadsPage old page size result into new → OnlyReads old 1 new
+read-once old new page size result into is = by_power old.is_on refl
+  where
+    by_power : (on : Bool) → old.is_on ≡ on → OnlyReads old 1 new
+    by_power true e =
+        let work = is.counted e in
+        let reads : new.work.reads ≡ next_count old.work.reads = ap (λ (w : Work). w.reads) work in
+        record {
+          goes = is.goes;
+          same = is.same;
+          armed = is.armed;
+          power = is.power;
+          cuts = is.cuts;
+          reads = omega (arith, reads);
+          media_reads = omega (arith, is.one_read e);
+          programs = ap (λ (w : Work). w.programs) work;
+          erases = ap (λ (w : Work). w.erases) work;
+        }
+    by_power false e =
+        let none = no_reads old in
+        subst (λ (f : FlashState). OnlyReads old 1 f) (sym (is.off e).1) (record {
+          goes = none.goes;
+          same = refl;
+          armed = refl;
+          power = refl;
+          cuts = refl;
+          reads = omega arith;
+          media_reads = omega arith;
+          programs = refl;
+          erases = refl;
+        })
+
+-- calls that only read leave all in its place
+pub read-goes : (f g : FlashState) → contents.OnlyReads f g → Goes f g
+read-goes f g reads =
+    let bytes : g.media.content ≡ f.media.content = ap (λ (c : Contents). c.bytes) reads.contents in
+    record {
+      geometry = ap (λ (c : Contents). c.geometry) reads.contents;
+      blocks = ap (λ (c : Contents). c.blocks) reads.contents;
+      start = ap (λ (c : Contents). c.start) reads.contents;
+      origin = reads.origin;
+      tells = ap (λ (c : Contents). c.tells) reads.contents;
+      size = ap (λ (xs : List ℕ). length xs) bytes;
+      front = λ told. ap (λ (xs : List ℕ). take f.start xs) bytes;
+      back = λ told. ap (λ (xs : List ℕ). drop (f.start + extent f.geometry f.blocks) xs) bytes;
+      cuts = omega (arith, reads.cuts);
+      faults = reads.faults;
+    }
+
+pub lies-read : {KNOTS SLOTS : ℕ} (t : Table KNOTS SLOTS) (f g : FlashState) → contents.OnlyReads f g → LiesOn t f → LiesOn t g
+lies-read t f g reads lies = lies-moved t f g (read-goes f g reads) lies

@@ -78,7 +78,7 @@ module _ (plan : Plan) (table : Table) (shape : model.IsShape (shape_of plan Dat
           }
 
 -- what the notes in memory tell of them
-pub voids-told : (t : code.Table) (f : FlashState) (first : ℕ) (plan : Plan) (table : Table) → Stands t f first plan table → (ring : Ring) (counts : List ℕ) (from to gone voids : ℕ) → t.ring ≡ Some ring → from ≡ oldest_of ring →
+pub voids-told : {KNOTS SLOTS : ℕ} (t : code.Table KNOTS SLOTS) (f : FlashState) (first : ℕ) (plan : Plan) (table : Table) → Stands t f first plan table → (ring : Ring) (counts : List ℕ) (from to gone voids : ℕ) → t.ring ≡ Some ring → from ≡ oldest_of ring →
     to ≡ model.oldest (after_seal plan DataRing table).rows → model.IsShape (shape_of plan DataRing) → 0 < table.pending → counts ≡ t.counts.items →
     gone ≡ count_by (λ count. count == 0) (map (λ n. get_or counts (n % length counts) 0) (range_with_len from (to - from))) → voids ≡ t.voids - gone →
     voids ≡ voids_of (after_seal plan DataRing table)

@@ -91,3 +91,10 @@ gathers-end layout rows w h = h.end ∙ ap (λ n. 16 + n * layout_len layout) (s
 -- a writer that has none is blank behind them
 pub gathers-blank : (layout : RowLayout) (w : WriterState) → Gathers layout [] w → IsBlankRest w
 gathers-blank layout w h = let none : 0 * layout_len layout ≡ 0 = omega arith in let e : w.end ≡ 16 = omega (arith, h.end, none) in ap (λ n. drop n w.body) e ∙ h.bytes
+
+-- the end of the rows goes with their number
+pub end-same : (w v : WriterState) (n : ℕ) → v.count ≡ w.count → v.end ≡ w.end → w.end ≡ 16 + w.count * n → v.end ≡ 16 + v.count * n
+end-same w v n count end rows = rw count (omega (arith, end, rows))
+
+pub end-none : (w : WriterState) (n : ℕ) → w.count ≡ 0 → w.end ≡ 16 → w.end ≡ 16 + w.count * n
+end-none w n count end = rw count (omega (arith, end))

@@ -1,5 +1,5 @@
 -- Why the calls of a table fail, over any bytes.
-use Rattle.std.specs.Prelude.{◌≡◌, Bool, true, false, Result, Err, IfErr}
+use Rattle.std.specs.Prelude.{ℕ, ◌≡◌, Bool, true, false, Result, Err, IfErr}
 use Rattle.fl_flash.specs.Flash.{FlashState}
 use Rattle.fl_flash.specs.declared.flash.FlashFault.{FlashFault}
 use Rattle.fl_ring.specs.Causes.{CausedBy}
@@ -54,7 +54,7 @@ is_of_pages (mount.BadKeys page last first) = true
 is_of_pages _ = false
 
 -- a refusal that isn't a fault of the flash leaves the table and the flash as they are
-abbrev pub RefusedSame : Table → FlashState → PutRefusal → Table → FlashState → Type 0
+abbrev pub RefusedSame : {KNOTS SLOTS : ℕ} → Table KNOTS SLOTS → FlashState → PutRefusal → Table KNOTS SLOTS → FlashState → Type 0
 RefusedSame old f (put.Flash fault) new g = Unit {0}
 RefusedSame old f _ new g = (new ≡ old) × (g ≡ f)
 

@@ -28,14 +28,14 @@ use Rattle.fl_table.specs.declared.find.RowAt.TheVariants as at
 use Rattle.fl_table.specs.declared.table.Table.{Table}
 
 -- how many knots stand in the slot of a key
-abbrev pub knots_near : Table → ℕ → ℕ
+abbrev pub knots_near : {KNOTS SLOTS : ℕ} → Table KNOTS SLOTS → ℕ → ℕ
 knots_near t key = knots_in_slot (knots_in t.index) (shift_in t.index) key
 
--- how many of a table's knots stand in the slot of a key, where 64 slots are as narrow as they may be
-pub record IsInSlot (plan : Plan) (table : model.Table) (key count : ℕ) : Type 0 where
+-- how many of a table's knots stand in the slot of a key, where the slots are as narrow as they may be
+pub record IsInSlot (knots slots : ℕ) (plan : Plan) (table : model.Table) (key count : ℕ) : Type 0 where
   pub shift : ℕ
-  pub narrow : IsLeastShift 64 (last_key (retained 64 plan.error table.points) - first_key (retained 64 plan.error table.points)) shift
-  pub count_is : count ≡ knots_in_slot (retained 64 plan.error table.points) shift key
+  pub narrow : IsLeastShift slots (last_key (retained knots plan.error table.points) - first_key (retained knots plan.error table.points)) shift
+  pub count_is : count ≡ knots_in_slot (retained knots plan.error table.points) shift key
 
 -- the row at a place: a pending one, or one of the page in the buffer
 abbrev pub row_of_place : Plan → model.Table → BufferState → RowAt → Option Row
@@ -43,7 +43,7 @@ row_of_place plan table buf (at.Pending i) = slice_get (map stored_row (pending_
 row_of_place plan table buf (at.InPage place) = slice_get (rows_on (row_layout plan) buf.bytes) place.row
 
 -- a kept page of a running table stands in the buffer, with its rows; its bytes are those of the flash, where that tells them
-pub record HoldsKept (t : Table) (f : FlashState) (number : ℕ) (buf : BufferState) : Type 0 where
+pub record HoldsKept {KNOTS SLOTS : ℕ} (t : Table KNOTS SLOTS) (f : FlashState) (number : ℕ) (buf : BufferState) : Type 0 where
   pub kept : (oldest_in t ≤ number) × (number < next_in t)
   pub holds : buf.holds ≡ Some (place_of t number)
   pub committed : state_of_page buf.bytes ≡ Committed
@@ -51,13 +51,13 @@ pub record HoldsKept (t : Table) (f : FlashState) (number : ℕ) (buf : BufferSt
   pub bytes : IsTrue f.media.tells → buf.bytes ≡ page_at f (place_of t number)
 
 -- there is a row at the place: a pending one, or one of the page in the buffer
-abbrev pub IsRowAt : Table → BufferState → RowAt → Type 0
+abbrev pub IsRowAt : {KNOTS SLOTS : ℕ} → Table KNOTS SLOTS → BufferState → RowAt → Type 0
 IsRowAt t buf (at.Pending i) = i < pending_in t
 IsRowAt t buf (at.InPage place) =
     (length buf.bytes ≤ 4096) × IsGoodPage (layout_in t) place.number buf.bytes × (place.row < length (rows_on (layout_in t) buf.bytes))
 
 -- where a row isn't pending its page stands in the buffer
-abbrev pub HoldsIts : Table → FlashState → BufferState → RowAt → Type 0
+abbrev pub HoldsIts : {KNOTS SLOTS : ℕ} → Table KNOTS SLOTS → FlashState → BufferState → RowAt → Type 0
 HoldsIts t f buf (at.Pending i) = Unit {0}
 HoldsIts t f buf (at.InPage place) = HoldsKept t f place.number buf
 
@@ -96,14 +96,14 @@ FindsPending plan table key buf (Ok place) = FindsEntry plan table key buf place
 FindsPending plan table key buf (Err e) = ⊥
 
 -- a kept page is committed, and has another number or no count that a page has
-pub record HasBadPage (t : Table) (f : FlashState) (bad : BadPage) : Type 0 where
+pub record HasBadPage {KNOTS SLOTS : ℕ} (t : Table KNOTS SLOTS) (f : FlashState) (bad : BadPage) : Type 0 where
   pub number : ℕ
   pub kept : (oldest_in t ≤ number) × (number < next_in t)
   pub is_bad : IsBadPage (layout_in t) number (page_at f (place_of t number)) bad
 
 -- why a lookup fails: the power was off and there are pages; or in a read the medium failed; or a kept page that was
 -- read is bad, which is told where the flash tells its bytes
-abbrev pub LookupFails : Table → FlashState → ReadFault → FlashState → Type 0
+abbrev pub LookupFails : {KNOTS SLOTS : ℕ} → Table KNOTS SLOTS → FlashState → ReadFault → FlashState → Type 0
 LookupFails t old (fault.Flash PowerLost) new = ReadFails old PowerLost new × (oldest_in t < next_in t)
 LookupFails t old (fault.Flash Media) new = ReadFails old Media new × RoseSome old.work.reads new.work.reads
 LookupFails t old (fault.BadPage bad) new = (IsTrue old.media.tells → HasBadPage t old bad) × RoseSome old.work.reads new.work.reads

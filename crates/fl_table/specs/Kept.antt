@@ -14,7 +14,7 @@ use Rattle.fl_ring.specs.Ring.{place}
 use Rattle.fl_table.specs.declared.table.Table.{Table}
 
 -- the flash page at which a number of a running table stands
-abbrev pub place_of : Table → ℕ → ℕ
+abbrev pub place_of : {KNOTS SLOTS : ℕ} → Table KNOTS SLOTS → ℕ → ℕ
 place_of t number = unwrap_or (option_map (λ ring. place (shape_of ring) number) t.ring) 0
 
 -- what holds where no read failed

@@ -13,30 +13,30 @@ use Rattle.fl_table.specs.declared.counts.TableCounts.{TableCounts}
 use Rattle.fl_table.specs.Memory.{next_in, pending_in}
 
 -- the form of its rows
-abbrev pub layout_in : Table → RowLayout
+abbrev pub layout_in : {KNOTS SLOTS : ℕ} → Table KNOTS SLOTS → RowLayout
 layout_in t = layout_of t.schema
 
 -- the key of its last record
-abbrev pub last_key_in : Table → Option ℕ
+abbrev pub last_key_in : {KNOTS SLOTS : ℕ} → Table KNOTS SLOTS → Option ℕ
 last_key_in t = t.last_key
 
 -- the number of the oldest kept page of a running table
-abbrev pub oldest_in : Table → ℕ
+abbrev pub oldest_in : {KNOTS SLOTS : ℕ} → Table KNOTS SLOTS → ℕ
 oldest_in t = unwrap_or (option_map (λ ring. oldest_of ring) t.ring) 0
 
 -- the pending rows, by their bytes in the page buffer
-abbrev pub buffered_rows : Table → List Row
+abbrev pub buffered_rows : {KNOTS SLOTS : ℕ} → Table KNOTS SLOTS → List Row
 buffered_rows t = rows_from (pending_in t) (layout_in t) (drop 16 t.writer.body)
 
 -- how many rows the kept page with this number has
-abbrev pub rows_noted : Table → ℕ → ℕ
+abbrev pub rows_noted : {KNOTS SLOTS : ℕ} → Table KNOTS SLOTS → ℕ → ℕ
 rows_noted t number = slice_index t.counts.items (number % vec_len t.counts)
 
 -- how many rows each kept page has, the oldest first
-abbrev pub kept_counts : Table → List ℕ
+abbrev pub kept_counts : {KNOTS SLOTS : ℕ} → Table KNOTS SLOTS → List ℕ
 kept_counts t = map (rows_noted t) (range_with_len (oldest_in t) (next_in t - oldest_in t))
 
-abbrev pub counts_in : Table → TableCounts
+abbrev pub counts_in : {KNOTS SLOTS : ℕ} → Table KNOTS SLOTS → TableCounts
 counts_in t = record {
   rows = sum (kept_counts t) + pending_in t;
   pending = pending_in t;

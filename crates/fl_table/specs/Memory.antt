@@ -24,15 +24,15 @@ use Rattle.fl_table.specs.Blobs as variable
 use Rattle.fl_table.specs.declared.table.Table.{Table}
 
 -- an operation failed since the last mount
-abbrev pub is_stopped : Table → Bool
+abbrev pub is_stopped : {KNOTS SLOTS : ℕ} → Table KNOTS SLOTS → Bool
 is_stopped t = t.stopped
 
 -- the last mount succeeded, and no operation failed since
-abbrev pub is_running : Table → Bool
+abbrev pub is_running : {KNOTS SLOTS : ℕ} → Table KNOTS SLOTS → Bool
 is_running t = is_some t.ring
 
 -- the last mount succeeded
-abbrev pub is_mounted : Table → Bool
+abbrev pub is_mounted : {KNOTS SLOTS : ℕ} → Table KNOTS SLOTS → Bool
 is_mounted t = is_running t || is_stopped t
 
 -- a table may have no buckets
@@ -46,23 +46,23 @@ bitmap_with None bitmap value = bitmap
 bitmap_with (Some buckets) bitmap value = with_value buckets bitmap value
 
 -- the next number of a running table
-abbrev pub next_in : Table → ℕ
+abbrev pub next_in : {KNOTS SLOTS : ℕ} → Table KNOTS SLOTS → ℕ
 next_in t = unwrap_or (option_map (λ ring. next_of ring) t.ring) 0
 
 -- how many rows are pending
-abbrev pub pending_in : Table → ℕ
+abbrev pub pending_in : {KNOTS SLOTS : ℕ} → Table KNOTS SLOTS → ℕ
 pending_in t = t.writer.count
 
 -- the page buffer has room for one row more
-abbrev pub HasRoom : Table → Type 0
+abbrev pub HasRoom : {KNOTS SLOTS : ℕ} → Table KNOTS SLOTS → Type 0
 HasRoom t = t.writer.end + layout_len (layout_of t.schema) ≤ length t.writer.body
 
 -- where the data ring of a table stands
-abbrev pub ring_shape : Table → Shape
+abbrev pub ring_shape : {KNOTS SLOTS : ℕ} → Table KNOTS SLOTS → Shape
 ring_shape t = shape_at t.place t.geometry
 
 -- a table of this plan, whose blocks begin at `first`
-pub record IsPlanned (t : Table) (first : ℕ) (plan : Plan) : Type 0 where
+pub record IsPlanned {KNOTS SLOTS : ℕ} (t : Table KNOTS SLOTS) (first : ℕ) (plan : Plan) : Type 0 where
   pub geometry : plan.geometry ≡ t.geometry
   pub layout : row_layout plan ≡ layout_of t.schema
   pub begins : t.place.first_block ≡ first
@@ -74,7 +74,7 @@ pub record IsPlanned (t : Table) (first : ℕ) (plan : Plan) : Type 0 where
   pub error : plan.error ≡ error_in t.index
 
 -- what no call changes
-pub record IsSamePlan (old new : Table) : Type 0 where
+pub record IsSamePlan {KNOTS SLOTS : ℕ} (old new : Table KNOTS SLOTS) : Type 0 where
   pub geometry : new.geometry ≡ old.geometry
   pub layout : layout_of new.schema ≡ layout_of old.schema
   pub place : new.place ≡ old.place
@@ -85,7 +85,7 @@ pub record IsSamePlan (old new : Table) : Type 0 where
   pub limit : new.blob_limit ≡ old.blob_limit
 
 -- nothing is in memory, as before the first mount
-pub record IsForgotten (t : Table) : Type 0 where
+pub record IsForgotten {KNOTS SLOTS : ℕ} (t : Table KNOTS SLOTS) : Type 0 where
   pub down : t.ring ≡ None
   pub calm : t.stopped ≡ false
   pub none : t.writer.count ≡ 0
@@ -94,7 +94,7 @@ pub record IsForgotten (t : Table) : Type 0 where
   pub index : IndexOf (error_in t.index) [] t.index
 
 -- a flash on which the table lies
-pub record LiesOn (t : Table) (f : FlashState) : Type 0 where
+pub record LiesOn {KNOTS SLOTS : ℕ} (t : Table KNOTS SLOTS) (f : FlashState) : Type 0 where
   pub geometry : f.geometry ≡ t.geometry
   pub within : t.place.first_block + t.place.blocks ≤ f.blocks
   pub few : pages f < 2 ^ 32
@@ -108,7 +108,7 @@ pub record IsSameBeside (table new : model.Table) : Type 0 where
   pub points : new.points ≡ table.points
 
 -- what a table with this ring holds in memory of a table of the model, beside its pages
-pub record HoldsInMemory (t : Table) (ring : Ring) (plan : Plan) (table : model.Table) : Type 0 where
+pub record HoldsInMemory {KNOTS SLOTS : ℕ} (t : Table KNOTS SLOTS) (ring : Ring) (plan : Plan) (table : model.Table) : Type 0 where
   pub next : next_of ring ≡ table.rows.next
   pub oldest : oldest_of ring ≡ rings.oldest table.rows
   pub gathers : Gathers (layout_of t.schema) (map stored_row (pending_entries table)) t.writer
@@ -120,7 +120,7 @@ pub record HoldsInMemory (t : Table) (ring : Ring) (plan : Plan) (table : model.
   pub index : IndexOf plan.error table.points t.index
 
 -- a running table holds in memory what a table of the model has beside its pages
-pub record InMemory (t : Table) (plan : Plan) (table : model.Table) : Type 0 where
+pub record InMemory {KNOTS SLOTS : ℕ} (t : Table KNOTS SLOTS) (plan : Plan) (table : model.Table) : Type 0 where
   pub ring : Ring
   pub ring_is : t.ring ≡ Some ring
   pub next : next_of ring ≡ table.rows.next

@@ -38,10 +38,10 @@ pub record FewRepairs (rings : ℕ) (old new : FlashState) : Type 0 where
   pub erases : new.work.erases ≤ old.work.erases + rings
 
 -- how many rings a table has, and how many pages they have
-abbrev pub rings_in : Table → ℕ
+abbrev pub rings_in : {KNOTS SLOTS : ℕ} → Table KNOTS SLOTS → ℕ
 rings_in t = rings_of t.bitmaps + variable.rings_of t.blobs + 1
 
-abbrev pub pages_in : Table → ℕ
+abbrev pub pages_in : {KNOTS SLOTS : ℕ} → Table KNOTS SLOTS → ℕ
 pages_in t = room (ring_shape t) + room_of t.bitmaps + variable.room_of t.blobs
 
 -- The index was found and repaired, where the table has one; it is this one now, and ends at this number.
@@ -57,19 +57,19 @@ RefusesBitmaps None old fault new = ⊥
 RefusesBitmaps (Some index) old fault new = RefusesIndex index old fault new
 
 -- the index was found, and ends at this number
-pub record Indexed (t : Table) (old : FlashState) (end : Option ℕ) (found : FlashState) : Type 0 where
+pub record Indexed {KNOTS SLOTS : ℕ} (t : Table KNOTS SLOTS) (old : FlashState) (end : Option ℕ) (found : FlashState) : Type 0 where
   pub now : Option Index
   pub bitmaps : FindsBitmaps t.bitmaps old end now found
 
 -- The data ring was found and repaired, whose void pages follow a number, and then each of its kept pages was read.
-pub record ReadsRing (t : Table) (old : FlashState) (least : ℕ) (ring : Ring) (new : FlashState) : Type 0 where
+pub record ReadsRing {KNOTS SLOTS : ℕ} (t : Table KNOTS SLOTS) (old : FlashState) (least : ℕ) (ring : Ring) (new : FlashState) : Type 0 where
   pub repaired : FlashState
   pub numbers : HasNumbers old (ring_shape t) least ring repaired
   pub within : least ≤ next_of ring
   pub reads : OnlyReads repaired (next_of ring - oldest_of ring) new
 
 -- each kept page may stand where it does, and the blobs of their rows end there
-pub record FindsData (t : Table) (old : FlashState) (least : ℕ) (ring : Ring) (mounted : Mounted) (last : Option ℕ) (end : ℕ) (new : FlashState) : Type 0 where
+pub record FindsData {KNOTS SLOTS : ℕ} (t : Table KNOTS SLOTS) (old : FlashState) (least : ℕ) (ring : Ring) (mounted : Mounted) (last : Option ℕ) (end : ℕ) (new : FlashState) : Type 0 where
   pub ring_reads : ReadsRing t old least ring new
   pub read : AreRead (layout_of t.schema) (pages_of ring new) (oldest_of ring) (next_of ring - oldest_of ring)
   pub mounted_is : mounted ≡ record {
@@ -81,7 +81,7 @@ pub record FindsData (t : Table) (old : FlashState) (least : ℕ) (ring : Ring) 
   pub end_is : end ≡ ends_after (layout_of t.schema) (pages_of ring new) (oldest_of ring) (next_of ring - oldest_of ring)
 
 -- .. and the variable data were found then, where the table has any: each blob begins before their next page
-pub record FindsRows (t : Table) (old : FlashState) (least : ℕ) (mounted : Mounted) (now : Table) (new : FlashState) : Type 0 where
+pub record FindsRows {KNOTS SLOTS : ℕ} (t : Table KNOTS SLOTS) (old : FlashState) (least : ℕ) (mounted : Mounted) (now : Table KNOTS SLOTS) (new : FlashState) : Type 0 where
   pub ring : Ring
   pub ring_is : now.ring ≡ Some ring
   pub end : ℕ
@@ -91,31 +91,31 @@ pub record FindsRows (t : Table) (old : FlashState) (least : ℕ) (mounted : Mou
   pub below : AreBelow end now.blobs
 
 -- .. behind the index, which was found before
-pub record FindsPages (t : Table) (old : FlashState) (mounted : Mounted) (now : Table) (new : FlashState) : Type 0 where
+pub record FindsPages {KNOTS SLOTS : ℕ} (t : Table KNOTS SLOTS) (old : FlashState) (mounted : Mounted) (now : Table KNOTS SLOTS) (new : FlashState) : Type 0 where
   pub end : Option ℕ
   pub indexed : FlashState
   pub bitmaps : FindsBitmaps t.bitmaps old end now.bitmaps indexed
   pub rows : FindsRows t indexed (unwrap_or end 0) mounted now new
 
 -- one of the pages may not, and it is the first
-pub record HasBadPage (t : Table) (old : FlashState) (least : ℕ) (fault : MountFault) (new : FlashState) : Type 0 where
+pub record HasBadPage {KNOTS SLOTS : ℕ} (t : Table KNOTS SLOTS) (old : FlashState) (least : ℕ) (fault : MountFault) (new : FlashState) : Type 0 where
   pub ring : Ring
   pub ring_reads : ReadsRing t old least ring new
   pub refused : AreRefused (layout_of t.schema) (pages_of ring new) (oldest_of ring) (next_of ring - oldest_of ring) fault
 
 -- the ring was found and repaired, and then a read of a kept page failed
-pub record PagesUnread (t : Table) (old : FlashState) (least : ℕ) (fault : FlashFault) (new : FlashState) : Type 0 where
+pub record PagesUnread {KNOTS SLOTS : ℕ} (t : Table KNOTS SLOTS) (old : FlashState) (least : ℕ) (fault : FlashFault) (new : FlashState) : Type 0 where
   pub ring : Ring
   pub ring_reads : ReadsRing t old least ring new
   pub fails : ReadFails ring_reads.repaired fault new
 
 -- a ring that is refused is left as it is
-pub record HasBadRing (t : Table) (old : FlashState) (least : ℕ) (fault : RingFault) (new : FlashState) : Type 0 where
+pub record HasBadRing {KNOTS SLOTS : ℕ} (t : Table KNOTS SLOTS) (old : FlashState) (least : ℕ) (fault : RingFault) (new : FlashState) : Type 0 where
   pub found : FoundFault old (ring_shape t) least fault
   pub reads : OnlyReads old (search_reads (ring_shape t)) new
 
 -- the data ring was found and repaired, and the index lists pages from its next number on
-pub record HasBadEnd (t : Table) (old : FlashState) (least end next : ℕ) (new : FlashState) : Type 0 where
+pub record HasBadEnd {KNOTS SLOTS : ℕ} (t : Table KNOTS SLOTS) (old : FlashState) (least end next : ℕ) (new : FlashState) : Type 0 where
   pub ring : Ring
   pub numbers : HasNumbers old (ring_shape t) least ring new
   pub end_is : end ≡ least
@@ -123,7 +123,7 @@ pub record HasBadEnd (t : Table) (old : FlashState) (least end next : ℕ) (new 
   pub beyond : next < end
 
 -- why the mount of the data ring and the read of its pages fail, and what was done
-abbrev pub RefusesData : Table → FlashState → ℕ → MountFault → FlashState → Type 0
+abbrev pub RefusesData : {KNOTS SLOTS : ℕ} → Table KNOTS SLOTS → FlashState → ℕ → MountFault → FlashState → Type 0
 RefusesData t old least (mount.Flash fault) new = FailsAs old (ring_shape t) least (ring.Flash fault) new ⊎ PagesUnread t old least fault new
 RefusesData t old least (mount.Ring fault) new = HasBadRing t old least fault new
 RefusesData t old least (mount.BadPage bad) new = HasBadPage t old least (mount.BadPage bad) new
@@ -132,7 +132,7 @@ RefusesData t old least (mount.BadIndex end next) new = HasBadEnd t old least en
 RefusesData t old least (mount.BadBlob page next) new = ⊥
 
 -- the data pages were found, and the variable data are refused
-pub record BlobsRefused (t : Table) (old : FlashState) (least : ℕ) (fault : MountFault) (new : FlashState) : Type 0 where
+pub record BlobsRefused {KNOTS SLOTS : ℕ} (t : Table KNOTS SLOTS) (old : FlashState) (least : ℕ) (fault : MountFault) (new : FlashState) : Type 0 where
   pub ring : Ring
   pub mounted : Mounted
   pub last : Option ℕ
@@ -142,20 +142,20 @@ pub record BlobsRefused (t : Table) (old : FlashState) (least : ℕ) (fault : Mo
   pub why : RefusesWithin t.blobs between end fault new
 
 -- why the mount of the data ring and of the variable data fails
-abbrev pub RefusesRows : Table → FlashState → ℕ → MountFault → FlashState → Type 0
+abbrev pub RefusesRows : {KNOTS SLOTS : ℕ} → Table KNOTS SLOTS → FlashState → ℕ → MountFault → FlashState → Type 0
 RefusesRows t old least fault new = RefusesData t old least fault new ⊎ BlobsRefused t old least fault new
 
 -- why a mount fails: the index is refused, or it is found, and the data pages or the variable data aren't
-abbrev pub RefusesPages : Table → FlashState → MountFault → FlashState → Type 0
+abbrev pub RefusesPages : {KNOTS SLOTS : ℕ} → Table KNOTS SLOTS → FlashState → MountFault → FlashState → Type 0
 RefusesPages t old fault new =
     ((e : RingFault) × (fault ≡ of_ring e) × RefusesBitmaps t.bitmaps old e new)
     ⊎ ((end : Option ℕ) × (found : FlashState) × Indexed t old end found × RefusesRows t found (unwrap_or end 0) fault new)
 
 -- each flash page outside a table's rings stands
-abbrev pub OutsideStands : Table → (ℕ → List ℕ) → (ℕ → List ℕ) → Type 0
+abbrev pub OutsideStands : {KNOTS SLOTS : ℕ} → Table KNOTS SLOTS → (ℕ → List ℕ) → (ℕ → List ℕ) → Type 0
 OutsideStands t old new =
     (page : ℕ) → IsOutside (ring_shape t) page → IfSome t.bitmaps (λ index. IsOutside (memory.ring_shape index) page) → IfSome t.blobs (λ var. IsOutside (var_shape var) page) → new page ≡ old page
 
 -- .. those outside the data ring and the ring of variable data
-abbrev pub RowsStandOutside : Table → (ℕ → List ℕ) → (ℕ → List ℕ) → Type 0
+abbrev pub RowsStandOutside : {KNOTS SLOTS : ℕ} → Table KNOTS SLOTS → (ℕ → List ℕ) → (ℕ → List ℕ) → Type 0
 RowsStandOutside t old new = (page : ℕ) → IsOutside (ring_shape t) page → IfSome t.blobs (λ var. IsOutside (var_shape var) page) → new page ≡ old page

@@ -28,7 +28,7 @@ use Rattle.fl_table.specs.Pages.{Rests}
 use Rattle.fl_table.specs.Standing.{Stands}
 
 -- The operations of a call were all done, and it left this table.
-pub record Finishes (first : ℕ) (plan : Plan) (operations : List (RingName × Kind)) (table after : model.Table) (rose : Bool) (device : Device) (t : Table) (new : FlashState) : Type 0 where
+pub record Finishes {KNOTS SLOTS : ℕ} (first : ℕ) (plan : Plan) (operations : List (RingName × Kind)) (table after : model.Table) (rose : Bool) (device : Device) (t : Table KNOTS SLOTS) (new : FlashState) : Type 0 where
   pub now : PartProgress model.Table
   pub did : TablePerforms plan rose operations device table now
   pub whole : now.end ≡ Whole
@@ -51,19 +51,19 @@ pub record Breaks (first : ℕ) (plan : Plan) (operations : List (RingName × Ki
   pub rests : Rests new first plan (lose now.state)
 
 -- the seals of these rings, one after another
-abbrev pub SealsEnd : ℕ → Plan → List RingName → model.Table → Bool → Device → Result (Unit {0}) FlashFault → Table → FlashState → Type 0
+abbrev pub SealsEnd : {KNOTS SLOTS : ℕ} → ℕ → Plan → List RingName → model.Table → Bool → Device → Result (Unit {0}) FlashFault → Table KNOTS SLOTS → FlashState → Type 0
 SealsEnd first plan rings table rose device (Ok done) t new =
     Finishes first plan (seals_within plan rings table) table (after_seals plan rings table) rose device t new
 SealsEnd first plan rings table rose device (Err fault) t new = Breaks first plan (seals_within plan rings table) table rose device fault new
 
 -- the blob of a record was placed, where it has one, and the record joined the table
-abbrev pub JoinEnds : ℕ → Plan → Record → model.Table → Bool → Device → Result (Unit {0}) FlashFault → Table → FlashState → Type 0
+abbrev pub JoinEnds : {KNOTS SLOTS : ℕ} → ℕ → Plan → Record → model.Table → Bool → Device → Result (Unit {0}) FlashFault → Table KNOTS SLOTS → FlashState → Type 0
 JoinEnds first plan item table rose device (Ok done) t new =
     Finishes first plan (seals_within plan (place_seals plan (blob_len item) table) table) table (table_with plan item table) rose device t new
 JoinEnds first plan item table rose device (Err fault) t new = Breaks first plan (seals_within plan (place_seals plan (blob_len item) table) table) table rose device fault new
 
 -- a put of an accepted record, by the refusal that it answers
-abbrev pub PutEnds : ℕ → Plan → Record → model.Table → Bool → Device → Result (Unit {0}) PutRefusal → Table → FlashState → Type 0
+abbrev pub PutEnds : {KNOTS SLOTS : ℕ} → ℕ → Plan → Record → model.Table → Bool → Device → Result (Unit {0}) PutRefusal → Table KNOTS SLOTS → FlashState → Type 0
 PutEnds first plan item table rose device (Ok done) t new =
     (refusal_of plan table item ≡ None)
     × Finishes first plan (seals_within plan (put_seals plan item table) table) table (put_record plan item table) rose device t new
@@ -77,7 +77,7 @@ PutEnds first plan item table rose device (Err put.Spent) t new = refusal_of pla
 PutEnds first plan item table rose device (Err put.Stopped) t new = ⊥
 
 -- a flush
-abbrev pub FlushEnds : ℕ → Plan → model.Table → Bool → Device → Result (Unit {0}) FlushFault → Table → FlashState → Type 0
+abbrev pub FlushEnds : {KNOTS SLOTS : ℕ} → ℕ → Plan → model.Table → Bool → Device → Result (Unit {0}) FlushFault → Table KNOTS SLOTS → FlashState → Type 0
 FlushEnds first plan table rose device (Ok done) t new =
     Finishes first plan (seals_within plan (table_seals plan table) table) table (flushed plan table) rose device t new
 FlushEnds first plan table rose device (Err (flush.Flash fault)) t new =
@@ -89,7 +89,7 @@ abbrev pub mounted_of : model.Table → Mounted
 mounted_of table = record { rows = length table.entries; pages = length table.rows.counts; voids = voids_of table }
 
 -- A mount that ended well: the table is ready.
-pub record MountsWell (first : ℕ) (plan : Plan) (rings : List RingName) (table : model.Table) (rose : Bool) (device : Device) (mounted : Mounted) (t : Table) (new : FlashState) : Type 0 where
+pub record MountsWell {KNOTS SLOTS : ℕ} (first : ℕ) (plan : Plan) (rings : List RingName) (table : model.Table) (rose : Bool) (device : Device) (mounted : Mounted) (t : Table KNOTS SLOTS) (new : FlashState) : Type 0 where
   pub now : PartProgress model.Table
   pub did : TableMounts plan rose rings device table (TableMounted now)
   pub counts : SameDevice new now.device
@@ -106,7 +106,7 @@ pub record MountsBadly (first : ℕ) (plan : Plan) (rings : List RingName) (tabl
   pub rests : Rests new first plan now.state
 
 -- The data ring was mounted and its pages were read: this is known of the table then, whose variable data aren't mounted.
-pub record DataWell (first : ℕ) (plan : Plan) (table : model.Table) (rose : Bool) (device : Device) (found : FoundRows) (t : Table) (new : FlashState) : Type 0 where
+pub record DataWell {KNOTS SLOTS : ℕ} (first : ℕ) (plan : Plan) (table : model.Table) (rose : Bool) (device : Device) (found : FoundRows) (t : Table KNOTS SLOTS) (new : FlashState) : Type 0 where
   pub now : PartProgress model.Table
   pub did : TableMounts plan rose (DataRing ∷ []) device table (TableMounted now)
   pub counts : SameDevice new now.device
@@ -121,7 +121,7 @@ pub record DataWell (first : ℕ) (plan : Plan) (table : model.Table) (rose : Bo
   pub answer : found.mounted ≡ mounted_of (ready plan now.state)
   pub end_is : found.blob_end ≡ blob_end now.state
 
-abbrev pub DataEnds : ℕ → Plan → model.Table → Bool → Device → Result FoundRows MountFault → Table → FlashState → Type 0
+abbrev pub DataEnds : {KNOTS SLOTS : ℕ} → ℕ → Plan → model.Table → Bool → Device → Result FoundRows MountFault → Table KNOTS SLOTS → FlashState → Type 0
 DataEnds first plan table rose device (Ok found) t new = DataWell first plan table rose device found t new
 DataEnds first plan table rose device (Err (mount.Flash fault)) t new = MountsBadly first plan (DataRing ∷ []) table rose device fault new
 DataEnds first plan table rose device (Err (mount.Ring fault)) t new = ⊥
@@ -135,7 +135,7 @@ abbrev pub var_rings : Plan → List RingName
 var_rings plan = if has_var plan then VarRing ∷ [] else []
 
 -- the mount of these rings of a table, in order
-abbrev pub RingsEnd : ℕ → Plan → List RingName → model.Table → Bool → Device → Result Mounted MountFault → Table → FlashState → Type 0
+abbrev pub RingsEnd : {KNOTS SLOTS : ℕ} → ℕ → Plan → List RingName → model.Table → Bool → Device → Result Mounted MountFault → Table KNOTS SLOTS → FlashState → Type 0
 RingsEnd first plan rings table rose device (Ok mounted) t new = MountsWell first plan rings table rose device mounted t new
 RingsEnd first plan rings table rose device (Err (mount.Flash fault)) t new = MountsBadly first plan rings table rose device fault new
 RingsEnd first plan rings table rose device (Err (mount.Ring fault)) t new = ⊥
@@ -145,5 +145,5 @@ RingsEnd first plan rings table rose device (Err (mount.BadIndex end next)) t ne
 RingsEnd first plan rings table rose device (Err (mount.BadBlob page next)) t new = ⊥
 
 -- .. and of all of them
-abbrev pub MountEnds : ℕ → Plan → model.Table → Bool → Device → Result Mounted MountFault → Table → FlashState → Type 0
+abbrev pub MountEnds : {KNOTS SLOTS : ℕ} → ℕ → Plan → model.Table → Bool → Device → Result Mounted MountFault → Table KNOTS SLOTS → FlashState → Type 0
 MountEnds first plan table rose device result t new = RingsEnd first plan (rings_of plan) table rose device result t new

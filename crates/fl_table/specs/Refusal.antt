@@ -23,26 +23,26 @@ abbrev pub key_refused : Option ℕ → ℕ → Option PutRefusal
 key_refused None key = None
 key_refused (Some last) key = refused_if (nat_le key last) (Key last)
 
-abbrev pub value_refused : Table → ℕ → List ℤ → Option PutRefusal
+abbrev pub value_refused : {KNOTS SLOTS : ℕ} → Table KNOTS SLOTS → ℕ → List ℤ → Option PutRefusal
 value_refused t key values =
     if nat_lt (greatest_key (layout_of t.schema)) key then Some (Value 0)
     else option_map (λ column. Value column) (first_misfit 1 (layout_of t.schema).columns values)
 
-abbrev pub spent_refused : Table → Option PutRefusal
+abbrev pub spent_refused : {KNOTS SLOTS : ℕ} → Table KNOTS SLOTS → Option PutRefusal
 spent_refused t =
     refused_if (unwrap_or (option_map (λ ring. nat_le spent_from (next_of ring)) t.ring) false || nat_le spent_from (bitmaps.next_of t.bitmaps) || nat_le spent_from (variable.next_of t.blobs)) Spent
 
 -- the greatest length of a blob
-abbrev pub limit_in : Table → ℕ
+abbrev pub limit_in : {KNOTS SLOTS : ℕ} → Table KNOTS SLOTS → ℕ
 limit_in t = if is_some t.blobs then t.blob_limit else 0
 
 -- a blob of this length, or none
-abbrev pub blob_refused : Table → Option ℕ → Option PutRefusal
+abbrev pub blob_refused : {KNOTS SLOTS : ℕ} → Table KNOTS SLOTS → Option ℕ → Option PutRefusal
 blob_refused t None = None
 blob_refused t (Some len) = refused_if (not (is_some t.blobs) || nat_lt (limit_in t) len) (Blob (limit_in t))
 
 -- the first refusal that applies to a record with these values, and with a blob of this length or without one
-abbrev pub put_refusal : Table → ℕ → List ℤ → Option ℕ → Option PutRefusal
+abbrev pub put_refusal : {KNOTS SLOTS : ℕ} → Table KNOTS SLOTS → ℕ → List ℤ → Option ℕ → Option PutRefusal
 put_refusal t key values blob =
     or_else (refused_if (not (is_running t)) Stopped)
     (or_else (key_refused t.last_key key)

@@ -17,7 +17,7 @@ use Rattle.fl_page.specs.declared.fault.ReadFault.TheVariants.{Flash, BadPage}
 use Rattle.fl_table.specs.declared.table.Table as code
 
 -- the index of a table, where it has one
-abbrev pub index_in : code.Table → Option Index
+abbrev pub index_in : {KNOTS SLOTS : ℕ} → code.Table KNOTS SLOTS → Option Index
 index_in t = t.bitmaps
 
 -- a kept index page that a buffer holds has the bytes that stand on the flash

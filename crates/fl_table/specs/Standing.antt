@@ -12,7 +12,7 @@ use Rattle.fl_table.specs.Blobs as variable
 use Rattle.fl_table.specs.Pages.{HoldsTable}
 use Rattle.fl_table.specs.Memory.{InMemory, IsPlanned}
 
-pub record Stands (t : Table) (f : FlashState) (first : ℕ) (plan : Plan) (table : model.Table) : Type 0 where
+pub record Stands {KNOTS SLOTS : ℕ} (t : Table KNOTS SLOTS) (f : FlashState) (first : ℕ) (plan : Plan) (table : model.Table) : Type 0 where
   pub planned : IsPlanned t first plan
   pub facts : IsTable plan table
   -- no page is torn and no block waits for its erase

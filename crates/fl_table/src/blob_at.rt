@@ -9,7 +9,7 @@ use fl_flash::{Flash, PageBuf};
 use fl_page::ReadFault;
 use fl_var::BlobReader;
 
-impl Table {
+impl<const KNOTS: usize, const SLOTS: usize> Table<KNOTS, SLOTS> {
     ghost use Rattle.std.specs.Prelude.{ℕ, List, slice_get};
     ghost use Rattle.fl_model.specs.Record.{Plan};
     ghost use Rattle.fl_model.specs.Table as model;

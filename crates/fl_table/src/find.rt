@@ -16,7 +16,7 @@ pub enum RowAt {
     InPage(PageRow),
 }
 
-impl Table {
+impl<const KNOTS: usize, const SLOTS: usize> Table<KNOTS, SLOTS> {
     ghost use Rattle.std.specs.Prelude.{Some, false};
     ghost use Rattle.fl_find.specs.Finding.{FindsPage, pages_end};
     ghost use Rattle.fl_find.specs.Pages.{IsFresh};
@@ -32,7 +32,7 @@ impl Table {
 
     /// The greatest number of reads of `find`.
     pub fn lookup_limit(&self, key: u64) -> u64
-        ensures stands { (f : FlashState) → (first : ℕ) → (plan : Plan) → (table : model.Table) → Stands self.now f first plan table → result ≡ lookup_limit 64 plan table key }
+        ensures stands { (f : FlashState) → (first : ℕ) → (plan : Plan) → (table : model.Table) → Stands self.now f first plan table → result ≡ lookup_limit KNOTS plan table key }
     {
         if self.is_pending_key(key) {
             return 0;
@@ -55,9 +55,9 @@ impl Table {
         requires lies { LiesOn self.now (F.state flash.old) }
         requires room { length buf.old.bytes ≡ (F.state flash.old).geometry.page }
         ensures finds { (first : ℕ) → (plan : Plan) → (table : model.Table) → IsTrue (F.state flash.old).media.tells → Stands self.now (F.state flash.old) first plan table →
-            Finds 64 plan table key (F.state flash.old).work.reads (F.state flash.new).work.reads buf.new result }
+            Finds KNOTS plan table key (F.state flash.old).work.reads (F.state flash.new).work.reads buf.new result }
         ensures reads { (first : ℕ) → (plan : Plan) → (table : model.Table) → IsTrue (F.state flash.old).media.tells → Stands self.now (F.state flash.old) first plan table →
-            (F.state flash.new).work.reads ≤ (F.state flash.old).work.reads + lookup_limit 64 plan table key }
+            (F.state flash.new).work.reads ≤ (F.state flash.old).work.reads + lookup_limit KNOTS plan table key }
         ensures pending { (first : ℕ) → (plan : Plan) → (table : model.Table) → Stands self.now (F.state flash.old) first plan table → is_pending_key table key ≡ true →
             (F.state flash.new ≡ F.state flash.old) × (buf.new ≡ buf.old) × FindsPending plan table key buf.new result }
         ensures most { (F.state flash.new).work.reads ≤ (F.state flash.old).work.reads + (next_in self.now - oldest_in self.now) + 1 }
@@ -70,7 +70,7 @@ impl Table {
         ensures fails { IfErr result (λ e. LookupFails self.now (F.state flash.old) e (F.state flash.new)) }
         ensures later { min steps.old (2 ^ 64 - 1) ≤ steps.new }
         ensures comparisons { steps.new ≤ steps.old + bits (knots_near self.now key) + 2 }
-        ensures slot { (first : ℕ) → (plan : Plan) → (table : model.Table) → (count : ℕ) → Stands self.now (F.state flash.old) first plan table → IsInSlot plan table key count →
+        ensures slot { (first : ℕ) → (plan : Plan) → (table : model.Table) → (count : ℕ) → Stands self.now (F.state flash.old) first plan table → IsInSlot KNOTS SLOTS plan table key count →
             steps.new ≤ steps.old + bits count + 2 }
     {
         if self.is_pending_key(key) {
@@ -112,9 +112,9 @@ impl Table {
         requires lies { LiesOn self.now (F.state flash.old) }
         requires room { length buf.old.bytes ≡ (F.state flash.old).geometry.page }
         ensures finds { (first : ℕ) → (plan : Plan) → (table : model.Table) → IsTrue (F.state flash.old).media.tells → Stands self.now (F.state flash.old) first plan table →
-            FindsPage 64 plan table key (F.state flash.old).work.reads (F.state flash.new).work.reads result }
+            FindsPage KNOTS plan table key (F.state flash.old).work.reads (F.state flash.new).work.reads result }
         ensures reads { (first : ℕ) → (plan : Plan) → (table : model.Table) → IsTrue (F.state flash.old).media.tells → Stands self.now (F.state flash.old) first plan table →
-            is_pending_key table key ≡ false → (F.state flash.new).work.reads ≤ (F.state flash.old).work.reads + lookup_limit 64 plan table key }
+            is_pending_key table key ≡ false → (F.state flash.new).work.reads ≤ (F.state flash.old).work.reads + lookup_limit KNOTS plan table key }
         ensures most { (F.state flash.new).work.reads ≤ (F.state flash.old).work.reads + (next_in self.now - oldest_in self.now) + 1 }
         ensures counts { contents.OnlyReads (F.state flash.old) (F.state flash.new) }
         ensures lies { LiesOn self.now (F.state flash.new) }
@@ -124,7 +124,7 @@ impl Table {
         ensures fails { IfErr result (λ e. LookupFails self.now (F.state flash.old) e (F.state flash.new)) }
         ensures later { min steps.old (2 ^ 64 - 1) ≤ steps.new }
         ensures comparisons { steps.new ≤ steps.old + bits (knots_near self.now key) + 2 }
-        ensures slot { (first : ℕ) → (plan : Plan) → (table : model.Table) → (count : ℕ) → Stands self.now (F.state flash.old) first plan table → IsInSlot plan table key count →
+        ensures slot { (first : ℕ) → (plan : Plan) → (table : model.Table) → (count : ℕ) → Stands self.now (F.state flash.old) first plan table → IsInSlot KNOTS SLOTS plan table key count →
             steps.new ≤ steps.old + bits count + 2 }
     {
         let Some(ring) = &self.ring else {
@@ -138,7 +138,7 @@ impl Table {
     /// with rows is greater. Nothing is read.
     pub fn end_of_pages(&self, key: u64) -> u32
         ensures within { result ≤ next_in self.now }
-        ensures exact { (f : FlashState) → (first : ℕ) → (plan : Plan) → (table : model.Table) → Stands self.now f first plan table → result ≡ pages_end 64 plan table key }
+        ensures exact { (f : FlashState) → (first : ℕ) → (plan : Plan) → (table : model.Table) → Stands self.now f first plan table → result ≡ pages_end KNOTS plan table key }
         ensures past { (f : FlashState) → (first : ℕ) → (plan : Plan) → (table : model.Table) → Stands self.now f first plan table → IfSome (page_at table key) (λ page. page < result) }
     {
         self.index.end_of_pages(key, self.next_number())

@@ -10,7 +10,7 @@ use fl_flash::{Flash, PageBuf};
 use fl_mark::{PageState, state_of};
 use fl_page::{PageView, ReadFault};
 
-impl Table {
+impl<const KNOTS: usize, const SLOTS: usize> Table<KNOTS, SLOTS> {
     ghost use Rattle.std.specs.Prelude.{ℕ, slice_get, true};
     ghost use Rattle.fl_model.specs.Record.{Plan};
     ghost use Rattle.fl_model.specs.Ring as rings;

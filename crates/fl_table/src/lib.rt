@@ -4,8 +4,6 @@
 mod bitmaps;
 mod blob_at;
 mod blob_end;
-#[cfg(test)]
-mod blob_tests;
 mod blobs;
 mod counts;
 mod faults;
@@ -23,8 +21,6 @@ mod running;
 mod seal;
 mod skip;
 mod table;
-#[cfg(test)]
-mod tests;
 
 pub use counts::{Mounted, TableCounts};
 pub use faults::{FlushFault, MountFault, PutRefusal};

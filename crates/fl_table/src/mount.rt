@@ -20,7 +20,7 @@ pub(crate) struct FoundRows {
     pub(crate) blob_end: u64,
 }
 
-impl Table {
+impl<const KNOTS: usize, const SLOTS: usize> Table<KNOTS, SLOTS> {
     ghost use Rattle.std.specs.Prelude.{ℕ, Bool};
     ghost use Rattle.fl_model.specs.Mount.{index_end};
     ghost use Rattle.fl_model.specs.Record.{Plan};

@@ -70,18 +70,22 @@ fn blobs_of(alloc: Global, config: &TableConfig) -> Result<Option<VarData>, fl_b
     Ok(Some(var))
 }
 
-impl Table {
+impl<const KNOTS: usize, const SLOTS: usize> Table<KNOTS, SLOTS> {
     ghost use Rattle.fl_model.specs.Record.{Plan};
     ghost use Rattle.fl_plan.specs.declared.refusal.ConfigRefusal.TheVariants.{NoMemory};
 
     /// The table of a configuration. It isn't mounted.
-    pub fn plan(alloc: Global, config: &TableConfig) -> Result<Table, ConfigRefusal>
+    ///
+    /// KNOTS and SLOTS are 2 to 65,536.
+    pub fn plan(alloc: Global, config: &TableConfig) -> Result<Table<KNOTS, SLOTS>, ConfigRefusal>
+        requires knots { (2 ≤ KNOTS) × (KNOTS ≤ 65536) }
+        requires slots { (2 ≤ SLOTS) × (SLOTS ≤ 65536) }
         ensures fits { OnOk result (config_fault config.now ≡ None) }
         ensures planned { IfOk result (λ t. (plan : Plan) → IsConfigOf config.now plan → IsPlanned t config.now.rows.first_block plan) }
         ensures lies { IfOk result (λ t. (f : FlashState) → f.geometry ≡ config.now.geometry → config.now.rows.first_block + config.now.rows.blocks ≤ f.blocks
             → IfSome config.now.index (λ place. place.first_block + place.blocks ≤ f.blocks) → IfSome config.now.var (λ place. place.first_block + place.blocks ≤ f.blocks) → pages f < 2 ^ 32 → LiesOn t f) }
         ensures fresh { IfOk result (λ t. (is_running t ≡ false) × (is_stopped t ≡ false)) }
-        ensures refused { IfErr result (λ refusal. (refusal ≡ NoMemory) ⊎ Tells {A = Table} (Err refusal) (config_fault config.now)) }
+        ensures refused { IfErr result (λ refusal. (refusal ≡ NoMemory) ⊎ Tells {A = Table KNOTS SLOTS} (Err refusal) (config_fault config.now)) }
     {
         config.check()?;
         let pages = config.rows.blocks as usize * config.geometry.block as usize;

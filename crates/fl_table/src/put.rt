@@ -20,8 +20,8 @@ fn with_value(buckets: Option<Buckets>, bitmap: u64, value: i64) -> u64
     }
 }
 
-impl Table {
-    ghost use Rattle.std.specs.Prelude.{ℕ, Bool, None, is_some, ◌||◌, ◌&&◌, not, ◌↔◌, Ok, Err};
+impl<const KNOTS: usize, const SLOTS: usize> Table<KNOTS, SLOTS> {
+    ghost use Rattle.std.specs.Prelude.{ℕ, Bool, None, is_some, ◌||◌, ◌&&◌, not, nat_lt, ◌↔◌, Ok, Err};
     ghost use Rattle.fl_model.specs.Record.{Plan, layout_len, rows_per_page};
     ghost use Rattle.fl_model.specs.Row.{FitsRow, stored_row};
     ghost use Rattle.fl_model.specs.Table as model;
@@ -41,6 +41,13 @@ impl Table {
     ghost use Rattle.fl_table.specs.Mounting.{OutsideStands, rings_in};
     ghost use Rattle.fl_table.specs.Outcomes.{SealsEnd, JoinEnds, PutEnds, FlushEnds};
     ghost use Rattle.fl_table.specs.Accepting.{IsAcceptedBy};
+
+    // The page buffer has no room for one row more.
+    fn is_full(&self) -> bool
+        ensures room { result ≡ nat_lt (length self.now.writer.body) (self.now.writer.end + layout_len (layout_of self.now.schema)) }
+    {
+        self.writer.is_full(&self.schema)
+    }
 
     /// Seals the pending rows where a page is full of them.
     fn make_room<F: Flash>(&mut self, flash: &mut F) -> Result<(), FlashFault>
@@ -66,7 +73,7 @@ impl Table {
         ensures media_reads { (F.state flash.new).media.reads ≤ (F.state flash.old).media.reads + rings_in self.old }
         ensures cause { IfErr result (λ e. CausedBy (F.state flash.old) e (F.state flash.new)) }
     {
-        if !self.writer.is_full(&self.schema) {
+        if !self.is_full() {
             return Ok(());
         }
         self.seal(flash)

@@ -153,7 +153,11 @@ fn read_page<F: Flash>(
 }
 
 /// Adds the page with this number and first key, where it has rows.
-fn add_page(index: &mut LearnedIndex<64, 64>, first: Option<u64>, number: u32)
+fn add_page<const KNOTS: usize, const SLOTS: usize>(
+    index: &mut LearnedIndex<KNOTS, SLOTS>,
+    first: Option<u64>,
+    number: u32,
+)
     ensures error { error_in index.new ≡ error_in index.old }
     ensures points { (error : ℕ) (points : List (ℕ × ℕ)) → IndexOf error points index.old → IfSome first (λ key. IsFurther points (key, number)) →
         IndexOf error (points ++ unwrap_or (option_map (λ key. (key, number) ∷ []) first) []) index.new }
@@ -167,11 +171,11 @@ fn add_page(index: &mut LearnedIndex<64, 64>, first: Option<u64>, number: u32)
 /// Reads the kept pages of a ring, from the oldest on, notes how many rows each has, adds those with rows to an index of
 /// no pages, and notes the bitmaps that wait, from that of the page on that is to wait first. It answers what it found, the
 /// last key, and one more than the greatest page that a blob names.
-pub(crate) fn read_pages<F: Flash>(
+pub(crate) fn read_pages<F: Flash, const KNOTS: usize, const SLOTS: usize>(
     schema: &Schema<8>,
     ring: &Ring,
     counts: &mut [u16],
-    index: &mut LearnedIndex<64, 64>,
+    index: &mut LearnedIndex<KNOTS, SLOTS>,
     bitmaps: &mut Option<Index>,
     flash: &mut F,
     buf: &mut PageBuf,

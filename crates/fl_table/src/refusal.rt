@@ -9,7 +9,7 @@ use crate::table::Table;
 /// The first page number at which puts are refused: what is above it is left to mounts.
 const SPENT_FROM: u32 = 4_294_901_760;
 
-impl Table {
+impl<const KNOTS: usize, const SLOTS: usize> Table<KNOTS, SLOTS> {
     ghost use Rattle.std.specs.Prelude.{not, length, ◌==◌, option_map};
     ghost use Rattle.fl_table.specs.Bitmaps.{next_of as index_next};
     ghost use Rattle.fl_table.specs.Blobs.{next_of as blob_next};

@@ -9,7 +9,7 @@ use crate::blobs::seal_rest;
 use crate::table::Table;
 use fl_flash::{Flash, FlashFault};
 
-impl Table {
+impl<const KNOTS: usize, const SLOTS: usize> Table<KNOTS, SLOTS> {
     ghost use Rattle.std.specs.Prelude.{ℕ, Bool};
     ghost use Rattle.fl_model.specs.Record.{Plan};
     ghost use Rattle.fl_model.specs.Table.{DataRing, table_seals};

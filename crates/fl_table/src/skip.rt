@@ -7,7 +7,7 @@ use fl_base::Span;
 use fl_flash::{Flash, PageBuf};
 use fl_page::ReadFault;
 
-impl Table {
+impl<const KNOTS: usize, const SLOTS: usize> Table<KNOTS, SLOTS> {
     ghost use Rattle.std.specs.Prelude.{ℕ, List, [], bit_and, slice_get};
     ghost use Rattle.fl_index.specs.Looking.{IfBad};
     ghost use Rattle.fl_base.specs.declared.types.KeyRange.{KeyRange};

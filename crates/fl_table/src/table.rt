@@ -21,8 +21,10 @@ use fl_var::VarData;
 
 /// Records in ascending order of their keys. It is mounted before its first use; each call that takes a flash is
 /// given the one on which it was mounted.
+///
+/// Its index of pages keeps the KNOTS newest knots of a spline, and SLOTS slots that lead to them.
 #[derive(Drop)]
-pub struct Table {
+pub struct Table<const KNOTS: usize, const SLOTS: usize> {
     pub(crate) schema: Schema<8>,
     pub(crate) geometry: Geometry,
     /// The blocks of the data ring.
@@ -41,12 +43,14 @@ pub struct Table {
     /// How many of the kept pages are void.
     pub(crate) voids: u32,
     /// Where the pages of keys are.
-    pub(crate) index: LearnedIndex<64, 64>,
+    pub(crate) index: LearnedIndex<KNOTS, SLOTS>,
     /// The bitmaps of sealed pages, where there is an index of them.
     pub(crate) bitmaps: Option<Index>,
     /// The blobs of its records, where it keeps any, and the greatest length of one.
     pub(crate) blobs: Option<VarData>,
     pub(crate) blob_limit: u32,
+    ghost few_knots: { KNOTS ≤ 65536 },
+    ghost few_slots: { SLOTS ≤ 65536 },
     ghost served: { IsGeometry geometry },
     ghost some_blocks: { 3 ≤ place.blocks },
     ghost few_blocks: { place.blocks ≤ 16384 },

@@ -1,5 +1,5 @@
 -- A reader of a blob.
-use Rattle.std.specs.Prelude.{◌≡◌, ℕ, ◌+◌, ◌-◌, ◌/◌, ◌<◌, ◌≤◌, Bool, true, false, ◌==◌, if◌then◌else◌, IsTrue, Option, Some, None, Result, Ok, Err, List, [], ◌++◌, length, take, drop, slice_range}
+use Rattle.std.specs.Prelude.{◌≡◌, ℕ, ◌+◌, ◌-◌, ◌/◌, ◌<◌, ◌≤◌, Bool, true, false, ◌==◌, nat_lt, if◌then◌else◌, IsTrue, Option, Some, None, Result, Ok, Err, List, [], ◌++◌, length, take, drop, slice_range}
 use base.Fml.{GName}
 use Rattle.fl_base.specs.declared.types.BlobRef.{BlobRef}
 use Rattle.fl_flash.specs.Buffer.{BufferState}
@@ -37,6 +37,10 @@ page_of r = r.page
 -- the bytes that its last step gave
 abbrev pub chunk_of : BlobReader → List ℕ
 chunk_of r = slice_range (present r.var.now r.page r.buf.now.bytes) r.begin r.end
+
+-- a byte stands behind the place on the page in hand
+abbrev pub has_here : BlobReader → Bool
+has_here r = nat_lt r.end r.used
 
 -- how many bytes of the blob are left
 abbrev pub count_left : BlobReader → ℕ

@@ -6,8 +6,6 @@ mod open;
 mod page;
 mod place;
 mod reader;
-#[cfg(test)]
-mod tests;
 mod var_data;
 mod waiting;
 

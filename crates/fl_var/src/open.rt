@@ -129,7 +129,7 @@ impl BlobReader<'_, '_> {
     ghost use Rattle.fl_model.specs.Table.{Entry};
     ghost use Rattle.fl_var.specs.Memory.{LiesOn, next_in, room_in};
     ghost use Rattle.fl_var.specs.Placing.{HoldsBytes};
-    ghost use Rattle.fl_var.specs.Reading.{data_of, buffer_of, chunk_of, count_left, pages_left, turned, Opens, Finds, IfUnread, IsOfPage};
+    ghost use Rattle.fl_var.specs.Reading.{data_of, buffer_of, chunk_of, count_left, pages_left, has_here, turned, Opens, Finds, IfUnread, IsOfPage};
     ghost use Rattle.fl_var.specs.Standing.{Stands};
 
     /// Turns to a blob: true where it stands, and false exactly where it is gone. No byte is left then, nor after a fault.
@@ -145,6 +145,7 @@ impl BlobReader<'_, '_> {
         ensures buffer { buffer_of self.new ≡ buffer_of self.old }
         ensures left { IfOk result (λ stands. count_left self.new ≡ (if stands then at.length else 0)) }
         ensures no_more { OnErr result (count_left self.new ≡ 0) }
+        ensures here { result ≡ Ok true → 1 ≤ at.length → has_here self.new ≡ true }
         ensures none { chunk_of self.new ≡ [] }
         ensures few { pages_left self.new ≤ at.length / room_in (data_of self.old) + 1 }
         ensures opens { IsTrue (F.state flash.old).media.tells → Opens (data_of self.old) (F.state flash.old) at (turned result self.new) }

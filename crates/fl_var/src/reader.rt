@@ -32,13 +32,13 @@ pub struct BlobReader<'s, 'b> {
 }
 
 impl<'s, 'b> BlobReader<'s, 'b> {
-    ghost use Rattle.std.specs.Prelude.{nat_lt, false, Ok, [], ◌++◌, IsTrue, IfOk, IfErr, OnOk, OnErr};
+    ghost use Rattle.std.specs.Prelude.{nat_lt, false, is_ok, Ok, [], ◌++◌, IsTrue, IfOk, IfErr, OnOk, OnErr};
     ghost use Rattle.fl_flash.specs.Flash.{FlashState};
     ghost use Rattle.fl_page.specs.Contents as contents;
     ghost use Rattle.fl_ring.specs.Looking.{OnlyReads};
     ghost use Rattle.fl_var.specs.Blobs.{IsBadLater};
     ghost use Rattle.fl_var.specs.Memory.{LiesOn};
-    ghost use Rattle.fl_var.specs.Reading.{data_of, buffer_of, held_by, page_of, chunk_of, count_left, pages_left, bytes_left, Reads, IsWholeIn, Steps, IfUnread, IfBad, NoneBad};
+    ghost use Rattle.fl_var.specs.Reading.{data_of, buffer_of, held_by, page_of, chunk_of, count_left, pages_left, has_here, bytes_left, Reads, IsWholeIn, Steps, IfUnread, IfBad, NoneBad};
 
     /// Turns to the next page, which has to have content, where the present one was given to its end.
     fn turn<F: Flash>(&mut self, flash: &mut F) -> Result<(), ReadFault>
@@ -53,6 +53,7 @@ impl<'s, 'b> BlobReader<'s, 'b> {
         ensures left { count_left self.new ≡ count_left self.old }
         ensures empty { self.new.begin ≡ self.new.end }
         ensures some { OnOk result (self.new.end < self.new.used) }
+        ensures held { self.old.end < self.old.used → (is_ok result ≡ true) × (F.state flash.new ≡ F.state flash.old) }
         ensures ready { Reads self.old (F.state flash.old) → Reads self.new (F.state flash.new) }
         ensures bytes { Reads self.old (F.state flash.old) → bytes_left self.new (F.state flash.new) ≡ bytes_left self.old (F.state flash.old) }
         ensures whole { Reads self.old (F.state flash.old) → IsWholeIn self.old (F.state flash.old) → NoneBad result × IsWholeIn self.new (F.state flash.new) }
@@ -110,6 +111,7 @@ impl<'s, 'b> BlobReader<'s, 'b> {
         ensures lies { LiesOn (data_of self.new) (F.state flash.new) }
         ensures ready { Reads self.old (F.state flash.old) → Reads self.new (F.state flash.new) }
         ensures more { IfOk result (λ more. more ≡ nat_lt 0 (count_left self.old)) }
+        ensures held { has_here self.old ≡ true → (is_ok result ≡ true) × (F.state flash.new ≡ F.state flash.old) }
         ensures done { count_left self.old ≡ 0 → (result ≡ Ok false) × (F.state flash.new ≡ F.state flash.old) }
         ensures some { IfOk result (λ more. more ≡ true → 1 ≤ length (chunk_of self.new)) }
         ensures chunk { count_left self.old ≡ length (chunk_of self.new) + count_left self.new }

@@ -6,7 +6,7 @@ use Rattle.fl_cursor.proofs.Stood.{standing-rows, left-entries}
 use Rattle.fl_cursor.proofs.laws.cursor_is_the_models.Goals as goal
 
 pub returns : goal.returns
-returns c = record {
+returns g c = record {
   left = λ f first plan t tells reaches lies stands.
       ap (filter (is_left (asked_of c.args.cursor.now)))
       (standing-rows (table_of c.args.cursor.now) (contents_of f) (record { flash = f; same = refl; tells = tells; reaches = reaches; lies = lies; first = first; plan = plan; table = t; stands = stands }))

@@ -1,13 +1,14 @@
-use Rattle.std.proofs.Common.{◌≡◌, ◌/◌, length, take, refl, sym, ◌∙◌, arith, length-take}
-use Rattle.fl_script.proofs.Blobs.{decoded, not_decoded}
+use Rattle.std.proofs.Common.{refl, sym, ◌∙◌, arith}
+use Rattle.fl_script.proofs.Blobs.{few, uneven}
+use Rattle.fl_script.proofs.room.decode_front.Goals.{then-count-eq0-via-then-count-eq0, then-count-eq0-via-else-count-eq0+then-word-ne0}
 use Rattle.fl_script.proofs.room.decode_front.Goals as goal
 
-pub returns-in-Ok : goal.returns-in-Ok
-returns-in-Ok c =
-    let n : length (take (length c.args.word.now / 2) c.args.room.now) ≡ length c.args.word.now / 2 = omega (arith, length-take (length c.args.word.now / 2) c.args.room.now, c.requires) in
-    decoded _ _ _ c.decode_to_slice.result _ (sym c.is.ensures ∙ c.if-is.false) c.if-count-eq0.false (rw n at c.decode_to_slice.ensures.value) c.in-Ok.is (c.decode_to_slice.auto.out ∙ n)
-
-pub returns-in-Err : goal.returns-in-Err
-returns-in-Err c =
-    let n : length (take (length c.args.word.now / 2) c.args.room.now) ≡ length c.args.word.now / 2 = omega (arith, length-take (length c.args.word.now / 2) c.args.room.now, c.requires) in
-    (not_decoded _ c.decode_to_slice.result _ _ (sym c.is.ensures ∙ c.if-is.false) c.if-count-eq0.false _ (rw n at c.decode_to_slice.ensures.value) c.in-Err.is, refl)
+pub returns-then-count-eq0 : goal.returns-then-count-eq0
+returns-then-count-eq0 c =
+    let dash = sym c.is.ensures ∙ c.if-is.false in (
+      elim c.then-count-eq0.branch [
+        | then-count-eq0-via-then-count-eq0 w ↦ few c.args.word.now dash (omega (arith, w.if-count-eq0.true))
+        | then-count-eq0-via-else-count-eq0+then-word-ne0 w ↦ uneven c.args.word.now dash (omega (arith, w.if-word-ne0.true))
+      ],
+      refl,
+    )

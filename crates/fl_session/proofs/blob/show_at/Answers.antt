@@ -10,8 +10,9 @@ pub returns-then-at-eq0-clause-says : goal.returns-then-at-eq0-clause-says
 returns-then-at-eq0-clause-says g c = λ first plan t i entry bytes tells on stands slot blob_is at_is.
     says-empty _ _ _ _ _ _ _ t entry bytes blob_is (sym (ap (λ (a : BlobRef). a.length) at_is) ∙ c.if-at-eq0.true) c.write_reply.ensures.text
 
-pub blob_reader-reader-requires-clause-room : goal.blob_reader-reader-requires-clause-room
-blob_reader-reader-requires-clause-room g c = c.requires.room ∙ buffer-fits c.args.table.now (g.F.Flash.state c.args.flash.now) c.requires.lies c.requires.blobs
+pub blob_reader-reader-requires : goal.blob_reader-reader-requires
+blob_reader-reader-requires g c =
+    (search rules, (c.requires.running, (c.requires.blobs, c.requires.room ∙ buffer-fits c.args.table.now (g.F.Flash.state c.args.flash.now) c.requires.lies c.requires.blobs)))
 
 pub open-stands-requires : goal.open-stands-requires
 open-stands-requires g c = record { lies = data-lies c.args.table.now (g.F.Flash.state c.args.flash.now) c.requires.lies _ c.blob_reader-reader.ensures.var }
@@ -31,6 +32,8 @@ returns-clause-says g c = λ first plan t i entry bytes tells on stands slot blo
       only = c.open-stands.ensures.reads;
       counts = c.open-stands.ensures.counts;
       ready = opened-ready v f c.args.at c.open-stands.result c.open-stands.new.self (c.open-stands.ensures.opens tells);
+      here = λ is. c.open-stands.ensures.here is full;
+      counted = λ is. let left = rw is at c.open-stands.ensures.left in left ∙ ap (λ (a : BlobRef). a.length) at_is;
       finds = c.open-stands.ensures.finds plan t entry bytes tells all.in_pages blob_is at_is
           (λ ring ring_is here some. standing-bytes v f (first + plan.data_blocks + plan.index_blocks) plan t all i entry bytes slot blob_is c.args.at at_is ring ring_is here some);
       fails = c.open-stands.ensures.fails;
@@ -48,6 +51,8 @@ returns-clause-reads g c = λ first plan t i entry bytes tells stands slot blob_
       only = c.open-stands.ensures.reads;
       counts = c.open-stands.ensures.counts;
       ready = opened-ready v f c.args.at c.open-stands.result c.open-stands.new.self (c.open-stands.ensures.opens tells);
+      here = λ is. c.open-stands.ensures.here is full;
+      counted = λ is. let left = rw is at c.open-stands.ensures.left in left ∙ ap (λ (a : BlobRef). a.length) at_is;
       finds = c.open-stands.ensures.finds plan t entry bytes tells all.in_pages blob_is at_is
           (λ ring ring_is here some. standing-bytes v f (first + plan.data_blocks + plan.index_blocks) plan t all i entry bytes slot blob_is c.args.at at_is ring ring_is here some);
       fails = c.open-stands.ensures.fails;

@@ -1,4 +1,4 @@
-use Rattle.std.proofs.Common.{◌≡◌, List, ℕ, Ok, true, ◌∙◌, ap, subst, arith}
+use Rattle.std.proofs.Common.{◌≡◌, List, ℕ, Ok, true, length, sym, ◌∙◌, ap, subst, arith}
 use Rattle.fl_model.specs.Query.{blob_of}
 use Rattle.fl_page.proofs.Reading.{OnlyReads-reads}
 use Rattle.fl_script.specs.Written.{Written}
@@ -15,7 +15,7 @@ returns-in-Ok-true-clause-says g c = λ t entry bytes f on opened.
     let is : c.args.stands ≡ Ok true = c.in-Ok-true.is ∙ ap Ok c.in-Ok-true.field-0-test in
     let finds = rw is at opened.finds in
     let left : bytes_left c.args.reader.now (g.F.Flash.state c.args.flash.now) ≡ bytes = bytes-kept r f h 1 opened.only ∙ finds.1 in
-    let shows = c.show_bytes.ensures.shows (reads-kept r f h 1 opened.only (opened.ready is)) (whole-kept r f h 1 opened.only finds.2) (opened.only.power ∙ on) in
+    let shows = c.show_bytes.ensures.shows (reads-kept r f h 1 opened.only (opened.ready is)) (whole-kept r f h 1 opened.only finds.2) (record { here = opened.here is; count = ap length left ∙ sym (opened.counted is) }) (opened.only.power ∙ on) in
     says-bytes _ _ _ _ _ _ _ (blob_of t entry) bytes h.media.faults h.work.reads finds.0 opened.some opened.only.goes.faults (OnlyReads-reads f h opened.counts)
     (subst (λ (l : List ℕ). ShowsBytes l (g.K.Sink.written c.args.out.now) (g.K.Sink.written c.show_bytes.new.out) (g.F.Flash.state c.args.flash.now).media.faults (g.F.Flash.state c.show_bytes.new.flash).media.faults (g.F.Flash.state c.args.flash.now).work.reads (g.F.Flash.state c.show_bytes.new.flash).work.reads c.show_bytes.result) left shows)
 

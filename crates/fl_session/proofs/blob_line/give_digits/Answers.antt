@@ -1,8 +1,9 @@
-use Rattle.std.proofs.Common.{ℕ, List, refl, ◌∙◌, subst, arith}
+use Rattle.std.proofs.Common.{◌≡◌, ℕ, zero, suc, ◌≤◌, Bool, true, false, Result, Ok, Err, List, refl, ◌∙◌, subst, arith}
 use Rattle.std.proofs.lemmas.Result.{err_from_is_err_and}
 use Rattle.fl_base.specs.Causes.{Appends, AppendsFront}
 use Rattle.fl_page.proofs.Reading.{OnlyReads-same, OnlyReads-then, IsCaused-later}
-use Rattle.fl_var.specs.Reading.{chunk_of}
+use Rattle.fl_page.specs.declared.fault.ReadFault.{ReadFault}
+use Rattle.fl_var.specs.Reading.{chunk_of, count_left}
 use Rattle.fl_words.specs.Reply.{hex_text}
 use Rattle.fl_session.proofs.BlobLines.{gave-none, gave-chunk, gave-failed, gave-all, gave-unread}
 use Rattle.fl_session.proofs.blob_line.give_digits.Goals as goal
@@ -26,11 +27,22 @@ returns-in_err-step-clause-reads g c = λ ready whole.
     omega (arith, so_far.few, c.in_err-step.ensures.most so_far.ready so_far.whole)
 
 pub returns-in_err-step-clause-gives : goal.returns-in_err-step-clause-gives
-returns-in_err-step-clause-gives g c = λ ready whole.
+returns-in_err-step-clause-gives g c = λ ready whole turned.
     let so_far = c.loop-reader.invariant.gave ready whole in
     let p = err_from_is_err_and c.from_residual.result c.from_residual.ensures.1 in
     rw (p.1, p.2) (gave-unread c.args.reader.now c.loop-reader.reader c.step.new.self (g.F.Flash.state c.args.flash.now) (g.F.Flash.state c.loop-reader.flash) (g.F.Flash.state c.step.new.flash)
-    (g.K.Sink.written c.args.out.now) (g.K.Sink.written c.loop-reader.out) so_far c.in_err-step.field-0.0 (c.in_err-step.ensures.whole so_far.ready so_far.whole).0)
+    (g.K.Sink.written c.args.out.now) (g.K.Sink.written c.loop-reader.out) so_far c.in_err-step.field-0.0 (c.in_err-step.ensures.whole so_far.ready so_far.whole).0 turned
+    (some (count_left c.loop-reader.reader) (λ none. other (c.in_err-step.ensures.done none).0)) (λ here. no (c.in_err-step.ensures.held here).0))
+  where
+    no : false ≡ true → ⊥
+    no e = cc
+
+    other : {e : ReadFault} → ◌≡◌ {A = Result Bool ReadFault} (Err e) (Ok false) → ⊥
+    other e = cc
+
+    some : (n : ℕ) → (n ≡ 0 → ⊥) → 1 ≤ n
+    some zero h = absurd (h refl)
+    some (suc n) h = omega arith
 
 pub loop-reader-preserved : goal.loop-reader-preserved
 loop-reader-preserved g c =
@@ -49,7 +61,7 @@ loop-reader-preserved g c =
           subst (λ (l : List ℕ). Appends (g.K.Sink.written c.loop-reader.out) (g.K.Sink.written c.write_digits.new.out) (hex_text l)) c.chunk.ensures c.in_ok-write_digits.ensures.text in
           gave-chunk c.args.reader.now c.loop-reader.reader c.step.new.self (g.F.Flash.state c.args.flash.now) (g.F.Flash.state c.loop-reader.flash) (g.F.Flash.state c.step.new.flash)
           (g.K.Sink.written c.args.out.now) (g.K.Sink.written c.loop-reader.out) so_far (chunk_of c.step.new.self) (g.K.Sink.written c.write_digits.new.out) steps.0 wrote
-          (e.ready so_far.ready) (e.whole so_far.ready so_far.whole).1 (e.few so_far.ready so_far.whole);
+          (e.ready so_far.ready) (e.whole so_far.ready so_far.whole).1 (e.few so_far.ready so_far.whole) e.chunk steps.1;
     }
 
 pub returns-in_err-write_digits-clause-counts : goal.returns-in_err-write_digits-clause-counts
@@ -61,7 +73,7 @@ returns-in_err-write_digits-clause-reads g c = λ ready whole.
     omega (arith, so_far.few, c.in_ok-step.ensures.most so_far.ready so_far.whole)
 
 pub returns-in_err-write_digits-clause-gives : goal.returns-in_err-write_digits-clause-gives
-returns-in_err-write_digits-clause-gives g c = λ ready whole.
+returns-in_err-write_digits-clause-gives g c = λ ready whole turned.
     let so_far = c.loop-reader.invariant.gave ready whole in
     let steps = rw c.if-branch.true at (c.in_ok-step.ensures.steps so_far.ready) in
     let p = err_from_is_err_and c.from_residual-in_err-write_digits.result c.from_residual-in_err-write_digits.ensures.1 in
@@ -79,7 +91,7 @@ returns-clause-reads g c = λ ready whole.
     omega (arith, so_far.few, c.in_ok-step.ensures.most so_far.ready so_far.whole)
 
 pub returns-clause-gives : goal.returns-clause-gives
-returns-clause-gives g c = λ ready whole.
+returns-clause-gives g c = λ ready whole turned.
     let so_far = c.loop-reader.invariant.gave ready whole in
     let steps = rw c.if-branch.false at (c.in_ok-step.ensures.steps so_far.ready) in
     gave-all c.args.reader.now c.loop-reader.reader c.step.new.self (g.F.Flash.state c.args.flash.now) (g.F.Flash.state c.loop-reader.flash) (g.F.Flash.state c.step.new.flash)

@@ -21,7 +21,7 @@ use Rattle.fl_session.proofs.operators.aggregate.Goals as goal
 
 pub list_groups-requires : goal.list_groups-requires
 list_groups-requires g c = record {
-  ready = subst (λ (k : Cursor). IsReady k (contents_of (g.F.Flash.state c.args.flash.now))) (sym c.new-groups.ensures.rows) (c.begin-cursor.ensures.ready (g.F.Flash.state c.args.flash.now) c.requires.lies c.requires.room.0 c.requires.room.1);
+  ready = subst (λ (k : Cursor 64 64). IsReady k (contents_of (g.F.Flash.state c.args.flash.now))) (sym c.new-groups.ensures.rows) (c.begin-cursor.ensures.ready (g.F.Flash.state c.args.flash.now) c.requires.lies c.requires.room.0 c.requires.room.1);
 }
 
 pub returns-clause-lies : goal.returns-clause-lies
@@ -31,10 +31,10 @@ pub returns-clause-counted : goal.returns-clause-counted
 returns-clause-counted g c = λ first plan t tells on stands.
     let reaches = g.met.F.Flash.reaches c.args.flash.now in
     let cursor : c.new-groups.result.rows ≡ c.begin-cursor.result = c.new-groups.ensures.rows in
-    let told = subst (λ (k : Cursor). IsTold k (contents_of (g.F.Flash.state c.args.flash.now))) (sym cursor)
+    let told = subst (λ (k : Cursor 64 64). IsTold k (contents_of (g.F.Flash.state c.args.flash.now))) (sym cursor)
     (c.begin-cursor.ensures.told (contents_of (g.F.Flash.state c.args.flash.now)) (is-standing c.args.table.now (g.F.Flash.state c.args.flash.now) first plan t tells reaches c.requires.lies stands)) in
     let left : left_of c.new-groups.result.rows (contents_of (g.F.Flash.state c.args.flash.now)) ≡ map stored_row (selected c.args.range None t.entries) =
-    ap (λ (k : Cursor). left_of k (contents_of (g.F.Flash.state c.args.flash.now))) cursor
+    ap (λ (k : Cursor 64 64). left_of k (contents_of (g.F.Flash.state c.args.flash.now))) cursor
     ∙ c.begin-cursor.ensures.left (g.F.Flash.state c.args.flash.now) first plan t tells reaches c.requires.lies stands in
     let groups : groups_left c.new-groups.result (present_of c.new-groups.result.rows) (left_of c.new-groups.result.rows (contents_of (g.F.Flash.state c.args.flash.now))) ≡ aggregate c.args.column c.args.width (records_of (map stored_row (selected c.args.range None t.entries))) =
     c.new-groups.ensures.groups (present_of c.new-groups.result.rows) (left_of c.new-groups.result.rows (contents_of (g.F.Flash.state c.args.flash.now)))
@@ -47,9 +47,9 @@ returns-clause-counted g c = λ first plan t tells on stands.
       length-map (map stored_row (selected c.args.range None t.entries)) record_of,
       few-asked c.args.table.now (g.F.Flash.state c.args.flash.now) first plan t c.args.range stands,
     ) in
-    let limit = subst (λ (k : Cursor). most_of k (contents_of (g.F.Flash.state c.args.flash.now)) ≤ scan_limit 64 plan t c.args.range None c.args.range.low) (sym cursor)
+    let limit = subst (λ (k : Cursor 64 64). most_of k (contents_of (g.F.Flash.state c.args.flash.now)) ≤ scan_limit 64 plan t c.args.range None c.args.range.low) (sym cursor)
     (c.begin-cursor.ensures.limit (g.F.Flash.state c.args.flash.now) first plan t tells reaches c.requires.lies stands) in
-    let least = subst (λ (k : Cursor). least_reads plan t c.args.range None ≤ least_of k (contents_of (g.F.Flash.state c.args.flash.now))) (sym cursor)
+    let least = subst (λ (k : Cursor 64 64). least_reads plan t c.args.range None ≤ least_of k (contents_of (g.F.Flash.state c.args.flash.now))) (sym cursor)
     (c.begin-cursor.ensures.least (g.F.Flash.state c.args.flash.now) first plan t tells reaches c.requires.lies stands) in
     subst (λ (gs : List Group). Counted (map group_reply gs) (scan_limit 64 plan t c.args.range None c.args.range.low) (least_reads plan t c.args.range None) (g.K.Sink.written c.args.out.now) (g.K.Sink.written c.list_groups.new.out)
     (g.F.Flash.state c.args.flash.now).media.faults (g.F.Flash.state c.list_groups.new.flash).media.faults (g.F.Flash.state c.args.flash.now).work.reads (g.F.Flash.state c.list_groups.new.flash).work.reads c.list_groups.result)

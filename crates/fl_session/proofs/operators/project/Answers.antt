@@ -25,7 +25,7 @@ new-rows-requires g c = λ i lt.
     let same : c.as_slice.result.now ≡ c.args.columns.now = c.as_slice.ensures.value ∙ c.places_of-places.ensures in
     let there : i < length c.args.columns.now = omega (arith, lt, ap (λ (cs : List ℕ). length cs) same) in
     subst (λ (cs : List ℕ). HasColumn (layout_in (table_of c.begin-cursor.result)) (slice_index cs i)) (sym same)
-    (subst (λ (t : Table). HasColumn (layout_in t) (slice_index c.args.columns.now i)) (sym c.begin-cursor.ensures.table) (lacks-none (layout_in c.args.table.now) c.args.columns.now i c.requires.columns there))
+    (subst (λ (t : Table 64 64). HasColumn (layout_in t) (slice_index c.args.columns.now i)) (sym c.begin-cursor.ensures.table) (lacks-none (layout_in c.args.table.now) c.args.columns.now i c.requires.columns there))
 
 pub returns-clause-lies : goal.returns-clause-lies
 returns-clause-lies g c = lies-read _ _ _ c.list_projected.ensures.reads_only c.requires.lies
@@ -34,17 +34,17 @@ pub returns-clause-counted : goal.returns-clause-counted
 returns-clause-counted g c = λ first plan t tells on stands.
     let reaches = g.met.F.Flash.reaches c.args.flash.now in
     let cursor : c.new-rows.result.rows ≡ c.begin-cursor.result = c.new-rows.ensures.rows in
-    let told = subst (λ (k : Cursor). IsTold k (contents_of (g.F.Flash.state c.args.flash.now))) (sym cursor)
+    let told = subst (λ (k : Cursor 64 64). IsTold k (contents_of (g.F.Flash.state c.args.flash.now))) (sym cursor)
     (c.begin-cursor.ensures.told (contents_of (g.F.Flash.state c.args.flash.now)) (is-standing c.args.table.now (g.F.Flash.state c.args.flash.now) first plan t tells reaches c.requires.lies stands)) in
     let left : left_of c.new-rows.result.rows (contents_of (g.F.Flash.state c.args.flash.now)) ≡ map stored_row (selected c.args.range None t.entries) =
-    ap (λ (k : Cursor). left_of k (contents_of (g.F.Flash.state c.args.flash.now))) cursor
+    ap (λ (k : Cursor 64 64). left_of k (contents_of (g.F.Flash.state c.args.flash.now))) cursor
     ∙ c.begin-cursor.ensures.left (g.F.Flash.state c.args.flash.now) first plan t tells reaches c.requires.lies stands in
     let few : length (left_of c.new-rows.result.rows (contents_of (g.F.Flash.state c.args.flash.now))) < 2 ^ 63 =
     omega (arith, ap (λ (xs : List Row). length xs) left, few-asked c.args.table.now (g.F.Flash.state c.args.flash.now) first plan t c.args.range stands) in
     let columns : columns_of c.new-rows.result ≡ c.args.columns.now = c.new-rows.ensures.columns ∙ (c.as_slice.ensures.value ∙ c.places_of-places.ensures) in
-    let limit = subst (λ (k : Cursor). most_of k (contents_of (g.F.Flash.state c.args.flash.now)) ≤ scan_limit 64 plan t c.args.range None c.args.range.low) (sym cursor)
+    let limit = subst (λ (k : Cursor 64 64). most_of k (contents_of (g.F.Flash.state c.args.flash.now)) ≤ scan_limit 64 plan t c.args.range None c.args.range.low) (sym cursor)
     (c.begin-cursor.ensures.limit (g.F.Flash.state c.args.flash.now) first plan t tells reaches c.requires.lies stands) in
-    let least = subst (λ (k : Cursor). least_reads plan t c.args.range None ≤ least_of k (contents_of (g.F.Flash.state c.args.flash.now))) (sym cursor)
+    let least = subst (λ (k : Cursor 64 64). least_reads plan t c.args.range None ≤ least_of k (contents_of (g.F.Flash.state c.args.flash.now))) (sym cursor)
     (c.begin-cursor.ensures.least (g.F.Flash.state c.args.flash.now) first plan t tells reaches c.requires.lies stands) in
     subst (λ (rows : List (List ℤ)). Counted (map words.Fields rows) (scan_limit 64 plan t c.args.range None c.args.range.low) (least_reads plan t c.args.range None) (g.K.Sink.written c.args.out.now) (g.K.Sink.written c.list_projected.new.out)
     (g.F.Flash.state c.args.flash.now).media.faults (g.F.Flash.state c.list_projected.new.flash).media.faults (g.F.Flash.state c.args.flash.now).work.reads (g.F.Flash.state c.list_projected.new.flash).work.reads c.list_projected.result)

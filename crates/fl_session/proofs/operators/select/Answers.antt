@@ -26,8 +26,8 @@ pub list_selected-requires : goal.list_selected-requires
 list_selected-requires g c =
     let cursor : c.new-rows.result.rows ≡ c.begin-cursor.result = c.new-rows.ensures.rows in
     record {
-      ready = subst (λ (k : Cursor). IsReady k (contents_of (g.F.Flash.state c.args.flash.now))) (sym cursor) (c.begin-cursor.ensures.ready (g.F.Flash.state c.args.flash.now) c.requires.lies c.requires.room.0 c.requires.room.1);
-      columns = c.columns.ensures.exact ∙ ap (λ (t : Table). length (layout_in t).columns) (sym (ap table_of cursor ∙ c.begin-cursor.ensures.table));
+      ready = subst (λ (k : Cursor 64 64). IsReady k (contents_of (g.F.Flash.state c.args.flash.now))) (sym cursor) (c.begin-cursor.ensures.ready (g.F.Flash.state c.args.flash.now) c.requires.lies c.requires.room.0 c.requires.room.1);
+      columns = c.columns.ensures.exact ∙ ap (λ (t : Table 64 64). length (layout_in t).columns) (sym (ap table_of cursor ∙ c.begin-cursor.ensures.table));
       few = c.columns.ensures.few;
     }
 
@@ -41,9 +41,9 @@ returns-clause-counted g c = λ first plan t tells on stands.
     let reaches = g.met.F.Flash.reaches c.args.flash.now in
     let standing : IsStanding c.args.table.now (contents_of (g.F.Flash.state c.args.flash.now)) =
     record { flash = g.F.Flash.state c.args.flash.now; same = refl; tells = tells; reaches = g.met.F.Flash.reaches c.args.flash.now; lies = c.requires.lies; first = first; plan = plan; table = t; stands = stands } in
-    let told = subst (λ (k : Cursor). IsTold k (contents_of (g.F.Flash.state c.args.flash.now))) (sym cursor) (c.begin-cursor.ensures.told held standing) in
+    let told = subst (λ (k : Cursor 64 64). IsTold k (contents_of (g.F.Flash.state c.args.flash.now))) (sym cursor) (c.begin-cursor.ensures.told held standing) in
     let left : left_of c.new-rows.result.rows (contents_of (g.F.Flash.state c.args.flash.now)) ≡ map stored_row (selected c.args.range None t.entries) =
-    ap (λ (k : Cursor). left_of k (contents_of (g.F.Flash.state c.args.flash.now))) cursor
+    ap (λ (k : Cursor 64 64). left_of k (contents_of (g.F.Flash.state c.args.flash.now))) cursor
     ∙ c.begin-cursor.ensures.left (g.F.Flash.state c.args.flash.now) first plan t tells (g.met.F.Flash.reaches c.args.flash.now) c.requires.lies stands in
     let few : length (left_of c.new-rows.result.rows (contents_of (g.F.Flash.state c.args.flash.now))) < 2 ^ 63 =
     omega (arith, ap (λ (xs : List Row). length xs) left, few-asked c.args.table.now (g.F.Flash.state c.args.flash.now) first plan t c.args.range stands) in
@@ -53,9 +53,9 @@ returns-clause-counted g c = λ first plan t tells on stands.
     let lines = ap (λ (k : Comparison). map (row_reply c.has_blobs-blobs.result) (filter (row_passes k) (left_of c.new-rows.result.rows (contents_of (g.F.Flash.state c.args.flash.now))))) asked
     ∙ (ap (λ (xs : List Row). map (row_reply c.has_blobs-blobs.result) (filter (row_passes (record { column = c.args.comparison.column; op = c.args.comparison.op; value = c.args.comparison.value })) xs)) left
     ∙ selected-lines plan c.has_blobs-blobs.result (record { column = c.args.comparison.column; op = c.args.comparison.op; value = c.args.comparison.value }) (selected c.args.range None t.entries) (c.has_blobs-blobs.ensures ∙ blobs-as c.args.table.now (g.F.Flash.state c.args.flash.now) first plan t stands)) in
-    let limit = subst (λ (k : Cursor). most_of k (contents_of (g.F.Flash.state c.args.flash.now)) ≤ scan_limit 64 plan t c.args.range None c.args.range.low) (sym cursor)
+    let limit = subst (λ (k : Cursor 64 64). most_of k (contents_of (g.F.Flash.state c.args.flash.now)) ≤ scan_limit 64 plan t c.args.range None c.args.range.low) (sym cursor)
     (c.begin-cursor.ensures.limit (g.F.Flash.state c.args.flash.now) first plan t tells reaches c.requires.lies stands) in
-    let least = subst (λ (k : Cursor). least_reads plan t c.args.range None ≤ least_of k (contents_of (g.F.Flash.state c.args.flash.now))) (sym cursor)
+    let least = subst (λ (k : Cursor 64 64). least_reads plan t c.args.range None ≤ least_of k (contents_of (g.F.Flash.state c.args.flash.now))) (sym cursor)
     (c.begin-cursor.ensures.least (g.F.Flash.state c.args.flash.now) first plan t tells reaches c.requires.lies stands) in
     subst (λ (l : List Reply). Counted l (scan_limit 64 plan t c.args.range None c.args.range.low) (least_reads plan t c.args.range None) (g.K.Sink.written c.args.out.now) (g.K.Sink.written c.list_selected.new.out)
     (g.F.Flash.state c.args.flash.now).media.faults (g.F.Flash.state c.list_selected.new.flash).media.faults (g.F.Flash.state c.args.flash.now).work.reads (g.F.Flash.state c.list_selected.new.flash).work.reads c.list_selected.result) lines

@@ -1,15 +1,15 @@
-use Rattle.std.proofs.Common.{rules, ◌≡◌, ◌%◌, ◌==◌, cond, length, length-set, ◌+◌, ◌-◌, suc, IsTrue, arith, sym, ◌∙◌, ap, subst, refl}
+use Rattle.std.proofs.Common.{rules, None, ◌<◌, ◌≡◌, ◌%◌, ◌==◌, cond, length, length-set, ◌+◌, ◌-◌, suc, IsTrue, arith, sym, ◌∙◌, ap, subst, refl}
 use Rattle.std.proofs.lemmas.Result.{err_from_is_err_and}
 use Rattle.fl_flash.specs.Flash.{page_at}
 use Rattle.fl_ring.specs.Looking.{OnlyReads}
 use Rattle.fl_ring.specs.Place.{next_of, oldest_of}
 use Rattle.fl_schema.specs.Schema.{layout_of}
 use Rattle.fl_find.specs.Index.{IndexOf}
-use Rattle.fl_table.specs.Reading.{pages_of, points_after, IsRefused, AreRefused, AreNoted, bitmap_on}
+use Rattle.fl_table.specs.Reading.{pages_of, points_after, rows_after, voids_after, last_after, ends_after, IsRefused, AreRead, AreRefused, AreNoted, GatherUpTo, bitmap_on}
 use Rattle.fl_table.proofs.Gathering.{gathers-none, gather-first, gather-room, gathers-more, gather-more}
-use Rattle.fl_table.proofs.Indexing.{plan-then, ring-then}
+use Rattle.fl_table.proofs.Indexing.{plan-same, plan-then, ring-same, ring-then}
 use Rattle.fl_ring.proofs.Exists.{page_exists}
-use Rattle.fl_ring.proofs.Readings.{more_reads, told_still, same_page}
+use Rattle.fl_ring.proofs.Readings.{no_reads, more_reads, told_still, same_page}
 use Rattle.fl_table.proofs.PagesRead.{if-page, read-more, last-more, ends-more, rows-more, voids-more, noted-more, points-more, refused-at, is-void, not-void, voids_few}
 use Rattle.fl_table.specs.declared.counts.Mounted.{Mounted}
 use Rattle.fl_table.proofs.reading.read_pages.Goals as goal
@@ -104,3 +104,48 @@ loop-number-preserved g c =
 pub note_bitmap-requires-clause-room : goal.note_bitmap-requires-clause-room
 note_bitmap-requires-clause-room g c = λ end.
     gather-room c.args.bitmaps.now c.loop-number.bitmaps (oldest_of c.args.ring.now) (next_of c.args.ring.now) c.loop-number.number c.requires.bitmaps (search (rules, arith)) c.loop-number.invariant.same c.loop-number.invariant.gathered end
+
+pub loop-number-init : goal.loop-number-init
+loop-number-init g c =
+    let old = g.F.Flash.state c.args.flash.now in
+    let ring = c.args.ring.now in
+    let layout = layout_of c.args.schema.now in
+    let pages = pages_of ring old in
+    let first = oldest_of ring in
+    let none : c.oldest-oldest.result - oldest_of c.args.ring.now ≡ 0 = omega (arith, c.oldest-oldest.ensures) in
+    record {
+      from = omega (arith, c.oldest-oldest.ensures);
+      reads = subst (λ k. OnlyReads old k old) (sym none) (no_reads old);
+      room = refl;
+      none = c.requires.none;
+      counts = refl;
+      same = plan-same c.args.bitmaps.now;
+      still = ring-same c.args.bitmaps.now;
+      gathered = gathers-none c.args.bitmaps.now first (next_of ring) c.oldest-oldest.result c.oldest-oldest.ensures c.requires.bitmaps;
+      waits = λ told. gather-first c.args.bitmaps.now first (next_of ring) c.oldest-oldest.result pages c.oldest-oldest.ensures c.requires.bitmaps;
+      error = refl;
+      index = λ told error empty. subst (λ k. IndexOf error (points_after layout pages first k) c.args.index.now) (sym none) empty;
+      read = λ told. subst (λ k. AreRead layout pages first k) (sym none) tt;
+      noted = λ fits told. subst (λ k. AreNoted layout pages first k c.args.counts.now) (sym none) (λ i lt. absurd (omega (arith, lt)));
+      last = λ told. subst (λ k. None ≡ last_after layout pages first k) (sym none) refl;
+      blob_end = λ told. subst (λ k. 0 ≡ ends_after layout pages first k) (sym none) refl;
+      pages = omega (arith, c.oldest-oldest.ensures, c.next_number-next.ensures);
+      rows = λ told. subst (λ k. 0 ≡ rows_after layout pages first k) (sym none) refl;
+      voids = λ told. subst (λ k. 0 ≡ voids_after layout pages first k) (sym none) refl;
+      rows_few = omega arith;
+      voids_few = omega arith;
+    }
+
+pub returns-clause-waits : goal.returns-clause-waits
+returns-clause-waits g c = λ told.
+    let old = g.F.Flash.state c.args.flash.now in
+    let ring = c.args.ring.now in
+    let last : c.loop-number.number ≡ next_of ring = search (rules, arith) in
+    subst (λ n. GatherUpTo c.args.bitmaps.now (pages_of ring old) n c.loop-number.bitmaps) last (c.loop-number.invariant.waits told)
+
+pub returns-clause-noted : goal.returns-clause-noted
+returns-clause-noted g c = λ fits told.
+    let old = g.F.Flash.state c.args.flash.now in
+    let ring = c.args.ring.now in
+    let last : c.loop-number.number - oldest_of ring ≡ next_of ring - oldest_of ring = search (rules, arith) in
+    subst (λ n. AreNoted (layout_of c.args.schema.now) (pages_of ring old) (oldest_of ring) n c.loop-number.counts) last (c.loop-number.invariant.noted (omega (arith, fits, last)) told)

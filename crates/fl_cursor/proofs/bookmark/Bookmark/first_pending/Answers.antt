@@ -6,18 +6,18 @@ use Rattle.fl_cursor.proofs.Searching.{first-taken, first-last, first-next}
 use Rattle.fl_cursor.proofs.bookmark.Bookmark.first_pending.Goals as goal
 
 pub returns-then-wants : goal.returns-then-wants
-returns-then-wants c =
+returns-then-wants g c =
     let left : is_left (asked_by c.args.self.now) (row_of c.pending_row-row.result) ≡ true = search rules in
     sym (c.loop-i.invariant ∙ first-taken (asked_by c.args.self.now) (buffered_rows c.args.table.now) c.loop-i.i (row_of c.pending_row-row.result) c.pending_row-row.ensures.row left)
 
 pub returns-then-is_last : goal.returns-then-is_last
-returns-then-is_last c =
+returns-then-is_last g c =
     let left : is_left (asked_by c.args.self.now) (row_of c.pending_row-row.result) ≡ false = search rules in
     let last : is_last c.args.self.now.top (row_of c.pending_row-row.result).key ≡ true = search rules in
     sym (c.loop-i.invariant ∙ first-last (asked_by c.args.self.now) (buffered_rows c.args.table.now) c.loop-i.i (row_of c.pending_row-row.result) c.pending_row-row.ensures.row left last)
 
 pub loop-i-preserved : goal.loop-i-preserved
-loop-i-preserved c =
+loop-i-preserved g c =
     let left : is_left (asked_by c.args.self.now) (row_of c.pending_row-row.result) ≡ false = search rules in
     let last : is_last c.args.self.now.top (row_of c.pending_row-row.result).key ≡ false = search rules in
     c.loop-i.invariant ∙ first-next (asked_by c.args.self.now) (buffered_rows c.args.table.now) c.loop-i.i (row_of c.pending_row-row.result) c.pending_row-row.ensures.row left last

@@ -21,10 +21,11 @@ returns-in_err-find_start-clause-fails g c =
     let p = err_from_is_err_and c.from_residual.result c.from_residual.ensures.1 in
     rw p.1 (fails-then held reads reads (g.F.Flash.state c.find_start.new.flash).work.reads c.args.self.now _ c.find_start.new.self (goes-nowhere c.args.self.now held reads) c.in_err-find_start.ensures.fails)
 
-pub step_in_page-requires-clause-placed : goal.step_in_page-requires-clause-placed
-step_in_page-requires-clause-placed g c =
+pub step_in_page-requires : goal.step_in_page-requires
+step_in_page-requires g c =
     let held = contents_of (g.F.Flash.state c.args.flash.now) in
-    (c.in_ok-find_start.ensures.goes.ready held ((goes-nowhere c.args.self.now held 0).ready held c.requires)).placed
+    let ready = c.in_ok-find_start.ensures.goes.ready held ((goes-nowhere c.args.self.now held 0).ready held c.requires) in
+    (search rules, (ready.placed, (c.in_ok-find_start.ensures.begun, (search (rules, arith), search (rules, arith)))))
 
 pub returns-then-step_in_page-clause-here : goal.returns-then-step_in_page-clause-here
 returns-then-step_in_page-clause-here g c = (c.if-step_in_page.ensures.goes (contents_of (g.F.Flash.state c.args.flash.now)) 0).notes.2
@@ -39,11 +40,12 @@ returns-then-step_in_page-clause-goes g c =
     (c.if-step_in_page.ensures.goes held mid)
 
 pub end_of_pages-end-requires : goal.end_of_pages-end-requires
-end_of_pages-end-requires g c = record {
-  next = c.next_number-next_number.ensures.exact
-      ∙ (ap (λ (t : Bor Table). next_in t.now) (sym c.in_ok-find_start.ensures.goes.keeps.table)
-      ∙ ap (λ (t : Bor Table). next_in t.now) (sym (c.if-step_in_page.ensures.goes (contents_of (g.F.Flash.state c.args.flash.now)) 0).keeps.table));
-}
+end_of_pages-end-requires g c = (
+  search rules,
+  c.next_number-next_number.ensures.exact
+      ∙ (ap (λ (t : Bor (Table g.row.KNOTS g.row.SLOTS)). next_in t.now) (sym c.in_ok-find_start.ensures.goes.keeps.table)
+      ∙ ap (λ (t : Bor (Table g.row.KNOTS g.row.SLOTS)). next_in t.now) (sym (c.if-step_in_page.ensures.goes (contents_of (g.F.Flash.state c.args.flash.now)) 0).keeps.table)),
+)
 
 pub loop-self-init : goal.loop-self-init
 loop-self-init g c =
@@ -53,8 +55,8 @@ loop-self-init g c =
     let small : c.next_number-next_number.result < 2 ^ 32 = search rules in
     let is : c.next_number-next_number.result ≡ next_in c.step_in_page.new.self.table.now =
     c.next_number-next_number.ensures.exact
-    ∙ (ap (λ (t : Bor Table). next_in t.now) (sym c.in_ok-find_start.ensures.goes.keeps.table)
-    ∙ ap (λ (t : Bor Table). next_in t.now) (sym (c.if-step_in_page.ensures.goes held mid).keeps.table)) in
+    ∙ (ap (λ (t : Bor (Table g.row.KNOTS g.row.SLOTS)). next_in t.now) (sym c.in_ok-find_start.ensures.goes.keeps.table)
+    ∙ ap (λ (t : Bor (Table g.row.KNOTS g.row.SLOTS)). next_in t.now) (sym (c.if-step_in_page.ensures.goes held mid).keeps.table)) in
     record {
       reads_only = c.find_start.ensures.reads_only;
       goes = goes-then false held reads mid mid c.args.self.now c.find_start.new.self c.step_in_page.new.self
@@ -69,9 +71,6 @@ loop-self-init g c =
       end = search rules;
     }
 
-pub step_in_page-requires-in-Pages-clause-few : goal.step_in_page-requires-in-Pages-clause-few
-step_in_page-requires-in-Pages-clause-few g c = subst (λ (t : Bor Table). next_in t.now < 2 ^ 32) (sym c.in_ok-read_page.ensures.goes.keeps.table) c.loop-self.invariant.few
-
 pub returns-in_err-read_page-clause-reads_only : goal.returns-in_err-read_page-clause-reads_only
 returns-in_err-read_page-clause-reads_only g c = OnlyReads-then _ _ _ c.loop-self.invariant.reads_only c.read_page.ensures.reads_only
 
@@ -82,10 +81,22 @@ returns-in_err-read_page-clause-fails g c =
     rw p.1 (fails-then held (g.F.Flash.state c.args.flash.now).work.reads (g.F.Flash.state c.loop-self.flash).work.reads (g.F.Flash.state c.read_page.new.flash).work.reads c.args.self.now c.loop-self.self c.read_page.new.self c.loop-self.invariant.goes
     (subst (λ (k : Contents). Fails k (g.F.Flash.state c.loop-self.flash).work.reads c.loop-self.self (g.F.Flash.state c.read_page.new.flash).work.reads c.read_page.new.self) c.loop-self.invariant.reads_only.contents c.in_err-read_page.ensures.fails))
 
-pub step_in_page-requires-in-Pages-clause-placed : goal.step_in_page-requires-in-Pages-clause-placed
-step_in_page-requires-in-Pages-clause-placed g c =
+pub step_in_page-requires-in-Pages : goal.step_in_page-requires-in-Pages
+step_in_page-requires-in-Pages g c =
     let held = contents_of (g.F.Flash.state c.args.flash.now) in
-    (c.in_ok-read_page.ensures.goes.ready held (c.loop-self.invariant.goes.ready held c.requires)).placed
+    let ready = c.in_ok-read_page.ensures.goes.ready held (c.loop-self.invariant.goes.ready held c.requires) in (
+      search rules,
+      (
+        ready.placed,
+        (
+          c.read_page.ensures.begun,
+          (
+            search (rules, arith),
+            subst (λ (t : Bor (Table g.row.KNOTS g.row.SLOTS)). next_in t.now < 2 ^ 32) (sym c.in_ok-read_page.ensures.goes.keeps.table) c.loop-self.invariant.few,
+          ),
+        ),
+      ),
+    )
 
 pub returns-then-step_in_page-2-clause-reads_only : goal.returns-then-step_in_page-2-clause-reads_only
 returns-then-step_in_page-2-clause-reads_only g c = OnlyReads-then _ _ _ c.loop-self.invariant.reads_only c.read_page.ensures.reads_only
@@ -110,9 +121,9 @@ loop-self-smaller g c =
     let second = c.step_in_page-in-Pages.ensures.fewer in
     let table = c.in_ok-read_page.ensures.goes.keeps.table in
     let table_then = (c.if-step_in_page-2.ensures.goes held 0).keeps.table in
-    let same = ap (λ (t : Bor Table). pages_left t.now c.step_in_page-in-Pages.new.self.place) table_then in
-    let same_first = ap (λ (t : Bor Table). pages_left t.now c.step_in_page-in-Pages.new.self.place) table in
-    let same_second = ap (λ (t : Bor Table). pages_left t.now c.read_page.new.self.place) table in
+    let same = ap (λ (t : Bor (Table g.row.KNOTS g.row.SLOTS)). pages_left t.now c.step_in_page-in-Pages.new.self.place) table_then in
+    let same_first = ap (λ (t : Bor (Table g.row.KNOTS g.row.SLOTS)). pages_left t.now c.step_in_page-in-Pages.new.self.place) table in
+    let same_second = ap (λ (t : Bor (Table g.row.KNOTS g.row.SLOTS)). pages_left t.now c.read_page.new.self.place) table in
     omega (arith, first, second, same, same_first, same_second)
 
 pub loop-self-preserved : goal.loop-self-preserved
@@ -131,8 +142,8 @@ loop-self-preserved g c =
       outside = c.if-step_in_page-2.ensures.outside;
       ended = λ e. absurd (no (sym (c.loop-self.invariant.ended e).0 ∙ ap is_end c.in-Pages.is));
       behind = λ past. absurd (no (sym (ap is_at_pages c.in-Pages.is) ∙ (c.loop-self.invariant.behind past).0));
-      few = subst (λ (t : Bor Table). next_in t.now < 2 ^ 32) (sym (c.if-step_in_page-2.ensures.goes held now).keeps.table)
-          (subst (λ (t : Bor Table). next_in t.now < 2 ^ 32) (sym page.keeps.table) c.loop-self.invariant.few);
+      few = subst (λ (t : Bor (Table g.row.KNOTS g.row.SLOTS)). next_in t.now < 2 ^ 32) (sym (c.if-step_in_page-2.ensures.goes held now).keeps.table)
+          (subst (λ (t : Bor (Table g.row.KNOTS g.row.SLOTS)). next_in t.now < 2 ^ 32) (sym page.keeps.table) c.loop-self.invariant.few);
       end = ends-kept c.read_page.new.self c.step_in_page-in-Pages.new.self c.end_of_pages-end.result (c.if-step_in_page-2.ensures.goes held now).keeps (c.if-step_in_page-2.ensures.goes held now).notes
           (ends-kept c.loop-self.self c.read_page.new.self c.end_of_pages-end.result page.keeps page.notes c.loop-self.invariant.end);
     }
@@ -140,10 +151,7 @@ loop-self-preserved g c =
 pub step_pending-requires : goal.step_pending-requires
 step_pending-requires g c =
     let held = contents_of (g.F.Flash.state c.args.flash.now) in
-    record {
-      placed = (c.loop-self.invariant.goes.ready held c.requires).placed;
-      behind = behind-pages c.loop-self.self.place c.loop-self.invariant.begun c.loop-self.invariant.outside c.in_default.not-Pages;
-    }
+    (search rules, ((c.loop-self.invariant.goes.ready held c.requires).placed, behind-pages c.loop-self.self.place c.loop-self.invariant.begun c.loop-self.invariant.outside c.in_default.not-Pages))
 
 pub returns : goal.returns
 returns g c =

@@ -1,4 +1,4 @@
-use Rattle.std.proofs.Common.{◌≡◌, ◌≤◌, ℕ, Option, None, map, filter, refl, sym, ◌∙◌, ap, subst}
+use Rattle.std.proofs.Common.{◌≡◌, ◌≤◌, ℕ, Option, None, length, map, filter, refl, sym, ◌∙◌, ap, subst}
 use Rattle.fl_flash.specs.Buffer.{BufferState}
 use Rattle.fl_model.specs.Limits.{least_reads}
 use Rattle.fl_model.specs.Query as query
@@ -18,30 +18,37 @@ use Rattle.fl_cursor.proofs.Stood.{standing-rows, standing-ascends, left-entries
 use Rattle.fl_cursor.proofs.cursor.Cursor.begin.Goals as goal
 
 pub returns-clause-left : goal.returns-clause-left
-returns-clause-left c = λ f first plan t tells reaches lies stands.
+returns-clause-left g c = λ f first plan t tells reaches lies stands.
     let range = c.args.range in
     let span = c.args.span in
     let h : IsStanding c.args.table.now (contents_of f) = record { flash = f; same = refl; tells = tells; reaches = reaches; lies = lies; first = first; plan = plan; table = t; stands = stands } in
     let asked : asked_of c.resume.result ≡ query.begin c.args.range c.args.span t =
     ap asked_by c.resume.ensures.mark ∙ ap (λ (top : Option ℕ). record { range = c.args.range; span = c.args.span; after = None; top = top }) (c.last_wanted-top.ensures.stands f first plan t stands) in
     ap (λ (a : query.Cursor). filter (is_left a) (rows_of (table_of c.resume.result) (contents_of f))) asked
-    ∙ (ap (λ (tb : Table). filter (is_left (query.begin c.args.range c.args.span t)) (rows_of tb (contents_of f))) c.resume.ensures.table
+    ∙ (ap (λ (tb : Table g.row.KNOTS g.row.SLOTS). filter (is_left (query.begin c.args.range c.args.span t)) (rows_of tb (contents_of f))) c.resume.ensures.table
     ∙ (ap (filter (is_left (query.begin c.args.range c.args.span t))) (standing-rows c.args.table.now (contents_of f) h)
     ∙ (left-entries (query.begin c.args.range c.args.span t) t.entries
     ∙ ap (map stored_row) (begins-selected range span t (subst (Ascends None) (standing-rows c.args.table.now (contents_of f) h) (standing-ascends c.args.table.now (contents_of f) h))))))
 
 pub returns-clause-limit : goal.returns-clause-limit
-returns-clause-limit c = λ f first plan t tells reaches lies stands.
+returns-clause-limit g c = λ f first plan t tells reaches lies stands.
     c.resume.ensures.limit f first plan t tells reaches lies stands
     (subst (λ (top : Option ℕ). IsBounded top c.args.range.high) (sym c.last_wanted-top.ensures.exact) (bounded-min c.args.range.high (last_key_in c.args.table.now)))
 
 pub returns-clause-least : goal.returns-clause-least
-returns-clause-least c = λ f first plan t tells reaches lies stands.
+returns-clause-least g c = λ f first plan t tells reaches lies stands.
     let h : IsStanding c.args.table.now (contents_of f) = record { flash = f; same = refl; tells = tells; reaches = reaches; lies = lies; first = first; plan = plan; table = t; stands = stands } in
     let asked : asked_of c.resume.result ≡ query.begin c.args.range c.args.span t =
     ap asked_by c.resume.ensures.mark ∙ ap (λ (top : Option ℕ). record { range = c.args.range; span = c.args.span; after = None; top = top }) (c.last_wanted-top.ensures.stands f first plan t stands) in
     let begun : IsBegun (query.begin c.args.range c.args.span t) c.args.table.now (place_of c.resume.result) =
     subst (λ (a : query.Cursor). IsBegun a c.args.table.now (place_of c.resume.result)) (sym (ap asked_by c.resume.ensures.mark) ∙ asked) c.resume.ensures.begun in
     subst (λ (a : query.Cursor). least_reads plan t c.args.range c.args.span ≤ least_from (table_of c.resume.result) (contents_of f) a (index_page c.resume.result) (place_of c.resume.result)) (sym asked)
-    (subst (λ (tb : Table). least_reads plan t c.args.range c.args.span ≤ least_from tb (contents_of f) (query.begin c.args.range c.args.span t) (index_page c.resume.result) (place_of c.resume.result)) (sym c.resume.ensures.table)
+    (subst (λ (tb : Table g.row.KNOTS g.row.SLOTS). least_reads plan t c.args.range c.args.span ≤ least_from tb (contents_of f) (query.begin c.args.range c.args.span t) (index_page c.resume.result) (place_of c.resume.result)) (sym c.resume.ensures.table)
     (begun-least c.args.table.now (contents_of f) h c.args.range c.args.span (index_page c.resume.result) (place_of c.resume.result) (ap (λ (b : BufferState). b.holds) c.resume.ensures.index_forget) begun))
+
+pub returns-clause-model : goal.returns-clause-model
+returns-clause-model g c = λ f first plan t stands.
+    ap asked_by c.resume.ensures.mark ∙ ap (λ (top : Option ℕ). record { range = c.args.range; span = c.args.span; after = None; top = top }) (c.last_wanted-top.ensures.stands f first plan t stands)
+
+pub returns-clause-ready : goal.returns-clause-ready
+returns-clause-ready g c = λ f lies rows index. c.resume.ensures.ready f lies (ap (λ (b : BufferState). length b.bytes) c.forget.ensures ∙ rows) index

@@ -9,7 +9,7 @@ use Rattle.fl_cursor.proofs.Stood.{standing-ascends}
 use Rattle.fl_cursor.proofs.cursor.Cursor.resume.Goals as goal
 
 pub returns-clause-ready : goal.returns-clause-ready
-returns-clause-ready c = λ f lies rows_room index_room. record {
+returns-clause-ready g c = λ f lies rows_room index_room. record {
   flash = f;
   same = refl;
   lies = lies;
@@ -20,7 +20,7 @@ returns-clause-ready c = λ f lies rows_room index_room. record {
 }
 
 pub returns-clause-told : goal.returns-clause-told
-returns-clause-told c = λ contents standing. record {
+returns-clause-told g c = λ contents standing. record {
   standing = standing;
   ascends = standing-ascends c.args.table.now contents standing;
   passes = c.first_place.ensures.passes contents c.args.rows_buf.now.bytes standing;
@@ -29,6 +29,6 @@ returns-clause-told c = λ contents standing. record {
 }
 
 pub returns-clause-limit : goal.returns-clause-limit
-returns-clause-limit c = λ f first plan t tells reaches lies stands bounded.
+returns-clause-limit g c = λ f first plan t tells reaches lies stands bounded.
     let h : IsStanding c.args.table.now (contents_of f) = record { flash = f; same = refl; tells = tells; reaches = reaches; lies = lies; first = first; plan = plan; table = t; stands = stands } in
     begun-limit c.args.table.now (contents_of f) h (asked_by c.args.mark) c.forget.new.self c.args.rows_buf.now.bytes c.first_place.result (ap (λ (b : BufferState). b.holds) c.forget.ensures) bounded c.first_place.ensures.begun

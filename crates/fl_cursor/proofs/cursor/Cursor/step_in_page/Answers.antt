@@ -20,7 +20,7 @@ use Rattle.fl_cursor.proofs.Walks.{found-within}
 use Rattle.fl_cursor.proofs.cursor.Cursor.step_in_page.Goals as goal
 
 pub first_in_page-requires-clause-within : goal.first_in_page-requires-clause-within
-first_in_page-requires-clause-within c =
+first_in_page-requires-clause-within g c =
     let t = c.args.self.now.table.now in
     let page = c.args.self.now.rows_buf.now.bytes in
     let view = c.view-view.result in
@@ -29,20 +29,20 @@ first_in_page-requires-clause-within c =
     omega (arith, placed.3, many, length-rows_from (count_of view) (layout_of_page view) (drop 16 (page_of view)), length-rows_from (page_count page) (layout_in t) (drop 16 page))
 
 pub row-requires : goal.row-requires
-row-requires c =
+row-requires g c =
     let view = c.view-view.result in
     let sought : At c.in-Row.row ≡ first_left (asked_by c.args.self.now.mark) (drop c.in-InPage.row (rows_of view)) c.in-InPage.row = sym c.in-Row.is ∙ c.first_in_page.ensures in
     let within = found-within (asked_by c.args.self.now.mark) (rows_of view) c.in-InPage.row c.in-Row.row sought in
     (omega arith, omega (arith, within, length-rows_from (count_of view) (layout_of_page view) (drop 16 (page_of view))))
 
 pub overflow_add-self : goal.overflow_add-self
-overflow_add-self c =
+overflow_add-self g c =
     let placed = subst (IsPlaced c.args.self.now.table.now c.args.self.now.rows_buf.now.bytes) c.in-InPage.is c.requires.placed in
     omega (arith, placed.1, c.requires.few)
 
 pub returns-in-Row-clause-goes : goal.returns-in-Row-clause-goes
-returns-in-Row-clause-goes c = λ contents reads.
-    let old : Cursor = c.args.self.now in
+returns-in-Row-clause-goes g c = λ contents reads.
+    let old : Cursor g.row.KNOTS g.row.SLOTS = c.args.self.now in
     let t = c.args.self.now.table.now in
     let page = c.args.self.now.rows_buf.now.bytes in
     let placed = subst (IsPlaced t page) c.in-InPage.is c.requires.placed in
@@ -53,12 +53,12 @@ returns-in-Row-clause-goes c = λ contents reads.
     let key : c.key-key.result ≡ found.key = search rules in
     let fits : c.key-key.result < 2 ^ 64 = search rules in
     let small : found.key < 2 ^ 64 = omega (arith, fits, key) in
-    subst (λ (new : Cursor). Goes true contents reads old reads new)
+    subst (λ (new : Cursor g.row.KNOTS g.row.SLOTS). Goes true contents reads old reads new)
     (sym (c.take.ensures ∙ ap (λ k. took k (PageRow c.in-InPage.number c.in-Row.row) (InPage c.in-InPage.number (c.in-Row.row + 1)) old) key))
     (page-taken old c.in-InPage.number c.in-InPage.row c.in-InPage.is placed contents reads c.requires.short c.in-Row.row found here sought small)
 
 pub returns-in-Behind-clause-goes : goal.returns-in-Behind-clause-goes
-returns-in-Behind-clause-goes c = λ contents reads.
+returns-in-Behind-clause-goes g c = λ contents reads.
     let t = c.args.self.now.table.now in
     let page = c.args.self.now.rows_buf.now.bytes in
     let placed = subst (IsPlaced t page) c.in-InPage.is c.requires.placed in
@@ -67,7 +67,7 @@ returns-in-Behind-clause-goes c = λ contents reads.
     page-behind c.args.self.now c.in-InPage.number c.in-InPage.row c.in-InPage.is placed contents reads sought
 
 pub returns-in-Nowhere-clause-goes : goal.returns-in-Nowhere-clause-goes
-returns-in-Nowhere-clause-goes c = λ contents reads.
+returns-in-Nowhere-clause-goes g c = λ contents reads.
     let t = c.args.self.now.table.now in
     let page = c.args.self.now.rows_buf.now.bytes in
     let placed = subst (IsPlaced t page) c.in-InPage.is c.requires.placed in

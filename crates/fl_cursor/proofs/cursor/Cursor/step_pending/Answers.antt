@@ -13,31 +13,31 @@ use Rattle.fl_cursor.proofs.Walks.{found-within}
 use Rattle.fl_cursor.proofs.cursor.Cursor.step_pending.Goals as goal
 
 pub pending_row-requires : goal.pending_row-requires
-pending_row-requires c =
+pending_row-requires g c =
     let t = c.args.self.now.table.now in
     let sought : At c.in-Row.row ≡ first_left (asked_by c.args.self.now.mark) (drop c.in-Pending.row (buffered_rows t)) c.in-Pending.row = sym c.in-Row.is ∙ c.first_pending.ensures in
     let within = found-within (asked_by c.args.self.now.mark) (buffered_rows t) c.in-Pending.row c.in-Row.row sought in
-    record { within = omega (arith, within, length-buffered t) }
+    (search rules, omega (arith, within, length-buffered t))
 
 pub returns-in-Row-clause-goes : goal.returns-in-Row-clause-goes
-returns-in-Row-clause-goes c = λ contents reads.
-    let old : Cursor = c.args.self.now in
+returns-in-Row-clause-goes g c = λ contents reads.
+    let old : Cursor g.row.KNOTS g.row.SLOTS = c.args.self.now in
     let t = c.args.self.now.table.now in
     let found = row_of c.pending_row.result in
     let sought : At c.in-Row.row ≡ first_left (asked_by c.args.self.now.mark) (drop c.in-Pending.row (buffered_rows t)) c.in-Pending.row = sym c.in-Row.is ∙ c.first_pending.ensures in
     let key : c.key-key.result ≡ found.key = search rules in
     let fits : c.key-key.result < 2 ^ 64 = search rules in
     let small : found.key < 2 ^ 64 = omega (arith, fits, key) in
-    subst (λ (new : Cursor). Goes true contents reads old reads new)
+    subst (λ (new : Cursor g.row.KNOTS g.row.SLOTS). Goes true contents reads old reads new)
     (sym (c.take.ensures ∙ ap (λ k. took k (PendingRow c.in-Row.row) (Pending (c.in-Row.row + 1)) old) key))
     (pending-taken old c.in-Pending.row c.in-Pending.is contents reads c.in-Row.row found c.pending_row.ensures.row sought small)
 
 pub overflow_add-row : goal.overflow_add-row
-overflow_add-row c =
+overflow_add-row g c =
     let sought : At c.in-Row.row ≡ first_left (asked_by c.args.self.now.mark) (drop c.in-Pending.row (buffered_rows c.args.self.now.table.now)) c.in-Pending.row = sym c.in-Row.is ∙ c.first_pending.ensures in
     let within = found-within (asked_by c.args.self.now.mark) (buffered_rows c.args.self.now.table.now) c.in-Pending.row c.in-Row.row sought in
     omega (arith, within, length-buffered c.args.self.now.table.now, few-pending c.args.self.now.table.now)
 
 pub returns-in-Behind-clause-goes : goal.returns-in-Behind-clause-goes
-returns-in-Behind-clause-goes c = λ contents reads.
+returns-in-Behind-clause-goes g c = λ contents reads.
     pending-ends c.args.self.now c.in-Pending.row c.in-Pending.is contents reads c.in-Behind.is c.first_pending.ensures

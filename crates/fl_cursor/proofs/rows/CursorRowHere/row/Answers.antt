@@ -10,7 +10,7 @@ use Rattle.fl_cursor.specs.Cursor.{is_good, is_here_at}
 use Rattle.fl_cursor.proofs.rows.CursorRowHere.row.Goals as goal
 
 pub row-requires : goal.row-requires
-row-requires c =
+row-requires g c =
     let t = c.args.self.now.table.now in
     let page = c.args.self.now.rows_buf.now.bytes in
     let view = c.view.result in

@@ -1,4 +1,4 @@
-use Rattle.std.proofs.Common.{◌≡◌, Some}
+use Rattle.std.proofs.Common.{rules, ◌≡◌, Some}
 use Rattle.std.specs.List.{slice_get}
 use Rattle.fl_session.proofs.Calls.{put-call}
 use Rattle.fl_session.proofs.Owning.{reached-here, reached-within}
@@ -15,7 +15,7 @@ index_mut-requires g c = reached-within c.args.self.now.tables.entries.items _ _
 pub put-outcome-requires : goal.put-outcome-requires
 put-outcome-requires g c =
     let here : slice_get c.args.self.now.tables.entries.items c.in-Ok.at ≡ Some c.index_mut.result.now = reached-here c.args.self.now.tables.entries.items _ _ c.in-Ok.at c.index_mut.result.now c.in-Ok.ensures c.index_mut.ensures.value in
-    record { lies = c.requires.sound.lie c.in-Ok.at c.index_mut.result.now here }
+    (search rules, c.requires.sound.lie c.in-Ok.at c.index_mut.result.now here)
 
 pub returns-clause-sound : goal.returns-clause-sound
 returns-clause-sound g c =

@@ -1,4 +1,4 @@
-use Rattle.std.proofs.Common.{◌≡◌, ◌+◌, IsTrue, Some, length, refl, sym, ◌∙◌, ap, subst, arith}
+use Rattle.std.proofs.Common.{rules, ◌≡◌, ◌+◌, IsTrue, Some, length, refl, sym, ◌∙◌, ap, subst, arith}
 use Rattle.std.specs.List.{slice_get}
 use Rattle.std.proofs.lemmas.List.{length-set}
 use Rattle.std.proofs.lemmas.Option.{slice_get_within}
@@ -26,11 +26,11 @@ loop-i-init g c = record {
   so_far = λ plans tables rose device told on counts stand risen. mounted-none plans tables rose device c.args.self.now.entries.items (g.F.Flash.state c.args.flash.now) counts on stand;
 }
 
-pub mount-requires-clause-lies : goal.mount-requires-clause-lies
-mount-requires-clause-lies g c =
+pub mount-requires : goal.mount-requires
+mount-requires g c =
     let here : slice_get c.loop-i.self.entries.items c.loop-i.i ≡ Some c.index_mut.result.now =
     item-there c.loop-i.self.entries.items (length c.loop-i.self.entries.items) c.loop-i.i c.index_mut.result.now refl (omega (arith, c.loop-i-test.true, c.len-i-end.ensures, c.args.self.now.entries.ok.0, c.loop-i.invariant.as_many)) c.index_mut.ensures.value in
-    c.loop-i.invariant.lie c.loop-i.i c.index_mut.result.now here
+    (search rules, (c.loop-i.invariant.lie c.loop-i.i c.index_mut.result.now here, c.loop-i.invariant.same_room ∙ (c.requires.room ∙ ap (λ (g : Geometry). g.page) (sym c.loop-i.invariant.goes.geometry))))
 
 pub returns-in-Err-clause-lie : goal.returns-in-Err-clause-lie
 returns-in-Err-clause-lie g c =

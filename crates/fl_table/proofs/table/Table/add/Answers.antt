@@ -1,4 +1,4 @@
-use Rattle.std.proofs.Common.{rules, arith, ◌≡◌, ◌+◌, ◌*◌, ◌%◌, ◌==◌, ℕ, Some, List, [], ◌∷◌, ◌++◌, map, option_map, get_or, count_by, slice_get, sym, ◌∙◌, ap, subst, pos}
+use Rattle.std.proofs.Common.{rules, arith, cond, refl, Bool, true, false, Option, None, ◌≤◌, ◌≡◌, ◌+◌, ◌*◌, ◌%◌, ◌==◌, ℕ, Some, List, [], ◌∷◌, ◌++◌, map, option_map, get_or, count_by, slice_get, sym, ◌∙◌, ap, subst, pos}
 use Rattle.std.proofs.lemmas.Int.{to_z-of_z}
 use Rattle.std.proofs.lemmas.List.{map-append}
 use Rattle.std.proofs.Math.IntN.{ℤ}
@@ -14,17 +14,42 @@ use Rattle.fl_schema.proofs.RoundTrip.{length-bytes_of_row}
 use Rattle.fl_table.specs.Memory.{bitmap_with}
 use Rattle.fl_table.proofs.Writers.{rest-push}
 use Rattle.fl_table.proofs.Putting.{bits-more, last-more, pending-more}
+use Rattle.fl_index.specs.Memory as memory
+use Rattle.fl_index.specs.declared.index.Index.{Index}
+use Rattle.fl_page.specs.WriterState.{WriterState}
+use Rattle.fl_table.specs.Bitmaps.{next_of, next_after}
+use Rattle.fl_table.proofs.Blobbing as blobbing
+use Rattle.fl_table.proofs.Indexing.{plan-same}
+use Rattle.fl_table.proofs.Finds.{next-in}
 use Rattle.fl_table.proofs.table.Table.add.Goals as goal
 
-pub invariant_of-self-clause-blank_rest : goal.invariant_of-self-clause-blank_rest
-invariant_of-self-clause-blank_rest c =
-    let t = c.args.self.now in
-    let row : Row = record { key = c.args.key; values = c.args.values.now; blob = c.args.blob } in
-    rest-push t.writer c.push_row.new.self (bytes_of_row (layout_of t.schema) row) (layout_len (layout_of t.schema)) c.push_row.ensures.exact
-    (length-bytes_of_row t.schema.key (types_of t.schema) t.schema.blobs row c.requires.fits) c.requires.room c.push_row.ensures.size t.blank_rest
+-- one row more
+rows-more : (w v : WriterState) (n : ℕ) → v.count ≡ w.count + 1 → v.end ≡ w.end + n → w.end ≡ 16 + w.count * n → v.end ≡ 16 + v.count * n
+rows-more w v n count end rows = rw count (omega (arith, end, rows))
+
+-- a full list of bitmaps takes one page more
+one-more : (b : Bool) (m n : ℕ) → m ≤ n → m + cond b 1 0 ≤ n + 1
+one-more true m n le = omega (arith, le)
+one-more false m n le = omega (arith, le)
+
+after-next : (bitmaps : Option Index) (n : ℕ) → next_of bitmaps ≤ n → next_after bitmaps ≤ n + 1
+after-next None n le = omega arith
+after-next (Some index) n le = one-more (memory.waiting_in index == memory.per_page index) (memory.next_in index) n le
+
+pub returns-clause-same : goal.returns-clause-same
+returns-clause-same g c = record {
+  geometry = refl;
+  layout = refl;
+  place = refl;
+  buckets = refl;
+  error = refl;
+  bitmaps = plan-same c.args.self.now.bitmaps;
+  blobs = blobbing.plan-same c.args.self.now.blobs;
+  limit = refl;
+}
 
 pub returns-clause-memory : goal.returns-clause-memory
-returns-clause-memory c = λ plan table after entry memory same entries one few buckets row.
+returns-clause-memory g c = λ plan table after entry memory same entries one few buckets row.
     let t = c.args.self.now in
     let this : Row = record { key = c.args.key; values = c.args.values.now; blob = c.args.blob } in
     let pending = pending-more table after entry entries one few in
@@ -49,3 +74,57 @@ returns-clause-memory c = λ plan table after entry memory same entries one few 
       voids = memory.voids ∙ sym (ap (λ (r : rings.Ring). count_by (λ count. count == 0) r.counts) same.rows);
       index = subst (λ (ps : List (ℕ × ℕ)). IndexOf plan.error ps t.index) (sym same.points) memory.index;
     }
+
+pub invariant_of-self : goal.invariant_of-self
+invariant_of-self g c =
+    let t = c.args.self.now in
+    let row : Row = record { key = c.args.key; values = c.args.values.now; blob = c.args.blob } in
+    record {
+      few_knots = t.few_knots;
+      few_slots = t.few_slots;
+      served = t.served;
+      some_blocks = t.some_blocks;
+      few_blocks = t.few_blocks;
+      some_columns = t.some_columns;
+      few_columns = t.few_columns;
+      some_row = t.some_row;
+      room_for_row = t.room_for_row;
+      has_blobs = t.has_blobs;
+      blobs_fit = t.blobs_fit;
+      page = omega (arith, c.push_row.ensures.size, t.page);
+      rows_end = rows-more t.writer c.push_row.new.self (layout_len (layout_of t.schema)) (ap (λ (w : WriterState). w.count) c.push_row.ensures.exact) (ap (λ (w : WriterState). w.end) c.push_row.ensures.exact) t.rows_end;
+      rows_room = omega (arith, ap (λ (w : WriterState). w.end) c.push_row.ensures.exact, c.push_row.ensures.size, c.requires.room);
+      blank_rest = rest-push t.writer c.push_row.new.self (bytes_of_row (layout_of t.schema) row) (layout_len (layout_of t.schema)) c.push_row.ensures.exact
+          (length-bytes_of_row t.schema.key (types_of t.schema) t.schema.blobs row c.requires.fits) c.requires.room c.push_row.ensures.size t.blank_rest;
+      counted = t.counted;
+      lies = t.lies;
+      left = λ ring is some. omega (arith, next-in t ring is, c.requires.left);
+      few_pages = t.few_pages;
+      running = t.running;
+      follow = t.follow;
+      pages_left = λ some. after-next t.bitmaps model.spent_from c.requires.index_left;
+      blobs_running = t.blobs_running;
+      blobs_left = λ is some. c.requires.blobs_left;
+    }
+
+pub returns-clause-ring : goal.returns-clause-ring
+returns-clause-ring g c = refl
+
+pub returns-clause-bitmaps : goal.returns-clause-bitmaps
+returns-clause-bitmaps g c = refl
+
+pub returns-clause-blobs : goal.returns-clause-blobs
+returns-clause-blobs g c = refl
+
+pub returns-clause-stopped : goal.returns-clause-stopped
+returns-clause-stopped g c = refl
+
+pub returns-clause-lies : goal.returns-clause-lies
+returns-clause-lies g c = λ f lies. record {
+  geometry = lies.geometry;
+  within = lies.within;
+  few = lies.few;
+  ring = lies.ring;
+  bitmaps = lies.bitmaps;
+  blobs = lies.blobs;
+}

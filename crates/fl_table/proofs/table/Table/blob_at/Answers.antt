@@ -1,11 +1,13 @@
 use Rattle.std.proofs.Common.{◌≡◌, ◌+◌, Option, Some, None, Result, Ok, Err, ap, sym, ◌∙◌, subst}
-use Rattle.std.specs.Prelude.{IfOk, IfSome}
+use Rattle.std.specs.Prelude.{◌≤◌, IfOk, IfErr, IfSome}
 use Rattle.fl_page.specs.declared.fault.ReadFault.{ReadFault}
 use Rattle.fl_table.specs.Blobs.{Stand}
 use Rattle.fl_var.specs.Memory as memory
+use Rattle.fl_var.specs.Reading.{IsOfPage}
 use Rattle.fl_var.specs.declared.reader.BlobReader.{BlobReader}
 use Rattle.fl_var.specs.declared.var_data.VarData.{VarData}
 use Rattle.fl_table.proofs.HeldBlobs.{standing-bytes}
+use Rattle.fl_table.proofs.StillStands.{lies-still}
 use Rattle.fl_table.proofs.table.Table.blob_at.Goals as goal
 
 -- what follows from what is said of the reader that is answered
@@ -30,3 +32,10 @@ returns-clause-finds g c = λ first plan table i entry bytes told stands slot bl
     let standing = subst (λ (o : Option VarData). Stand o f here plan table) c.in-Some.is stands.blobs in
     c.open_blob.ensures.finds plan table entry bytes told standing.in_pages blob at_is
     (λ ring ring_is kept some. standing-bytes v f here plan table standing i entry bytes slot blob c.args.at at_is ring ring_is kept some)
+
+pub returns-clause-lies : goal.returns-clause-lies
+returns-clause-lies g c = lies-still c.args.self.now (g.F.Flash.state c.args.flash.now) (g.F.Flash.state c.open_blob.new.flash) 1 c.open_blob.ensures.reads c.requires.lies
+
+pub returns-clause-pending : goal.returns-clause-pending
+returns-clause-pending g c =
+    subst (λ (o : Option VarData). IfSome o (λ var. memory.next_in var ≤ c.args.at.page → (g.F.Flash.state c.open_blob.new.flash ≡ g.F.Flash.state c.args.flash.now) × IfErr c.open_blob.result IsOfPage)) (sym c.in-Some.is) c.open_blob.ensures.pending

@@ -1,4 +1,4 @@
-use Rattle.std.proofs.Common.{rules, ◌≡◌, ℕ, ◌+◌, ◌-◌, ◌==◌, cond, map, ap, ◌∙◌, arith}
+use Rattle.std.proofs.Common.{◌≡◌, ℕ, ◌+◌, ◌-◌, ◌==◌, cond, map, ap, ◌∙◌, arith}
 use Rattle.std.proofs.lemmas.List.FromFn.{sum_by-map-range_with_len_more}
 use Rattle.std.specs.List.{sum, count_by, range_with_len}
 use Rattle.fl_table.specs.Look.{oldest_in, rows_noted}
@@ -10,7 +10,7 @@ use Rattle.fl_table.proofs.table.Table.counts.Goals as goal
 use Rattle.fl_table.proofs.table.Table.counts.Goals.{then-rows-eq0, else-rows-eq0}
 
 pub loop-number-preserved : goal.loop-number-preserved
-loop-number-preserved c =
+loop-number-preserved g c =
     let t = c.args.self.now in
     let number = c.loop-number.number in
     let n = number - oldest_in t in
@@ -52,8 +52,17 @@ loop-number-preserved c =
     }
 
 pub returns-clause-stands : goal.returns-clause-stands
-returns-clause-stands c = λ f first plan table stands.
+returns-clause-stands g c = λ f first plan table stands.
     let t = c.args.self.now in
     let inv = c.loop-number.invariant in
-    let last : c.loop-number.number - oldest_in t ≡ next_in t - oldest_in t = search (rules, arith) in
+    let last : c.loop-number.number - oldest_in t ≡ next_in t - oldest_in t =
+    omega (arith, c.loop-number-test.false, c.loop-number.auto.number-end, c.oldest-oldest.ensures.exact, c.next_number-next.ensures.exact, c.next_number-next.ensures.ordered) in
     counts-told t c.loop-number.counts (c.loop-number.number - oldest_in t) last inv.rows inv.pending inv.pages inv.voids ∙ counts-is t f first plan table stands
+
+pub returns-clause-exact : goal.returns-clause-exact
+returns-clause-exact g c =
+    let t = c.args.self.now in
+    let inv = c.loop-number.invariant in
+    let last : c.loop-number.number - oldest_in t ≡ next_in t - oldest_in t =
+    omega (arith, c.loop-number-test.false, c.loop-number.auto.number-end, c.oldest-oldest.ensures.exact, c.next_number-next.ensures.exact, c.next_number-next.ensures.ordered) in
+    counts-told t c.loop-number.counts (c.loop-number.number - oldest_in t) last inv.rows inv.pending inv.pages inv.voids

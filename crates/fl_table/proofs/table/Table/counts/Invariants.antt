@@ -5,7 +5,7 @@ use Rattle.fl_table.specs.Memory.{next_in, pending_in}
 use Rattle.fl_table.proofs.table.Table.counts.Given as goal
 
 abbrev pub invariant-loop-number : goal.invariant-loop-number
-invariant-loop-number l = record {
+invariant-loop-number g l = record {
   from : oldest_in l.self ≤ l.number;
   rows : l.counts.rows ≡ sum (map (rows_noted l.self) (range_with_len (oldest_in l.self) (l.number - oldest_in l.self))) + pending_in l.self;
   pending : l.counts.pending ≡ pending_in l.self;

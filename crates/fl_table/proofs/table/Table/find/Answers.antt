@@ -1,22 +1,31 @@
-use Rattle.std.proofs.Common.{rules, ◌≡◌, ◌≤◌, true, false, Option, option_map, Ok, length, refl, sym, ◌∙◌, ap, subst, arith}
-use Rattle.std.specs.Prelude.{IfSome}
+use Rattle.std.proofs.Common.{rules, ◌≡◌, ◌≤◌, true, false, Option, None, Some, option_map, Ok, length, refl, sym, ◌∙◌, ap, subst, arith}
+use Rattle.std.specs.Prelude.{IfSome, MatchOption}
+use Rattle.std.specs.Option.{IsSomeAnd}
 use Rattle.fl_model.specs.Spline.{is_pending_key}
 use Rattle.fl_base.specs.declared.types.Geometry.{Geometry}
 use Rattle.fl_table.specs.Finding.{Finds, FindsPending, IsRowAt, HoldsIts}
 use Rattle.fl_table.specs.declared.find.RowAt.{RowAt}
 use Rattle.fl_table.specs.declared.find.RowAt.TheVariants as at
-use Rattle.fl_table.proofs.Finds.{holds-pages, finds-page, finds-fault, finds-pending, here-page, holds-page}
+use Rattle.fl_table.proofs.Finds.{lookup-fails, holds-pages, finds-page, finds-fault, finds-pending, here-page, holds-page}
 use Rattle.fl_table.proofs.Slots.{steps-model}
+use Rattle.fl_table.proofs.StillStands.{lies-read}
+use Rattle.fl_table.proofs.Sizes.{table-fits}
 use Rattle.fl_table.proofs.table.Table.find.Goals as goal
 
 no : false ≡ true → ⊥
 no e = cc
 
+-- each answer of a look is a place
+mapped : {A : Type 0} (f : A → RowAt) (o : Option A) (r : Option RowAt) → MatchOption o (r ≡ None) (λ x. IsSomeAnd r (λ place. place ≡ f x)) → r ≡ option_map f o
+mapped f None r h = h
+mapped f (Some x) None h = absurd h
+mapped f (Some x) (Some place) h = ap (λ (p : RowAt). Some p) h
+
 pub returns-then-is_pending_key-clause-finds : goal.returns-then-is_pending_key-clause-finds
 returns-then-is_pending_key-clause-finds g c = λ first plan table tells stands.
     let f = g.F.Flash.state c.args.flash.now in
-    let e : c.map.result ≡ option_map at.Pending c.pending_place.result = search rules in
-    subst (λ (o : Option RowAt). Finds 64 plan table c.args.key f.work.reads f.work.reads c.args.buf.now (Ok o)) (sym e)
+    let e : c.map.result ≡ option_map at.Pending c.pending_place.result = mapped at.Pending c.pending_place.result c.map.result c.map.ensures.cases in
+    subst (λ (o : Option RowAt). Finds g.row.KNOTS plan table c.args.key f.work.reads f.work.reads c.args.buf.now (Ok o)) (sym e)
     (finds-pending c.args.self.now f first plan table stands c.args.key f.work.reads f.work.reads c.args.buf.now c.pending_place.result
     (sym (c.is_pending_key.ensures.stands f first plan table stands) ∙ c.if-is_pending_key.true) (c.pending_place.ensures.stands f first plan table stands))
 
@@ -25,8 +34,8 @@ returns-in-Ok-clause-finds g c = λ first plan table tells stands.
     let f = g.F.Flash.state c.args.flash.now in
     let pending : is_pending_key table c.args.key ≡ false = sym (c.is_pending_key.ensures.stands f first plan table stands) ∙ c.if-is_pending_key.false in
     let holds = holds-pages c.args.self.now f first plan table c.in-Some.ring stands c.requires.lies (g.met.F.Flash.reaches c.args.flash.now) c.in-Some.is tells in
-    let e : c.map-in-Ok.result ≡ option_map at.InPage c.in-Ok.found = search rules in
-    subst (λ (o : Option RowAt). Finds 64 plan table c.args.key f.work.reads (g.F.Flash.state c.find.new.flash).work.reads c.find.new.buf (Ok o)) (sym e)
+    let e : c.map-in-Ok.result ≡ option_map at.InPage c.in-Ok.found = mapped at.InPage c.in-Ok.found c.map-in-Ok.result c.map-in-Ok.ensures.cases in
+    subst (λ (o : Option RowAt). Finds g.row.KNOTS plan table c.args.key f.work.reads (g.F.Flash.state c.find.new.flash).work.reads c.find.new.buf (Ok o)) (sym e)
     (finds-page c.args.self.now f first plan table stands c.args.key f.work.reads (g.F.Flash.state c.find.new.flash).work.reads c.find.new.buf c.in-Ok.found pending
     (c.in-Ok.ensures.entry plan table holds stands.points stands.memory.index))
 
@@ -42,14 +51,14 @@ returns-in-Ok-clause-pending g c = λ first plan table stands is.
 
 pub returns-in-Ok-clause-here : goal.returns-in-Ok-clause-here
 returns-in-Ok-clause-here g c =
-    let e : c.map-in-Ok.result ≡ option_map at.InPage c.in-Ok.found = search rules in
+    let e : c.map-in-Ok.result ≡ option_map at.InPage c.in-Ok.found = mapped at.InPage c.in-Ok.found c.map-in-Ok.result c.map-in-Ok.ensures.cases in
     let few : length c.find.new.buf.bytes ≤ 4096 = omega (arith, c.in-Ok.ensures.room, c.requires.room, ap (λ (s : Geometry). s.page) c.requires.lies.geometry, c.args.self.now.served.page_greatest) in
     subst (λ (o : Option RowAt). IfSome o (IsRowAt c.args.self.now c.find.new.buf)) (sym e)
     (here-page c.args.self.now (g.F.Flash.state c.find.new.flash) c.in-Some.ring c.args.key c.find.new.buf c.in-Ok.found few c.in-Ok.ensures.holds c.in-Ok.ensures.row)
 
 pub returns-in-Ok-clause-holds : goal.returns-in-Ok-clause-holds
 returns-in-Ok-clause-holds g c =
-    let e : c.map-in-Ok.result ≡ option_map at.InPage c.in-Ok.found = search rules in
+    let e : c.map-in-Ok.result ≡ option_map at.InPage c.in-Ok.found = mapped at.InPage c.in-Ok.found c.map-in-Ok.result c.map-in-Ok.ensures.cases in
     subst (λ (o : Option RowAt). IfSome o (HoldsIts c.args.self.now (g.F.Flash.state c.find.new.flash) c.find.new.buf)) (sym e)
     (holds-page c.args.self.now (g.F.Flash.state c.find.new.flash) c.in-Some.ring c.find.new.buf c.in-Ok.found c.in-Some.is c.in-Ok.ensures.within c.in-Ok.ensures.holds)
 
@@ -81,9 +90,24 @@ returns-in-Err-clause-slot g c = λ first plan table count stands is.
 pub returns-then-is_pending_key-clause-pending : goal.returns-then-is_pending_key-clause-pending
 returns-then-is_pending_key-clause-pending g c = λ first plan table stands is.
     let f = g.F.Flash.state c.args.flash.now in
-    let e : c.map.result ≡ option_map at.Pending c.pending_place.result = search rules in (
+    let e : c.map.result ≡ option_map at.Pending c.pending_place.result = mapped at.Pending c.pending_place.result c.map.result c.map.ensures.cases in (
       refl,
       refl,
       subst (λ (o : Option RowAt). FindsPending plan table c.args.key c.args.buf.now (Ok o)) (sym e)
           (finds-pending c.args.self.now f first plan table stands c.args.key 0 0 c.args.buf.now c.pending_place.result is (c.pending_place.ensures.stands f first plan table stands)).entry,
     )
+
+pub returns-in-Ok-clause-lies : goal.returns-in-Ok-clause-lies
+returns-in-Ok-clause-lies g c = lies-read c.args.self.now (g.F.Flash.state c.args.flash.now) (g.F.Flash.state c.find.new.flash) c.find.ensures.looks.reads c.requires.lies
+
+pub returns-in-Err-clause-lies : goal.returns-in-Err-clause-lies
+returns-in-Err-clause-lies g c = lies-read c.args.self.now (g.F.Flash.state c.args.flash.now) (g.F.Flash.state c.find.new.flash) c.find.ensures.looks.reads c.requires.lies
+
+pub returns-in-Err-clause-fails : goal.returns-in-Err-clause-fails
+returns-in-Err-clause-fails g c = lookup-fails c.args.self.now c.in-Some.ring (g.F.Flash.state c.args.flash.now) c.in-Err.fault (g.F.Flash.state c.find.new.flash) c.in-Some.is c.in-Err.ensures.fails
+
+pub is_pending_key-requires : goal.is_pending_key-requires
+is_pending_key-requires g c = table-fits g.row.KNOTS g.row.SLOTS c.args.self.now.few_knots c.args.self.now.few_slots
+
+pub pending_place-requires : goal.pending_place-requires
+pending_place-requires g c = table-fits g.row.KNOTS g.row.SLOTS c.args.self.now.few_knots c.args.self.now.few_slots

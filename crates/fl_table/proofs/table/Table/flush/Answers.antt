@@ -6,6 +6,7 @@ use Rattle.fl_flash.specs.declared.flash.FlashFault.{FlashFault}
 use Rattle.fl_flash.specs.declared.flash.FlashFault.TheVariants.{PowerLost}
 use Rattle.fl_table.specs.declared.faults.FlushFault.TheVariants as flush
 use Rattle.fl_table.proofs.PowerOff.{off-ok}
+use Rattle.fl_table.proofs.Sizes.{table-fits}
 use Rattle.fl_table.proofs.table.Table.flush.Goals as goal
 
 pub returns-then-count-eq0-clause-ends : goal.returns-then-count-eq0-clause-ends
@@ -38,3 +39,6 @@ returns-in_err-seal-clause-off g c = λ running some down.
 
 pub returns-clause-off : goal.returns-clause-off
 returns-clause-off g c = λ running some down. absurd (off-ok (g.F.Flash.state c.args.flash.now) (g.F.Flash.state c.seal.new.flash) c.in_ok-seal.field-0 c.in_ok-seal.ensures.off down)
+
+pub is_running-requires : goal.is_running-requires
+is_running-requires g c = table-fits g.row.KNOTS g.row.SLOTS c.args.self.now.few_knots c.args.self.now.few_slots

@@ -1,4 +1,4 @@
-use Rattle.std.proofs.Common.{◌≡◌, ℕ, ◌+◌, ◌≤◌, Bor, List, Some, Ok, Err, option_map, arith, refl, sym, ◌∙◌, ap, subst, Option}
+use Rattle.std.proofs.Common.{rules, true, false, Bool, None, is_some, ◌&&◌, IsTrue, IfSome, ◌≡◌, ℕ, ◌+◌, ◌≤◌, Bor, List, Some, Ok, Err, option_map, arith, refl, sym, ◌∙◌, ap, subst, Option}
 use Rattle.fl_base.specs.declared.types.BlobRef.{BlobRef}
 use Rattle.fl_model.specs.Record.{Record}
 use Rattle.fl_model.specs.Row.{stored_row}
@@ -9,13 +9,19 @@ use Rattle.fl_table.specs.Blobs as variable
 use Rattle.fl_table.specs.Standing.{Stands}
 use Rattle.fl_flash.specs.Flash.{page_at}
 use Rattle.fl_table.proofs.Blobbing.{after-most, pages-few, same-some, still-planned}
-use Rattle.fl_table.proofs.Indexing.{few-goes, lies-goes}
+use Rattle.fl_table.proofs.Indexing.{few-goes, lies-goes, none-is, none-there, plan-same}
 use Rattle.fl_table.proofs.Outsides.{var-outside}
 use Rattle.fl_table.proofs.Joining.{entry_of, entry-row, join-done, join-breaks, joined_to}
 use Rattle.fl_table.proofs.Plain.{table-facts}
 use Rattle.fl_table.proofs.Pointed.{points-added}
 use Rattle.fl_table.proofs.SealAnswers.{planned-same}
 use Rattle.fl_table.proofs.PowerOff.{off-ok, off-err}
+use Rattle.fl_table.proofs.StillStands.{lies-moved}
+use Rattle.fl_model.specs.Record.{RowLayout}
+use Rattle.fl_model.specs.Row.{FitsReference}
+use Rattle.fl_schema.specs.Schema.{layout_of}
+use Rattle.fl_ring.specs.declared.ring.Ring.{Ring}
+use Rattle.fl_table.proofs.Sizes.{table-fits}
 use Rattle.fl_table.proofs.table.Table.join.Goals as goal
 use Rattle.fl_var.specs.declared.var_data.VarData.{VarData}
 
@@ -82,11 +88,6 @@ returns-clause-ends g c = λ first plan table rose device watched stands ok.
       });
     }
 
-pub add-requires-clause-blobs_left : goal.add-requires-clause-blobs_left
-add-requires-clause-blobs_left g c =
-    let few = pages-few c.args.self.now.blobs (option_map (λ (b : Bor (List ℕ)). b.now) c.args.blob) c.requires.few in
-    omega (arith, after-most c.place.new.blobs, c.in-Ok.ensures.next, few, c.requires.blobs_left)
-
 pub returns-clause-lies : goal.returns-clause-lies
 returns-clause-lies g c =
     let old = g.F.Flash.state c.args.flash.now in
@@ -116,6 +117,8 @@ pub invariant_of-self : goal.invariant_of-self
 invariant_of-self g c =
     let t = c.args.self.now in
     record {
+      few_knots = t.few_knots;
+      few_slots = t.few_slots;
       served = t.served;
       some_blocks = t.some_blocks;
       few_blocks = t.few_blocks;
@@ -147,3 +150,146 @@ returns-clause-off g c = λ some down. absurd (off-ok (g.F.Flash.state c.args.fl
 
 pub returns-in-Err-clause-off : goal.returns-in-Err-clause-off
 returns-in-Err-clause-off g c = λ some. off-err (g.F.Flash.state c.args.flash.now) (g.F.Flash.state c.place.new.flash) c.in-Err.fault (c.in-Err.ensures.off some)
+
+-- a place that was given stands in a row of a table that has blobs
+fits-at : (layout : RowLayout) (has given : Bool) (at : Option BlobRef) → layout.blobs ≡ has → is_some at ≡ (has && given) → variable.FitsRow at → IfSome at (FitsReference layout)
+fits-at layout has given None blobs is fits = tt
+fits-at layout true given (Some at) blobs is fits = (blobs, λ page offset len. absurd (omega (arith, offset, fits)))
+fits-at layout false given (Some at) blobs is fits = cc
+
+pub add-requires : goal.add-requires
+add-requires g c =
+    let t = c.args.self.now in
+    let few = pages-few t.blobs (option_map (λ (b : Bor (List ℕ)). b.now) c.args.blob) c.requires.few in (
+      table-fits g.row.KNOTS g.row.SLOTS c.args.self.now.few_knots c.args.self.now.few_slots,
+      (
+        record {
+          key = c.requires.fits.key;
+          as_many = c.requires.fits.as_many;
+          values = c.requires.fits.values;
+          blob = fits-at (layout_of t.schema) (is_some t.blobs) (is_some c.args.blob) c.in-Ok.at t.has_blobs c.in-Ok.ensures.given c.in-Ok.ensures.fits;
+        },
+        (c.requires.room, (c.requires.left, (c.requires.index_left, omega (arith, after-most c.place.new.blobs, c.in-Ok.ensures.next, few, c.requires.blobs_left)))),
+      ),
+    )
+
+pub returns-in-Err-clause-lies : goal.returns-in-Err-clause-lies
+returns-in-Err-clause-lies g c =
+    let lies = lies-moved c.args.self.now (g.F.Flash.state c.args.flash.now) (g.F.Flash.state c.place.new.flash) c.in-Err.ensures.goes c.requires.lies in
+    record {
+      geometry = lies.geometry;
+      within = lies.within;
+      few = lies.few;
+      ring = λ ring is. absurd (none-there {X = Ring} None ring refl is);
+      bitmaps = lies.bitmaps;
+      blobs = c.in-Err.ensures.lies;
+    }
+
+pub returns-in-Err-clause-outside : goal.returns-in-Err-clause-outside
+returns-in-Err-clause-outside g c = λ told page rows index blobs.
+    var-outside c.args.self.now.blobs (page_at (g.F.Flash.state c.args.flash.now)) (page_at (g.F.Flash.state c.place.new.flash)) page (c.in-Err.ensures.outside told) blobs
+
+pub invariant_of-self-in-Err : goal.invariant_of-self-in-Err
+invariant_of-self-in-Err g c =
+    let t = c.args.self.now in
+    record {
+      few_knots = t.few_knots;
+      few_slots = t.few_slots;
+      served = t.served;
+      some_blocks = t.some_blocks;
+      few_blocks = t.few_blocks;
+      some_columns = t.some_columns;
+      few_columns = t.few_columns;
+      some_row = t.some_row;
+      room_for_row = t.room_for_row;
+      has_blobs = t.has_blobs ∙ sym (same-some t.blobs c.place.new.blobs c.in-Err.ensures.same);
+      blobs_fit = t.blobs_fit;
+      page = t.page;
+      rows_end = t.rows_end;
+      rows_room = t.rows_room;
+      blank_rest = t.blank_rest;
+      counted = t.counted;
+      lies = λ ring is. absurd (none-there {X = Ring} None ring refl is);
+      left = λ ring is. absurd (none-there {X = Ring} None ring refl is);
+      few_pages = t.few_pages;
+      running = λ is. absurd (none-is {X = Ring} None refl is);
+      follow = λ ring is. absurd (none-there {X = Ring} None ring refl is);
+      pages_left = t.pages_left;
+      blobs_running = λ is. absurd (none-is {X = Ring} None refl is);
+      blobs_left = λ is. absurd (none-is {X = Ring} None refl is);
+    }
+
+pub returns-in-Err-clause-goes : goal.returns-in-Err-clause-goes
+returns-in-Err-clause-goes g c = c.in-Err.ensures.goes
+
+pub returns-in-Err-clause-same : goal.returns-in-Err-clause-same
+returns-in-Err-clause-same g c = record {
+  geometry = refl;
+  layout = refl;
+  place = refl;
+  buckets = refl;
+  error = refl;
+  bitmaps = plan-same c.args.self.now.bitmaps;
+  blobs = c.in-Err.ensures.same;
+  limit = refl;
+}
+
+pub returns-in-Err-clause-running : goal.returns-in-Err-clause-running
+returns-in-Err-clause-running g c = tt
+
+pub returns-in-Err-clause-calm : goal.returns-in-Err-clause-calm
+returns-in-Err-clause-calm g c = tt
+
+pub returns-in-Err-clause-stopped : goal.returns-in-Err-clause-stopped
+returns-in-Err-clause-stopped g c = (refl, refl)
+
+pub returns-in-Err-clause-reads : goal.returns-in-Err-clause-reads
+returns-in-Err-clause-reads g c = c.in-Err.ensures.reads
+
+pub returns-in-Err-clause-media_reads : goal.returns-in-Err-clause-media_reads
+returns-in-Err-clause-media_reads g c = c.in-Err.ensures.media_reads
+
+pub returns-in-Err-clause-cause : goal.returns-in-Err-clause-cause
+returns-in-Err-clause-cause g c = c.in-Err.ensures.cause
+
+pub returns-clause-goes : goal.returns-clause-goes
+returns-clause-goes g c = c.in-Ok.ensures.goes
+
+pub returns-clause-same : goal.returns-clause-same
+returns-clause-same g c = record {
+  geometry = c.add.ensures.same.geometry;
+  layout = c.add.ensures.same.layout;
+  place = c.add.ensures.same.place;
+  buckets = c.add.ensures.same.buckets;
+  error = c.add.ensures.same.error;
+  bitmaps = c.add.ensures.same.bitmaps;
+  blobs = subst (λ (o : Option VarData). variable.AreSamePlan c.args.self.now.blobs o) (sym c.add.ensures.blobs) c.in-Ok.ensures.same;
+  limit = c.add.ensures.same.limit;
+}
+
+pub returns-clause-running : goal.returns-clause-running
+returns-clause-running g c = ap (λ (o : Option Ring). is_some o) c.add.ensures.ring ∙ c.requires.running
+
+pub returns-clause-calm : goal.returns-clause-calm
+returns-clause-calm g c = c.add.ensures.stopped
+
+pub returns-clause-stopped : goal.returns-clause-stopped
+returns-clause-stopped g c = tt
+
+pub returns-clause-reads : goal.returns-clause-reads
+returns-clause-reads g c = c.in-Ok.ensures.reads
+
+pub returns-clause-media_reads : goal.returns-clause-media_reads
+returns-clause-media_reads g c = c.in-Ok.ensures.media_reads
+
+pub returns-clause-cause : goal.returns-clause-cause
+returns-clause-cause g c = tt
+
+pub place-requires-clause-running : goal.place-requires-clause-running
+place-requires-clause-running g c = c.args.self.now.blobs_running c.requires.running
+
+pub place-requires-clause-lies : goal.place-requires-clause-lies
+place-requires-clause-lies g c = c.requires.lies.blobs
+
+pub place-requires-clause-few : goal.place-requires-clause-few
+place-requires-clause-few g c = c.requires.few

@@ -1,4 +1,4 @@
-use Rattle.std.proofs.Common.{rules, ◌≡◌, ◌+◌, ◌<◌, ◌≤◌, List, [], length, arith, sym, ◌∙◌, refl, subst}
+use Rattle.std.proofs.Common.{rules, ℕ, zero, suc, ◌*◌, ◌≡◌, ◌+◌, ◌<◌, ◌≤◌, List, [], length, arith, sym, ◌∙◌, refl, subst}
 use Rattle.std.proofs.lemmas.Bool.{ltb-true, ltb-false}
 use Rattle.fl_model.specs.Record.{layout_len}
 use Rattle.fl_model.specs.Table.{RingName, make_room_seals}
@@ -7,6 +7,7 @@ use Rattle.fl_model.proofs.Puts.{full-room_seals, room-room_seals}
 use Rattle.fl_schema.specs.Schema.{layout_of}
 use Rattle.fl_table.specs.Outcomes.{SealsEnd}
 use Rattle.fl_table.proofs.Putting.{has-room, is-full}
+use Rattle.fl_table.proofs.Sizes.{table-fits}
 use Rattle.fl_table.proofs.table.Table.make_room.Goals as goal
 
 pub returns-then-not-is_full-clause-ends : goal.returns-then-not-is_full-clause-ends
@@ -70,3 +71,21 @@ pub returns-then-not-is_full-clause-off : goal.returns-then-not-is_full-clause-o
 returns-then-not-is_full-clause-off g c = λ full.
     let t = c.args.self.now in
     absurd (full (ltb-false (length t.writer.body) (t.writer.end + layout_len (layout_of t.schema)) (sym c.is_full.ensures.room ∙ c.if-not-is_full.true)))
+
+-- a page that has no room for one row more has a row
+some-rows : (count row page body end : ℕ) → body < end + row → end ≡ 16 + count * row → body + 8 ≡ page → row + 24 ≤ page → 1 ≤ count
+some-rows zero row page body end lt is whole room = absurd (omega (arith, lt, is, whole, room))
+some-rows (suc count) row page body end lt is whole room = omega arith
+
+pub returns-then-not-is_full-clause-quiet : goal.returns-then-not-is_full-clause-quiet
+returns-then-not-is_full-clause-quiet g c = λ room. (refl, refl, refl)
+
+pub seal-requires : goal.seal-requires
+seal-requires g c =
+    let t = c.args.self.now in
+    let row = layout_len (layout_of t.schema) in
+    let lt : length t.writer.body < t.writer.end + layout_len (layout_of t.schema) = ltb-true (length t.writer.body) (t.writer.end + layout_len (layout_of t.schema)) (sym c.is_full.ensures.room ∙ c.if-not-is_full.false) in
+    (table-fits g.row.KNOTS g.row.SLOTS c.args.self.now.few_knots c.args.self.now.few_slots, (c.requires.running, (some-rows t.writer.count row t.geometry.page (length t.writer.body) t.writer.end lt t.rows_end t.page t.room_for_row, c.requires.lies)))
+
+pub is_full-requires : goal.is_full-requires
+is_full-requires g c = table-fits g.row.KNOTS g.row.SLOTS c.args.self.now.few_knots c.args.self.now.few_slots

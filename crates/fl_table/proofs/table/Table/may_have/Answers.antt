@@ -6,7 +6,8 @@ use Rattle.fl_index.specs.Looking.{ShowsBitmap, next_to_read}
 use Rattle.fl_model.specs.Image.{rows_at}
 use Rattle.fl_model.specs.Query.{selected}
 use Rattle.fl_table.specs.Skipping.{AreFresh, AreScanning, LooksOn, ShowsPage}
-use Rattle.fl_table.proofs.Skips.{looks-found, looks-failed, shows-none, shows-some, shows-fault, index-stands, kept-number, some-bits, bad-index, misses-none}
+use Rattle.fl_table.proofs.Skips.{fresh-still, looks-none, looks-plain, looks-found, looks-failed, shows-none, shows-some, shows-fault, index-stands, kept-number, some-bits, bad-index, misses-none}
+use Rattle.fl_table.proofs.Sizes.{table-fits}
 use Rattle.fl_table.proofs.table.Table.may_have.Goals as goal
 
 pub returns-in-Ok-None-clause-shows : goal.returns-in-Ok-None-clause-shows
@@ -106,3 +107,25 @@ returns-in-Ok-Some-clause-misses g c = λ first plan table n rows range told sta
     subst (λ (s : Option Span). selected range s (rows_at table n rows) ≡ []) (sym c.in-Some.is)
     (c.mask.ensures.misses plan (rows_at table n rows) range stands.planned.buckets (some-bits t f first plan table stands index is)
     (ap (λ b. bit_and b c.mask.result) (sym (found.1 n rows at here some)) ∙ none))
+
+pub returns-in_default-clause-looks : goal.returns-in_default-clause-looks
+returns-in_default-clause-looks g c = λ first plan table told stands fresh scanning.
+    let t = c.args.self.now in
+    let reads = (g.F.Flash.state c.args.flash.now).work.reads in
+    subst (λ (s : Option Span). LooksOn c.args.self.now.bitmaps s c.args.number c.args.buf.now (g.F.Flash.state c.args.flash.now).work.reads (Ok true) (g.F.Flash.state c.args.flash.now).work.reads c.args.buf.now) (sym c.in_default.is)
+    (looks-none t.bitmaps c.args.number reads c.args.buf.now scanning)
+
+pub returns-in_default-bitmaps-clause-looks : goal.returns-in_default-bitmaps-clause-looks
+returns-in_default-bitmaps-clause-looks g c = λ first plan table told stands fresh scanning.
+    looks-plain c.args.self.now.bitmaps c.in_default-bitmaps.is c.args.span c.args.number (g.F.Flash.state c.args.flash.now).work.reads c.args.buf.now
+
+pub returns-in-Ok-None-clause-fresh : goal.returns-in-Ok-None-clause-fresh
+returns-in-Ok-None-clause-fresh g c = λ told.
+    fresh-still c.args.self.now.bitmaps c.in-Some-bitmaps.index c.in-Some-bitmaps.is (g.F.Flash.state c.args.flash.now) (g.F.Flash.state c.bitmap_of.new.flash) c.args.buf.now c.bitmap_of.new.buf (c.in-Ok-None.ensures.fresh told)
+
+pub returns-in-Ok-Some-clause-fresh : goal.returns-in-Ok-Some-clause-fresh
+returns-in-Ok-Some-clause-fresh g c = λ told.
+    fresh-still c.args.self.now.bitmaps c.in-Some-bitmaps.index c.in-Some-bitmaps.is (g.F.Flash.state c.args.flash.now) (g.F.Flash.state c.bitmap_of.new.flash) c.args.buf.now c.bitmap_of.new.buf (c.in-Ok-Some.ensures.fresh told)
+
+pub mask-requires : goal.mask-requires
+mask-requires g c = table-fits g.row.KNOTS g.row.SLOTS c.args.self.now.few_knots c.args.self.now.few_slots

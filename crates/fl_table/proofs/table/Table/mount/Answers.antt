@@ -1,4 +1,4 @@
-use Rattle.std.proofs.Common.{◌≡◌, ◌+◌, ℕ, Option, Err, IsTrue, sym, ◌∙◌, ap, subst, inr}
+use Rattle.std.proofs.Common.{rules, arith, ◌≤◌, ◌*◌, ◌≡◌, ◌+◌, ℕ, Option, Err, IsTrue, sym, ◌∙◌, ap, subst, inr}
 use Rattle.std.proofs.lemmas.Result.{err_from_is_err_and, IfErr-weaker, IfOk-weaker}
 use Rattle.fl_flash.specs.Flash.{FlashState, page_at}
 use Rattle.std.specs.Option.{unwrap_or}
@@ -15,6 +15,12 @@ use Rattle.fl_table.proofs.Outsides.{blobs-outside}
 use Rattle.fl_table.proofs.SealAnswers.{planned-same}
 use Rattle.fl_ring.specs.declared.fault.RingFault.{RingFault}
 use Rattle.fl_table.specs.Causes.{of_ring}
+use Rattle.fl_ring.proofs.Readings.{goes_more}
+use Rattle.fl_table.specs.Blobs as variable
+use Rattle.fl_table.proofs.Blobbing as blobbing
+use Rattle.fl_table.proofs.Indexing.{few-goes, none-is, none-there, still-few}
+use Rattle.fl_var.specs.declared.var_data.VarData.{VarData}
+use Rattle.fl_table.proofs.Sizes.{table-fits}
 use Rattle.fl_table.proofs.table.Table.mount.Goals as goal
 
 pub returns-in_err-end-clause-ends : goal.returns-in_err-end-clause-ends
@@ -115,3 +121,100 @@ returns-clause-off g c = λ down.
     let first = c.in_ok-end.ensures.off down in
     let h = c.mount_rows.ensures.off (ap (λ (f : FlashState). f.is_on) first.1 ∙ down) in
     (h.0, h.1 ∙ first.1)
+
+pub returns-in_err-end-clause-lies : goal.returns-in_err-end-clause-lies
+returns-in_err-end-clause-lies g c =
+    let old = g.F.Flash.state c.args.flash.now in
+    let mid = g.F.Flash.state c.mount_bitmaps.new.flash in
+    let goes = c.in_err-end.ensures.goes in
+    let lies = c.requires.lies in
+    let same = c.forget.ensures.same in
+    record {
+      geometry = goes.geometry ∙ (lies.geometry ∙ sym same.geometry);
+      within = omega (arith, lies.within, goes.blocks, ap (λ (p : RingPlace). p.first_block) same.place, ap (λ (p : RingPlace). p.blocks) same.place);
+      few = few-goes old mid goes lies.few;
+      ring = λ ring is. absurd (none-there c.forget.new.self.ring ring c.forget.ensures.forgotten.down is);
+      bitmaps = c.in_err-end.ensures.lies;
+      blobs = blobbing.lies-goes c.forget.new.self.blobs old mid goes (subst (λ (o : Option VarData). variable.LieOn o old) (sym c.forget.ensures.blobs) lies.blobs);
+    }
+
+pub returns-in_err-end-clause-outside : goal.returns-in_err-end-clause-outside
+returns-in_err-end-clause-outside g c = λ told page rows index blobs.
+    let old = g.F.Flash.state c.args.flash.now in
+    let mid = g.F.Flash.state c.mount_bitmaps.new.flash in
+    stand-outside c.args.self.now.bitmaps (page_at old) (page_at mid) page (subst (λ (o : Option Index). StandOutside o (page_at old) (page_at mid)) c.forget.ensures.bitmaps (c.in_err-end.ensures.outside told)) index
+
+pub returns-clause-goes : goal.returns-clause-goes
+returns-clause-goes g c =
+    goes_more (g.F.Flash.state c.args.flash.now) (g.F.Flash.state c.mount_bitmaps.new.flash) (g.F.Flash.state c.mount_rows.new.flash) c.in_ok-end.ensures.goes c.mount_rows.ensures.goes
+
+pub mount_rows-requires : goal.mount_rows-requires
+mount_rows-requires g c =
+    let old = g.F.Flash.state c.args.flash.now in
+    let mid = g.F.Flash.state c.mount_bitmaps.new.flash in
+    let goes = c.in_ok-end.ensures.goes in
+    let lies = c.requires.lies in
+    let same = c.forget.ensures.same in
+    let fresh = c.forget.ensures.forgotten in (
+      table-fits g.row.KNOTS g.row.SLOTS c.args.self.now.few_knots c.args.self.now.few_slots,
+      (
+        record {
+          down = fresh.down;
+          calm = fresh.calm;
+          none = fresh.none;
+          empty = fresh.empty;
+          bits = fresh.bits;
+          index = fresh.index;
+        },
+        (
+          c.in_ok-end.ensures.running,
+          (
+            c.in_ok-end.ensures.idle,
+            (
+              record {
+                geometry = goes.geometry ∙ (lies.geometry ∙ sym same.geometry);
+                within = omega (arith, lies.within, goes.blocks, ap (λ (p : RingPlace). p.first_block) same.place, ap (λ (p : RingPlace). p.blocks) same.place);
+                few = few-goes old mid goes lies.few;
+                ring = λ ring is. absurd (none-there c.forget.new.self.ring ring c.forget.ensures.forgotten.down is);
+                bitmaps = c.in_ok-end.ensures.lies;
+                blobs = blobbing.lies-goes c.forget.new.self.blobs old mid goes (subst (λ (o : Option VarData). variable.LieOn o old) (sym c.forget.ensures.blobs) lies.blobs);
+              },
+              c.in_ok-end.ensures.room ∙ (c.requires.room ∙ sym (ap (λ (x : Geometry). x.page) goes.geometry)),
+            ),
+          ),
+        ),
+      ),
+    )
+
+pub invariant_of-self : goal.invariant_of-self
+invariant_of-self g c =
+    let t = c.forget.new.self in
+    record {
+      few_knots = t.few_knots;
+      few_slots = t.few_slots;
+      served = t.served;
+      some_blocks = t.some_blocks;
+      few_blocks = t.few_blocks;
+      some_columns = t.some_columns;
+      few_columns = t.few_columns;
+      some_row = t.some_row;
+      room_for_row = t.room_for_row;
+      has_blobs = t.has_blobs;
+      blobs_fit = t.blobs_fit;
+      page = t.page;
+      rows_end = t.rows_end;
+      rows_room = t.rows_room;
+      blank_rest = t.blank_rest;
+      counted = t.counted;
+      lies = t.lies;
+      left = t.left;
+      few_pages = still-few (t.place.blocks * t.geometry.block + 6) t.bitmaps c.mount_bitmaps.new.bitmaps c.mount_bitmaps.ensures.same t.few_pages;
+      running = λ is. absurd (none-is t.ring c.forget.ensures.forgotten.down is);
+      follow = λ ring is. absurd (none-there t.ring ring c.forget.ensures.forgotten.down is);
+      pages_left = λ some. absurd (omega (arith, some, c.forget.ensures.forgotten.none));
+      blobs_running = t.blobs_running;
+      blobs_left = t.blobs_left;
+    }
+
+pub forget-requires : goal.forget-requires
+forget-requires g c = table-fits g.row.KNOTS g.row.SLOTS c.args.self.now.few_knots c.args.self.now.few_slots

@@ -5,7 +5,7 @@ use Rattle.fl_find.proofs.Points.{mounts-points}
 use Rattle.fl_model.specs.Mount.{ready}
 use Rattle.fl_model.specs.Table as model
 use Rattle.fl_ring.proofs.Readings.{goes_more}
-use Rattle.fl_table.specs.Bitmaps.{IsOutside}
+use Rattle.fl_table.specs.Bitmaps.{EndAt, IsOutside}
 use Rattle.fl_table.specs.BlobEnds.{least_of}
 use Rattle.fl_table.specs.BlobMount.{FindsBlobs, RefusesWithin}
 use Rattle.fl_table.specs.Blobs.{room_of, rings_of}
@@ -17,6 +17,15 @@ use Rattle.fl_table.proofs.Following.{watched-front, watched-then}
 use Rattle.fl_table.proofs.MountJoined.{mount-cause-later}
 use Rattle.fl_table.proofs.MountVar.{data-fails, mounted-ends, rows-fail, rows-mount, with_var}
 use Rattle.fl_table.proofs.Plain.{table-facts}
+use Rattle.fl_base.specs.declared.types.Geometry.{Geometry}
+use Rattle.fl_base.specs.declared.types.RingPlace.{RingPlace}
+use Rattle.fl_ring.specs.Mounting.{shape_at}
+use Rattle.fl_ring.specs.Place as place
+use Rattle.fl_ring.specs.Place.{next_of, shape_of}
+use Rattle.fl_ring.specs.declared.ring.Ring.{Ring}
+use Rattle.fl_table.proofs.Indexing.{none-is}
+use Rattle.fl_table.proofs.StillStands.{lies-moved}
+use Rattle.fl_table.proofs.Sizes.{table-fits}
 use Rattle.fl_table.proofs.table.Table.mount_rows.Goals as goal
 use Rattle.fl_var.specs.declared.var_data.VarData.{VarData}
 
@@ -178,3 +187,103 @@ returns-in_err-mount_within-clause-goes g c =
 pub returns-clause-goes : goal.returns-clause-goes
 returns-clause-goes g c =
     goes_more (g.F.Flash.state c.args.flash.now) (g.F.Flash.state c.read_rows.new.flash) (g.F.Flash.state c.mount_within.new.flash) c.in_ok-rows.ensures.goes c.in_ok-mount_within.ensures.goes
+
+pub invariant_of-self : goal.invariant_of-self
+invariant_of-self g c =
+    let t = c.read_rows.new.self in
+    record {
+      few_knots = t.few_knots;
+      few_slots = t.few_slots;
+      served = t.served;
+      some_blocks = t.some_blocks;
+      few_blocks = t.few_blocks;
+      some_columns = t.some_columns;
+      few_columns = t.few_columns;
+      some_row = t.some_row;
+      room_for_row = t.room_for_row;
+      has_blobs = t.has_blobs ∙ sym (blobbing.same-some t.blobs c.mount_within.new.blobs c.in_err-mount_within.ensures.same);
+      blobs_fit = t.blobs_fit;
+      page = t.page;
+      rows_end = t.rows_end;
+      rows_room = t.rows_room;
+      blank_rest = t.blank_rest;
+      counted = t.counted;
+      lies = t.lies;
+      left = t.left;
+      few_pages = t.few_pages;
+      running = t.running;
+      follow = t.follow;
+      pages_left = t.pages_left;
+      blobs_running = λ is. absurd (none-is t.ring c.in_ok-rows.ensures.down is);
+      blobs_left = λ is. absurd (none-is t.ring c.in_ok-rows.ensures.down is);
+    }
+
+pub returns-in_err-mount_within-clause-lies : goal.returns-in_err-mount_within-clause-lies
+returns-in_err-mount_within-clause-lies g c =
+    let lies = lies-moved c.read_rows.new.self (g.F.Flash.state c.read_rows.new.flash) (g.F.Flash.state c.mount_within.new.flash) c.in_err-mount_within.ensures.goes c.in_ok-rows.ensures.lies in
+    record {
+      geometry = lies.geometry;
+      within = lies.within;
+      few = lies.few;
+      ring = lies.ring;
+      bitmaps = lies.bitmaps;
+      blobs = c.in_err-mount_within.ensures.lies;
+    }
+
+pub returns-clause-lies : goal.returns-clause-lies
+returns-clause-lies g c =
+    let new = g.F.Flash.state c.mount_within.new.flash in
+    let mid = g.F.Flash.state c.read_rows.new.flash in
+    let goes = c.in_ok-mount_within.ensures.goes in
+    let lies = lies-moved c.read_rows.new.self mid new goes c.in_ok-rows.ensures.lies in
+    let here = c.in_ok-rows.ensures.lies_ring in
+    record {
+      geometry = lies.geometry;
+      within = lies.within;
+      few = lies.few;
+      ring = λ ring is. subst (λ (o : Option Ring). IfSome o (λ r. place.LiesOn r new)) is (record {
+        page = ap (λ x. x.page) goes.geometry ∙ here.page;
+        block = ap (λ x. x.block) goes.geometry ∙ here.block;
+        within = omega (arith, here.within, goes.blocks);
+      });
+      bitmaps = lies.bitmaps;
+      blobs = c.in_ok-mount_within.ensures.lies;
+    }
+
+pub invariant_of-self-2 : goal.invariant_of-self-2
+invariant_of-self-2 g c =
+    let t = c.read_rows.new.self in
+    record {
+      few_knots = t.few_knots;
+      few_slots = t.few_slots;
+      served = t.served;
+      some_blocks = t.some_blocks;
+      few_blocks = t.few_blocks;
+      some_columns = t.some_columns;
+      few_columns = t.few_columns;
+      some_row = t.some_row;
+      room_for_row = t.room_for_row;
+      has_blobs = t.has_blobs ∙ sym (blobbing.same-some t.blobs c.mount_within.new.blobs c.in_ok-mount_within.ensures.same);
+      blobs_fit = t.blobs_fit;
+      page = t.page;
+      rows_end = t.rows_end;
+      rows_room = t.rows_room;
+      blank_rest = t.blank_rest;
+      counted = t.counted;
+      lies = λ ring is.
+          let t = c.args.self.now in
+          let m = c.read_rows.new.self in
+          let shape : shape_at t.place t.geometry ≡ shape_at m.place m.geometry =
+          sym (ap (λ (p : RingPlace). shape_at p m.geometry) c.in_ok-rows.ensures.same.place ∙ ap (λ (x : Geometry). shape_at t.place x) c.in_ok-rows.ensures.same.geometry) in
+          subst (λ (o : Option Ring). IfSome o (λ r. shape_of r ≡ shape_at m.place m.geometry)) is (c.in_ok-rows.ensures.shape ∙ shape);
+      left = λ ring is some. absurd (omega (arith, some, c.in_ok-rows.ensures.none));
+      few_pages = t.few_pages;
+      running = λ is. c.in_ok-rows.ensures.running;
+      follow = λ ring is. subst (λ (o : Option Ring). IfSome o (λ r. EndAt c.read_rows.new.self.bitmaps (next_of r))) is c.in_ok-rows.ensures.follow;
+      pages_left = λ some. absurd (omega (arith, some, c.in_ok-rows.ensures.none));
+      blobs_running = λ is. c.in_ok-mount_within.ensures.running;
+      blobs_left = λ is some. absurd (omega (arith, some, c.in_ok-rows.ensures.none));
+    }
+
+pub read_rows-requires : goal.read_rows-requires
+read_rows-requires g c = (table-fits g.row.KNOTS g.row.SLOTS c.args.self.now.few_knots c.args.self.now.few_slots, (c.requires.forgotten, (c.requires.running, (c.requires.idle, (c.requires.lies, c.requires.room)))))

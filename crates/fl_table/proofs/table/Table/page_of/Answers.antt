@@ -1,4 +1,6 @@
-use Rattle.fl_table.proofs.Finds.{holds-pages}
+use Rattle.std.proofs.lemmas.Result.{IfErr-weaker}
+use Rattle.fl_table.proofs.Finds.{holds-in, holds-pages, lookup-fails}
+use Rattle.fl_table.proofs.StillStands.{lies-read}
 use Rattle.fl_table.proofs.Slots.{steps-model}
 use Rattle.fl_table.proofs.table.Table.page_of.Goals as goal
 
@@ -17,3 +19,15 @@ returns-clause-reads g c = λ first plan table tells stands pending.
 pub returns-clause-slot : goal.returns-clause-slot
 returns-clause-slot g c = λ first plan table count stands is.
     steps-model c.args.self.now (g.F.Flash.state c.args.flash.now) first plan table c.args.key count _ _ stands is c.page_of.ensures.comparisons
+
+pub returns-clause-lies : goal.returns-clause-lies
+returns-clause-lies g c = lies-read c.args.self.now (g.F.Flash.state c.args.flash.now) (g.F.Flash.state c.page_of.new.flash) c.page_of.ensures.looks.reads c.requires.lies
+
+pub returns-clause-holds : goal.returns-clause-holds
+returns-clause-holds g c =
+    holds-in c.args.self.now (g.F.Flash.state c.page_of.new.flash) c.in-Some.ring c.page_of.new.buf c.page_of.result c.in-Some.is c.page_of.ensures.within c.page_of.ensures.holds
+
+pub returns-clause-fails : goal.returns-clause-fails
+returns-clause-fails g c =
+    let new = g.F.Flash.state c.page_of.new.flash in
+    IfErr-weaker c.page_of.result _ _ (λ e fails. lookup-fails c.args.self.now c.in-Some.ring (g.F.Flash.state c.args.flash.now) e new c.in-Some.is fails) c.page_of.ensures.fails

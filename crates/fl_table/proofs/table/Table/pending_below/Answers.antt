@@ -4,10 +4,11 @@ use Rattle.fl_model.specs.Table.{pending_entries}
 use Rattle.fl_schema.specs.Schema.{row_of}
 use Rattle.fl_model.proofs.Lists.{slice_get-short}
 use Rattle.fl_table.proofs.PendingRows.{pending-many, pending-rise, below-middle, above-middle}
+use Rattle.fl_table.proofs.Sizes.{table-fits}
 use Rattle.fl_table.proofs.table.Table.pending_below.Goals as goal
 
 pub loop-low-init : goal.loop-low-init
-loop-low-init c = record {
+loop-low-init g c = record {
   order = omega arith;
   within = omega (arith, c.pending_rows-high.ensures.exact);
   below = λ f first plan table stands i row less e. absurd (omega (arith, less));
@@ -17,7 +18,7 @@ loop-low-init c = record {
 }
 
 pub loop-low-preserved-then-key : goal.loop-low-preserved-then-key
-loop-low-preserved-then-key c = record {
+loop-low-preserved-then-key g c = record {
   order = omega (arith, c.loop-low-test.true);
   within = c.loop-low.invariant.within;
   below = λ f first plan table stands. below-middle (map stored_row (pending_entries table)) _ c.args.key (row_of c.pending_row.result) (pending-rise plan table stands.facts)
@@ -26,7 +27,7 @@ loop-low-preserved-then-key c = record {
 }
 
 pub loop-low-preserved : goal.loop-low-preserved
-loop-low-preserved c = record {
+loop-low-preserved g c = record {
   order = omega (arith, c.loop-low.invariant.order);
   within = omega (arith, c.loop-low.invariant.order, c.loop-low.invariant.within);
   below = c.loop-low.invariant.below;
@@ -35,4 +36,7 @@ loop-low-preserved c = record {
 }
 
 pub returns-clause-at_least : goal.returns-clause-at_least
-returns-clause-at_least c = λ f first plan table stands i row from e. c.loop-low.invariant.at_least f first plan table stands i row (omega (arith, c.loop-low-test.false, c.loop-low.invariant.order, from)) e
+returns-clause-at_least g c = λ f first plan table stands i row from e. c.loop-low.invariant.at_least f first plan table stands i row (omega (arith, c.loop-low-test.false, c.loop-low.invariant.order, from)) e
+
+pub pending_rows-high-requires : goal.pending_rows-high-requires
+pending_rows-high-requires g c = table-fits g.row.KNOTS g.row.SLOTS c.args.self.now.few_knots c.args.self.now.few_slots

@@ -10,7 +10,7 @@ use Rattle.fl_table.specs.Standing.{Stands}
 use Rattle.fl_table.proofs.table.Table.pending_below.Given as goal
 
 abbrev pub invariant-loop-low : goal.invariant-loop-low
-invariant-loop-low l = record {
+invariant-loop-low g l = record {
   order : l.low ≤ l.high;
   within : l.high ≤ pending_in l.self;
   below : (f : FlashState) (first : ℕ) (plan : Plan) (table : model.Table) → Stands l.self f first plan table →
@@ -20,4 +20,4 @@ invariant-loop-low l = record {
 }
 
 abbrev pub decreases-loop-low : goal.decreases-loop-low
-decreases-loop-low l = l.high - l.low
+decreases-loop-low g l = l.high - l.low

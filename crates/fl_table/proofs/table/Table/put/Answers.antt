@@ -1,19 +1,25 @@
-use Rattle.std.proofs.Common.{◌≡◌, ℕ, ◌+◌, ◌≤◌, Bor, List, Option, Some, None, Result, Ok, Err, length, option_map, not, ◌&&◌, ◌||◌, IsTrue, arith, sym, ◌∙◌, ap, subst}
+use Rattle.std.proofs.Common.{rules, Bool, true, false, refl, ◌≡◌, ℕ, ◌+◌, ◌≤◌, Bor, List, Option, Some, None, Result, Ok, Err, length, option_map, not, ◌&&◌, ◌||◌, IsTrue, arith, sym, ◌∙◌, ap, subst}
 use Rattle.std.proofs.lemmas.Result.{err_from_is_err_and}
 use Rattle.fl_model.specs.Table.{after_seals, make_room_seals}
 use Rattle.fl_table.specs.Refusal.{put_refusal}
 use Rattle.fl_table.specs.Memory.{is_running, is_stopped}
-use Rattle.fl_table.proofs.Refusals.{calm-cause, few-blob, not-spent, refusal-calm}
+use Rattle.fl_table.proofs.Refusals.{fits-row, told-running, calm-cause, few-blob, not-spent, refusal-calm}
 use Rattle.fl_flash.specs.Flash.{page_at}
 use Rattle.fl_table.proofs.Blobbing.{pages-most}
 use Rattle.fl_table.proofs.Outsides.{outside-then}
-use Rattle.fl_table.proofs.Following.{watched-front, watched-then}
+use Rattle.fl_table.proofs.Following.{cause-later, watched-front, watched-then}
 use Rattle.fl_table.proofs.PutAnswers.{accepts, and-true, broken-ends, join-fails, map-twice, put-ends, refused-ends}
 use Rattle.fl_flash.specs.declared.flash.FlashFault.{FlashFault}
 use Rattle.fl_flash.specs.declared.flash.FlashFault.TheVariants.{PowerLost}
 use Rattle.fl_table.specs.declared.faults.PutRefusal.{PutRefusal}
 use Rattle.fl_table.specs.declared.faults.PutRefusal.TheVariants as put
 use Rattle.fl_table.proofs.PowerOff.{put-off}
+use Rattle.fl_model.specs.Record.{RowLayout}
+use Rattle.fl_model.specs.Row.{FitsRow}
+use Rattle.fl_ring.proofs.Readings.{goes_more}
+use Rattle.fl_schema.specs.Schema.{layout_of}
+use Rattle.fl_table.proofs.SealAnswers.{same-then}
+use Rattle.fl_table.proofs.Sizes.{table-fits}
 use Rattle.fl_table.proofs.table.Table.put.Goals as goal
 
 pub returns-in-Some-clause-ends : goal.returns-in-Some-clause-ends
@@ -66,20 +72,6 @@ returns-clause-ends g c = λ first plan table rose device watched stands.
     let ok = accepts t f first plan table c.args.key c.args.values.now bytes rose device stands none c.make_room.new.self mid h c.in_ok-make_room.ensures.room in
     put-ends t f first plan table c.args.key c.args.values.now bytes rose device stands none c.make_room.new.self mid h c.join.new.self new
     (c.in_ok-join.ensures.ends first plan (after_seals plan (make_room_seals plan table) table) rose h.now.device (watched-then f mid new rose device h.now.device watched c.in_ok-make_room.ensures.goes h.power h.counts) h.stands ok)
-
-pub join-requires-clause-few : goal.join-requires-clause-few
-join-requires-clause-few g c =
-    few-blob c.args.self.now c.args.key c.args.values.now (option_map (λ (b : Bor (List ℕ)). b.now) c.args.blob)
-    (ap (put_refusal c.args.self.now c.args.key c.args.values.now) (map-twice (λ (b : Bor (List ℕ)). b.now) (λ (xs : List ℕ). length xs) c.args.blob) ∙ (sym c.refusal.ensures ∙ c.in_default.is))
-
-pub join-requires-clause-left : goal.join-requires-clause-left
-join-requires-clause-left g c = omega (arith, (not-spent c.args.self.now c.args.key c.args.values.now _ (sym c.refusal.ensures ∙ c.in_default.is)).0, c.in_ok-make_room.ensures.next)
-
-pub join-requires-clause-index_left : goal.join-requires-clause-index_left
-join-requires-clause-index_left g c = omega (arith, (not-spent c.args.self.now c.args.key c.args.values.now _ (sym c.refusal.ensures ∙ c.in_default.is)).1, c.in_ok-make_room.ensures.index_next)
-
-pub join-requires-clause-blobs_left : goal.join-requires-clause-blobs_left
-join-requires-clause-blobs_left g c = omega (arith, (not-spent c.args.self.now c.args.key c.args.values.now _ (sym c.refusal.ensures ∙ c.in_default.is)).2, c.in_ok-make_room.ensures.blob_next)
 
 pub returns-in_err-join-clause-outside : goal.returns-in_err-join-clause-outside
 returns-in_err-join-clause-outside g c = λ told.
@@ -155,3 +147,67 @@ returns-clause-off g c = λ none busy down.
   where
     no : ◌≡◌ {A = Result (Unit {0}) FlashFault} (Ok c.in_ok-join.field-0) (Err PowerLost) → ⊥
     no e = cc
+
+and-false : (b : Bool) → (b && false) ≡ false
+and-false true = refl
+and-false false = refl
+
+pub join-requires : goal.join-requires
+join-requires g c =
+    let t = c.args.self.now in
+    let layout = layout_of t.schema in
+    let none : put_refusal t c.args.key c.args.values.now (option_map (λ (b : Bor (List ℕ)). length b.now) c.args.blob) ≡ None = sym c.refusal.ensures ∙ c.in_default.is in
+    let left = not-spent t c.args.key c.args.values.now _ none in (
+      table-fits g.row.KNOTS g.row.SLOTS c.args.self.now.few_knots c.args.self.now.few_slots,
+      (
+        c.in_ok-make_room.ensures.running,
+        (
+          subst (λ (l : RowLayout). FitsRow l (record { key = c.args.key; values = c.args.values.now; blob = None })) (sym c.in_ok-make_room.ensures.same.layout) (fits-row t c.args.key c.args.values.now _ none),
+          (
+            few-blob t c.args.key c.args.values.now (option_map (λ (b : Bor (List ℕ)). b.now) c.args.blob)
+                (ap (put_refusal t c.args.key c.args.values.now) (map-twice (λ (b : Bor (List ℕ)). b.now) (λ (xs : List ℕ). length xs) c.args.blob) ∙ none),
+            (c.in_ok-make_room.ensures.room, (omega (arith, left.0, c.in_ok-make_room.ensures.next), (omega (arith, left.1, c.in_ok-make_room.ensures.index_next), (omega (arith, left.2, c.in_ok-make_room.ensures.blob_next), c.in_ok-make_room.ensures.lies)))),
+          ),
+        ),
+      ),
+    )
+
+pub returns-in_err-join-clause-goes : goal.returns-in_err-join-clause-goes
+returns-in_err-join-clause-goes g c =
+    goes_more (g.F.Flash.state c.args.flash.now) (g.F.Flash.state c.make_room.new.flash) (g.F.Flash.state c.join.new.flash) c.in_ok-make_room.ensures.goes c.in_err-join.ensures.goes
+
+pub returns-in_err-join-clause-same : goal.returns-in_err-join-clause-same
+returns-in_err-join-clause-same g c = same-then c.args.self.now c.make_room.new.self c.join.new.self c.in_ok-make_room.ensures.same c.in_err-join.ensures.same
+
+pub returns-in_err-join-clause-running : goal.returns-in_err-join-clause-running
+returns-in_err-join-clause-running g c =
+    let p = err_from_is_err_and c.from_residual-in_err-join.result c.from_residual-in_err-join.ensures.1 in
+    rw (p.1, p.2) (c.in_err-join.ensures.stopped.0 ∙ sym (and-false (is_running c.args.self.now)))
+
+pub returns-in_err-join-clause-cause : goal.returns-in_err-join-clause-cause
+returns-in_err-join-clause-cause g c =
+    let p = err_from_is_err_and c.from_residual-in_err-join.result c.from_residual-in_err-join.ensures.1 in
+    rw (p.1, p.2) (cause-later (g.F.Flash.state c.args.flash.now) (g.F.Flash.state c.make_room.new.flash) (g.F.Flash.state c.join.new.flash) c.in_ok-make_room.ensures.goes c.in_ok-make_room.ensures.power
+    c.in_err-join.field-0.0 c.in_err-join.ensures.cause)
+
+pub returns-clause-goes : goal.returns-clause-goes
+returns-clause-goes g c =
+    goes_more (g.F.Flash.state c.args.flash.now) (g.F.Flash.state c.make_room.new.flash) (g.F.Flash.state c.join.new.flash) c.in_ok-make_room.ensures.goes c.in_ok-join.ensures.goes
+
+pub returns-clause-same : goal.returns-clause-same
+returns-clause-same g c = same-then c.args.self.now c.make_room.new.self c.join.new.self c.in_ok-make_room.ensures.same c.in_ok-join.ensures.same
+
+pub returns-clause-running : goal.returns-clause-running
+returns-clause-running g c =
+    let t = c.args.self.now in
+    let none : put_refusal t c.args.key c.args.values.now (option_map (λ (b : Bor (List ℕ)). length b.now) c.args.blob) ≡ None = sym c.refusal.ensures ∙ c.in_default.is in
+    c.in_ok-join.ensures.running ∙ sym (and-true (is_running t) ∙ told-running t c.args.key c.args.values.now _ none)
+
+pub refusal-requires : goal.refusal-requires
+refusal-requires g c = table-fits g.row.KNOTS g.row.SLOTS c.args.self.now.few_knots c.args.self.now.few_slots
+
+pub make_room-requires : goal.make_room-requires
+make_room-requires g c =
+    let t = c.args.self.now in
+    let none : put_refusal t c.args.key c.args.values.now (option_map (λ (b : Bor (List ℕ)). length b.now) c.args.blob) ≡ None = sym c.refusal.ensures ∙ c.in_default.is in
+    (table-fits g.row.KNOTS g.row.SLOTS c.args.self.now.few_knots c.args.self.now.few_slots, (told-running t c.args.key c.args.values.now _ none, c.requires.lies))

@@ -13,11 +13,13 @@ use Rattle.fl_table.specs.declared.counts.Mounted.{Mounted}
 use Rattle.fl_table.proofs.Blobbing as blobbing
 use Rattle.fl_table.proofs.Following.{watched-front}
 use Rattle.fl_table.proofs.Gathering.{gathers-end, wait-for}
-use Rattle.fl_table.proofs.Indexing.{few-goes, lies-goes, none-is, none-there, plan-then, ring-then, still-few, still-lies, still-planned, still-running}
+use Rattle.fl_table.proofs.Indexing.{few-goes, lies-goes, none-is, none-there, plan-then, ring-same, ring-then, still-few, still-lies, still-planned, still-running}
 use Rattle.fl_table.proofs.MountCalls.{same-shape, risen-later, outside-stands, index-still, index-read, refuses-ring, refuses-end, refuses-page, finds-data, ring-cause, pages-cause}
 use Rattle.fl_table.proofs.MountEnded.{mounting-of, ring-fails, ring-ends, ring-mounts, reads-end, ends-within, same_device, rests_now, ready_facts, started-memory, started-stand, mount-answer, ends-there}
 use Rattle.fl_table.proofs.MountReads.{few-first, few-all}
 use Rattle.fl_table.proofs.SealAnswers.{plan-self, planned-ring, planned-same, lies-size, written-back}
+use Rattle.fl_table.proofs.StillStands.{lies-moved}
+use Rattle.fl_ring.proofs.Readings.{goes_more}
 use Rattle.fl_table.proofs.table.Table.read_rows.Goals as goal
 
 pub returns-in_err-ring-clause-ends : goal.returns-in_err-ring-clause-ends
@@ -219,16 +221,12 @@ pub returns-then-end-next-clause-reads : goal.returns-then-end-next-clause-reads
 returns-then-end-next-clause-reads g c = λ told.
     few-first c.args.self.now c.args.self.now (g.F.Flash.state c.args.flash.now) (g.F.Flash.state c.mount.new.flash) (plan-self c.args.self.now) c.requires.lies.geometry c.in_ok-ring.ensures.beside
 
-pub read_pages-requires-clause-bitmaps : goal.read_pages-requires-clause-bitmaps
-read_pages-requires-clause-bitmaps g c =
-    let ring = c.in_ok-ring.ring in
-    wait-for c.args.self.now.bitmaps c.restart.new.bitmaps c.args.end (oldest_of ring) (next_of ring) c.first_to_wait-first.result (c.first_to_wait-first.ensures ∙ rw (c.oldest.ensures, c.next_number-next.ensures) refl)
-    (omega (arith, c.if-end-next.false, c.next_number-next.ensures)) (omega (arith, ring.ordered)) c.restart.ensures.same c.restart.ensures.idle c.restart.ensures.next
-
 pub invariant_of-self : goal.invariant_of-self
 invariant_of-self g c =
     let t = c.args.self.now in
     record {
+      few_knots = t.few_knots;
+      few_slots = t.few_slots;
       served = t.served;
       some_blocks = t.some_blocks;
       few_blocks = t.few_blocks;
@@ -271,17 +269,6 @@ returns-in_err-mounted-clause-lies g c =
           (ring-then t.bitmaps c.restart.new.bitmaps c.read_pages.new.bitmaps c.restart.ensures.still c.in_err-mounted.ensures.still) (lies-goes t.bitmaps mid new then (lies-goes t.bitmaps old mid first lies.bitmaps));
       blobs = blobbing.lies-goes t.blobs mid new then (blobbing.lies-goes t.blobs old mid first lies.blobs);
     }
-
-pub invariant_of-self-2-clause-few_pages : goal.invariant_of-self-2-clause-few_pages
-invariant_of-self-2-clause-few_pages g c =
-    let t = c.args.self.now in
-    still-few (t.place.blocks * t.geometry.block + 6) t.bitmaps c.read_pages.new.bitmaps (plan-then t.bitmaps c.restart.new.bitmaps c.read_pages.new.bitmaps c.restart.ensures.same c.in_ok-mounted.ensures.same) t.few_pages
-
-pub invariant_of-self-2-clause-running : goal.invariant_of-self-2-clause-running
-invariant_of-self-2-clause-running g c = λ is. absurd (none-is c.args.self.now.ring c.requires.forgotten.down is)
-
-pub invariant_of-self-2-clause-follow : goal.invariant_of-self-2-clause-follow
-invariant_of-self-2-clause-follow g c = λ ring is. absurd (none-there c.args.self.now.ring ring c.requires.forgotten.down is)
 
 pub returns-clause-running : goal.returns-clause-running
 returns-clause-running g c =
@@ -330,3 +317,91 @@ returns-clause-same g c = record {
   blobs = blobbing.plan-same c.args.self.now.blobs;
   limit = refl;
 }
+
+pub read_pages-requires : goal.read_pages-requires
+read_pages-requires g c =
+    let ring = c.in_ok-ring.ring in (
+      search rules,
+      (
+        c.args.self.now.some_row,
+        (
+          search rules,
+          (
+            search rules,
+            (
+              search rules,
+              (
+                search (rules, arith),
+                wait-for c.args.self.now.bitmaps c.restart.new.bitmaps c.args.end (oldest_of ring) (next_of ring) c.first_to_wait-first.result (c.first_to_wait-first.ensures ∙ rw (c.oldest.ensures, c.next_number-next.ensures) refl)
+                    (omega (arith, c.if-end-next.false, c.next_number-next.ensures)) (omega (arith, ring.ordered)) c.restart.ensures.same c.restart.ensures.idle c.restart.ensures.next,
+              ),
+            ),
+          ),
+        ),
+      ),
+    )
+
+pub returns-then-end-next-clause-same : goal.returns-then-end-next-clause-same
+returns-then-end-next-clause-same g c = plan-self c.args.self.now
+
+pub returns-then-end-next-clause-still : goal.returns-then-end-next-clause-still
+returns-then-end-next-clause-still g c = ring-same c.args.self.now.bitmaps
+
+pub returns-then-end-next-clause-lies : goal.returns-then-end-next-clause-lies
+returns-then-end-next-clause-lies g c = lies-moved c.args.self.now (g.F.Flash.state c.args.flash.now) (g.F.Flash.state c.mount.new.flash) c.in_ok-ring.ensures.beside.goes c.requires.lies
+
+pub returns-in_err-mounted-clause-goes : goal.returns-in_err-mounted-clause-goes
+returns-in_err-mounted-clause-goes g c =
+    goes_more (g.F.Flash.state c.args.flash.now) (g.F.Flash.state c.mount.new.flash) (g.F.Flash.state c.read_pages.new.flash) c.in_ok-ring.ensures.beside.goes c.in_err-mounted.ensures.reads.goes
+
+pub returns-in_err-mounted-clause-same : goal.returns-in_err-mounted-clause-same
+returns-in_err-mounted-clause-same g c = record {
+  geometry = refl;
+  layout = refl;
+  place = refl;
+  buckets = refl;
+  error = c.in_err-mounted.ensures.error;
+  bitmaps = plan-then c.args.self.now.bitmaps c.restart.new.bitmaps c.read_pages.new.bitmaps c.restart.ensures.same c.in_err-mounted.ensures.same;
+  blobs = blobbing.plan-same c.args.self.now.blobs;
+  limit = refl;
+}
+
+pub returns-in_err-mounted-clause-still : goal.returns-in_err-mounted-clause-still
+returns-in_err-mounted-clause-still g c = ring-then c.args.self.now.bitmaps c.restart.new.bitmaps c.read_pages.new.bitmaps c.restart.ensures.still c.in_err-mounted.ensures.still
+
+pub returns-clause-goes : goal.returns-clause-goes
+returns-clause-goes g c =
+    goes_more (g.F.Flash.state c.args.flash.now) (g.F.Flash.state c.mount.new.flash) (g.F.Flash.state c.read_pages.new.flash) c.in_ok-ring.ensures.beside.goes c.in_ok-mounted.ensures.reads.goes
+
+pub returns-clause-still : goal.returns-clause-still
+returns-clause-still g c = ring-then c.args.self.now.bitmaps c.restart.new.bitmaps c.read_pages.new.bitmaps c.restart.ensures.still c.in_ok-mounted.ensures.still
+
+pub invariant_of-self-2 : goal.invariant_of-self-2
+invariant_of-self-2 g c =
+    let t = c.args.self.now in
+    record {
+      few_knots = t.few_knots;
+      few_slots = t.few_slots;
+      served = t.served;
+      some_blocks = t.some_blocks;
+      few_blocks = t.few_blocks;
+      some_columns = t.some_columns;
+      few_columns = t.few_columns;
+      some_row = t.some_row;
+      room_for_row = t.room_for_row;
+      has_blobs = t.has_blobs;
+      blobs_fit = t.blobs_fit;
+      page = t.page;
+      rows_end = t.rows_end;
+      rows_room = t.rows_room;
+      blank_rest = t.blank_rest;
+      counted = search rules;
+      lies = t.lies;
+      left = t.left;
+      few_pages = still-few (t.place.blocks * t.geometry.block + 6) t.bitmaps c.read_pages.new.bitmaps (plan-then t.bitmaps c.restart.new.bitmaps c.read_pages.new.bitmaps c.restart.ensures.same c.in_ok-mounted.ensures.same) t.few_pages;
+      running = λ is. absurd (none-is t.ring c.requires.forgotten.down is);
+      follow = λ ring is. absurd (none-there t.ring ring c.requires.forgotten.down is);
+      pages_left = λ some. absurd (omega (arith, some, c.requires.forgotten.none));
+      blobs_running = t.blobs_running;
+      blobs_left = t.blobs_left;
+    }

@@ -1,16 +1,20 @@
-use Rattle.std.proofs.Common.{◌≡◌, ◌∷◌, [], ◌++◌, List, Err, IsTrue, arith, sym, ap, subst}
+use Rattle.std.proofs.Common.{rules, ◌≡◌, ◌+◌, ◌≤◌, true, Option, Result, Ok, OnOk, ◌∷◌, [], ◌++◌, List, Err, IsTrue, arith, sym, ap, subst}
 use Rattle.std.proofs.lemmas.Result.{err_from_is_err_and, IfErr-weaker}
 use Rattle.fl_model.specs.Table.{RingName, DataRing, after_seals}
-use Rattle.fl_table.specs.Bitmaps.{bitmap_seals}
+use Rattle.fl_table.specs.Bitmaps.{HaveRoom, bitmap_seals, next_of}
+use Rattle.fl_table.specs.Blobs as variable
 use Rattle.fl_table.specs.Blobs.{blob_seals}
 use Rattle.fl_table.specs.Outcomes.{SealsEnd}
 use Rattle.fl_table.proofs.Following.{cause-later, seals-stop, seals-then, watched-front, watched-then}
 use Rattle.fl_flash.specs.Flash.{page_at}
 use Rattle.fl_table.proofs.Outsides.{outside-then}
 use Rattle.fl_table.proofs.Plain.{some-table_seals}
-use Rattle.fl_table.proofs.SealAnswers.{writer-count}
+use Rattle.fl_ring.proofs.Readings.{goes_more}
+use Rattle.fl_index.specs.declared.index.Index.{Index}
+use Rattle.fl_table.proofs.SealAnswers.{same-then, writer-count}
 use Rattle.fl_flash.specs.declared.flash.FlashFault.{FlashFault}
 use Rattle.fl_table.proofs.PowerOff.{off-then}
+use Rattle.fl_table.proofs.Sizes.{table-fits}
 use Rattle.fl_table.proofs.table.Table.seal.Goals as goal
 
 pub returns-in_err-seal_bitmaps-clause-ends : goal.returns-in_err-seal_bitmaps-clause-ends
@@ -112,3 +116,61 @@ returns-clause-off g c =
     let new = g.F.Flash.state c.seal_rows.new.flash in
     off-then (g.F.Flash.state c.args.flash.now) first new c.in_ok-seal_bitmaps.field-0 c.seal_rows.result c.in_ok-seal_bitmaps.ensures.off
     (off-then first mid new c.in_ok-seal_blobs.field-0 c.seal_rows.result c.in_ok-seal_blobs.ensures.off c.seal_rows.ensures.off)
+
+on-ok : (result : Result (Unit {0}) FlashFault) (P Q : Type 0) → (P → Q) → OnOk result P → OnOk result Q
+on-ok (Ok done) P Q f h = f h
+on-ok (Err e) P Q f h = tt
+
+pub returns-in_err-seal_blobs-clause-goes : goal.returns-in_err-seal_blobs-clause-goes
+returns-in_err-seal_blobs-clause-goes g c =
+    goes_more (g.F.Flash.state c.args.flash.now) (g.F.Flash.state c.seal_bitmaps.new.flash) (g.F.Flash.state c.seal_blobs.new.flash) c.in_ok-seal_bitmaps.ensures.goes c.in_err-seal_blobs.ensures.goes
+
+pub returns-clause-goes : goal.returns-clause-goes
+returns-clause-goes g c =
+    let first = g.F.Flash.state c.seal_bitmaps.new.flash in
+    let mid = g.F.Flash.state c.seal_blobs.new.flash in
+    let new = g.F.Flash.state c.seal_rows.new.flash in
+    goes_more (g.F.Flash.state c.args.flash.now) first new c.in_ok-seal_bitmaps.ensures.goes (goes_more first mid new c.in_ok-seal_blobs.ensures.goes c.seal_rows.ensures.goes)
+
+pub returns-clause-same : goal.returns-clause-same
+returns-clause-same g c =
+    same-then c.args.self.now c.seal_bitmaps.new.self c.seal_rows.new.self c.in_ok-seal_bitmaps.ensures.same
+    (same-then c.seal_bitmaps.new.self c.seal_blobs.new.self c.seal_rows.new.self c.in_ok-seal_blobs.ensures.same c.seal_rows.ensures.same)
+
+pub returns-clause-index_next : goal.returns-clause-index_next
+returns-clause-index_next g c =
+    let before = c.in_ok-seal_bitmaps.ensures.index_next in
+    let still : next_of c.seal_blobs.new.self.bitmaps ≡ next_of c.seal_bitmaps.new.self.bitmaps = ap next_of c.in_ok-seal_blobs.ensures.bitmaps in
+    on-ok c.seal_rows.result (next_of c.seal_rows.new.self.bitmaps ≡ next_of c.seal_blobs.new.self.bitmaps) (next_of c.seal_rows.new.self.bitmaps ≤ next_of c.args.self.now.bitmaps + 1)
+    (λ same. omega (arith, same, still, before)) c.seal_rows.ensures.index_next
+
+pub returns-clause-blob_next : goal.returns-clause-blob_next
+returns-clause-blob_next g c =
+    let grown = c.in_ok-seal_blobs.ensures.blob_next in
+    let still : variable.next_of c.seal_bitmaps.new.self.blobs ≡ variable.next_of c.args.self.now.blobs = ap variable.next_of c.in_ok-seal_bitmaps.ensures.blobs in
+    let last : variable.next_of c.seal_rows.new.self.blobs ≡ variable.next_of c.seal_blobs.new.self.blobs = ap variable.next_of c.seal_rows.ensures.blobs in
+    on-ok c.seal_rows.result (next_of c.seal_rows.new.self.bitmaps ≡ next_of c.seal_blobs.new.self.bitmaps) (variable.next_of c.seal_rows.new.self.blobs ≤ variable.next_of c.args.self.now.blobs + 1)
+    (λ same. omega (arith, grown, still, last)) c.seal_rows.ensures.index_next
+
+pub returns-clause-power : goal.returns-clause-power
+returns-clause-power g c =
+    let old = g.F.Flash.state c.args.flash.now in
+    let mid = g.F.Flash.state c.seal_blobs.new.flash in
+    let new = g.F.Flash.state c.seal_rows.new.flash in
+    on-ok c.seal_rows.result (mid.is_on ≡ true → new.is_on ≡ true) (old.is_on ≡ true → new.is_on ≡ true)
+    (λ power on. power (c.in_ok-seal_blobs.ensures.power (c.in_ok-seal_bitmaps.ensures.power on))) c.seal_rows.ensures.power
+
+pub seal_rows-requires : goal.seal_rows-requires
+seal_rows-requires g c = (
+  table-fits g.row.KNOTS g.row.SLOTS c.args.self.now.few_knots c.args.self.now.few_slots,
+  (c.in_ok-seal_blobs.ensures.running, (omega (arith, c.in_ok-seal_blobs.ensures.some, c.in_ok-seal_bitmaps.ensures.some, c.requires.some), (subst (λ (o : Option Index). HaveRoom o) (sym c.in_ok-seal_blobs.ensures.bitmaps) c.in_ok-seal_bitmaps.ensures.room, (c.in_ok-seal_blobs.ensures.empty, c.in_ok-seal_blobs.ensures.lies)))),
+)
+
+pub seal_bitmaps-requires : goal.seal_bitmaps-requires
+seal_bitmaps-requires g c = (table-fits g.row.KNOTS g.row.SLOTS c.args.self.now.few_knots c.args.self.now.few_slots, (c.requires.running, (c.requires.some, c.requires.lies)))
+
+pub seal_blobs-requires : goal.seal_blobs-requires
+seal_blobs-requires g c = (
+  table-fits g.row.KNOTS g.row.SLOTS c.args.self.now.few_knots c.args.self.now.few_slots,
+  (c.in_ok-seal_bitmaps.ensures.running, (omega (arith, c.in_ok-seal_bitmaps.ensures.some, c.requires.some), c.in_ok-seal_bitmaps.ensures.lies)),
+)

@@ -1,19 +1,15 @@
-use Rattle.std.proofs.Common.{◌≡◌, ◌+◌, ◌*◌, ◌≤◌, Ok, Err, arith, refl}
+use Rattle.std.proofs.Common.{◌≡◌, ◌+◌, ◌*◌, ◌≤◌, Ok, Err, arith, refl, None}
 use Rattle.fl_flash.specs.Flash.{page_at}
 use Rattle.fl_table.specs.Bitmaps.{bitmap_seals}
 use Rattle.fl_table.proofs.Blobbing.{stand-moved}
 use Rattle.fl_table.proofs.IndexSeals.{bitmaps-end, made-finishes, var-stand, with_index}
-use Rattle.fl_table.proofs.Indexing.{still-few, still-planned, made-running, made-end, made-after, broken-after}
+use Rattle.fl_table.proofs.Indexing.{still-few, still-planned, made-running, made-end, made-after, broken-after, made-room, made-next, number-left, none-is, none-there}
 use Rattle.fl_table.proofs.SealAnswers.{writer-count}
+use Rattle.fl_table.proofs.MountJoined.{stand-outside}
+use Rattle.fl_table.proofs.StillStands.{lies-moved}
+use Rattle.fl_ring.specs.declared.ring.Ring.{Ring}
+use Rattle.fl_table.proofs.Blobbing as blobbing
 use Rattle.fl_table.proofs.table.Table.seal_bitmaps.Goals as goal
-
-pub invariant_of-self-clause-few_pages : goal.invariant_of-self-clause-few_pages
-invariant_of-self-clause-few_pages g c =
-    let t = c.args.self.now in
-    still-few (t.place.blocks * t.geometry.block + 6) t.bitmaps c.make_room.new.bitmaps c.in-Err.ensures.same t.few_pages
-
-pub invariant_of-self-clause-pages_left : goal.invariant_of-self-clause-pages_left
-invariant_of-self-clause-pages_left g c = λ some. let k = broken-after c.make_room.new.bitmaps c.in-Err.ensures.broken in omega (arith, k)
 
 pub returns-in-Err-clause-ends : goal.returns-in-Err-clause-ends
 returns-in-Err-clause-ends g c = λ first plan table rose device watched stands.
@@ -22,22 +18,6 @@ returns-in-Err-clause-ends g c = λ first plan table rose device watched stands.
     let some : table.pending ≡ 0 → ⊥ = λ none. absurd (omega (arith, none, writer-count t f first plan table stands, c.requires.some)) in
     bitmaps-end t f (g.F.Flash.state c.make_room.new.flash) first plan table rose device t.bitmaps (Err c.in-Err.fault) c.make_room.new.bitmaps refl stands some watched (t.pages_left c.requires.some) (c.in-Err.ensures.outside watched.told) tt
     (c.in-Err.ensures.ends (first + plan.data_blocks) plan table rose device)
-
-pub invariant_of-self-in_default-clause-few_pages : goal.invariant_of-self-in_default-clause-few_pages
-invariant_of-self-in_default-clause-few_pages g c =
-    let t = c.args.self.now in
-    still-few (t.place.blocks * t.geometry.block + 6) t.bitmaps c.make_room.new.bitmaps c.in_default.ensures.same t.few_pages
-
-pub invariant_of-self-in_default-clause-running : goal.invariant_of-self-in_default-clause-running
-invariant_of-self-in_default-clause-running g c = λ is. made-running c.args.self.now.bitmaps c.make_room.new.bitmaps c.in_default.ensures.made
-
-pub invariant_of-self-in_default-clause-follow : goal.invariant_of-self-in_default-clause-follow
-invariant_of-self-in_default-clause-follow g c = λ ring is. made-end c.args.self.now.bitmaps c.make_room.new.bitmaps _ c.in_default.ensures.made (c.args.self.now.follow ring is)
-
-pub invariant_of-self-in_default-clause-pages_left : goal.invariant_of-self-in_default-clause-pages_left
-invariant_of-self-in_default-clause-pages_left g c = λ some.
-    let t = c.args.self.now in
-    omega (arith, made-after t.bitmaps c.make_room.new.bitmaps c.in_default.ensures.made, t.pages_left some)
 
 pub returns-clause-ends : goal.returns-clause-ends
 returns-clause-ends g c = λ first plan table rose device watched stands.
@@ -81,3 +61,212 @@ returns-clause-ends g c = λ first plan table rose device watched stands.
           (var-stand t.bitmaps (page_at f) (page_at (g.F.Flash.state c.make_room.new.flash)) first plan stands.planned.index (c.in_default.ensures.outside watched.told)) refl refl refl refl stands.blobs;
       points = record { older = stands.points.older; points = stands.points.points; last = stands.points.last };
     })
+
+pub returns-in-Err-clause-lies : goal.returns-in-Err-clause-lies
+returns-in-Err-clause-lies g c =
+    let lies = lies-moved c.args.self.now (g.F.Flash.state c.args.flash.now) (g.F.Flash.state c.make_room.new.flash) c.in-Err.ensures.goes c.requires.lies in
+    record {
+      geometry = lies.geometry;
+      within = lies.within;
+      few = lies.few;
+      ring = λ ring is. absurd (none-there {X = Ring} None ring refl is);
+      bitmaps = c.in-Err.ensures.lies;
+      blobs = lies.blobs;
+    }
+
+pub returns-in-Err-clause-outside : goal.returns-in-Err-clause-outside
+returns-in-Err-clause-outside g c = λ told page rows index blobs.
+    stand-outside c.args.self.now.bitmaps (page_at (g.F.Flash.state c.args.flash.now)) (page_at (g.F.Flash.state c.make_room.new.flash)) page (c.in-Err.ensures.outside told) index
+
+pub returns-clause-lies : goal.returns-clause-lies
+returns-clause-lies g c =
+    let lies = lies-moved c.args.self.now (g.F.Flash.state c.args.flash.now) (g.F.Flash.state c.make_room.new.flash) c.in_default.ensures.goes c.requires.lies in
+    record {
+      geometry = lies.geometry;
+      within = lies.within;
+      few = lies.few;
+      ring = lies.ring;
+      bitmaps = c.in_default.ensures.lies;
+      blobs = lies.blobs;
+    }
+
+pub returns-clause-outside : goal.returns-clause-outside
+returns-clause-outside g c = λ told page rows index blobs.
+    stand-outside c.args.self.now.bitmaps (page_at (g.F.Flash.state c.args.flash.now)) (page_at (g.F.Flash.state c.make_room.new.flash)) page (c.in_default.ensures.outside told) index
+
+pub make_room-requires-clause-running : goal.make_room-requires-clause-running
+make_room-requires-clause-running g c = c.args.self.now.running c.requires.running
+
+pub make_room-requires-clause-lies : goal.make_room-requires-clause-lies
+make_room-requires-clause-lies g c = c.requires.lies.bitmaps
+
+pub make_room-requires-clause-left : goal.make_room-requires-clause-left
+make_room-requires-clause-left g c = number-left c.args.self.now.bitmaps (c.args.self.now.pages_left c.requires.some)
+
+pub invariant_of-self : goal.invariant_of-self
+invariant_of-self g c =
+    let t = c.args.self.now in
+    record {
+      few_knots = t.few_knots;
+      few_slots = t.few_slots;
+      served = t.served;
+      some_blocks = t.some_blocks;
+      few_blocks = t.few_blocks;
+      some_columns = t.some_columns;
+      few_columns = t.few_columns;
+      some_row = t.some_row;
+      room_for_row = t.room_for_row;
+      has_blobs = t.has_blobs;
+      blobs_fit = t.blobs_fit;
+      page = t.page;
+      rows_end = t.rows_end;
+      rows_room = t.rows_room;
+      blank_rest = t.blank_rest;
+      counted = t.counted;
+      lies = λ ring is. absurd (none-there {X = Ring} None ring refl is);
+      left = λ ring is. absurd (none-there {X = Ring} None ring refl is);
+      few_pages = still-few (t.place.blocks * t.geometry.block + 6) t.bitmaps c.make_room.new.bitmaps c.in-Err.ensures.same t.few_pages;
+      running = λ is. absurd (none-is {X = Ring} None refl is);
+      follow = λ ring is. absurd (none-there {X = Ring} None ring refl is);
+      pages_left = λ some. let k = broken-after c.make_room.new.bitmaps c.in-Err.ensures.broken in omega (arith, k);
+      blobs_running = λ is. absurd (none-is {X = Ring} None refl is);
+      blobs_left = λ is. absurd (none-is {X = Ring} None refl is);
+    }
+
+pub invariant_of-self-in_default : goal.invariant_of-self-in_default
+invariant_of-self-in_default g c =
+    let t = c.args.self.now in
+    record {
+      few_knots = t.few_knots;
+      few_slots = t.few_slots;
+      served = t.served;
+      some_blocks = t.some_blocks;
+      few_blocks = t.few_blocks;
+      some_columns = t.some_columns;
+      few_columns = t.few_columns;
+      some_row = t.some_row;
+      room_for_row = t.room_for_row;
+      has_blobs = t.has_blobs;
+      blobs_fit = t.blobs_fit;
+      page = t.page;
+      rows_end = t.rows_end;
+      rows_room = t.rows_room;
+      blank_rest = t.blank_rest;
+      counted = t.counted;
+      lies = t.lies;
+      left = t.left;
+      few_pages = still-few (t.place.blocks * t.geometry.block + 6) t.bitmaps c.make_room.new.bitmaps c.in_default.ensures.same t.few_pages;
+      running = λ is. made-running t.bitmaps c.make_room.new.bitmaps c.in_default.ensures.made;
+      follow = λ ring is. made-end t.bitmaps c.make_room.new.bitmaps _ c.in_default.ensures.made (t.follow ring is);
+      pages_left = λ some. omega (arith, made-after t.bitmaps c.make_room.new.bitmaps c.in_default.ensures.made, t.pages_left some);
+      blobs_running = t.blobs_running;
+      blobs_left = t.blobs_left;
+    }
+
+pub returns-in-Err-clause-goes : goal.returns-in-Err-clause-goes
+returns-in-Err-clause-goes g c = c.in-Err.ensures.goes
+
+pub returns-in-Err-clause-same : goal.returns-in-Err-clause-same
+returns-in-Err-clause-same g c = record {
+  geometry = refl;
+  layout = refl;
+  place = refl;
+  buckets = refl;
+  error = refl;
+  bitmaps = c.in-Err.ensures.same;
+  blobs = blobbing.plan-same c.args.self.now.blobs;
+  limit = refl;
+}
+
+pub returns-in-Err-clause-room : goal.returns-in-Err-clause-room
+returns-in-Err-clause-room g c = tt
+
+pub returns-in-Err-clause-some : goal.returns-in-Err-clause-some
+returns-in-Err-clause-some g c = refl
+
+pub returns-in-Err-clause-blobs : goal.returns-in-Err-clause-blobs
+returns-in-Err-clause-blobs g c = refl
+
+pub returns-in-Err-clause-running : goal.returns-in-Err-clause-running
+returns-in-Err-clause-running g c = tt
+
+pub returns-in-Err-clause-next : goal.returns-in-Err-clause-next
+returns-in-Err-clause-next g c = tt
+
+pub returns-in-Err-clause-index_next : goal.returns-in-Err-clause-index_next
+returns-in-Err-clause-index_next g c = tt
+
+pub returns-in-Err-clause-calm : goal.returns-in-Err-clause-calm
+returns-in-Err-clause-calm g c = tt
+
+pub returns-in-Err-clause-stopped : goal.returns-in-Err-clause-stopped
+returns-in-Err-clause-stopped g c = (refl, refl)
+
+pub returns-in-Err-clause-reads : goal.returns-in-Err-clause-reads
+returns-in-Err-clause-reads g c = c.in-Err.ensures.reads
+
+pub returns-in-Err-clause-media_reads : goal.returns-in-Err-clause-media_reads
+returns-in-Err-clause-media_reads g c = c.in-Err.ensures.media_reads
+
+pub returns-in-Err-clause-power : goal.returns-in-Err-clause-power
+returns-in-Err-clause-power g c = tt
+
+pub returns-in-Err-clause-off : goal.returns-in-Err-clause-off
+returns-in-Err-clause-off g c = c.in-Err.ensures.off
+
+pub returns-in-Err-clause-cause : goal.returns-in-Err-clause-cause
+returns-in-Err-clause-cause g c = c.in-Err.ensures.cause
+
+pub returns-clause-goes : goal.returns-clause-goes
+returns-clause-goes g c = c.in_default.ensures.goes
+
+pub returns-clause-same : goal.returns-clause-same
+returns-clause-same g c = record {
+  geometry = refl;
+  layout = refl;
+  place = refl;
+  buckets = refl;
+  error = refl;
+  bitmaps = c.in_default.ensures.same;
+  blobs = blobbing.plan-same c.args.self.now.blobs;
+  limit = refl;
+}
+
+pub returns-clause-room : goal.returns-clause-room
+returns-clause-room g c = made-room c.args.self.now.bitmaps c.make_room.new.bitmaps c.in_default.ensures.made
+
+pub returns-clause-some : goal.returns-clause-some
+returns-clause-some g c = refl
+
+pub returns-clause-blobs : goal.returns-clause-blobs
+returns-clause-blobs g c = refl
+
+pub returns-clause-running : goal.returns-clause-running
+returns-clause-running g c = c.requires.running
+
+pub returns-clause-next : goal.returns-clause-next
+returns-clause-next g c = refl
+
+pub returns-clause-index_next : goal.returns-clause-index_next
+returns-clause-index_next g c = made-next c.args.self.now.bitmaps c.make_room.new.bitmaps c.in_default.ensures.made
+
+pub returns-clause-calm : goal.returns-clause-calm
+returns-clause-calm g c = refl
+
+pub returns-clause-stopped : goal.returns-clause-stopped
+returns-clause-stopped g c = tt
+
+pub returns-clause-reads : goal.returns-clause-reads
+returns-clause-reads g c = c.in_default.ensures.reads
+
+pub returns-clause-media_reads : goal.returns-clause-media_reads
+returns-clause-media_reads g c = c.in_default.ensures.media_reads
+
+pub returns-clause-power : goal.returns-clause-power
+returns-clause-power g c = c.in_default.ensures.power
+
+pub returns-clause-off : goal.returns-clause-off
+returns-clause-off g c = c.in_default.ensures.off
+
+pub returns-clause-cause : goal.returns-clause-cause
+returns-clause-cause g c = tt

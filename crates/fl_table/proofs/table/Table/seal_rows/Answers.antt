@@ -1,4 +1,4 @@
-use Rattle.std.proofs.Common.{rules, Option, IfSome, ◌≡◌, ◌+◌, ◌*◌, ◌%◌, length, ℕ, List, Some, Ok, Err, arith, sym, ◌∙◌, ap, subst, refl, set, get_or, map, option_map, length-set}
+use Rattle.std.proofs.Common.{rules, ◌≤◌, Option, IfSome, ◌≡◌, ◌+◌, ◌*◌, ◌%◌, length, ℕ, List, Some, Ok, Err, arith, sym, ◌∙◌, ap, subst, refl, set, get_or, map, option_map, length-set, None, is_some, mul-le-mul_right}
 use Rattle.fl_flash.specs.Flash.{page_at}
 use Rattle.fl_model.specs.Layout.{rows_body}
 use Rattle.fl_model.specs.Ring as rings
@@ -14,7 +14,7 @@ use Rattle.fl_ring.specs.Ring.{Shape, OutsideStands}
 use Rattle.fl_ring.specs.Sealing.{Performed, Seals}
 use Rattle.fl_schema.specs.Schema.{layout_of, row_of}
 use Rattle.fl_table.proofs.States.{shape_in, state_of, HaveSize}
-use Rattle.fl_table.proofs.Writers.{rest-finish, rest-clear, gathers-none, few-rows, some-room}
+use Rattle.fl_table.proofs.Writers.{rest-finish, rest-clear, gathers-none, few-rows, some-room, end-same, end-none}
 use Rattle.fl_table.proofs.Pointed.{first-key, index-sealed, points-sealed}
 use Rattle.std.specs.List.{sum}
 use Rattle.fl_table.proofs.Blobbing as blobbing
@@ -24,15 +24,15 @@ use Rattle.fl_table.proofs.SealAnswers.{planned-ring, planned-shape, lies-size, 
 use Rattle.fl_table.proofs.VoidPages.{voids-told}
 use Rattle.fl_table.proofs.Sealings.{IsSealing, seal-breaks, seal-finishes}
 use Rattle.fl_table.proofs.Following.{ends-alone}
-use Rattle.fl_table.proofs.Indexing.{few-goes, lies-goes, plan-same, still-few, still-lies, still-next, still-planned, still-running, noted-end, stand-sealed}
+use Rattle.fl_table.proofs.Indexing.{few-goes, lies-goes, plan-same, still-few, still-lies, still-next, still-planned, still-running, noted-end, stand-sealed, none-there, none-is}
 use Rattle.fl_table.proofs.Moved.{index-stands}
 use Rattle.fl_table.proofs.Plain.{table-parts, table-facts}
+use Rattle.fl_ring.specs.Mounting.{shape_at}
+use Rattle.fl_page.specs.WriterState.{WriterState}
+use Rattle.fl_model.specs.Record.{layout_len}
+use Rattle.fl_ring.specs.Place as place
+use Rattle.fl_table.proofs.Finds.{next-in}
 use Rattle.fl_table.proofs.table.Table.seal_rows.Goals as goal
-
-pub invariant_of-self-clause-blank_rest : goal.invariant_of-self-clause-blank_rest
-invariant_of-self-clause-blank_rest g c =
-    let t = c.args.self.now in
-    rest-finish t.writer c.finish.new.self c.next_number-number.result t.bitmap c.finish.ensures.exact c.finish.ensures.size (omega (arith, t.rows_end)) t.blank_rest
 
 pub note-requires-clause-some : goal.note-requires-clause-some
 note-requires-clause-some g c =
@@ -44,21 +44,11 @@ voids_among-gone-requires g c =
     let t = c.args.self.now in
     omega (arith, c.deref.ensures.len, t.counted, some-room t.place.blocks t.geometry.block t.some_blocks t.served.block_least)
 
-pub invariant_of-self-2-clause-room_for_row : goal.invariant_of-self-2-clause-room_for_row
-invariant_of-self-2-clause-room_for_row g c = c.args.self.now.room_for_row
-
 pub note-requires-clause-few : goal.note-requires-clause-few
 note-requires-clause-few g c =
     let t = c.args.self.now in
     let count : c.count.result ≡ t.writer.count = c.count.ensures ∙ ap (λ w. w.count) c.finish.ensures.exact in
     omega (arith, count, few-rows t.writer.count _ t.writer.end (length t.writer.body) t.rows_end t.rows_room t.some_row (omega (arith, t.page, t.served.page_greatest)))
-
-pub invariant_of-self-2-clause-blank_rest : goal.invariant_of-self-2-clause-blank_rest
-invariant_of-self-2-clause-blank_rest g c =
-    let t = c.args.self.now in
-    let end : c.finish.new.self.end ≡ t.writer.end = ap (λ w. w.end) c.finish.ensures.exact in
-    rest-clear c.finish.new.self c.clear.new.self c.clear.ensures.exact (omega (arith, end, t.rows_end)) (omega (arith, end, t.rows_room, c.finish.ensures.size))
-    (rest-finish t.writer c.finish.new.self c.next_number-number.result t.bitmap c.finish.ensures.exact c.finish.ensures.size (omega (arith, t.rows_end)) t.blank_rest)
 
 pub returns-in-Err-clause-ends : goal.returns-in-Err-clause-ends
 returns-in-Err-clause-ends g c = λ first plan table rose device watched stands.
@@ -189,29 +179,10 @@ returns-in-Err-clause-lies g c =
       geometry = goes.geometry ∙ lies.geometry;
       within = omega (arith, goes.blocks, lies.within);
       few = few-goes old new goes lies.few;
-      ring = search rules;
+      ring = λ ring is. absurd (none-there c.take.new.self ring c.take.ensures.after is);
       bitmaps = lies-goes c.args.self.now.bitmaps old new goes lies.bitmaps;
       blobs = blobbing.lies-goes c.args.self.now.blobs old new goes lies.blobs;
     }
-
-pub invariant_of-self-2-clause-few_pages : goal.invariant_of-self-2-clause-few_pages
-invariant_of-self-2-clause-few_pages g c =
-    let t = c.args.self.now in
-    still-few (t.place.blocks * t.geometry.block + 6) t.bitmaps c.note_bitmap.new.bitmaps c.note_bitmap.ensures.same t.few_pages
-
-pub invariant_of-self-2-clause-running : goal.invariant_of-self-2-clause-running
-invariant_of-self-2-clause-running g c = λ is.
-    let t = c.args.self.now in
-    still-running t.bitmaps c.note_bitmap.new.bitmaps c.note_bitmap.ensures.still (t.running c.requires.running)
-
-pub invariant_of-self-2-clause-follow : goal.invariant_of-self-2-clause-follow
-invariant_of-self-2-clause-follow g c = λ ring is.
-    let t = c.args.self.now in
-    let has : t.ring ≡ Some c.in-Some.ring = sym c.take.ensures.value ∙ c.in-Some.is in
-    let end = noted-end t.bitmaps c.note_bitmap.new.bitmaps c.next_number-number.result t.bitmap c.note_bitmap.ensures.noted
-    (subst (λ (n : ℕ). EndAt t.bitmaps n) (sym c.next_number-number.ensures) (t.follow c.in-Some.ring has)) in
-    let next : c.next_number-number.result + 1 ≡ next_of c.seal.new.self = omega (arith, c.next_number-number.ensures, c.in_default-seal.ensures.next) in
-    subst (λ (o : Option Ring). IfSome o (λ r. EndAt c.note_bitmap.new.bitmaps (next_of r))) is (subst (λ (n : ℕ). EndAt c.note_bitmap.new.bitmaps n) next end)
 
 pub returns-clause-lies : goal.returns-clause-lies
 returns-clause-lies g c =
@@ -223,7 +194,7 @@ returns-clause-lies g c =
       geometry = goes.geometry ∙ lies.geometry;
       within = omega (arith, goes.blocks, lies.within);
       few = few-goes old new goes lies.few;
-      ring = search rules;
+      ring = λ ring is. subst (λ (o : Option Ring). IfSome o (λ r. place.LiesOn r new)) is c.in_default-seal.ensures.lies;
       bitmaps = still-lies c.args.self.now.bitmaps c.note_bitmap.new.bitmaps new c.note_bitmap.ensures.same c.note_bitmap.ensures.still (lies-goes c.args.self.now.bitmaps old new goes lies.bitmaps);
       blobs = blobbing.lies-goes c.args.self.now.blobs old new goes lies.blobs;
     }
@@ -257,3 +228,184 @@ returns-in-Err-clause-same g c = record {
   blobs = blobbing.plan-same c.args.self.now.blobs;
   limit = refl;
 }
+
+pub note_bitmap-requires-clause-left : goal.note_bitmap-requires-clause-left
+note_bitmap-requires-clause-left g c =
+    let t = c.args.self.now in
+    let has : t.ring ≡ Some c.in-Some.ring = sym c.take.ensures.value ∙ c.in-Some.is in
+    let left : next_of c.in-Some.ring ≤ model.spent_from = t.left c.in-Some.ring has c.requires.some in
+    omega (arith, left, c.next_number-number.ensures)
+
+pub row-requires : goal.row-requires
+row-requires g c =
+    let t = c.args.self.now in
+    (omega arith, omega (arith, t.rows_end, mul-le-mul_right (layout_len (layout_of t.schema)) c.requires.some))
+
+pub finish-requires : goal.finish-requires
+finish-requires g c = tt
+
+pub seal-requires-clause-lies : goal.seal-requires-clause-lies
+seal-requires-clause-lies g c =
+    let t = c.args.self.now in
+    let has : t.ring ≡ Some c.in-Some.ring = sym c.take.ensures.value ∙ c.in-Some.is in
+    c.requires.lies.ring c.in-Some.ring has
+
+pub seal-requires-clause-body : goal.seal-requires-clause-body
+seal-requires-clause-body g c =
+    let t = c.args.self.now in
+    let has : t.ring ≡ Some c.in-Some.ring = sym c.take.ensures.value ∙ c.in-Some.is in
+    omega (arith, ap (λ (xs : List ℕ). length xs) c.body.ensures, c.finish.ensures.size, t.page, ap (λ (r : Shape). r.size) (t.lies c.in-Some.ring has))
+
+pub seal-requires-clause-left : goal.seal-requires-clause-left
+seal-requires-clause-left g c =
+    let t = c.args.self.now in
+    let has : t.ring ≡ Some c.in-Some.ring = sym c.take.ensures.value ∙ c.in-Some.is in
+    omega (arith, t.left c.in-Some.ring has c.requires.some)
+
+pub note_bitmap-requires-clause-room : goal.note_bitmap-requires-clause-room
+note_bitmap-requires-clause-room g c = λ end. c.requires.bitmaps
+
+pub invariant_of-self : goal.invariant_of-self
+invariant_of-self g c =
+    let t = c.args.self.now in
+    let end : c.finish.new.self.end ≡ t.writer.end = ap (λ w. w.end) c.finish.ensures.exact in
+    record {
+      few_knots = t.few_knots;
+      few_slots = t.few_slots;
+      served = t.served;
+      some_blocks = t.some_blocks;
+      few_blocks = t.few_blocks;
+      some_columns = t.some_columns;
+      few_columns = t.few_columns;
+      some_row = t.some_row;
+      room_for_row = t.room_for_row;
+      has_blobs = t.has_blobs;
+      blobs_fit = t.blobs_fit;
+      page = omega (arith, c.finish.ensures.size, t.page);
+      rows_end = end-same t.writer c.finish.new.self (layout_len (layout_of t.schema)) (ap (λ (w : WriterState). w.count) c.finish.ensures.exact) end t.rows_end;
+      rows_room = omega (arith, end, c.finish.ensures.size, t.rows_room);
+      blank_rest = rest-finish t.writer c.finish.new.self c.next_number-number.result t.bitmap c.finish.ensures.exact c.finish.ensures.size (omega (arith, t.rows_end)) t.blank_rest;
+      counted = t.counted;
+      lies = λ ring is. absurd (none-there c.take.new.self ring c.take.ensures.after is);
+      left = λ ring is. absurd (none-there c.take.new.self ring c.take.ensures.after is);
+      few_pages = t.few_pages;
+      running = λ is. absurd (none-is c.take.new.self c.take.ensures.after is);
+      follow = λ ring is. absurd (none-there c.take.new.self ring c.take.ensures.after is);
+      pages_left = λ some. t.pages_left c.requires.some;
+      blobs_running = λ is. absurd (none-is c.take.new.self c.take.ensures.after is);
+      blobs_left = λ is. absurd (none-is c.take.new.self c.take.ensures.after is);
+    }
+
+pub invariant_of-self-2 : goal.invariant_of-self-2
+invariant_of-self-2 g c =
+    let t = c.args.self.now in
+    let has : t.ring ≡ Some c.in-Some.ring = sym c.take.ensures.value ∙ c.in-Some.is in
+    let end : c.finish.new.self.end ≡ t.writer.end = ap (λ w. w.end) c.finish.ensures.exact in
+    let none : c.clear.new.self.count ≡ 0 = ap (λ w. w.count) c.clear.ensures.exact in
+    let first : c.clear.new.self.end ≡ 16 = ap (λ w. w.end) c.clear.ensures.exact in
+    record {
+      few_knots = t.few_knots;
+      few_slots = t.few_slots;
+      served = t.served;
+      some_blocks = t.some_blocks;
+      few_blocks = t.few_blocks;
+      some_columns = t.some_columns;
+      few_columns = t.few_columns;
+      some_row = t.some_row;
+      room_for_row = t.room_for_row;
+      has_blobs = t.has_blobs;
+      blobs_fit = t.blobs_fit;
+      page = omega (arith, c.clear.ensures.size, c.finish.ensures.size, t.page);
+      rows_end = end-none c.clear.new.self (layout_len (layout_of t.schema)) none first;
+      rows_room = omega (arith, first, c.clear.ensures.size, c.finish.ensures.size, t.page, t.room_for_row);
+      blank_rest = rest-clear c.finish.new.self c.clear.new.self c.clear.ensures.exact (omega (arith, end, t.rows_end)) (omega (arith, end, t.rows_room, c.finish.ensures.size))
+          (rest-finish t.writer c.finish.new.self c.next_number-number.result t.bitmap c.finish.ensures.exact c.finish.ensures.size (omega (arith, t.rows_end)) t.blank_rest);
+      counted = search rules;
+      lies = λ ring is. subst (λ (o : Option Ring). IfSome o (λ r. shape_of r ≡ shape_at t.place t.geometry)) is (c.in_default-seal.ensures.same ∙ t.lies c.in-Some.ring has);
+      left = λ ring is some. absurd (omega (arith, some, none));
+      few_pages = still-few (t.place.blocks * t.geometry.block + 6) t.bitmaps c.note_bitmap.new.bitmaps c.note_bitmap.ensures.same t.few_pages;
+      running = λ is. still-running t.bitmaps c.note_bitmap.new.bitmaps c.note_bitmap.ensures.still (t.running c.requires.running);
+      follow = λ ring is.
+          let end = noted-end t.bitmaps c.note_bitmap.new.bitmaps c.next_number-number.result t.bitmap c.note_bitmap.ensures.noted
+          (subst (λ (n : ℕ). EndAt t.bitmaps n) (sym c.next_number-number.ensures) (t.follow c.in-Some.ring has)) in
+          let next : c.next_number-number.result + 1 ≡ next_of c.seal.new.self = omega (arith, c.next_number-number.ensures, c.in_default-seal.ensures.next) in
+          subst (λ (o : Option Ring). IfSome o (λ r. EndAt c.note_bitmap.new.bitmaps (next_of r))) is (subst (λ (n : ℕ). EndAt c.note_bitmap.new.bitmaps n) next end);
+      pages_left = λ some. absurd (omega (arith, some, none));
+      blobs_running = λ is. t.blobs_running c.requires.running;
+      blobs_left = λ is some. absurd (omega (arith, some, none));
+    }
+
+pub returns-in-Err-clause-goes : goal.returns-in-Err-clause-goes
+returns-in-Err-clause-goes g c = c.seal.ensures.goes
+
+pub returns-in-Err-clause-blobs : goal.returns-in-Err-clause-blobs
+returns-in-Err-clause-blobs g c = refl
+
+pub returns-in-Err-clause-empty : goal.returns-in-Err-clause-empty
+returns-in-Err-clause-empty g c = tt
+
+pub returns-in-Err-clause-running : goal.returns-in-Err-clause-running
+returns-in-Err-clause-running g c = tt
+
+pub returns-in-Err-clause-calm : goal.returns-in-Err-clause-calm
+returns-in-Err-clause-calm g c = tt
+
+pub returns-in-Err-clause-next : goal.returns-in-Err-clause-next
+returns-in-Err-clause-next g c = tt
+
+pub returns-in-Err-clause-stopped : goal.returns-in-Err-clause-stopped
+returns-in-Err-clause-stopped g c = (ap (λ (o : Option Ring). is_some o) c.take.ensures.after, refl)
+
+pub returns-in-Err-clause-index_next : goal.returns-in-Err-clause-index_next
+returns-in-Err-clause-index_next g c = tt
+
+pub returns-in-Err-clause-power : goal.returns-in-Err-clause-power
+returns-in-Err-clause-power g c = tt
+
+pub returns-in-Err-clause-reads : goal.returns-in-Err-clause-reads
+returns-in-Err-clause-reads g c = c.seal.ensures.reads
+
+pub returns-in-Err-clause-media_reads : goal.returns-in-Err-clause-media_reads
+returns-in-Err-clause-media_reads g c = c.seal.ensures.media_reads
+
+pub returns-in-Err-clause-off : goal.returns-in-Err-clause-off
+returns-in-Err-clause-off g c = c.in-Err.ensures.off
+
+pub returns-in-Err-clause-cause : goal.returns-in-Err-clause-cause
+returns-in-Err-clause-cause g c = c.in-Err.ensures.cause
+
+pub returns-clause-goes : goal.returns-clause-goes
+returns-clause-goes g c = c.seal.ensures.goes
+
+pub returns-clause-blobs : goal.returns-clause-blobs
+returns-clause-blobs g c = refl
+
+pub returns-clause-empty : goal.returns-clause-empty
+returns-clause-empty g c = ap (λ (w : WriterState). w.count) c.clear.ensures.exact
+
+pub returns-clause-running : goal.returns-clause-running
+returns-clause-running g c = refl
+
+pub returns-clause-calm : goal.returns-clause-calm
+returns-clause-calm g c = refl
+
+pub returns-clause-next : goal.returns-clause-next
+returns-clause-next g c =
+    let t = c.args.self.now in
+    let has : t.ring ≡ Some c.in-Some.ring = sym c.take.ensures.value ∙ c.in-Some.is in
+    omega (arith, c.in_default-seal.ensures.next, next-in t c.in-Some.ring has)
+
+pub returns-clause-stopped : goal.returns-clause-stopped
+returns-clause-stopped g c = tt
+
+pub returns-clause-reads : goal.returns-clause-reads
+returns-clause-reads g c = c.seal.ensures.reads
+
+pub returns-clause-media_reads : goal.returns-clause-media_reads
+returns-clause-media_reads g c = c.seal.ensures.media_reads
+
+pub returns-clause-off : goal.returns-clause-off
+returns-clause-off g c = c.in_default-seal.ensures.off
+
+pub returns-clause-cause : goal.returns-clause-cause
+returns-clause-cause g c = tt

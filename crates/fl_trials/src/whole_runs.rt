@@ -1,0 +1,78 @@
+// Whole runs against a store that is one plain list of records: a script that wraps its ring is cut at each of its
+// operations, by each kind of cut.
+mod plain_store;
+mod talk;
+
+use fl_base::CutKind;
+use plain_store::{Cut, PlainStore};
+use std::alloc::Global;
+use std::test::Fail;
+use talk::{Talk, is_answered};
+
+/// Puts a record; what comes after a cut is the mount, and the list of what is left.
+fn put(
+    alloc: Global,
+    talk: &mut Talk,
+    store: &mut PlainStore,
+    cut: &mut Cut,
+    key: u64,
+) -> Result<(), Fail> {
+    let line = format!(in alloc; "put t {key} 0")?;
+    let stays_on = store.put(key, cut)?;
+    talk.add_outcome(line.as_str(), stays_on)?;
+    if !stays_on {
+        talk.add_mount(alloc, store)?;
+    }
+    Ok(())
+}
+
+fn flush(
+    alloc: Global,
+    talk: &mut Talk,
+    store: &mut PlainStore,
+    cut: &mut Cut,
+) -> Result<(), Fail> {
+    let stays_on = store.flush(cut)?;
+    talk.add_outcome("flush t", stays_on)?;
+    if !stays_on {
+        talk.add_mount(alloc, store)?;
+    }
+    Ok(())
+}
+
+/// 24 puts, in pages of three records and some of fewer, round a ring of six pages; then a mount.
+fn is_right_with(alloc: Global, mut cut: Cut) -> Result<bool, Fail> {
+    let mut talk = Talk::new(alloc)?;
+    let mut store = PlainStore::new(alloc);
+    talk.add_cut(alloc, &cut)?;
+    for key in 1..25 {
+        put(alloc, &mut talk, &mut store, &mut cut, key)?;
+        if key % 5 == 0 {
+            flush(alloc, &mut talk, &mut store, &mut cut)?;
+        }
+    }
+    store.lose();
+    talk.add("off", "ok")?;
+    talk.add_mount(alloc, &store)?;
+    is_answered(alloc, talk)
+}
+
+#[test]
+fn each_operation_is_cut_by_each_kind(rt: HostRuntime) -> Result<(), Fail> {
+    let alloc = rt.alloc();
+    let kinds = [
+        CutKind::Before,
+        CutKind::After,
+        CutKind::Half,
+        CutKind::Noise(1),
+    ];
+    for kind in kinds {
+        for left in 1..26 {
+            assert!(rt;
+                is_right_with(alloc, Cut { left, kind })?,
+                "{kind:?} {left}"
+            );
+        }
+    }
+    Ok(())
+}
