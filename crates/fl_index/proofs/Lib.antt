@@ -3,6 +3,7 @@ pub mod Firsts
 pub mod Lists
 pub mod Gathering
 pub mod State
+pub mod Stays
 pub mod Steps
 pub mod Lifted
 pub mod Memories

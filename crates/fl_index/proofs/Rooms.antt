@@ -3,7 +3,7 @@ use Rattle.std.proofs.Common.{◌≡◌, ℕ, ◌<◌, ◌==◌, Bool, true, fal
 use Rattle.std.proofs.lemmas.Bool.{eqb-true}
 use Rattle.std.proofs.lemmas.List.{append-nil}
 use Rattle.std.proofs.Common.{eq-eqb}
-use Rattle.fl_flash.specs.Flash.{FlashState}
+use Rattle.fl_flash.specs.Flash.{FlashState, page_at}
 use Rattle.fl_flash.specs.declared.flash.FlashFault.{FlashFault}
 use Rattle.fl_model.specs.Record.{Plan, entries_per_page}
 use Rattle.fl_model.specs.Table.{Table, RingName, IndexRing, after_seal, after_seals}
@@ -15,6 +15,7 @@ use Rattle.fl_index.specs.Memory.{per_page, waiting_in}
 use Rattle.fl_index.specs.Standing.{Stands}
 use Rattle.fl_index.specs.Outcomes.{index_seals, Finishes, Breaks, MakesRoom, SealEnds}
 use Rattle.fl_index.proofs.Sealings.{planned-page}
+use Rattle.fl_index.proofs.Stays.{nothing-stands}
 
 none-sealed : (plan : Plan) (table : Table) → table.waiting < entries_per_page plan → index_seals plan table ≡ []
 none-sealed plan table lt = by_test (table.waiting == entries_per_page plan) refl
@@ -27,10 +28,10 @@ one-sealed : (plan : Plan) (table : Table) → table.waiting ≡ entries_per_pag
 one-sealed plan table e = ap (λ (b : Bool). cond b (IndexRing ∷ []) []) (eq-eqb table.waiting (entries_per_page plan) e)
 
 pub makes-nothing : (index : Index) (f : FlashState) (first : ℕ) (plan : Plan) (table : Table) (rose : Bool) (device : Device) → IsWatched f f rose device → Stands index f first plan table → waiting_in index < per_page index →
-    MakesRoom first plan table rose device (Ok tt) index f
+    MakesRoom first plan table rose device (Ok tt) index f f
 makes-nothing index f first plan table rose device watched stands lt =
     let few : table.waiting < entries_per_page plan = omega (arith, lt, stands.waits.count_is, planned-page index first plan stands.in_ring.planned) in
-    subst (λ (rings : List RingName). Finishes first plan (seals_within plan rings table) table (after_seals plan rings table) rose device index f) (sym (none-sealed plan table few))
+    subst (λ (rings : List RingName). Finishes first plan (seals_within plan rings table) table (after_seals plan rings table) rose device index f f) (sym (none-sealed plan table few))
     (record {
       now = record { end = Whole; device = device; state = table };
       did = (refl, refl, refl);
@@ -38,19 +39,20 @@ makes-nothing index f first plan table rose device watched stands lt =
       counts = watched.counts;
       power = watched.on;
       stands = stands;
+      stand = nothing-stands first plan table (page_at f);
     })
 
 pub makes-room : (index : Index) (f : FlashState) (first : ℕ) (plan : Plan) (table : Table) (rose : Bool) (device : Device) → Stands index f first plan table → waiting_in index ≡ per_page index →
-    (result : Result (Unit {0}) FlashFault) (now : Index) (new : FlashState) → SealEnds first plan table rose device result now new → MakesRoom first plan table rose device result now new
+    (result : Result (Unit {0}) FlashFault) (now : Index) (new : FlashState) → SealEnds first plan table rose device result now f new → MakesRoom first plan table rose device result now f new
 makes-room index f first plan table rose device stands full result now new h = by_result result h
   where
     all : table.waiting ≡ entries_per_page plan
     all = sym stands.waits.count_is ∙ (full ∙ planned-page index first plan stands.in_ring.planned)
 
-    by_result : (result : Result (Unit {0}) FlashFault) → SealEnds first plan table rose device result now new → MakesRoom first plan table rose device result now new
+    by_result : (result : Result (Unit {0}) FlashFault) → SealEnds first plan table rose device result now f new → MakesRoom first plan table rose device result now f new
     by_result (Ok u) h =
-        subst (λ (rings : List RingName). Finishes first plan (seals_within plan rings table) table (after_seals plan rings table) rose device now new) (sym (one-sealed plan table all))
-        (subst (λ (kinds : List (RingName × Kind)). Finishes first plan kinds table (after_seal plan IndexRing table) rose device now new) (sym (append-nil (seal_within plan IndexRing table))) h)
+        subst (λ (rings : List RingName). Finishes first plan (seals_within plan rings table) table (after_seals plan rings table) rose device now f new) (sym (one-sealed plan table all))
+        (subst (λ (kinds : List (RingName × Kind)). Finishes first plan kinds table (after_seal plan IndexRing table) rose device now f new) (sym (append-nil (seal_within plan IndexRing table))) h)
     by_result (Err fault) h =
         subst (λ (rings : List RingName). Breaks first plan (seals_within plan rings table) table rose device fault new) (sym (one-sealed plan table all))
         (subst (λ (kinds : List (RingName × Kind)). Breaks first plan kinds table rose device fault new) (sym (append-nil (seal_within plan IndexRing table))) h)

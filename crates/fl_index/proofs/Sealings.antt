@@ -24,12 +24,14 @@ use Rattle.fl_ring.specs.Mounting.{shape_at}
 use Rattle.fl_ring.specs.Operations.{change, seal_kinds}
 use Rattle.fl_ring.specs.Place as place
 use Rattle.fl_ring.specs.Place.{StandsFor}
-use Rattle.fl_ring.specs.Ring.{Shape, RingState, OnRing, IsShape, count}
+use Rattle.fl_ring.specs.Ring.{Shape, RingState, OnRing, IsShape, count, oldest, sealed}
 use Rattle.fl_ring.specs.Ring.{place as place_at}
 use Rattle.fl_ring.specs.Sealing.{Performed, IsReady}
 use Rattle.fl_ring.specs.declared.ring.Ring.{Ring}
 use Rattle.fl_ring.proofs.Lengths.{page_length}
 use Rattle.fl_ring.proofs.Modulo.{apart}
+use Rattle.fl_ring.proofs.SealSteps.{whole_end}
+use Rattle.fl_ring.proofs.Whole.{whole_seal}
 use Rattle.fl_index.specs.declared.index.Index.{Index}
 use Rattle.fl_index.specs.Memory.{IsPlanned, IsSamePlan, first_in, first_waiting, waiting_in, width_in, per_page}
 use Rattle.fl_index.specs.Standing.{HasIndex, HoldsIndex, Rests, StandsForRing, Stands, bytes_in}
@@ -39,6 +41,7 @@ use Rattle.fl_index.proofs.Gathering.{none-in}
 use Rattle.fl_index.proofs.State.{shape_in, HaveSize, full_count, IsStateOf, holds-moved, to-index}
 use Rattle.fl_index.proofs.Lifted.{TableAnswers, MakesBody, seal-lifts, seal-whole, index-shift}
 use Rattle.fl_index.proofs.Memories.{planned-same}
+use Rattle.fl_index.proofs.Stays.{seal-stands}
 
 -- the answer to a failed operation
 pub fault-ends : (e : PartEnd Table) (fault : FlashFault) (new : FlashState) → TableAnswers e (Err fault) new → FaultEnds e fault new
@@ -314,8 +317,9 @@ module _ (index : Index) (f : FlashState) (first : ℕ) (plan : Plan) (table : T
         (p : Performed (shape_in first plan) (change (shape_in first plan) body) rose (seal_kinds (shape_in first plan) h.s body) device h.s (Ok u) new) →
         StandsFor after p.now.state → IsSamePlan index now → now.ring ≡ Some after → waiting_in now ≡ 0 → first_waiting now ≡ first_waiting index + waiting_in index →
         now.firsts.items ≡ set index.firsts.items (h.is.ring.next % length index.firsts.items) (Some (first_waiting index)) →
-        Finishes first plan (seal_within plan IndexRing table) table (after_seal plan IndexRing table) rose device now new
-    seal-finishes after u now p stands same ring_now none moved remembered =
+        ((n : ℕ) → oldest (sealed (shape_in first plan) h.s body) ≤ n → n < h.s.next → page_at new (place_at (shape_in first plan) n) ≡ page_at f (place_at (shape_in first plan) n)) →
+        Finishes first plan (seal_within plan IndexRing table) table (after_seal plan IndexRing table) rose device now f new
+    seal-finishes after u now p stands same ring_now none moved remembered keeps =
         let l = seal-lifts first plan body table h.s h.is rose device (Ok u) new shape h.makes p in
         let all = all-whole l.now.end u new l.answer in
         let whole = seal-whole plan table rose device l.now l.did all.0 in
@@ -329,6 +333,8 @@ module _ (index : Index) (f : FlashState) (first : ℕ) (plan : Plan) (table : T
           whole = all.0;
           counts = l.counts;
           power = all.1;
+          stand = seal-stands first plan body table h.s h.is (page_at f) (page_at new) (served-shape index first plan h.stands.in_ring.planned) h.on.ring keeps (after_seal plan IndexRing table) p.now.state
+              (whole_seal (shape_in first plan) h.s body rose device p.now p.did (whole_end p.now.end u new p.answer)) state;
           stands = record {
             in_ring = record {
               planned = planned_now;

@@ -1,13 +1,12 @@
 -- What a scan over a table's index pages counts, in the words of the model.
-use Rattle.std.proofs.Common.{◌≡◌, ◌⊎◌, inl, inr, ℕ, zero, suc, ◌+◌, ◌-◌, ◌<◌, ◌≤◌, Bool, true, false, cond, ◌&&◌, ◌||◌, ◌==◌, nat_le, nat_lt, Option, Some, None, is_some, List, [], ◌∷◌, length, take, drop, refl, sym, ◌∙◌, ap, subst, arith}
-use Rattle.std.proofs.lemmas.Bool.{cases_lt, lt-ltb, leb-true, le-leb, eq-eqb, eqb-true, false≢true, false_from_ne_true}
+use Rattle.std.proofs.Common.{◌≡◌, ◌⊎◌, inl, inr, ℕ, zero, suc, ◌+◌, ◌-◌, ◌<◌, ◌≤◌, Bool, true, false, cond, ◌&&◌, ◌||◌, ◌==◌, nat_le, nat_lt, Option, Some, None, is_some, List, [], ◌∷◌, length, take, drop, refl, sym, ◌∙◌, ap, arith}
+use Rattle.std.proofs.lemmas.Bool.{cases_lt, lt-ltb, leb-true, le-leb, eq-eqb, eqb-true, false_from_ne_true}
 use Rattle.std.proofs.lemmas.List.{take_all}
 use Rattle.std.proofs.lemmas.List.Sums.{sum_by-cons}
 use Rattle.std.specs.List.{slice_get, list_any, range_with_len, count_by}
 use Rattle.fl_flash.specs.Flash.{FlashState}
 use Rattle.fl_model.specs.Limits.{is_indexed}
 use Rattle.fl_model.specs.Record.{Plan, entries_per_page}
-use Rattle.fl_model.specs.Ring as model
 use Rattle.fl_model.specs.Table.{Table, full_pages}
 use Rattle.fl_model.proofs.Lists.{slice_get-some, slice_get-short}
 use Rattle.fl_index.specs.declared.index.Index.{Index}
@@ -19,7 +18,7 @@ use Rattle.fl_index.proofs.Firsts.{full-one, full-void, full-append, full-within
 use Rattle.fl_index.proofs.Lists.{below-end}
 use Rattle.fl_index.proofs.Held.{listed-first}
 use Rattle.fl_index.proofs.Listings.{listing-is}
-use Rattle.fl_index.proofs.Showing.{both_true, ListingPage, listing-page, listed-indexed, waits-indexed, none-shows, number_old, kept_len, firsts_from, X_is}
+use Rattle.fl_index.proofs.Showing.{both_true, ListingPage, listing-page, listed-indexed, waits-indexed, none-shows, number_old, kept_len, X_is}
 
 drop-at : (i x : ℕ) (xs : List ℕ) → slice_get xs i ≡ Some x → drop i xs ≡ x ∷ drop (suc i) xs
 drop-at i x [] e = absurd (none e)

@@ -1,33 +1,37 @@
 -- How the calls of an index end, over a flash that stands for the index of a table of the model.
-use Rattle.std.specs.Prelude.{◌≡◌, ◌⊎◌, ℕ, ◌+◌, Bool, true, false, ◌==◌, Option, None, option_map, Result, Ok, Err, List, [], ◌∷◌, if◌then◌else◌}
+use Rattle.std.specs.Prelude.{◌≡◌, ◌⊎◌, ℕ, ◌+◌, Bool, true, false, ◌==◌, Option, Some, None, option_map, Result, Ok, Err, List, [], ◌∷◌, if◌then◌else◌}
 use Rattle.std.specs.List.{last_or}
-use Rattle.fl_flash.specs.Flash.{FlashState}
+use Rattle.fl_flash.specs.Flash.{FlashState, page_at}
 use Rattle.fl_flash.specs.declared.flash.FlashFault.{FlashFault}
 use Rattle.fl_flash.specs.declared.flash.FlashFault.TheVariants.{PowerLost, Media}
 use Rattle.fl_model.specs.Record.{Plan, entries_per_page}
+use Rattle.fl_model.specs.Ring.{Ring}
 use Rattle.fl_model.specs.Table.{Table, RingName, IndexRing, after_seal, after_seals, lose}
 use Rattle.fl_model.specs.Mount.{renumber}
 use Rattle.fl_model.specs.Work.{Kind, Device, PartEnd, Whole, CutIn, FailedIn, PartProgress}
 use Rattle.fl_model.specs.Within.{TablePerforms, TableUnreads, repair_within, seal_within, seals_within}
 use Rattle.fl_ring.specs.Device.{SameDevice}
+use Rattle.fl_ring.specs.Kept.{PagesStand}
 use Rattle.fl_ring.specs.declared.fault.RingFault.{RingFault}
 use Rattle.fl_ring.specs.declared.fault.RingFault.TheVariants.{Flash, BadHead, BadGap, BadPage, NoNumber}
 use Rattle.fl_index.specs.declared.index.Index.{Index}
 use Rattle.fl_index.specs.Memory.{waiting_in}
-use Rattle.fl_index.specs.Standing.{Rests, StandsForRing, Stands}
+use Rattle.fl_index.specs.Standing.{Rests, StandsForRing, Stands, bytes_in}
 
 -- an index page is sealed where as many bitmaps wait as it holds
 abbrev pub index_seals : Plan → Table → List RingName
 index_seals plan table = if table.waiting == entries_per_page plan then IndexRing ∷ [] else []
 
--- The operations of a call were all done, and it left this table's index.
-pub record Finishes (first : ℕ) (plan : Plan) (operations : List (RingName × Kind)) (table after : Table) (rose : Bool) (device : Device) (index : Index) (new : FlashState) : Type 0 where
+-- The operations of a call were all done, and it left this table's index. The index pages that are kept have the bytes
+-- that they had.
+pub record Finishes (first : ℕ) (plan : Plan) (operations : List (RingName × Kind)) (table after : Table) (rose : Bool) (device : Device) (index : Index) (old new : FlashState) : Type 0 where
   pub now : PartProgress Table
   pub did : TablePerforms plan rose operations device table now
   pub whole : now.end ≡ Whole
   pub counts : SameDevice new now.device
   pub power : new.is_on ≡ true
   pub stands : Stands index new first plan after
+  pub stand : (before now_ring : Ring) → table.index ≡ Some before → after.index ≡ Some now_ring → PagesStand before (bytes_in (page_at old) first plan) now_ring (bytes_in (page_at new) first plan)
 
 -- the fault that an operation answers where it fails so
 abbrev pub FaultEnds : PartEnd Table → FlashFault → FlashState → Type 0
@@ -44,16 +48,16 @@ pub record Breaks (first : ℕ) (plan : Plan) (operations : List (RingName × Ki
   pub rests : Rests new first plan (lose now.state)
 
 -- the seal of an index page
-abbrev pub SealEnds : ℕ → Plan → Table → Bool → Device → Result (Unit {0}) FlashFault → Index → FlashState → Type 0
-SealEnds first plan table rose device (Ok done) index new =
-    Finishes first plan (seal_within plan IndexRing table) table (after_seal plan IndexRing table) rose device index new
-SealEnds first plan table rose device (Err fault) index new = Breaks first plan (seal_within plan IndexRing table) table rose device fault new
+abbrev pub SealEnds : ℕ → Plan → Table → Bool → Device → Result (Unit {0}) FlashFault → Index → FlashState → FlashState → Type 0
+SealEnds first plan table rose device (Ok done) index old new =
+    Finishes first plan (seal_within plan IndexRing table) table (after_seal plan IndexRing table) rose device index old new
+SealEnds first plan table rose device (Err fault) index old new = Breaks first plan (seal_within plan IndexRing table) table rose device fault new
 
 -- the seal of a full list of bitmaps
-abbrev pub MakesRoom : ℕ → Plan → Table → Bool → Device → Result (Unit {0}) FlashFault → Index → FlashState → Type 0
-MakesRoom first plan table rose device (Ok done) index new =
-    Finishes first plan (seals_within plan (index_seals plan table) table) table (after_seals plan (index_seals plan table) table) rose device index new
-MakesRoom first plan table rose device (Err fault) index new = Breaks first plan (seals_within plan (index_seals plan table) table) table rose device fault new
+abbrev pub MakesRoom : ℕ → Plan → Table → Bool → Device → Result (Unit {0}) FlashFault → Index → FlashState → FlashState → Type 0
+MakesRoom first plan table rose device (Ok done) index old new =
+    Finishes first plan (seals_within plan (index_seals plan table) table) table (after_seals plan (index_seals plan table) table) rose device index old new
+MakesRoom first plan table rose device (Err fault) index old new = Breaks first plan (seals_within plan (index_seals plan table) table) table rose device fault new
 
 -- the number after those that the index lists, where it lists any
 abbrev pub end_of : Plan → Table → Option ℕ

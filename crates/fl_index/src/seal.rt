@@ -28,7 +28,7 @@ impl Index {
         ensures same { IsSamePlan self.old self.new }
         ensures lies { LiesOn self.new (F.state flash.new) }
         ensures ends { (first : ℕ) → (plan : Plan) → (table : model.Table) → (rose : Bool) → (device : Device) → IsWatched (F.state flash.old) (F.state flash.new) rose device
-            → Stands self.old (F.state flash.old) first plan table → MakesRoom first plan table rose device result self.new (F.state flash.new) }
+            → Stands self.old (F.state flash.old) first plan table → MakesRoom first plan table rose device result self.new (F.state flash.old) (F.state flash.new) }
         ensures room { OnOk result (waiting_in self.new < per_page self.new) }
         ensures next { OnOk result (first_waiting self.new + waiting_in self.new ≡ first_waiting self.old + waiting_in self.old) }
         ensures number { OnOk result (next_in self.new ≡ (if waiting_in self.old == per_page self.old then next_in self.old + 1 else next_in self.old)) }
@@ -58,7 +58,7 @@ impl Index {
         ensures same { IsSamePlan self.old self.new }
         ensures lies { LiesOn self.new (F.state flash.new) }
         ensures ends { (first : ℕ) → (plan : Plan) → (table : model.Table) → (rose : Bool) → (device : Device) → IsWatched (F.state flash.old) (F.state flash.new) rose device
-            → Stands self.old (F.state flash.old) first plan table → SealEnds first plan table rose device result self.new (F.state flash.new) }
+            → Stands self.old (F.state flash.old) first plan table → SealEnds first plan table rose device result self.new (F.state flash.old) (F.state flash.new) }
         ensures number { OnOk result (next_in self.new ≡ next_in self.old + 1) }
         ensures empty { OnOk result (waiting_in self.new ≡ 0) }
         ensures next { OnOk result (first_waiting self.new ≡ first_waiting self.old + waiting_in self.old) }

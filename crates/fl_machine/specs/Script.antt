@@ -8,6 +8,7 @@ use Rattle.fl_machine.specs.Step.{Moment}
 use Rattle.fl_machine.specs.Run.{Run, end_of, commands_of, written_by, risen_in}
 use Rattle.fl_machine.specs.Found.{Finds, stop_at}
 use Rattle.fl_machine.specs.Reads.{RunLimits, RunExact}
+use Rattle.fl_machine.specs.Stays.{StaysEach}
 use Rattle.fl_words.specs.Grammar.{LineFault, command_of}
 use Rattle.fl_words.specs.Config.{Lines, no_lines, configured, whole, ConfigFault}
 use Rattle.fl_base.specs.Causes.{Appends, IsFront}
@@ -105,13 +106,16 @@ pub record KeepsReads (config : Config) (old : Machine) (moments : List Moment) 
   pub limits : RunLimits config old moments
   pub exact : RunExact config 0 old moments
 
--- A run of these commands, each of them done whole. `stands` says for which states the session stands then.
-pub record Ran (config : Config) (old : Machine) (commands : List Command) (stands : Machine → Type 0) (faults faults_now : ℕ) (told told_now : Option (List ℕ)) : Type 0 where
+-- A run of these commands, each of them done whole. `stands` says for which states the session stands then; `content` is the
+-- medium's before and after.
+pub record Ran (config : Config) (old : Machine) (commands : List Command) (stands : Machine → Type 0) (content content_now : List ℕ) (faults faults_now : ℕ) (told told_now : Option (List ℕ)) : Type 0 where
   pub moments : List Moment
   pub commands_are : commands_of moments ≡ commands
   pub run : Run config old moments
   pub stands_after : stands (end_of old moments)
   pub reads : KeepsReads config old moments
+  -- each leaves the medium as its state says, and what it doesn't touch there as it was
+  pub stays : StaysEach config old moments content content_now
   -- the medium's faults rose in no more of them than it failed
   pub rose : RoseBy (risen_in moments) faults faults_now
   -- each mount that succeeds finds the records of each table
@@ -119,13 +123,14 @@ pub record Ran (config : Config) (old : Machine) (commands : List Command) (stan
   pub told_all : Appends told told_now (written_by moments)
 
 -- .. and into the reply of the last of them, in which the sink failed
-pub record RanInto (config : Config) (old : Machine) (commands : List Command) (stands : Machine → Type 0) (faults faults_now : ℕ) (told told_now : Option (List ℕ)) : Type 0 where
+pub record RanInto (config : Config) (old : Machine) (commands : List Command) (stands : Machine → Type 0) (content content_now : List ℕ) (faults faults_now : ℕ) (told told_now : Option (List ℕ)) : Type 0 where
   pub moments : List Moment
   pub commands_are : commands_of moments ≡ commands
   pub run : Run config old moments
   pub stands_after : stands (end_of old moments)
   -- the last one may have stopped before its reads were done
   pub limits : RunLimits config old moments
+  pub stays : StaysEach config old moments content content_now
   pub rose : RoseBy (risen_in moments) faults faults_now
   pub found : (place : ℕ) → Finds place (stop_at place old.tables) old moments
   -- the replies before those of the last are written whole

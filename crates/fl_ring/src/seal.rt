@@ -5,7 +5,7 @@ ghost use Rattle.fl_model.specs.Work.{Device};
 ghost use Rattle.fl_ring.specs.Causes.{CausedBy};
 ghost use Rattle.fl_ring.specs.Newest.{number_of};
 ghost use Rattle.fl_ring.specs.Place.{shape_of, next_of, oldest_of, StandsFor, LiesOn};
-ghost use Rattle.fl_ring.specs.Ring.{RingState, IsRing, OutsideStands, is_due_at, sealed, erased};
+ghost use Rattle.fl_ring.specs.Ring.{RingState, IsRing, OutsideStands, oldest, place, is_due_at, sealed, erased};
 ghost use Rattle.fl_ring.specs.Sealing.{IsReady, Seals, SealWork, SealCalls};
 ghost use Rattle.fl_ring.specs.Step.{IsWatched};
 
@@ -28,6 +28,8 @@ impl Ring {
             → Seals s body.now rose device self.old result self.new (F.state flash.new) }
         ensures calls { SealCalls (shape_of self.old) (next_of self.old) (is_due_at (shape_of self.old) (next_of self.old + 1) (next_of self.old + 1 - oldest_of self.old)) body.now (F.state flash.old) result (F.state flash.new) }
         ensures numbers { OnOk result ((s : RingState) → StandsFor self.old s → IsRing (shape_of self.old) s → StandsFor self.new (erased (sealed (shape_of self.old) s body.now))) }
+        ensures keeps { OnOk result (IsTrue (F.state flash.old).media.tells → (s : RingState) → IsReady self.old (F.state flash.old) s → (n : ℕ) → oldest (sealed (shape_of self.old) s body.now) ≤ n → n < s.next
+            → page_at (F.state flash.new) (place (shape_of self.old) n) ≡ page_at (F.state flash.old) (place (shape_of self.old) n)) }
         ensures outside { IsTrue (F.state flash.old).media.tells → OutsideStands (shape_of self.old) (page_at (F.state flash.old)) (page_at (F.state flash.new)) }
         ensures cause { IfErr result (λ e. CausedBy (F.state flash.old) e (F.state flash.new)) }
         ensures off { OffChangesNothing (F.state flash.old) result (F.state flash.new) }

@@ -1,7 +1,9 @@
 pub mod Sending
 pub mod Digits16
 pub mod Blobs
+pub mod Blocks
 pub mod Digits
+pub mod Lanes
 pub mod Few
 pub mod DigitPairs
 pub mod Lists

@@ -2,3 +2,4 @@ pub mod CommandView
 pub mod ReplyView
 pub mod Written
 pub mod Lines
+pub mod Pairs

@@ -167,17 +167,25 @@ pub stands-pages : (f g : FlashState) → page_at g ≡ page_at f → (t : Table
 stands-pages f g same t first plan table h =
     stands-apart f g first plan (λ n. ap (λ (at : ℕ → List ℕ). at (place_in first plan DataRing n)) same) (λ has n. ap (λ (at : ℕ → List ℕ). at (place_in first plan IndexRing n)) same) (λ has n. ap (λ (at : ℕ → List ℕ). at (place_in first plan VarRing n)) same) t table h
 
--- it stands as before
-entry-apart : (entry changed : Entry) (f g : FlashState) (mounted : Bool) (first other : ℕ) (plan own : Plan) (table : model.Table) → AreApart first plan other own → plan.geometry ≡ own.geometry → IsPlanned changed.table other own →
-    OutsideStands changed.table (page_at f) (page_at g) → g.geometry ≡ f.geometry → EntryStands entry f mounted first plan table → EntryStands entry g mounted first plan table
-entry-apart entry changed f g mounted first other plan own table apart same-geometry planned outside same h =
-    record { named = h.named; geometry = h.geometry ∙ sym same; planned = h.planned; on_flash = by-mounted mounted h.on_flash }
+-- the pages of a table's rings stand
+pub record PagesApart (f g : FlashState) (first : ℕ) (plan : Plan) : Type 0 where
+  pub rows : (n : ℕ) → page_at g (place_in first plan DataRing n) ≡ page_at f (place_in first plan DataRing n)
+  pub index : has_index plan ≡ true → (n : ℕ) → page_at g (place_in first plan IndexRing n) ≡ page_at f (place_in first plan IndexRing n)
+  pub var : has_var plan ≡ true → (n : ℕ) → page_at g (place_in first plan VarRing n) ≡ page_at f (place_in first plan VarRing n)
+
+pages-apart : (entry changed : Entry) (f g : FlashState) (first other : ℕ) (plan own : Plan) → AreApart first plan other own → plan.geometry ≡ own.geometry → IsPlanned entry.table first plan → IsPlanned changed.table other own →
+    OutsideStands changed.table (page_at f) (page_at g) → PagesApart f g first plan
+pages-apart entry changed f g first other plan own apart same-geometry stood planned outside = record {
+  rows = λ n. same-page first plan.data_blocks n (omega (arith, shape.blocks)) (omega arith) (omega arith);
+  index = λ has n. same-page (first + plan.data_blocks) plan.index_blocks n (ltb-true 0 plan.index_blocks has) (omega arith) (omega arith);
+  var = λ has n. same-page (first + plan.data_blocks + plan.index_blocks) plan.var_blocks n (ltb-true 0 plan.var_blocks has) (omega arith) (omega arith);
+}
   where
     block : own.geometry.block ≡ plan.geometry.block
     block = ap (λ (x : Geometry). x.block) (sym same-geometry)
 
     shape : IsShape (shape_of plan DataRing)
-    shape = planned-shape entry.table first plan h.planned
+    shape = planned-shape entry.table first plan stood
 
     same-page : (at blocks n : ℕ) → 0 < blocks → first ≤ at → at + blocks ≤ first + blocks_of plan →
         page_at g (at * plan.geometry.block + n % (blocks * plan.geometry.block)) ≡ page_at f (at * plan.geometry.block + n % (blocks * plan.geometry.block))
@@ -185,27 +193,29 @@ entry-apart entry changed f g mounted first other plan own table apart same-geom
         beside-stands changed.table other own (page_at f) (page_at g) planned outside (at * plan.geometry.block + n % (blocks * plan.geometry.block))
         (beside-place first at blocks n other plan own block (some-pages blocks plan.geometry.block some shape.pages) from upto apart)
 
-    same-rows : (n : ℕ) → page_at g (place_in first plan DataRing n) ≡ page_at f (place_in first plan DataRing n)
-    same-rows n = same-page first plan.data_blocks n (omega (arith, shape.blocks)) (omega arith) (omega arith)
-
-    same-index : has_index plan ≡ true → (n : ℕ) → page_at g (place_in first plan IndexRing n) ≡ page_at f (place_in first plan IndexRing n)
-    same-index has n = same-page (first + plan.data_blocks) plan.index_blocks n (ltb-true 0 plan.index_blocks has) (omega arith) (omega arith)
-
-    same-var : has_var plan ≡ true → (n : ℕ) → page_at g (place_in first plan VarRing n) ≡ page_at f (place_in first plan VarRing n)
-    same-var has n = same-page (first + plan.data_blocks + plan.index_blocks) plan.var_blocks n (ltb-true 0 plan.var_blocks has) (omega arith) (omega arith)
-
+-- it stands as before
+entry-apart : (entry : Entry) (f g : FlashState) (mounted : Bool) (first : ℕ) (plan : Plan) (table : model.Table) → PagesApart f g first plan → g.geometry ≡ f.geometry → EntryStands entry f mounted first plan table → EntryStands entry g mounted first plan table
+entry-apart entry f g mounted first plan table pages same h =
+    record { named = h.named; geometry = h.geometry ∙ sym same; planned = h.planned; on_flash = by-mounted mounted h.on_flash }
+  where
     by-mounted : (m : Bool) → MatchBool m (Stands entry.table f first plan table) (Rests f first plan table) → MatchBool m (Stands entry.table g first plan table) (Rests g first plan table)
-    by-mounted true s = stands-apart f g first plan same-rows same-index same-var entry.table table s
-    by-mounted false s = rests-apart f g first plan same-rows same-index same-var table s
+    by-mounted true s = stands-apart f g first plan pages.rows pages.index pages.var entry.table table s
+    by-mounted false s = rests-apart f g first plan pages.rows pages.index pages.var table s
 
 -- a table at another place than the one that was changed
-pub other-stands : (plans : List Plan) (i at : ℕ) (plan own : Plan) (entry changed : Entry) (f g : FlashState) (mounted before : Bool) (table was : model.Table) →
-    slice_get plans i ≡ Some plan → slice_get plans at ≡ Some own → (at ≡ i → ⊥) → EntryStands changed f before (first_of plans at) own was → OutsideStands changed.table (page_at f) (page_at g) → g.geometry ≡ f.geometry →
-    EntryStands entry f mounted (first_of plans i) plan table → EntryStands entry g mounted (first_of plans i) plan table
-other-stands plans i at plan own entry changed f g mounted before table was e k other c outside same h =
-    entry-apart entry changed f g mounted (first_of plans i) (first_of plans at) plan own table (by-order (cases_order i at)) (h.geometry ∙ sym c.geometry) c.planned outside same h
+pub other-pages : (plans : List Plan) (i at : ℕ) (plan own : Plan) (entry changed : Entry) (f g : FlashState) (mounted before : Bool) (table was : model.Table) →
+    slice_get plans i ≡ Some plan → slice_get plans at ≡ Some own → (at ≡ i → ⊥) → EntryStands changed f before (first_of plans at) own was → OutsideStands changed.table (page_at f) (page_at g) →
+    EntryStands entry f mounted (first_of plans i) plan table → PagesApart f g (first_of plans i) plan
+other-pages plans i at plan own entry changed f g mounted before table was e k other c outside h =
+    pages-apart entry changed f g (first_of plans i) (first_of plans at) plan own (by-order (cases_order i at)) (h.geometry ∙ sym c.geometry) h.planned c.planned outside
   where
     by-order : (i ≡ at) ⊎ ((i < at) ⊎ (at < i)) → AreApart (first_of plans i) plan (first_of plans at) own
     by-order (inl is) = absurd (other (sym is))
     by-order (inr (inl before)) = inl (blocks-apart plans i at plan e before)
     by-order (inr (inr behind)) = inr (blocks-apart plans at i own k behind)
+
+pub other-stands : (plans : List Plan) (i at : ℕ) (plan own : Plan) (entry changed : Entry) (f g : FlashState) (mounted before : Bool) (table was : model.Table) →
+    slice_get plans i ≡ Some plan → slice_get plans at ≡ Some own → (at ≡ i → ⊥) → EntryStands changed f before (first_of plans at) own was → OutsideStands changed.table (page_at f) (page_at g) → g.geometry ≡ f.geometry →
+    EntryStands entry f mounted (first_of plans i) plan table → EntryStands entry g mounted (first_of plans i) plan table
+other-stands plans i at plan own entry changed f g mounted before table was e k other c outside same h =
+    entry-apart entry f g mounted (first_of plans i) plan table (other-pages plans i at plan own entry changed f g mounted before table was e k other c outside h) same h

@@ -21,9 +21,8 @@ use Rattle.fl_session.specs.declared.notes.Notes.{Notes}
 use Rattle.fl_session.specs.declared.tables.Entry.{Entry}
 use Rattle.fl_session.specs.Standing.{SessionStands}
 use Rattle.fl_session.specs.Tables.{first_of}
-use Rattle.fl_session.proofs.Answering.{executes-answered, step-is, table-step}
+use Rattle.fl_session.proofs.Answering.{executes-answered, executes-read, step-is, table-step}
 use Rattle.fl_session.proofs.Costing.{read-none}
-use Rattle.fl_session.proofs.Executing.{executes-by}
 use Rattle.fl_session.proofs.Getting.{on-table, off-table}
 use Rattle.fl_session.proofs.Operations.{session-still}
 use Rattle.fl_session.proofs.Owning.{own-of}
@@ -43,7 +42,7 @@ blob-executes E config old entries at entry asked notes f g reads key mounted to
     let step = table-step config old moment asked (BlobStep old moment key) place h'.is_mounted own.found (refl, refl, s.replied) in
     let within : reads ≤ blob_limit config.knots own.plan own.table key = omega (arith, s.within, reads_are, ap (λ n. blob_limit n own.plan own.table key) h'.knots) in
     subst (λ m. Executes config old (command.Blob asked key) (SessionStands config entries g m notes) f g told told_now result) (sym r.mounted_is)
-    (executes-by E config old (command.Blob asked key) (SessionStands config entries g true notes) f g told told_now result moment refl step (session-still config entries notes f g old only h') counted (
+    (executes-read E config old (command.Blob asked key) entries notes f g true told told_now result moment only refl step (session-still config entries notes f g old only h') counted (
       on-table config old moment asked (λ at. moment.reads ≤ blob_limit config.knots at.plan at.table key) place h'.is_mounted own.found within,
       λ below. on-table config old moment asked (λ at. FaultHasRead moment) place h'.is_mounted own.found (λ unread. let more = s.failed unread below in omega (arith, more, counted.flash)),
     ) s.risen s.wrote)
@@ -54,7 +53,7 @@ pub blob-refused : (E : Type 0) (config : Config) (old : Machine) (entries : Lis
     Executes config old (command.Blob asked key) (SessionStands config entries f mounted notes) f f told told_now result
 blob-refused E config old entries notes f mounted asked key said told told_now result h r wrote =
     executes-answered E config old (command.Blob asked key) (SessionStands config entries f mounted notes) f f (reply_text said) told told_now result
-    (answers-refused config old entries notes f mounted (command.Blob asked key) asked (λ moment. BlobStep old moment key) said f.media.faults h r (λ moment is w. step-is config old moment (command.Blob asked key) is w)) (λ moment none. read-none f moment.reads none)
+    (answers-refused config old entries notes f mounted (command.Blob asked key) asked (λ moment. BlobStep old moment key) said h r (λ moment is w. step-is config old moment (command.Blob asked key) is w)) (λ moment none. read-none f moment.reads none)
     (λ moment none. (
       off-table config old entries notes f mounted moment asked (λ at. moment.reads ≤ blob_limit config.knots at.plan at.table key) said h r none,
       λ below. off-table config old entries notes f mounted moment asked (λ at. FaultHasRead moment) said h r none,

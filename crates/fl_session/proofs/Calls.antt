@@ -1,7 +1,7 @@
 -- The calls of a session's table, each by the command that makes it.
 use Rattle.std.proofs.Common.{◌≡◌, ℕ, Bool, true, false, not, IsTrue, IfErr, Option, Some, Result, List, sym, ap, subst}
 use Rattle.std.proofs.Math.IntN.{ℤ}
-use Rattle.std.specs.Prelude.{is_ok}
+use Rattle.std.specs.Prelude.{is_ok, OnOk}
 use Rattle.std.specs.List.{slice_get}
 use Rattle.fl_flash.specs.Flash.{FlashState, Goes, page_at}
 use Rattle.fl_table.specs.Mounting.{OutsideStands}
@@ -29,60 +29,61 @@ use Rattle.fl_session.specs.Standing.{SessionStands}
 use Rattle.fl_session.specs.Tables.{first_of, entries_with, TablesStand, TablesMount}
 use Rattle.fl_session.specs.declared.tables.BadMount.{BadMount}
 use Rattle.fl_session.specs.declared.tables.Entry.{Entry}
-use Rattle.fl_session.proofs.MountsOf.{stands-on, mount-watched, mount-answers, answers-already}
+use Rattle.fl_session.proofs.Answering.{answers-media}
+use Rattle.fl_session.proofs.MountsOf.{Repairs, stands-on, mount-watched, mount-answers, answers-already}
 use Rattle.fl_session.proofs.Owning.{own-of}
 use Rattle.fl_session.proofs.Stating.{stat-answers}
 use Rattle.fl_session.proofs.Working.{has_risen, session-watched, put-answers, flush-answers}
 
 pub put-call : (config : Config) (old : Machine) (entries : List Entry) (at : ℕ) (entry : Entry) (u : Table 64 64) (asked : List ℕ) (notes : Notes) (f g : FlashState) (mounted : Bool) (key : ℕ) (values : List ℤ) (blob : Option (List ℕ)) (result : Result (Unit {0}) PutRefusal) (breaks : Bool) (said : List ℕ) →
     SessionStands config entries f mounted notes old → IsReached entries mounted asked at → slice_get entries at ≡ Some entry → Goes f g → IsSamePlan entry.table u → (IsTrue f.media.tells → OutsideStands entry.table (page_at f) (page_at g)) →
-    ((first : ℕ) (plan : Plan) (table : model.Table) (rose : Bool) (device : Device) → IsWatched f g rose device → Stands entry.table f first plan table → PutEnds first plan (record { key = key; values = values; blob = blob }) table rose device result u g) →
+    ((first : ℕ) (plan : Plan) (table : model.Table) (rose : Bool) (device : Device) → IsWatched f g rose device → Stands entry.table f first plan table → PutEnds first plan (record { key = key; values = values; blob = blob }) table rose device result u f g) →
     IfErr result (λ e. RefusedSame entry.table f e u g) → breaks ≡ put_breaks result → said ≡ text (put_reply result) →
-    Answers config old (command.Put asked key values blob) (SessionStands config (entries_with entries at entry u) g (not breaks) notes) f.media.faults g.media.faults said
+    Answers config old (command.Put asked key values blob) (SessionStands config (entries_with entries at entry u) g (not breaks) notes) f g said
 put-call config old entries at entry u asked notes f g mounted key values blob result breaks said h r here goes same outside ends refused b e =
     let h' = subst (λ m. SessionStands config entries f m notes old) r.mounted_is h in
     let own = own-of config old entries f notes asked at entry h' here r.named in
     let end = ends (first_of config.plans at) own.plan own.table (has_risen f g) old.device (session-watched config entries notes f g old h') own.stands.on_flash in
-    subst (λ s. Answers config old (command.Put asked key values blob) (SessionStands config (entries_with entries at entry u) g (not breaks) notes) f.media.faults g.media.faults s) (sym e)
+    subst (λ s. Answers config old (command.Put asked key values blob) (SessionStands config (entries_with entries at entry u) g (not breaks) notes) f g s) (sym e)
     (put-answers config old entries at entry asked notes u f g h' here own goes same outside key values blob result (not breaks) (ap not b) end refused)
 
 pub flush-call : (config : Config) (old : Machine) (entries : List Entry) (at : ℕ) (entry : Entry) (u : Table 64 64) (asked : List ℕ) (notes : Notes) (f g : FlashState) (mounted : Bool) (result : Result (Unit {0}) FlushFault) (breaks : Bool) (said : List ℕ) →
     SessionStands config entries f mounted notes old → IsReached entries mounted asked at → slice_get entries at ≡ Some entry → Goes f g → IsSamePlan entry.table u → (IsTrue f.media.tells → OutsideStands entry.table (page_at f) (page_at g)) →
-    ((first : ℕ) (plan : Plan) (table : model.Table) (rose : Bool) (device : Device) → IsWatched f g rose device → Stands entry.table f first plan table → FlushEnds first plan table rose device result u g) →
+    ((first : ℕ) (plan : Plan) (table : model.Table) (rose : Bool) (device : Device) → IsWatched f g rose device → Stands entry.table f first plan table → FlushEnds first plan table rose device result u f g) →
     breaks ≡ flush_breaks result → said ≡ text (flush_reply result) →
-    Answers config old (command.Flush asked) (SessionStands config (entries_with entries at entry u) g (not breaks) notes) f.media.faults g.media.faults said
+    Answers config old (command.Flush asked) (SessionStands config (entries_with entries at entry u) g (not breaks) notes) f g said
 flush-call config old entries at entry u asked notes f g mounted result breaks said h r here goes same outside ends b e =
     let h' = subst (λ m. SessionStands config entries f m notes old) r.mounted_is h in
     let own = own-of config old entries f notes asked at entry h' here r.named in
     let end = ends (first_of config.plans at) own.plan own.table (has_risen f g) old.device (session-watched config entries notes f g old h') own.stands.on_flash in
-    subst (λ s. Answers config old (command.Flush asked) (SessionStands config (entries_with entries at entry u) g (not breaks) notes) f.media.faults g.media.faults s) (sym e)
+    subst (λ s. Answers config old (command.Flush asked) (SessionStands config (entries_with entries at entry u) g (not breaks) notes) f g s) (sym e)
     (flush-answers config old entries at entry asked notes u f g h' here own goes same outside result (not breaks) (ap not b) end)
 
 -- a mount, with the power on
 pub mount-call : (config : Config) (old : Machine) (entries now : List Entry) (notes : Notes) (f on g : FlashState) (mounted ok : Bool) (result : Result (Unit {0}) BadMount) (said : List ℕ) →
     SessionStands config entries f mounted notes old → mounted ≡ false → on ≡ record f { is_on = true } → Goes on g →
     ((plans : List Plan) (tables : List model.Table) (rose : Bool) (device : Device) → IsWatched on g rose device → TablesStand on (λ i. false) plans entries tables → TablesMount plans tables rose device result now g) →
-    ok ≡ is_ok result → said ≡ text (mount_reply result) →
-    Answers config old command.Mount (SessionStands config now g ok (without_cursors notes)) f.media.faults g.media.faults said
-mount-call config old entries now notes f on g mounted ok result said h off is goes ends n e =
+    OnOk result (Repairs on g entries) → ok ≡ is_ok result → said ≡ text (mount_reply result) →
+    Answers config old command.Mount (SessionStands config now g ok (without_cursors notes)) f g said
+mount-call config old entries now notes f on g mounted ok result said h off is goes ends repaired n e =
     let h' = subst (λ x. SessionStands config entries x false notes old) (sym is) (stands-on config old entries notes f (subst (λ m. SessionStands config entries f m notes old) off h)) in
     let power : on.is_on ≡ true = ap (λ (x : FlashState). x.is_on) is in
     let end = ends config.plans old.tables (has_risen on g) old.device (mount-watched config entries notes on g old h' power) h'.tables in
-    let answers = mount-answers config old notes entries now on g h' goes result ok n end in
-    subst (λ s. Answers config old command.Mount (SessionStands config now g ok (without_cursors notes)) f.media.faults g.media.faults s) (sym e)
-    (subst (λ (x : FlashState). Answers config old command.Mount (SessionStands config now g ok (without_cursors notes)) x.media.faults g.media.faults (text (mount_reply result))) is answers)
+    let answers = mount-answers config old notes entries now on g h' goes result ok n end repaired in
+    subst (λ s. Answers config old command.Mount (SessionStands config now g ok (without_cursors notes)) f g s) (sym e)
+    (answers-media config old command.Mount (SessionStands config now g ok (without_cursors notes)) on f g (text (mount_reply result)) (ap (λ (x : FlashState). x.media) is) answers)
 
-pub already-call : (config : Config) (old : Machine) (entries : List Entry) (notes : Notes) (f : FlashState) (mounted : Bool) (faults : ℕ) → SessionStands config entries f mounted notes old → mounted ≡ true →
-    Answers config old command.Mount (SessionStands config entries f mounted notes) faults faults (text reply.AlreadyMounted)
-already-call config old entries notes f mounted faults h on =
-    subst (λ m. Answers config old command.Mount (SessionStands config entries f m notes) faults faults (text reply.AlreadyMounted)) (sym on)
-    (answers-already config old entries notes f faults (subst (λ m. SessionStands config entries f m notes old) on h))
+pub already-call : (config : Config) (old : Machine) (entries : List Entry) (notes : Notes) (f : FlashState) (mounted : Bool) → SessionStands config entries f mounted notes old → mounted ≡ true →
+    Answers config old command.Mount (SessionStands config entries f mounted notes) f f (text reply.AlreadyMounted)
+already-call config old entries notes f mounted h on =
+    subst (λ m. Answers config old command.Mount (SessionStands config entries f m notes) f f (text reply.AlreadyMounted)) (sym on)
+    (answers-already config old entries notes f (subst (λ m. SessionStands config entries f m notes old) on h))
 
-pub stat-call : (config : Config) (old : Machine) (entries : List Entry) (at : ℕ) (entry : Entry) (asked : List ℕ) (notes : Notes) (f : FlashState) (mounted : Bool) (faults : ℕ) (counts : TableCounts) (programs erases : ℕ) →
+pub stat-call : (config : Config) (old : Machine) (entries : List Entry) (at : ℕ) (entry : Entry) (asked : List ℕ) (notes : Notes) (f : FlashState) (mounted : Bool) (counts : TableCounts) (programs erases : ℕ) →
     SessionStands config entries f mounted notes old → IsReached entries mounted asked at → slice_get entries at ≡ Some entry → ((f : FlashState) (first : ℕ) (plan : Plan) (table : model.Table) → Stands entry.table f first plan table → counts ≡ counts_of table) →
     programs ≡ f.work.programs → erases ≡ f.work.erases →
-    Answers config old (command.Stat asked) (SessionStands config entries f mounted notes) faults faults (text (reply.Stat counts.rows counts.pending counts.pages counts.voids programs erases))
-stat-call config old entries at entry asked notes f mounted faults counts programs erases h r here holds p e =
+    Answers config old (command.Stat asked) (SessionStands config entries f mounted notes) f f (text (reply.Stat counts.rows counts.pending counts.pages counts.voids programs erases))
+stat-call config old entries at entry asked notes f mounted counts programs erases h r here holds p e =
     let h' = subst (λ m. SessionStands config entries f m notes old) r.mounted_is h in
-    subst (λ m. Answers config old (command.Stat asked) (SessionStands config entries f m notes) faults faults (text (reply.Stat counts.rows counts.pending counts.pages counts.voids programs erases))) (sym r.mounted_is)
-    (stat-answers config old entries asked at entry notes f faults counts programs erases h' here r.named (holds f) p e)
+    subst (λ m. Answers config old (command.Stat asked) (SessionStands config entries f m notes) f f (text (reply.Stat counts.rows counts.pending counts.pages counts.voids programs erases))) (sym r.mounted_is)
+    (stat-answers config old entries asked at entry notes f counts programs erases h' here r.named (holds f) p e)

@@ -1,5 +1,5 @@
 -- What a session knows of the reads of its flash.
-use Rattle.std.proofs.Common.{◌≡◌, ℕ, zero, suc, ◌+◌, ◌-◌, ◌^◌, ◌<◌, ◌≤◌, Bool, List, [], ◌∷◌, ◌∙◌, ap, arith}
+use Rattle.std.proofs.Common.{◌≡◌, ℕ, zero, suc, ◌+◌, ◌-◌, ◌^◌, ◌<◌, ◌≤◌, Bool, List, [], ◌∷◌, refl, ◌∙◌, ap, arith}
 use Rattle.fl_flash.specs.Flash.{FlashState}
 use Rattle.fl_flash.specs.declared.flash.Work.{Work}
 use Rattle.fl_model.specs.Record.{Config}
@@ -49,8 +49,8 @@ pub read-none : (f : FlashState) (reads : ℕ) → reads ≡ 0 → HasRead f rea
 read-none f reads none = record { flash = omega (arith, none); medium = λ _ _. omega (arith, none) }
 
 -- the reply to the question for the cost
-pub cost-answers : (config : Config) (old : Machine) (entries : List Entry) (notes : Notes) (f : FlashState) (mounted : Bool) (faults : ℕ) (said : List ℕ) →
-    SessionStands config entries f mounted notes old → said ≡ text (cost_reply (cost_of notes.cost)) → Answers config old command.Cost (SessionStands config entries f mounted notes) faults faults said
-cost-answers config old entries notes f mounted faults said h is =
+pub cost-answers : (config : Config) (old : Machine) (entries : List Entry) (notes : Notes) (f : FlashState) (mounted : Bool) (said : List ℕ) →
+    SessionStands config entries f mounted notes old → said ≡ text (cost_reply (cost_of notes.cost)) → Answers config old command.Cost (SessionStands config entries f mounted notes) f f said
+cost-answers config old entries notes f mounted said h is =
     rw (is, ← h.cost_is)
-    (answers-saying config old command.Cost (cost_reply old.cost) old (SessionStands config entries f mounted notes) faults faults (says command.Cost (cost_reply old.cost ∷ []) old) h)
+    (answers-saying config old command.Cost (cost_reply old.cost) old entries notes f f mounted refl (says command.Cost (cost_reply old.cost ∷ []) old) h)

@@ -14,7 +14,7 @@ use Rattle.fl_model.specs.Query as query
 use Rattle.fl_model.specs.Query.{moved}
 use Rattle.fl_model.specs.Record.{Config, Plan}
 use Rattle.fl_model.specs.Table as model
-use Rattle.fl_page.specs.Contents.{OnlyReads}
+use Rattle.fl_page.specs.Contents.{Contents, OnlyReads}
 use Rattle.fl_words.specs.Command as command
 use Rattle.fl_words.specs.Reply as reply
 use Rattle.fl_words.specs.Reply.{text, texts}
@@ -22,6 +22,7 @@ use Rattle.fl_machine.specs.Machine.{Machine, OpenCursor}
 use Rattle.fl_machine.specs.OpenCursors.{IsWithin, IsOpenWithin, AreWithin}
 use Rattle.fl_machine.specs.Reads.{none_read, lowest_of, OnCursor, FaultHasRead, LimitOf}
 use Rattle.fl_machine.proofs.OpenCursors.{within-at}
+use Rattle.fl_machine.proofs.Stays.{moment-same}
 use Rattle.fl_model.specs.Limits.{scan_limit}
 use Rattle.fl_machine.specs.Step.{Moment, StepOf, Says, NextStep, cursor_at}
 use Rattle.fl_ring.specs.Device.{ArmsAs}
@@ -42,6 +43,7 @@ use Rattle.fl_session.proofs.Answering.{answers-saying, executes-answered, sayin
 use Rattle.fl_session.proofs.Costing.{read-none}
 use Rattle.fl_session.proofs.CursorsOf.{cursor-told}
 use Rattle.fl_session.proofs.Getting.{goes-reads, tables-looked}
+use Rattle.fl_session.proofs.Rested.{session-ends}
 use Rattle.fl_session.proofs.Sound.{lies-on}
 use Rattle.fl_session.proofs.TablesChanged.{at-place}
 use Rattle.fl_session.proofs.Working.{medium-goes}
@@ -126,16 +128,18 @@ next-executes E config old entries entry notes f g reads n count mounted cursor 
     on-cursor config old moment n cursor own.plan own.table (λ c plan table. FaultHasRead moment) h'.is_mounted at own.plan_is own.table_is
     (λ unread. let more = s.failed unread below in omega (arith, more, reads_are)) in
     let notes' : Notes = record notes { cursors = set notes.cursors n (Some (record cursor { mark = new })) } in
+    let stands = stands-moved config entries notes f g n (record cursor { mark = new }) old only h' in
     record {
       moment = moment;
       command_is = refl;
       step = next-of config old n count moment true (Some (cursor_of cursor)) h'.is_mounted at moves;
       after = with_cursor old n cursor.table (asked_by new);
-      stands_after = subst (λ m. SessionStands config entries g m notes' (with_cursor old n cursor.table (asked_by new))) (sym on) (stands-moved config entries notes f g n (record cursor { mark = new }) old only h');
+      stands_after = subst (λ m. SessionStands config entries g m notes' (with_cursor old n cursor.table (asked_by new))) (sym on) stands;
       alike = record { cost = refl; tables = refl; mounted = refl; device = refl };
       same = same-after result end s.moved_to;
       reads = counted;
       stated = (limited, failed);
+      stays = moment-same config old moment f.media.content g.media.content (session-ends config entries notes' g true (with_cursor old n cursor.table (asked_by new)) stands) (ap (λ (c : Contents). c.bytes) only.contents);
       rose = s.risen;
       told_all = all-told result (texts s.replies) s.wrote;
       told_front = front-told result (texts s.replies) s.wrote;
@@ -159,7 +163,7 @@ module _ (E : Type 0) (config : Config) (old : Machine) (entries : List Entry) (
       Executes config old (command.Next n count) (SessionStands config entries f mounted notes) f f told told_now result
   next-answered mounted said h limit step wrote =
       executes-answered E config old (command.Next n count) (SessionStands config entries f mounted notes) f f (text said) told told_now result
-      (answers-saying config old (command.Next n count) said old (SessionStands config entries f mounted notes) f.media.faults f.media.faults step h) (λ moment none. read-none f moment.reads none) limit wrote
+      (answers-saying config old (command.Next n count) said old entries notes f f mounted refl step h) (λ moment none. read-none f moment.reads none) limit wrote
 
   pub next-off : (mounted : Bool) → mounted ≡ false → SessionStands config entries f mounted notes old → Written told told_now result (text reply.NotMounted) →
       Executes config old (command.Next n count) (SessionStands config entries f mounted notes) f f told told_now result

@@ -54,11 +54,11 @@ stands-set config entries notes f n mark m h = record {
   power = h.power;
 }
 
-pub open-call : (config : Config) (old : Machine) (entries : List Entry) (at : ℕ) (entry : Entry) (asked : List ℕ) (notes : Notes) (f : FlashState) (mounted : Bool) (faults n : ℕ) (range : KeyRange) (span : Option Span) (mark : Bookmark) →
+pub open-call : (config : Config) (old : Machine) (entries : List Entry) (at : ℕ) (entry : Entry) (asked : List ℕ) (notes : Notes) (f : FlashState) (mounted : Bool) (n : ℕ) (range : KeyRange) (span : Option Span) (mark : Bookmark) →
     SessionStands config entries f mounted notes old → IsReached entries mounted asked at → slice_get entries at ≡ Some entry →
     ((f : FlashState) (first : ℕ) (plan : Plan) (table : model.Table) → Stands entry.table f first plan table → asked_by mark ≡ begin range span table) →
-    Answers config old (command.Open n asked range span) (SessionStands config entries f mounted (record notes { cursors = set notes.cursors n (Some (record { table = at; mark = mark })) })) faults faults (text reply.Done)
-open-call config old entries at entry asked notes f mounted faults n range span mark h r here begins =
+    Answers config old (command.Open n asked range span) (SessionStands config entries f mounted (record notes { cursors = set notes.cursors n (Some (record { table = at; mark = mark })) })) f f (text reply.Done)
+open-call config old entries at entry asked notes f mounted n range span mark h r here begins =
     let h' = subst (λ m. SessionStands config entries f m notes old) r.mounted_is h in
     let own = own-of config old entries f notes asked at entry h' here r.named in
     let cursor : TableCursor = record { table = at; mark = mark } in
@@ -70,13 +70,13 @@ open-call config old entries at entry asked notes f mounted faults n range span 
     let opened : OpenStep old (saying c (reply.Done ∷ []) after) n range span place =
     subst (λ q. Says (saying c (reply.Done ∷ []) after) (reply.Done ∷ []) (record old { cursors = set old.cursors n (Some (record { table = at; cursor = q })) })) is (says c (reply.Done ∷ []) after) in
     let step = table-step config old (saying c (reply.Done ∷ []) after) asked (OpenStep old (saying c (reply.Done ∷ []) after) n range span) place h'.is_mounted own.found opened in
-    subst (λ m. Answers config old c (SessionStands config entries f m notes') faults faults (text reply.Done)) (sym r.mounted_is)
-    (answers-saying config old c reply.Done after (SessionStands config entries f true notes') faults faults step (stands-set config entries notes f n (Some cursor) old h'))
+    subst (λ m. Answers config old c (SessionStands config entries f m notes') f f (text reply.Done)) (sym r.mounted_is)
+    (answers-saying config old c reply.Done after entries notes' f f true refl step (stands-set config entries notes f n (Some cursor) old h'))
 
-pub open-refused : (config : Config) (old : Machine) (entries : List Entry) (notes : Notes) (f : FlashState) (mounted : Bool) (asked : List ℕ) (n : ℕ) (range : KeyRange) (span : Option Span) (said : code.Reply) (faults : ℕ) →
-    SessionStands config entries f mounted notes old → Refusal entries mounted asked said → Answers config old (command.Open n asked range span) (SessionStands config entries f mounted notes) faults faults (reply_text said)
-open-refused config old entries notes f mounted asked n range span said faults h r =
-    answers-refused config old entries notes f mounted (command.Open n asked range span) asked (λ moment. OpenStep old moment n range span) said faults h r (λ moment is w. step-is config old moment (command.Open n asked range span) is w)
+pub open-refused : (config : Config) (old : Machine) (entries : List Entry) (notes : Notes) (f : FlashState) (mounted : Bool) (asked : List ℕ) (n : ℕ) (range : KeyRange) (span : Option Span) (said : code.Reply) →
+    SessionStands config entries f mounted notes old → Refusal entries mounted asked said → Answers config old (command.Open n asked range span) (SessionStands config entries f mounted notes) f f (reply_text said)
+open-refused config old entries notes f mounted asked n range span said h r =
+    answers-refused config old entries notes f mounted (command.Open n asked range span) asked (λ moment. OpenStep old moment n range span) said h r (λ moment is w. step-is config old moment (command.Open n asked range span) is w)
 
 -- ---- closed
 
@@ -87,20 +87,20 @@ close-of config old n moment mounted at m o h =
     subst (λ b. MatchBool b (MatchOption (cursor_at old n) (Says moment (reply.NoCursor ∷ []) old) (λ _. Says moment (reply.Done ∷ []) (record old { cursors = set old.cursors n None }))) (Says moment (reply.NotMounted ∷ []) old)) (sym m)
     (subst (λ (x : Option OpenCursor). MatchBool mounted (MatchOption x (Says moment (reply.NoCursor ∷ []) old) (λ _. Says moment (reply.Done ∷ []) (record old { cursors = set old.cursors n None }))) (Says moment (reply.NotMounted ∷ []) old)) (sym o) h)
 
-module _ (config : Config) (old : Machine) (entries : List Entry) (notes : Notes) (f : FlashState) (faults n : ℕ) where
-  pub close-off : (mounted : Bool) → mounted ≡ false → SessionStands config entries f mounted notes old → Answers config old (command.Close n) (SessionStands config entries f mounted notes) faults faults (text reply.NotMounted)
+module _ (config : Config) (old : Machine) (entries : List Entry) (notes : Notes) (f : FlashState) (n : ℕ) where
+  pub close-off : (mounted : Bool) → mounted ≡ false → SessionStands config entries f mounted notes old → Answers config old (command.Close n) (SessionStands config entries f mounted notes) f f (text reply.NotMounted)
   close-off mounted off h =
       let c = command.Close n in
-      answers-saying config old c reply.NotMounted old (SessionStands config entries f mounted notes) faults faults
+      answers-saying config old c reply.NotMounted old entries notes f f mounted refl
       (close-of config old n (saying c (reply.NotMounted ∷ []) old) false (cursor_at old n) (h.is_mounted ∙ off) refl (says c (reply.NotMounted ∷ []) old)) h
 
   pub close-none : (mounted : Bool) (mark : Option TableCursor) → mounted ≡ true → slice_get notes.cursors n ≡ Some mark → is_none mark ≡ true → SessionStands config entries f mounted notes old →
-      Answers config old (command.Close n) (SessionStands config entries f mounted notes) faults faults (text reply.NoCursor)
+      Answers config old (command.Close n) (SessionStands config entries f mounted notes) f f (text reply.NoCursor)
   close-none mounted None on e none h =
       let c = command.Close n in
       let h' = subst (λ m. SessionStands config entries f m notes old) on h in
       let at : cursor_at old n ≡ None = ap (λ (cs : List (Option OpenCursor)). unwrap_or (slice_get cs n) None) h'.cursors ∙ cursor-told notes.cursors n None e in
-      answers-saying config old c reply.NoCursor old (SessionStands config entries f mounted notes) faults faults
+      answers-saying config old c reply.NoCursor old entries notes f f mounted refl
       (close-of config old n (saying c (reply.NoCursor ∷ []) old) true None h'.is_mounted at (says c (reply.NoCursor ∷ []) old)) h
   close-none mounted (Some mark) on e none h = absurd (no none)
     where
@@ -108,7 +108,7 @@ module _ (config : Config) (old : Machine) (entries : List Entry) (notes : Notes
       no k = cc
 
   pub close-open : (mounted : Bool) (mark : Option TableCursor) → mounted ≡ true → slice_get notes.cursors n ≡ Some mark → is_none mark ≡ false → SessionStands config entries f mounted notes old →
-      Answers config old (command.Close n) (SessionStands config entries f mounted (record notes { cursors = set notes.cursors n None })) faults faults (text reply.Done)
+      Answers config old (command.Close n) (SessionStands config entries f mounted (record notes { cursors = set notes.cursors n None })) f f (text reply.Done)
   close-open mounted None on e some h = absurd (no some)
     where
       no : true ≡ false → ⊥
@@ -118,6 +118,6 @@ module _ (config : Config) (old : Machine) (entries : List Entry) (notes : Notes
       let h' = subst (λ m. SessionStands config entries f m notes old) on h in
       let after : Machine = record old { cursors = set old.cursors n None } in
       let at : cursor_at old n ≡ Some (cursor_of mark) = ap (λ (cs : List (Option OpenCursor)). unwrap_or (slice_get cs n) None) h'.cursors ∙ cursor-told notes.cursors n (Some mark) e in
-      answers-saying config old c reply.Done after (SessionStands config entries f mounted (record notes { cursors = set notes.cursors n None })) faults faults
+      answers-saying config old c reply.Done after entries (record notes { cursors = set notes.cursors n None }) f f mounted refl
       (close-of config old n (saying c (reply.Done ∷ []) after) true (Some (cursor_of mark)) h'.is_mounted at (says c (reply.Done ∷ []) after))
       (subst (λ m. SessionStands config entries f m (record notes { cursors = set notes.cursors n None }) (record old { cursors = set old.cursors n None })) (sym on) (stands-set config entries notes f n None old h'))

@@ -18,7 +18,7 @@ use Rattle.std.proofs.lemmas.List.Sums.{sum_by-append}
 use Rattle.fl_script.specs.declared.command.Command as code
 use Rattle.fl_session.specs.Run.{tail_of, RunsFrom, IsOfCommands}
 use Rattle.fl_session.specs.Begin.{AtCommand, AtEnd, EndsBegin, BeginsAt}
-use Rattle.fl_session.specs.Ends.{Told, IsUntouched, IsOwn, IsFormed, RunsAll, RunsInto, start_in, EndsEarly, EndsDone, EndsLine, EndsInto, EndsConfig, Ends, IsEarlyBy}
+use Rattle.fl_session.specs.Ends.{Told, IsUntouched, IsOwn, IsFormed, opened, RunsAll, RunsInto, start_in, EndsEarly, EndsDone, EndsLine, EndsInto, EndsConfig, Ends, IsEarlyBy}
 use Rattle.fl_session.specs.declared.status.Status.{Status}
 use Rattle.fl_session.specs.declared.status.Status.TheVariants.{Done, Line, ScriptRead, OutWrite, Config as BadConfiguration, ScriptLong}
 use Rattle.fl_session.proofs.Beginning.{command-takes}
@@ -74,6 +74,8 @@ start-at_end knots text now number left_now config a w =
 -- what was run in the session is what was run over the medium
 pub record Over (config : Config) (told : Told) (around : Around) (stands stands_now : Machine → Type 0) : Type 0 where
   pub config_is : around.config ≡ config
+  pub content : around.content ≡ opened config told.content
+  pub content_now : around.content_now ≡ told.content_now
   pub faults_now : around.faults_now ≡ told.faults_now
   pub faults : told.faults ≤ around.faults
   pub written : around.told ≡ told.written
@@ -87,27 +89,29 @@ rose-earlier : (n before mid now : ℕ) → before ≤ mid → RoseBy n mid now 
 rose-earlier n before mid now h (inl k) = inl (omega arith)
 rose-earlier n before mid now h (inr k) = inr k
 
-ran-earlier : (config : Config) (old : Machine) (commands : List Command) (stands : Machine → Type 0) (before mid now : ℕ) (told told_now : Option (List ℕ)) → before ≤ mid →
-    Ran config old commands stands mid now told told_now → Ran config old commands stands before now told told_now
-ran-earlier config old commands stands before mid now told told_now e h = record {
+ran-earlier : (config : Config) (old : Machine) (commands : List Command) (stands : Machine → Type 0) (content content_now : List ℕ) (before mid now : ℕ) (told told_now : Option (List ℕ)) → before ≤ mid →
+    Ran config old commands stands content content_now mid now told told_now → Ran config old commands stands content content_now before now told told_now
+ran-earlier config old commands stands content content_now before mid now told told_now e h = record {
   moments = h.moments;
   commands_are = h.commands_are;
   run = h.run;
   stands_after = h.stands_after;
   reads = h.reads;
+  stays = h.stays;
   rose = rose-earlier _ before mid now e h.rose;
   found = h.found;
   told_all = h.told_all;
 }
 
-ran_into-earlier : (config : Config) (old : Machine) (commands : List Command) (stands : Machine → Type 0) (before mid now : ℕ) (told told_now : Option (List ℕ)) → before ≤ mid →
-    RanInto config old commands stands mid now told told_now → RanInto config old commands stands before now told told_now
-ran_into-earlier config old commands stands before mid now told told_now e h = record {
+ran_into-earlier : (config : Config) (old : Machine) (commands : List Command) (stands : Machine → Type 0) (content content_now : List ℕ) (before mid now : ℕ) (told told_now : Option (List ℕ)) → before ≤ mid →
+    RanInto config old commands stands content content_now mid now told told_now → RanInto config old commands stands content content_now before now told told_now
+ran_into-earlier config old commands stands content content_now before mid now told told_now e h = record {
   moments = h.moments;
   commands_are = h.commands_are;
   run = h.run;
   stands_after = h.stands_after;
   limits = h.limits;
+  stays = h.stays;
   rose = rose-earlier _ before mid now e h.rose;
   found = h.found;
   before = h.before;
@@ -121,48 +125,52 @@ ran_into-earlier config old commands stands before mid now told told_now e h = r
 
 -- where commands were run from each state, they were run as the plain machine does if nothing fails
 runs-with : (config : Config) (commands : List Command) (told : Told) → IsOwn config told.content → IsFormed config told.content_now →
-    ((old : Machine) → StandsFor config told.content old → Ran config old commands (StandsAfter config (Some told.content_now)) told.faults told.faults_now told.written told.written_now) → RunsAll config commands told
+    ((old : Machine) → StandsFor config told.content old → Ran config old commands (StandsAfter config (Some told.content_now)) (opened config told.content) told.content_now told.faults told.faults_now told.written told.written_now) → RunsAll config commands told
 runs-with config commands told own formed runs = record {
   own = own;
   formed = formed;
   runs = runs;
-  plain = λ calm old s uncut. ran-plainly config old commands told.content_now told.faults told.faults_now told.written told.written_now calm uncut (runs old s);
+  plain = λ calm old s uncut. ran-plainly config old commands (opened config told.content) told.content_now told.faults told.faults_now told.written told.written_now calm uncut (runs old s);
 }
 
 run-over : (config : Config) (told : Told) (around : Around) (stands stands_now : Machine → Type 0) (commands : List Command) → Over config told around stands stands_now → RanAll around stands stands_now commands →
-    (old : Machine) → StandsFor config told.content old → Ran config old commands (StandsAfter config (Some told.content_now)) told.faults told.faults_now told.written told.written_now
+    (old : Machine) → StandsFor config told.content old → Ran config old commands (StandsAfter config (Some told.content_now)) (opened config told.content) told.content_now told.faults told.faults_now told.written told.written_now
 run-over config told around stands stands_now commands o h old s =
     let b = o.begins old s in
     let ran = h old b.0 (subst (λ c. IsReady c old) (sym o.config_is) b.1) in
-    let seen = ran-seen around.config old commands stands_now (StandsAfter config (Some told.content_now)) around.faults around.faults_now around.told around.told_now o.ends ran in
-    let earlier = ran-earlier around.config old commands (StandsAfter config (Some told.content_now)) told.faults around.faults around.faults_now around.told around.told_now o.faults seen in
-    subst (λ c. Ran c old commands (StandsAfter config (Some told.content_now)) told.faults told.faults_now told.written told.written_now) o.config_is
-    (subst (λ f. Ran around.config old commands (StandsAfter config (Some told.content_now)) told.faults f told.written told.written_now) o.faults_now
-    (subst (λ t. Ran around.config old commands (StandsAfter config (Some told.content_now)) told.faults around.faults_now t told.written_now) o.written
-    (subst (λ t. Ran around.config old commands (StandsAfter config (Some told.content_now)) told.faults around.faults_now around.told t) o.written_now earlier)))
+    let seen = ran-seen around.config old commands stands_now (StandsAfter config (Some told.content_now)) around.content around.content_now around.faults around.faults_now around.told around.told_now o.ends ran in
+    let earlier = ran-earlier around.config old commands (StandsAfter config (Some told.content_now)) around.content around.content_now told.faults around.faults around.faults_now around.told around.told_now o.faults seen in
+    subst (λ c. Ran c old commands (StandsAfter config (Some told.content_now)) (opened config told.content) told.content_now told.faults told.faults_now told.written told.written_now) o.config_is
+    (subst (λ b. Ran around.config old commands (StandsAfter config (Some told.content_now)) b told.content_now told.faults told.faults_now told.written told.written_now) o.content
+    (subst (λ b. Ran around.config old commands (StandsAfter config (Some told.content_now)) around.content b told.faults told.faults_now told.written told.written_now) o.content_now
+    (subst (λ f. Ran around.config old commands (StandsAfter config (Some told.content_now)) around.content around.content_now told.faults f told.written told.written_now) o.faults_now
+    (subst (λ t. Ran around.config old commands (StandsAfter config (Some told.content_now)) around.content around.content_now told.faults around.faults_now t told.written_now) o.written
+    (subst (λ t. Ran around.config old commands (StandsAfter config (Some told.content_now)) around.content around.content_now told.faults around.faults_now around.told t) o.written_now earlier)))))
 
 pub runs-all : (config : Config) (told : Told) (around : Around) (stands stands_now : Machine → Type 0) (commands : List Command) → Over config told around stands stands_now → RanAll around stands stands_now commands → RunsAll config commands told
 runs-all config told around stands stands_now commands o h = runs-with config commands told o.own o.formed (run-over config told around stands stands_now commands o h)
 
 run-over_into : (config : Config) (told : Told) (around : Around) (stands stands_now : Machine → Type 0) (commands : List Command) → Over config told around stands stands_now → RanPart around stands stands_now commands →
-    (old : Machine) → StandsFor config told.content old → RanInto config old commands (StandsAfter config (Some told.content_now)) told.faults told.faults_now told.written told.written_now
+    (old : Machine) → StandsFor config told.content old → RanInto config old commands (StandsAfter config (Some told.content_now)) (opened config told.content) told.content_now told.faults told.faults_now told.written told.written_now
 run-over_into config told around stands stands_now commands o h old s =
     let b = o.begins old s in
     let ran = h old b.0 (subst (λ c. IsReady c old) (sym o.config_is) b.1) in
-    let seen = ran_into-seen around.config old commands (StandsAlike stands_now) (StandsAfter config (Some told.content_now)) around.faults around.faults_now around.told around.told_now
+    let seen = ran_into-seen around.config old commands (StandsAlike stands_now) (StandsAfter config (Some told.content_now)) around.content around.content_now around.faults around.faults_now around.told around.told_now
     (after-alike config (Some told.content_now) stands_now o.ends) ran in
-    let earlier = ran_into-earlier around.config old commands (StandsAfter config (Some told.content_now)) told.faults around.faults around.faults_now around.told around.told_now o.faults seen in
-    subst (λ c. RanInto c old commands (StandsAfter config (Some told.content_now)) told.faults told.faults_now told.written told.written_now) o.config_is
-    (subst (λ f. RanInto around.config old commands (StandsAfter config (Some told.content_now)) told.faults f told.written told.written_now) o.faults_now
-    (subst (λ t. RanInto around.config old commands (StandsAfter config (Some told.content_now)) told.faults around.faults_now t told.written_now) o.written
-    (subst (λ t. RanInto around.config old commands (StandsAfter config (Some told.content_now)) told.faults around.faults_now around.told t) o.written_now earlier)))
+    let earlier = ran_into-earlier around.config old commands (StandsAfter config (Some told.content_now)) around.content around.content_now told.faults around.faults around.faults_now around.told around.told_now o.faults seen in
+    subst (λ c. RanInto c old commands (StandsAfter config (Some told.content_now)) (opened config told.content) told.content_now told.faults told.faults_now told.written told.written_now) o.config_is
+    (subst (λ b. RanInto around.config old commands (StandsAfter config (Some told.content_now)) b told.content_now told.faults told.faults_now told.written told.written_now) o.content
+    (subst (λ b. RanInto around.config old commands (StandsAfter config (Some told.content_now)) around.content b told.faults told.faults_now told.written told.written_now) o.content_now
+    (subst (λ f. RanInto around.config old commands (StandsAfter config (Some told.content_now)) around.content around.content_now told.faults f told.written told.written_now) o.faults_now
+    (subst (λ t. RanInto around.config old commands (StandsAfter config (Some told.content_now)) around.content around.content_now told.faults around.faults_now t told.written_now) o.written
+    (subst (λ t. RanInto around.config old commands (StandsAfter config (Some told.content_now)) around.content around.content_now told.faults around.faults_now around.told t) o.written_now earlier)))))
 
 pub runs-into : (config : Config) (told : Told) (around : Around) (stands stands_now : Machine → Type 0) (commands : List Command) → Over config told around stands stands_now → RanPart around stands stands_now commands → RunsInto config commands told
 runs-into config told around stands stands_now commands o h = record {
   own = o.own;
   formed = o.formed;
   runs = run-over_into config told around stands stands_now commands o h;
-  plain = λ calm old s uncut. ran_into-plainly config old commands told.content_now told.faults told.faults_now told.written told.written_now calm uncut (run-over_into config told around stands stands_now commands o h old s);
+  plain = λ calm old s uncut. ran_into-plainly config old commands (opened config told.content) told.content_now told.faults told.faults_now told.written told.written_now calm uncut (run-over_into config told around stands stands_now commands o h old s);
 }
 
 -- the lines up to a place behind the command that ended the configuration
@@ -277,23 +285,24 @@ ends-of_commands knots text now number state left_now config told around stands 
 
 -- a script without commands
 pub ends-empty : (knots : ℕ) (text : List ℕ) (now : Lines) (number : ℕ) (config : Config) (told : Told) (left : Option (List ℕ)) → AtEnd knots text now number left → told.left_now ≡ left → whole knots now ≡ Some config →
-    IsOwn config told.content → IsFormed config told.content_now → ((old : Machine) → StandsFor config told.content old → StandsAfter config (Some told.content_now) old) → told.faults ≤ told.faults_now → told.written_now ≡ told.written →
+    IsOwn config told.content → IsFormed config told.content_now → ((old : Machine) → StandsFor config told.content old → StandsAfter config (Some told.content_now) old) → told.faults ≤ told.faults_now → told.written_now ≡ told.written → told.content_now ≡ opened config told.content →
     Ends knots text told Done
-ends-empty knots text now number config told left a same w own formed stands later written = (
+ends-empty knots text now number config told left a same w own formed stands later written kept = (
   a.short,
   subst (λ s. EndsDone s told) (sym (start-at_end knots text now number left config a w)) (
     refl,
     runs-with config [] told own formed (λ old s.
-        ran-earlier config old [] (StandsAfter config (Some told.content_now)) told.faults told.faults_now told.faults_now told.written told.written_now later
-        (subst (λ t. Ran config old [] (StandsAfter config (Some told.content_now)) told.faults_now told.faults_now told.written t) (sym written)
-        (ran-none config old (StandsAfter config (Some told.content_now)) told.faults_now told.written (stands old s)))),
+        ran-earlier config old [] (StandsAfter config (Some told.content_now)) (opened config told.content) told.content_now told.faults told.faults_now told.faults_now told.written told.written_now later
+        (subst (λ c. Ran config old [] (StandsAfter config (Some told.content_now)) (opened config told.content) c told.faults_now told.faults_now told.written told.written_now) (sym kept)
+        (subst (λ t. Ran config old [] (StandsAfter config (Some told.content_now)) (opened config told.content) (opened config told.content) told.faults_now told.faults_now told.written t) (sym written)
+        (ran-none config old (StandsAfter config (Some told.content_now)) (opened config told.content) told.faults_now told.written (stands old s))))),
   ),
   same ∙ a.nothing,
 )
 
 all-seen : (around : Around) (s s' r r' : Machine → Type 0) (commands : List Command) → ((m : Machine) → r m → s m) → ((m : Machine) → s' m → r' m) → RanAll around s s' commands → RanAll around r r' commands
 all-seen around s s' r r' commands f g h old k ready =
-    ran-seen around.config old commands s' r' around.faults around.faults_now around.told around.told_now g (h old (f old k) ready)
+    ran-seen around.config old commands s' r' around.content around.content_now around.faults around.faults_now around.told around.told_now g (h old (f old k) ready)
 
 -- the same commands, seen through other relations to the states before and after them
 commands-seen : (tail : Tail) (left : Option (List ℕ)) (around : Around) (s s' r r' : Machine → Type 0) (status : Status) → ((m : Machine) → r m → s m) → ((m : Machine) → s' m → r' m) →
@@ -310,14 +319,14 @@ commands-seen tail left around s s' r r' OutWrite f g h = record {
   number_is = h.number_is;
   takes = h.takes;
   runs = λ old k ready.
-      ran_into-seen around.config old h.commands (StandsAlike s') (StandsAlike r') around.faults around.faults_now around.told around.told_now (λ m a. (a.0, g a.0 a.1, a.2)) (h.runs old (f old k) ready);
+      ran_into-seen around.config old h.commands (StandsAlike s') (StandsAlike r') around.content around.content_now around.faults around.faults_now around.told around.told_now (λ m a. (a.0, g a.0 a.1, a.2)) (h.runs old (f old k) ready);
 }
 commands-seen tail left around s s' r r' ScriptLong f g h = (h.0, record { accepts = h.1.accepts; runs = all-seen around s s' r r' _ f g h.1.runs }, h.2)
 commands-seen tail left around s s' r r' status f g h = absurd h
 
 pub runs-seen : (first : Option code.Command) (number : ℕ) (state : LinesState) (left left_now : Option (List ℕ)) (around : Around) (s s' r r' : Machine → Type 0) (status : Status) → ((m : Machine) → r m → s m) → ((m : Machine) → s' m → r' m) →
     RunsFrom first number state left left_now around s s' status → RunsFrom first number state left left_now around r r' status
-runs-seen None number state left left_now around s s' r r' status f g h = record { done = h.done; untaken = h.untaken; written = h.written; goes_on = λ m k. g m (h.goes_on m (f m k)) }
+runs-seen None number state left left_now around s s' r r' status f g h = record { done = h.done; untaken = h.untaken; written = h.written; content = h.content; goes_on = λ m k. g m (h.goes_on m (f m k)) }
 runs-seen (Some first) number state left left_now around s s' r r' status f g h = λ l e ended. commands-seen (tail_of number state l) left_now around s s' r r' status f g (h l e ended)
 
 -- how a run ends over an image that was opened
@@ -326,7 +335,7 @@ pub ends-of_run : (knots : ℕ) (text : List ℕ) (now : Lines) (first : Option 
     RunsFrom first number state left told.left_now around stands stands_now status → Ends knots text told status
 ends-of_run knots text now None number state left config told around stands stands_now status a w o later h =
     subst (λ s. Ends knots text told s) (sym h.done)
-    (ends-empty knots text now number config told left a h.untaken w o.own o.formed (λ old s. o.ends old (h.goes_on old (o.begins old s).0)) later (sym o.written_now ∙ (h.written ∙ o.written)))
+    (ends-empty knots text now number config told left a h.untaken w o.own o.formed (λ old s. o.ends old (h.goes_on old (o.begins old s).0)) later (sym o.written_now ∙ (h.written ∙ o.written)) (sym o.content_now ∙ (h.content ∙ o.content)))
 ends-of_run knots text now (Some first) number state left config told around stands stands_now status a w o later h =
     ends-of_commands knots text now number state left config told around stands stands_now status a w o (h a.left a.left_is a.given.ended)
 

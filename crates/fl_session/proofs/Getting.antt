@@ -35,11 +35,11 @@ use Rattle.fl_session.specs.declared.cost.Cost.TheVariants as code_cost
 use Rattle.fl_session.specs.Standing.{SessionStands}
 use Rattle.fl_session.specs.Tables.{first_of, EntryStands, TablesStand}
 use Rattle.fl_session.proofs.Apart.{stands-pages}
-use Rattle.fl_session.proofs.Answering.{executes-answered, step-is, table-step}
+use Rattle.fl_session.proofs.Answering.{executes-answered, executes-read, step-is, table-step}
 use Rattle.fl_session.proofs.Owning.{own-of, own-none}
 use Rattle.fl_session.proofs.TablesChanged.{tables-still}
 use Rattle.fl_session.proofs.Costing.{read-none}
-use Rattle.fl_session.proofs.Executing.{executes-by, one-text}
+use Rattle.fl_session.proofs.Executing.{one-text}
 use Rattle.fl_session.proofs.Refusing.{answers-refused}
 use Rattle.fl_session.proofs.Working.{medium-goes}
 
@@ -143,7 +143,7 @@ get-executes E config old entries at entry asked notes f g reads limit key mount
     let written : Written told told_now result (texts (s.reply ∷ [])) = subst (λ (l : List ℕ). Written told told_now result l) (s.said_is ∙ sym (one-text s.reply)) wrote in
     let notes' : Notes = record notes { cost = code_cost.OfGet reads limit } in
     subst (λ m. Executes config old (command.Get asked key) (SessionStands config entries g m notes') f g told told_now result) (sym r.mounted_is)
-    (executes-by E config old (command.Get asked key) (SessionStands config entries g true notes') f g told told_now result moment refl step
+    (executes-read E config old (command.Get asked key) entries notes' f g true told told_now result moment only refl step
     (subst (λ n. SessionStands config entries g true notes' (record old { cost = OfGet reads n })) is (session-read f g only config entries notes (code_cost.OfGet reads limit) old h')) counted keeps s.risen written)
 
 -- .. and one that isn't
@@ -152,4 +152,4 @@ pub get-refused : (E : Type 0) (config : Config) (old : Machine) (entries : List
     Executes config old (command.Get asked key) (SessionStands config entries f mounted notes) f f told told_now result
 get-refused E config old entries notes f mounted asked key said told told_now result h r wrote =
     executes-answered E config old (command.Get asked key) (SessionStands config entries f mounted notes) f f (reply_text said) told told_now result
-    (answers-refused config old entries notes f mounted (command.Get asked key) asked (λ moment. GetStep config old moment key) said f.media.faults h r (λ moment is w. step-is config old moment (command.Get asked key) is w)) (λ moment none. read-none f moment.reads none) (λ moment none. off-table config old entries notes f mounted moment asked (ReadsGet config moment key f) said h r none) wrote
+    (answers-refused config old entries notes f mounted (command.Get asked key) asked (λ moment. GetStep config old moment key) said h r (λ moment is w. step-is config old moment (command.Get asked key) is w)) (λ moment none. read-none f moment.reads none) (λ moment none. off-table config old entries notes f mounted moment asked (ReadsGet config moment key f) said h r none) wrote

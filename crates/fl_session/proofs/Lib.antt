@@ -24,6 +24,9 @@ pub mod Working
 pub mod Stating
 pub mod MountedSoFar
 pub mod TablesReads
+pub mod TornPages
+pub mod RingRepairs
+pub mod TableRepairs
 pub mod MountsOf
 pub mod Calls
 pub mod Sound
@@ -62,3 +65,5 @@ pub mod MountReads
 pub mod Plainly
 pub mod Exactly
 pub mod Bounded
+pub mod Keeping
+pub mod Repairing

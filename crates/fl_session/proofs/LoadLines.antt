@@ -53,7 +53,7 @@ front-second told mid now count (Err refusal) line e is first h =
 pub load-executes : (E : Type 0) (config : Config) (old : Machine) (entries : List Entry) (at : ℕ) (entry : Entry) (u : Table 64 64) (asked : List ℕ) (notes : Notes) (f g : FlashState) (mounted breaks : Bool) (count step seed loaded : ℕ) (outcome : Result (Unit {0}) PutRefusal) (told told_now : Option (List ℕ)) (result : Result (Unit {0}) E) →
     SessionStands config entries f mounted notes old → IsReached entries mounted asked at → slice_get entries at ≡ Some entry → g.work.reads ≡ f.work.reads →
     ((config : Config) (entries : List Entry) (at : ℕ) (e : Entry) (name : List ℕ) (notes : Notes) (old : Machine) → SessionStands config entries f true notes old → slice_get entries at ≡ Some e → e.table ≡ entry.table → IsNamed entries name at →
-    Answers config old (command.Load name count step seed) (SessionStands config (entries_with entries at e u) g (not (put_breaks outcome)) notes) f.media.faults g.media.faults (texts (load_replies loaded outcome))) →
+    Answers config old (command.Load name count step seed) (SessionStands config (entries_with entries at e u) g (not (put_breaks outcome)) notes) f g (texts (load_replies loaded outcome))) →
     breaks ≡ put_breaks outcome → Written told told_now result (texts (load_replies loaded outcome)) →
     Executes config old (command.Load asked count step seed) (SessionStands config (entries_with entries at entry u) g (not breaks) notes) f g told told_now result
 load-executes E config old entries at entry u asked notes f g mounted breaks count step seed loaded outcome told told_now result h r here unread answers b wrote =
@@ -68,7 +68,7 @@ pub load-refused : (E : Type 0) (config : Config) (old : Machine) (entries : Lis
     Executes config old (command.Load asked count step seed) (SessionStands config entries f mounted notes) f f told told_now result
 load-refused E config old entries notes f mounted asked count step seed said told told_now result h r wrote =
     executes-answered E config old (command.Load asked count step seed) (SessionStands config entries f mounted notes) f f (reply_text said) told told_now result
-    (answers-refused config old entries notes f mounted (command.Load asked count step seed) asked (λ moment. LoadStep config old moment count step seed) said f.media.faults h r (λ moment is w. step-is config old moment (command.Load asked count step seed) is w)) (λ moment none. (none, omega arith)) (λ moment none. tt) wrote
+    (answers-refused config old entries notes f mounted (command.Load asked count step seed) asked (λ moment. LoadStep config old moment count step seed) said h r (λ moment is w. step-is config old moment (command.Load asked count step seed) is w)) (λ moment none. (none, omega arith)) (λ moment none. tt) wrote
 
 -- a put that was done broke nothing
 pub unbroken : (outcome : Result (Unit {0}) PutRefusal) → is_err outcome ≡ false → put_breaks outcome ≡ false

@@ -20,6 +20,7 @@ use Rattle.fl_words.specs.Reply as reply
 use Rattle.fl_words.specs.Reply.{Reply, texts}
 use Rattle.fl_machine.specs.Machine.{Machine, stopped}
 use Rattle.fl_machine.specs.Reads.{none_read}
+use Rattle.fl_machine.specs.Stays.{CommandStays, TablesStay}
 use Rattle.fl_machine.specs.Step.{Moment, Says, Located, refused, LoadStep, LoadsFrom, LoadsOn, load_record, load_values, next_random}
 use Rattle.fl_table.specs.declared.table.Table.{Table}
 use Rattle.fl_table.specs.declared.faults.PutRefusal.{PutRefusal}
@@ -36,19 +37,23 @@ use Rattle.fl_session.specs.Standing.{SessionStands}
 use Rattle.fl_session.specs.Tables.{first_of, entries_with, IsNamed}
 use Rattle.fl_session.specs.declared.tables.Entry.{Entry}
 use Rattle.fl_session.proofs.Answering.{step-is, table-step}
+use Rattle.fl_session.proofs.Keeping.{TablesKeep, tables-keep_all, tables-on, tables-stay, mounted-stays}
 use Rattle.fl_session.proofs.Owning.{Own, own-of}
+use Rattle.fl_session.proofs.Rested.{session-ends}
 use Rattle.fl_session.proofs.TablesChanged.{set-there, set-elsewhere, set-same, some-is, at-place}
-use Rattle.fl_session.proofs.Working.{has_risen, risen-rose, performs-all, stands-done, stands-broken, last_of}
+use Rattle.fl_session.proofs.Working.{has_risen, risen-rose, performs-all, stands-done, stands-broken, keeps-done, last_of, not-whole}
 
 -- the machine in the midst of a load
 abbrev pub amid : Machine → Device → List model.Table → Machine
 amid old device tables = record old { device = device; tables = tables }
 
 -- So many records were put to the table at a place, and what the rest of the load is to the machine, the whole is.
-pub record LoadedSoFar (config : Config) (entries : List Entry) (at : ℕ) (entry : Entry) (asked : List ℕ) (notes : Notes) (old : Machine) (t : Table 64 64) (f : FlashState) (rose : Bool) (count step seed loaded random : ℕ) : Type 0 where
+pub record LoadedSoFar (config : Config) (entries : List Entry) (at : ℕ) (entry : Entry) (asked : List ℕ) (notes : Notes) (old : Machine) (start : List ℕ) (t : Table 64 64) (f : FlashState) (rose : Bool) (count step seed loaded random : ℕ) : Type 0 where
   pub device : Device
   pub tables : List model.Table
   pub stands : SessionStands config (entries_with entries at entry t) f true notes (amid old device tables)
+  -- the pages that are kept since the load's start
+  pub keeps : TablesKeep config start f.media.content old.tables tables
   pub plan : Plan
   pub plan_is : slice_get config.plans at ≡ Some plan
   pub whole : (moment : Moment) → moment.rose ≡ rose → LoadsFrom config old moment plan at step seed (count - loaded) (loaded + 1) random loaded device tables →
@@ -74,7 +79,7 @@ still-named entries at entry t asked here named = record {
 
 pub loaded-none : (config : Config) (entries : List Entry) (at : ℕ) (entry : Entry) (asked : List ℕ) (notes : Notes) (old : Machine) (t : Table 64 64) (f : FlashState) (rose : Bool) (count step seed random : ℕ) → random ≡ next_random seed →
     SessionStands config entries f true notes old → slice_get entries at ≡ Some entry → entry.table ≡ t →
-    LoadedSoFar config entries at entry asked notes old t f rose count step seed 0 random
+    LoadedSoFar config entries at entry asked notes old f.media.content t f rose count step seed 0 random
 loaded-none config entries at entry asked notes old t f rose count step seed random e h here is =
     let own = at-place f (λ i. true) config.plans entries old.tables at entry h.tables here in
     let same : entries ≡ entries_with entries at entry t = sym (ap (λ x. entries_with entries at entry x) (sym is) ∙ set-same entries at entry here) in
@@ -82,6 +87,7 @@ loaded-none config entries at entry asked notes old t f rose count step seed ran
       device = old.device;
       tables = old.tables;
       stands = subst (λ es. SessionStands config es f true notes old) same h;
+      keeps = tables-keep_all config f.media.content old.tables;
       plan = own.plan;
       plan_is = own.plan_is;
       whole = λ moment r l.
@@ -134,8 +140,8 @@ rose-back before mid now earlier r = omega arith
 ends-load : (config : Config) (entries now : List Entry) (at : ℕ) (entry : Entry) (asked : List ℕ) (notes : Notes) (old : Machine) (f g : FlashState) (count step seed : ℕ) (mounted : Bool) (plan : Plan) (moment : Moment) →
     SessionStands config entries f true notes old → slice_get entries at ≡ Some entry → IsNamed entries asked at → moment.command ≡ command.Load asked count step seed → moment.rose ≡ has_risen f g → none_read moment → slice_get config.plans at ≡ Some plan →
     LoadsFrom config old moment plan at step seed count 1 (next_random seed) 0 old.device old.tables → SessionStands config now g mounted notes moment.after →
-    Answers config old (command.Load asked count step seed) (SessionStands config now g mounted notes) f.media.faults g.media.faults (texts moment.replies)
-ends-load config entries now at entry asked notes old f g count step seed mounted plan moment h here named is rose none plan_is loads stands =
+    (moment.last ≡ None → TablesStay config f.media.content g.media.content old.tables moment.after.tables) → Answers config old (command.Load asked count step seed) (SessionStands config now g mounted notes) f g (texts moment.replies)
+ends-load config entries now at entry asked notes old f g count step seed mounted plan moment h here named is rose none plan_is loads stands stay =
     let own = own-of config old entries f notes asked at entry h here named in
     let place : Located = record { place = at; plan = own.plan; table = own.table } in
     let load : LoadStep config old moment count step seed place = subst (λ p. LoadsFrom config old moment p at step seed count 1 (next_random seed) 0 old.device old.tables) (some-is (slice_get config.plans at) plan own.plan plan_is own.plan_is) loads in
@@ -144,6 +150,11 @@ ends-load config entries now at entry asked notes old f g count step seed mounte
       command_is = is;
       step = step-is config old moment (command.Load asked count step seed) is (table-step config old moment asked (LoadStep config old moment count step seed) place h.is_mounted own.found load);
       stands_after = stands;
+      stays = record {
+        image = session-ends config now notes g mounted moment.after stands;
+        stays = λ calm whole. subst (λ c. CommandStays config old c moment.after f.media.content g.media.content) (sym is)
+            (mounted-stays config old.mounted f.media.content g.media.content old.tables moment.after.tables h.is_mounted (stay whole));
+      };
       none = none;
       rose = λ e. risen-rose f g (subst IsTrue rose e);
       said_is = refl;
@@ -151,13 +162,13 @@ ends-load config entries now at entry asked notes old f g count step seed mounte
 
 -- all records were put
 pub load-finished : (config : Config) (entries : List Entry) (at : ℕ) (entry : Entry) (asked : List ℕ) (notes : Notes) (old : Machine) (u : Table 64 64) (f g : FlashState) (count step seed loaded random : ℕ) → SessionStands config entries f true notes old →
-    slice_get entries at ≡ Some entry → IsNamed entries asked at → loaded ≡ count → LoadedSoFar config entries at entry asked notes old u g (has_risen f g) count step seed loaded random →
-    Answers config old (command.Load asked count step seed) (SessionStands config (entries_with entries at entry u) g true notes) f.media.faults g.media.faults (texts (load_replies count (Ok tt)))
+    slice_get entries at ≡ Some entry → IsNamed entries asked at → loaded ≡ count → LoadedSoFar config entries at entry asked notes old f.media.content u g (has_risen f g) count step seed loaded random →
+    Answers config old (command.Load asked count step seed) (SessionStands config (entries_with entries at entry u) g true notes) f g (texts (load_replies count (Ok tt)))
 load-finished config entries at entry asked notes old u f g count step seed loaded random h here named e so_far =
     let moment : Moment = record { command = command.Load asked count step seed; rose = has_risen f g; reads = 0; last = None; replies = reply.Loaded count ∷ []; after = amid old so_far.device so_far.tables } in
     let ended : LoadsFrom config old moment so_far.plan at step seed 0 (loaded + 1) random loaded so_far.device so_far.tables = record { replies_are = ap (λ n. reply.Loaded n ∷ []) (sym e); after_is = refl; last_is = refl } in
     let loads = so_far.whole moment refl (subst (λ turns. LoadsFrom config old moment so_far.plan at step seed turns (loaded + 1) random loaded so_far.device so_far.tables) (let k : 0 ≡ count - loaded = omega arith in k) ended) in
-    ends-load config entries (entries_with entries at entry u) at entry asked notes old f g count step seed true so_far.plan moment h here named refl refl refl so_far.plan_is loads so_far.stands
+    ends-load config entries (entries_with entries at entry u) at entry asked notes old f g count step seed true so_far.plan moment h here named refl refl refl so_far.plan_is loads so_far.stands (λ whole. tables-stay config f.media.content g.media.content old.tables so_far.tables so_far.keeps)
 
 -- an operation of a put failed
 abbrev stopped_so : Machine → Command → Bool → ℕ → ℕ → List model.Table → PartProgress model.Table → FlashFault → Moment
@@ -177,8 +188,8 @@ stops-load old c rose at loaded tables now fault g others (CutIn before) k h = r
 stops-load old c rose at loaded tables now fault g others (FailedIn before) k h = record { replies_are = ap (λ x. reply.Loaded loaded ∷ fault_reply x ∷ []) h.0; after_is = refl; last_is = ap (last_of at tables) k }
 
 -- One put of a load.
-module _ (config : Config) (entries : List Entry) (at : ℕ) (entry : Entry) (asked : List ℕ) (notes : Notes) (old : Machine) (t u : Table 64 64) (f g : FlashState) (rose : Bool) (count step seed loaded random : ℕ)
-    (here : slice_get entries at ≡ Some entry) (named : IsNamed entries asked at) (so_far : LoadedSoFar config entries at entry asked notes old t f rose count step seed loaded random) (left : loaded < count)
+module _ (config : Config) (entries : List Entry) (at : ℕ) (entry : Entry) (asked : List ℕ) (notes : Notes) (old : Machine) (start : List ℕ) (t u : Table 64 64) (f g : FlashState) (rose : Bool) (count step seed loaded random : ℕ)
+    (here : slice_get entries at ≡ Some entry) (named : IsNamed entries asked at) (so_far : LoadedSoFar config entries at entry asked notes old start t f rose count step seed loaded random) (left : loaded < count)
     (goes : Goes f g) (same : IsSamePlan t u) (outside : IsTrue f.media.tells → OutsideStands t (page_at f) (page_at g)) where
   abbrev pub mid_old : Machine
   mid_old = amid old so_far.device so_far.tables
@@ -196,18 +207,18 @@ module _ (config : Config) (entries : List Entry) (at : ℕ) (entry : Entry) (as
   item = load_record own.plan own.table step seed (loaded + 1) random
 
   abbrev pub EndsNext : Result (Unit {0}) PutRefusal → Type 0
-  EndsNext result = PutEnds first own.plan item own.table rose so_far.device result u g
+  EndsNext result = PutEnds first own.plan item own.table rose so_far.device result u f g
 
   -- it ended as the put of a record
   pub ends-next : (result : Result (Unit {0}) PutRefusal) (key : ℕ) (values : List ℤ) (last : Option ℕ) → (Rose f.media.faults g.media.faults → IsTrue rose) →
       ((f : FlashState) (first : ℕ) (plan : Plan) (table : model.Table) → Stands t f first plan table → last ≡ option_map (λ entry. entry.kept.key) (last_entry table)) →
       key ≡ load_key (unwrap_or last 0) step random → values ≡ load_values (loaded + 1) seed 1 (layout_in t).columns →
-      ((first : ℕ) (plan : Plan) (table : model.Table) (rose : Bool) (device : Device) → IsWatched f g rose device → Stands t f first plan table → PutEnds first plan (made key values) table rose device result u g) →
+      ((first : ℕ) (plan : Plan) (table : model.Table) (rose : Bool) (device : Device) → IsWatched f g rose device → Stands t f first plan table → PutEnds first plan (made key values) table rose device result u f g) →
       EndsNext result
   ends-next result key values last risen told k v ends =
       let h = so_far.stands in
       let watched : IsWatched f g rose so_far.device = record { told = h.medium.told; on = h.power refl; risen = risen; counts = h.device } in
-      subst (λ r. PutEnds first own.plan r own.table rose so_far.device result u g)
+      subst (λ r. PutEnds first own.plan r own.table rose so_far.device result u f g)
       (made-is t f first own.plan own.table step seed (loaded + 1) random key values last own.stands.on_flash (told f first own.plan own.table own.stands.on_flash) k v)
       (ends first own.plan own.table rose so_far.device watched own.stands.on_flash)
 
@@ -222,7 +233,7 @@ module _ (config : Config) (entries : List Entry) (at : ℕ) (entry : Entry) (as
       (so_far.whole moment r (subst (λ q. LoadsFrom config old moment q at step seed (count - loaded) (loaded + 1) random loaded so_far.device so_far.tables) (sym plan_is) rest))
 
   -- it was done
-  pub loaded-more : EndsNext (Ok tt) → LoadedSoFar config entries at entry asked notes old u g rose count step seed (loaded + 1) (next_random random)
+  pub loaded-more : EndsNext (Ok tt) → LoadedSoFar config entries at entry asked notes old start u g rose count step seed (loaded + 1) (next_random random)
   loaded-more ends =
       let fin = ends.1 in
       let after = changed_at at (put_record own.plan item) so_far.tables in
@@ -231,6 +242,8 @@ module _ (config : Config) (entries : List Entry) (at : ℕ) (entry : Entry) (as
         device = fin.now.device;
         tables = after;
         stands = subst (λ es. SessionStands config es g true notes (amid old fin.now.device after)) (entries-again entries at entry t u) done;
+        keeps = tables-on config start f.media.content g.media.content old.tables so_far.tables after so_far.keeps
+            (keeps-done config mid_old mid_entries at (entry_now entry t) asked notes u f g so_far.stands (entry-there entries at entry t here) own goes same outside (put_record own.plan item) fin.stand fin.stands);
         plan = own.plan;
         plan_is = own.plan_is;
         whole = λ moment r l.
@@ -253,35 +266,37 @@ module _ (config : Config) (entries : List Entry) (at : ℕ) (entry : Entry) (as
 
   -- it was refused, or an operation of it failed
   load-broken : (before : FlashState) (fault : FlashFault) → SessionStands config entries before true notes old → rose ≡ has_risen before g → EndsNext (Err (put.Flash fault)) →
-      Answers config old (command.Load asked count step seed) (SessionStands config (entries_with entries at entry u) g false notes) before.media.faults g.media.faults (texts (load_replies loaded (Err (put.Flash fault))))
-  load-broken before fault start risen ends =
+      Answers config old (command.Load asked count step seed) (SessionStands config (entries_with entries at entry u) g false notes) before g (texts (load_replies loaded (Err (put.Flash fault))))
+  load-broken before fault stood risen ends =
       let b = ends.1 in
       let moment = stopped_so old (command.Load asked count step seed) rose at loaded so_far.tables b.now fault in
       let others = LoadsFrom config old moment own.plan at step seed (count - (loaded + 1)) (loaded + 1 + 1) (next_random random) (loaded + 1) b.now.device (changed_at at (put_record own.plan item) so_far.tables) in
       let does = performs-all config mid_old own.plan own.table at rose (put_seals own.plan item own.table) b.now own.plan_is own.table_is b.did in
       let loads = loads-so moment None refl ends.0 (progress_at at so_far.tables b.now, does, stops-load old (command.Load asked count step seed) rose at loaded so_far.tables b.now fault g others b.now.end refl b.answer) in
       let broken = stands-broken config mid_old mid_entries at (entry_now entry t) asked notes u f g so_far.stands (entry-there entries at entry t here) own goes same outside b.now.state b.now.device b.counts b.rests in
-      ends-load config entries (entries_with entries at entry u) at entry asked notes old before g count step seed false own.plan moment start here named refl risen refl own.plan_is loads
-      (subst (λ es. SessionStands config es g false notes moment.after) (entries-again entries at entry t u) broken)
+      ends-load config entries (entries_with entries at entry u) at entry asked notes old before g count step seed false own.plan moment stood here named refl risen refl own.plan_is loads
+      (subst (λ es. SessionStands config es g false notes moment.after) (entries-again entries at entry t u) broken) (λ whole. absurd (not-whole at so_far.tables b.now.end fault g b.answer whole))
 
-  load-refused : (before : FlashState) (refusal : Refusal) → SessionStands config entries before true notes old → rose ≡ has_risen before g → u ≡ t → g ≡ f → refusal_of own.plan own.table item ≡ Some refusal →
-      Answers config old (command.Load asked count step seed) (SessionStands config (entries_with entries at entry u) g true notes) before.media.faults g.media.faults (texts (reply.Loaded loaded ∷ refused refusal ∷ []))
-  load-refused before refusal start risen e k is =
+  load-refused : (before : FlashState) (refusal : Refusal) → start ≡ before.media.content → SessionStands config entries before true notes old → rose ≡ has_risen before g → u ≡ t → g ≡ f → refusal_of own.plan own.table item ≡ Some refusal →
+      Answers config old (command.Load asked count step seed) (SessionStands config (entries_with entries at entry u) g true notes) before g (texts (reply.Loaded loaded ∷ refused refusal ∷ []))
+  load-refused before refusal begun stood risen e k is =
       let moment : Moment = record { command = command.Load asked count step seed; rose = rose; reads = 0; last = None; replies = reply.Loaded loaded ∷ refused refusal ∷ []; after = mid_old } in
       let loads = loads-so moment (Some refusal) refl is (record { replies_are = refl; after_is = refl; last_is = refl }) in
-      ends-load config entries (entries_with entries at entry u) at entry asked notes old before g count step seed true own.plan moment start here named refl risen refl own.plan_is loads (rw (e, k) so_far.stands)
+      ends-load config entries (entries_with entries at entry u) at entry asked notes old before g count step seed true own.plan moment stood here named refl risen refl own.plan_is loads (rw (e, k) so_far.stands)
+      (λ whole. tables-stay config before.media.content g.media.content old.tables so_far.tables (subst (λ (x : FlashState). TablesKeep config before.media.content x.media.content old.tables so_far.tables) (sym k)
+      (subst (λ c. TablesKeep config c f.media.content old.tables so_far.tables) begun so_far.keeps)))
 
-  pub load-stopped : (before : FlashState) (result : Result (Unit {0}) PutRefusal) → SessionStands config entries before true notes old → rose ≡ has_risen before g → is_err result ≡ true → EndsNext result →
+  pub load-stopped : (before : FlashState) (result : Result (Unit {0}) PutRefusal) → start ≡ before.media.content → SessionStands config entries before true notes old → rose ≡ has_risen before g → is_err result ≡ true → EndsNext result →
       IfErr result (λ e. RefusedSame t f e u g) →
-      Answers config old (command.Load asked count step seed) (SessionStands config (entries_with entries at entry u) g (not (put_breaks result)) notes) before.media.faults g.media.faults (texts (load_replies loaded result))
-  load-stopped before (Ok done) start risen e ends r = absurd (ok e)
+      Answers config old (command.Load asked count step seed) (SessionStands config (entries_with entries at entry u) g (not (put_breaks result)) notes) before g (texts (load_replies loaded result))
+  load-stopped before (Ok done) begun stood risen e ends r = absurd (ok e)
     where
       ok : false ≡ true → ⊥
       ok k = cc
-  load-stopped before (Err (put.Flash fault)) start risen e ends r = load-broken before fault start risen ends
-  load-stopped before (Err (put.Key last)) start risen e ends r = load-refused before (BadKey last) start risen r.0 r.1 ends
-  load-stopped before (Err (put.Columns wanted)) start risen e ends r = load-refused before (BadColumns wanted) start risen r.0 r.1 ends
-  load-stopped before (Err (put.Value column)) start risen e ends r = load-refused before (BadValue column) start risen r.0 r.1 ends
-  load-stopped before (Err (put.Blob limit)) start risen e ends r = load-refused before (BadBlob limit) start risen r.0 r.1 ends
-  load-stopped before (Err put.Spent) start risen e ends r = load-refused before Spent start risen r.0 r.1 ends
-  load-stopped before (Err put.Stopped) start risen e ends r = absurd ends
+  load-stopped before (Err (put.Flash fault)) begun stood risen e ends r = load-broken before fault stood risen ends
+  load-stopped before (Err (put.Key last)) begun stood risen e ends r = load-refused before (BadKey last) begun stood risen r.0 r.1 ends
+  load-stopped before (Err (put.Columns wanted)) begun stood risen e ends r = load-refused before (BadColumns wanted) begun stood risen r.0 r.1 ends
+  load-stopped before (Err (put.Value column)) begun stood risen e ends r = load-refused before (BadValue column) begun stood risen r.0 r.1 ends
+  load-stopped before (Err (put.Blob limit)) begun stood risen e ends r = load-refused before (BadBlob limit) begun stood risen r.0 r.1 ends
+  load-stopped before (Err put.Spent) begun stood risen e ends r = load-refused before Spent begun stood risen r.0 r.1 ends
+  load-stopped before (Err put.Stopped) begun stood risen e ends r = absurd ends

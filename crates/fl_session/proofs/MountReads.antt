@@ -100,11 +100,11 @@ module _ (config : Config) (old : Machine) (entries : List Entry) (notes : Notes
       by_mounted true same = omega (arith, is, same)
       by_mounted false few = omega (arith, is, few, few-pages)
 
-  pub executes-mounted : (E : Type 0) (stands : Machine → Type 0) (said : List ℕ) (told told_now : Option (List ℕ)) (result : Result (Unit {0}) E) → Answers config old command.Mount stands f.media.faults g.media.faults said →
+  pub executes-mounted : (E : Type 0) (stands : Machine → Type 0) (said : List ℕ) (told told_now : Option (List ℕ)) (result : Result (Unit {0}) E) → Answers config old command.Mount stands f g said →
       ReadsMount mounted f g (4 * pages_of entries) → Written {E = E} told told_now result said → Executes config old command.Mount stands f g told told_now result
   executes-mounted E stands said told told_now result a few w =
       let n = g.work.reads - f.work.reads in
       let before : StepOf config old a.moment command.Mount = subst (λ x. StepOf config old a.moment x) a.command_is a.step in
       let step : Step config old (again a.moment n) = step-is config old (again a.moment n) command.Mount a.command_is (mount-again config old a.moment n before) in
-      executes-by E config old command.Mount stands f g told told_now result (again a.moment n) a.command_is step a.stands_after refl (mount-limit (again a.moment n) few refl) a.rose
+      executes-by E config old command.Mount stands f g told told_now result (again a.moment n) a.command_is step a.stands_after (record { image = a.stays.image; stays = a.stays.stays }) refl (mount-limit (again a.moment n) few refl) a.rose
       (subst (λ t. Written {E = E} told told_now result t) (sym a.said_is) w)

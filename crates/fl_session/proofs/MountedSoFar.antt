@@ -35,8 +35,7 @@ use Rattle.fl_table.proofs.Repaired.{IsIdle, idle-lost, lost-idle}
 use Rattle.fl_table.proofs.SealAnswers.{planned-same}
 use Rattle.fl_session.specs.Tables.{first_of, entries_with, EntryStands, TablesStand, FaultIs, TablesMounted, TablesBroken, MountBreaks}
 use Rattle.fl_session.specs.declared.tables.Entry.{Entry}
-use Rattle.fl_session.proofs.StepsOf.{entry-off}
-use Rattle.fl_session.proofs.TablesChanged.{some-is, AtPlace, at-place, tables-changed, option_map-same, length-changed}
+use Rattle.fl_session.proofs.TablesChanged.{entry-off, some-is, AtPlace, at-place, tables-changed, option_map-same, length-changed}
 
 -- ---- a mount leaves nothing of a table in memory
 

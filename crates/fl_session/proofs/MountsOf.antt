@@ -1,17 +1,17 @@
 -- The mount of a session.
-use Rattle.std.proofs.Common.{◌≡◌, ℕ, ◌⊎◌, Bool, true, false, Option, Some, None, Result, Ok, Err, inl, inr, List, [], ◌∷◌, map, refl, sym, ◌∙◌, ap, subst}
-use Rattle.fl_flash.specs.Flash.{FlashState, Goes}
+use Rattle.std.proofs.Common.{◌≡◌, ℕ, ◌⊎◌, Bool, true, false, IsTrue, Option, Some, None, Result, Ok, Err, inl, inr, List, [], ◌∷◌, map, refl, sym, ◌∙◌, ap, subst}
+use Rattle.fl_flash.specs.Flash.{FlashState, Goes, page_at}
 use Rattle.fl_flash.specs.declared.flash.FlashFault.{FlashFault}
 use Rattle.fl_flash.specs.declared.flash.FlashFault.TheVariants.{Media}
 use Rattle.fl_ring.specs.Device.{SameDevice}
 use Rattle.fl_ring.specs.Step.{IsWatched}
-use Rattle.std.proofs.lemmas.Bool.{le-leb}
-use Rattle.std.specs.Prelude.{◌+◌, ◌-◌, ◌^◌, min, MatchBool, is_ok}
-use Rattle.fl_model.specs.Record.{Config, Plan}
+use Rattle.std.proofs.lemmas.Bool.{le-leb, false≢true}
+use Rattle.std.specs.Prelude.{◌+◌, ◌-◌, ◌*◌, ◌^◌, ◌<◌, min, sum_by, MatchBool, is_ok, OnOk}
+use Rattle.fl_model.specs.Record.{Config, Plan, blocks_of}
 use Rattle.fl_model.specs.Table as model
-use Rattle.fl_model.specs.Table.{lose}
+use Rattle.fl_model.specs.Table.{RingName, lose}
 use Rattle.fl_model.specs.Work.{Device, Progress, Outcome, Finished, CutShort, Failed}
-use Rattle.fl_model.specs.Mount.{Mounts, MountEnd, Mounted, Stopped, Unread, rings_from}
+use Rattle.fl_model.specs.Mount.{Mounts, GoesOn, MountEnd, Mounted, Stopped, Unread, rings_from}
 use Rattle.fl_words.specs.Command as command
 use Rattle.fl_words.specs.Reply as reply
 use Rattle.fl_words.specs.Reply.{Reply, text}
@@ -21,6 +21,7 @@ use Rattle.fl_table.specs.declared.faults.MountFault.{MountFault}
 use Rattle.fl_table.specs.declared.faults.MountFault.TheVariants as mount
 use Rattle.fl_session.specs.Answer.{Answers, fault_reply, bad_reply, mount_reply}
 use Rattle.fl_session.specs.Notes.{without_cursors}
+use Rattle.fl_session.specs.Repaired.{IsRepaired}
 use Rattle.fl_session.specs.declared.notes.Notes.{Notes}
 use Rattle.fl_session.specs.Standing.{SessionStands}
 use Rattle.fl_session.specs.Tables.{first_of, EntryStands, TablesStand, FaultIs, TablesMounted, TablesBroken, MountBreaks, TablesMount}
@@ -28,8 +29,9 @@ use Rattle.fl_session.specs.declared.tables.BadMount.{BadMount}
 use Rattle.fl_session.specs.declared.tables.Entry.{Entry}
 use Rattle.fl_session.proofs.Answering.{answers-saying, saying, says, step-is}
 use Rattle.fl_session.proofs.Executing.{one-text}
-use Rattle.fl_session.proofs.StepsOf.{entry-off}
-use Rattle.fl_session.proofs.TablesChanged.{tables-still, tables-become}
+use Rattle.fl_session.proofs.Rested.{session-ends}
+use Rattle.fl_session.proofs.Repairing.{mount-stays, pages-repaired}
+use Rattle.fl_session.proofs.TablesChanged.{entry-off, tables-still, tables-become}
 use Rattle.fl_session.proofs.Working.{medium-goes, has_risen, risen-rose}
 
 -- the power is on
@@ -58,12 +60,39 @@ by-mounted config old moment mounted e step =
     subst (λ b. MatchBool b (Says moment (reply.AlreadyMounted ∷ []) old) ((how : MountEnd) × Mounts config.plans moment.rose (rings_from 0 config.plans) old.device old.tables how × EndsMount config old moment how)) (sym e) step
 
 -- nothing is done where it is mounted
-pub answers-already : (config : Config) (old : Machine) (entries : List Entry) (notes : Notes) (f : FlashState) (faults : ℕ) → SessionStands config entries f true notes old →
-    Answers config old command.Mount (SessionStands config entries f true notes) faults faults (text reply.AlreadyMounted)
-answers-already config old entries notes f faults h =
+pub answers-already : (config : Config) (old : Machine) (entries : List Entry) (notes : Notes) (f : FlashState) → SessionStands config entries f true notes old →
+    Answers config old command.Mount (SessionStands config entries f true notes) f f (text reply.AlreadyMounted)
+answers-already config old entries notes f h =
     let moment = saying command.Mount (reply.AlreadyMounted ∷ []) old in
     let step = by-mounted config old moment true h.is_mounted (says command.Mount (reply.AlreadyMounted ∷ []) old) in
-    answers-saying config old command.Mount reply.AlreadyMounted old (SessionStands config entries f true notes) faults faults step h
+    answers-saying config old command.Mount reply.AlreadyMounted old entries notes f f true refl step h
+
+-- what a mount leaves of each page, where it ends well
+abbrev pub Repairs : FlashState → FlashState → List Entry → Type 0
+Repairs f g entries =
+    IsTrue f.media.tells → (plans : List Plan) → (tables : List model.Table) → TablesStand f (λ i. false) plans entries tables → (page : ℕ) → page < sum_by blocks_of plans * f.geometry.block →
+    IsRepaired f.geometry.page (page_at f page) (page_at g page)
+
+-- a read of a mount failed, and so did the medium
+unread-later : (rose : Bool) (end : Progress) (o : Outcome) (now : Progress) (others : Type 0) → GoesOn o now (Unread end) others → (others → IsTrue rose) → IsTrue rose
+unread-later rose end Finished now others more later = later more
+unread-later rose end (CutShort before) now others e later = absurd (none e)
+  where
+    none : Unread end ≡ Stopped now → ⊥
+    none k = cc
+unread-later rose end (Failed before) now others e later = absurd (none e)
+  where
+    none : Unread end ≡ Stopped now → ⊥
+    none k = cc
+
+unread-rose : (plans : List Plan) (rose : Bool) (rings : List (ℕ × RingName)) (device : Device) (tables : List model.Table) (end : Progress) → Mounts plans rose rings device tables (Unread end) → IsTrue rose
+unread-rose plans rose [] device tables end h = absurd (none h)
+  where
+    none : Unread end ≡ Mounted (record { outcome = Finished; device = device; tables = tables }) → ⊥
+    none e = cc
+unread-rose plans rose (at ∷ rings) device tables end (inl u) = u.1.may_fail
+unread-rose plans rose (at ∷ rings) device tables end (inr (now, did, goes)) =
+    unread-later rose end now.outcome now (Mounts plans rose rings now.device now.tables (Unread end)) goes (λ more. unread-rose plans rose rings now.device now.tables end more)
 
 -- A session that isn't mounted, before a mount of its tables and after it.
 module _ (config : Config) (old : Machine) (notes : Notes) (entries now : List Entry) (f g : FlashState) (h : SessionStands config entries f false notes old) (goes : Goes f g) where
@@ -72,24 +101,29 @@ module _ (config : Config) (old : Machine) (notes : Notes) (entries now : List E
       step-is config old moment command.Mount is
       (by-mounted config old moment false h.is_mounted (how, subst (λ rose. Mounts config.plans rose (rings_from 0 config.plans) old.device old.tables how) (sym risen) m, e))
 
-  answers-well : TablesMounted config.plans old.tables (has_risen f g) old.device now g → Answers config old command.Mount (SessionStands config now g true (without_cursors notes)) f.media.faults g.media.faults (text reply.Done)
-  answers-well w =
+  answers-well : TablesMounted config.plans old.tables (has_risen f g) old.device now g → Repairs f g entries → Answers config old command.Mount (SessionStands config now g true (without_cursors notes)) f g (text reply.Done)
+  answers-well w repaired =
       let after : Machine = record old { device = w.end.device; tables = all_ready config.plans w.end.tables; mounted = true; cursors = no_cursors } in
       let moment : Moment = record { command = command.Mount; rose = has_risen f g; reads = 0; last = None; replies = reply.Done ∷ []; after = after } in
+      let stands : SessionStands config now g true (without_cursors notes) after = record {
+        knots = h.knots;
+        medium = medium-goes config f g goes h.medium;
+        tables = w.stand;
+        is_mounted = refl;
+        cursors = refl;
+        device = w.counts;
+        cost_is = h.cost_is;
+        power = λ k. w.power;
+      } in
       record {
         moment = moment;
         command_is = refl;
         none = refl;
         step = mount-step moment refl refl (Mounted w.end) w.did (record { replies_are = refl; after_is = refl; last_is = refl });
-        stands_after = record {
-          knots = h.knots;
-          medium = medium-goes config f g goes h.medium;
-          tables = w.stand;
-          is_mounted = refl;
-          cursors = refl;
-          device = w.counts;
-          cost_is = h.cost_is;
-          power = λ k. w.power;
+        stands_after = stands;
+        stays = record {
+          image = session-ends config now (without_cursors notes) g true after stands;
+          stays = λ calm whole. mount-stays config old.mounted f.media.content g.media.content h.is_mounted (pages-repaired config entries old.tables f g (λ i. false) h.medium stands.medium h.tables (λ page within. repaired h.medium.told config.plans old.tables h.tables page within));
         };
         rose = risen-rose f g;
         said_is = one-text reply.Done;
@@ -129,48 +163,60 @@ module _ (config : Config) (old : Machine) (notes : Notes) (entries now : List E
   ends-stopped end fault (CutShort before) k x = record { replies_are = ap (λ y. fault_reply y ∷ []) x; after_is = refl; last_is = ap last_in k }
   ends-stopped end fault (Failed before) k x = record { replies_are = ap (λ y. fault_reply y ∷ []) x; after_is = refl; last_is = ap last_in k }
 
+  not-whole : (fault : FlashFault) (o : Outcome) → FaultIs o fault → last_in o ≡ None → ⊥
+  not-whole fault Finished x e = x
+  not-whole fault (CutShort before) x e = let no : ◌≡◌ {A = Option (List model.Table)} (Some before) None = e in cc
+  not-whole fault (Failed before) x e = let no : ◌≡◌ {A = Option (List model.Table)} (Some before) None = e in cc
+
   answers-stopped : (fault : FlashFault) (end : Progress) → Mounts config.plans (has_risen f g) (rings_from 0 config.plans) old.device old.tables (Stopped end) → FaultIs end.outcome fault → SameDevice g end.device → TablesStand g (λ i. false) config.plans now end.tables →
-      Answers config old command.Mount (SessionStands config now g false (without_cursors notes)) f.media.faults g.media.faults (text (fault_reply fault))
+      Answers config old command.Mount (SessionStands config now g false (without_cursors notes)) f g (text (fault_reply fault))
   answers-stopped fault end did answer counts rest =
       let moment = stopped_so end fault in
+      let stands = stands-bad (map lose end.tables) end.device counts
+      (tables-become g g (λ i. false) (λ i. false) config.plans now end.tables lose rest (λ i plan e x k. entry-off e g false (first_of config.plans i) plan x k)) moment.after refl refl refl refl refl in
       record {
         moment = moment;
         command_is = refl;
         none = refl;
         step = mount-step moment refl refl (Stopped end) did (ends-stopped end fault end.outcome refl answer);
-        stands_after = stands-bad (map lose end.tables) end.device counts
-            (tables-become g g (λ i. false) (λ i. false) config.plans now end.tables lose rest (λ i plan e x k. entry-off e g false (first_of config.plans i) plan x k)) moment.after refl refl refl refl refl;
+        stands_after = stands;
+        stays = record { image = session-ends config now (without_cursors notes) g false moment.after stands; stays = λ calm whole. absurd (not-whole fault end.outcome answer whole) };
         rose = risen-rose f g;
         said_is = one-text (fault_reply fault);
       }
 
   -- a read failed
   answers-unread : (fault : FlashFault) (end : Progress) → Mounts config.plans (has_risen f g) (rings_from 0 config.plans) old.device old.tables (Unread end) → fault ≡ Media → SameDevice g end.device → TablesStand g (λ i. false) config.plans now end.tables →
-      Answers config old command.Mount (SessionStands config now g false (without_cursors notes)) f.media.faults g.media.faults (text (fault_reply fault))
+      Answers config old command.Mount (SessionStands config now g false (without_cursors notes)) f g (text (fault_reply fault))
   answers-unread fault end did is counts rest =
       let after : Machine = record old { device = end.device; tables = end.tables } in
       let moment : Moment = record { command = command.Mount; rose = has_risen f g; reads = 0; last = None; replies = reply.DeviceFault ∷ []; after = after } in
+      let stands = stands-bad end.tables end.device counts rest after refl h.is_mounted h.cursors refl refl in
       record {
         moment = moment;
         command_is = refl;
         none = refl;
         step = mount-step moment refl refl (Unread end) did (record { replies_are = refl; after_is = refl; last_is = refl });
-        stands_after = stands-bad end.tables end.device counts rest after refl h.is_mounted h.cursors refl refl;
+        stands_after = stands;
+        stays = record { image = session-ends config now (without_cursors notes) g false after stands; stays = λ calm whole. absurd (both calm (unread-rose config.plans (has_risen f g) (rings_from 0 config.plans) old.device old.tables end did)) };
         rose = risen-rose f g;
         said_is = one-text reply.DeviceFault ∙ ap (λ x. text (fault_reply x)) (sym is);
       }
+    where
+      both : has_risen f g ≡ false → IsTrue (has_risen f g) → ⊥
+      both calm rose = false≢true (sym calm ∙ rose)
 
-  answers-bad : (fault : FlashFault) → TablesBroken config.plans old.tables (has_risen f g) old.device fault now g → Answers config old command.Mount (SessionStands config now g false (without_cursors notes)) f.media.faults g.media.faults (text (fault_reply fault))
+  answers-bad : (fault : FlashFault) → TablesBroken config.plans old.tables (has_risen f g) old.device fault now g → Answers config old command.Mount (SessionStands config now g false (without_cursors notes)) f g (text (fault_reply fault))
   answers-bad fault b = by_how b.did
     where
       by_how : (Mounts config.plans (has_risen f g) (rings_from 0 config.plans) old.device old.tables (Stopped b.end) × FaultIs b.end.outcome fault)
           ⊎ (Mounts config.plans (has_risen f g) (rings_from 0 config.plans) old.device old.tables (Unread b.end) × (fault ≡ Media)) →
-          Answers config old command.Mount (SessionStands config now g false (without_cursors notes)) f.media.faults g.media.faults (text (fault_reply fault))
+          Answers config old command.Mount (SessionStands config now g false (without_cursors notes)) f g (text (fault_reply fault))
       by_how (inl x) = answers-stopped fault b.end x.0 x.1 b.counts b.rest
       by_how (inr x) = answers-unread fault b.end x.0 x.1 b.counts b.rest
 
   by-fault : (bad : BadMount) (fault : MountFault) → bad.fault ≡ fault → MountBreaks config.plans old.tables (has_risen f g) old.device fault now g →
-      Answers config old command.Mount (SessionStands config now g false (without_cursors notes)) f.media.faults g.media.faults (text (bad_reply bad.name fault))
+      Answers config old command.Mount (SessionStands config now g false (without_cursors notes)) f g (text (bad_reply bad.name fault))
   by-fault bad (mount.Flash fault) e ends = answers-bad fault ends
   by-fault bad (mount.Ring fault) e ends = absurd ends
   by-fault bad (mount.BadPage page) e ends = absurd ends
@@ -178,7 +224,7 @@ module _ (config : Config) (old : Machine) (notes : Notes) (entries now : List E
   by-fault bad (mount.BadIndex end next) e ends = absurd ends
   by-fault bad (mount.BadBlob page next) e ends = absurd ends
 
-  pub mount-answers : (result : Result (Unit {0}) BadMount) (mounted : Bool) → mounted ≡ is_ok result → TablesMount config.plans old.tables (has_risen f g) old.device result now g →
-      Answers config old command.Mount (SessionStands config now g mounted (without_cursors notes)) f.media.faults g.media.faults (text (mount_reply result))
-  mount-answers (Ok done) mounted m ends = rw m (answers-well ends)
-  mount-answers (Err bad) mounted m ends = rw m (by-fault bad bad.fault refl ends)
+  pub mount-answers : (result : Result (Unit {0}) BadMount) (mounted : Bool) → mounted ≡ is_ok result → TablesMount config.plans old.tables (has_risen f g) old.device result now g → OnOk result (Repairs f g entries) →
+      Answers config old command.Mount (SessionStands config now g mounted (without_cursors notes)) f g (text (mount_reply result))
+  mount-answers (Ok done) mounted m ends repaired = rw m (answers-well ends repaired)
+  mount-answers (Err bad) mounted m ends repaired = rw m (by-fault bad bad.fault refl ends)

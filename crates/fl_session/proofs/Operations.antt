@@ -34,9 +34,8 @@ use Rattle.fl_session.specs.Standing.{SessionStands}
 use Rattle.fl_session.specs.Tables.{first_of}
 use Rattle.fl_session.specs.declared.tables.Entry.{Entry}
 use Rattle.fl_session.specs.declared.notes.Notes.{Notes}
-use Rattle.fl_session.proofs.Answering.{executes-answered, answers-saying, saying, says, step-is, table-step}
+use Rattle.fl_session.proofs.Answering.{executes-answered, executes-read, answers-saying, saying, says, step-is, table-step}
 use Rattle.fl_session.proofs.Costing.{read-none}
-use Rattle.fl_session.proofs.Executing.{executes-by}
 use Rattle.fl_session.proofs.Getting.{session-read, on-table, off-table}
 use Rattle.fl_session.proofs.Owning.{own-of}
 use Rattle.fl_session.proofs.Refusing.{answers-refused}
@@ -92,7 +91,7 @@ module _ (E : Type 0) (config : Config) (old : Machine) (entries : List Entry) (
       let stated = on-table config old moment asked (OnColumns moment columns (ReadsScan config moment range None g result)) place h'.is_mounted own.found
       (subst (λ (none : Option ℕ). MatchOption none (ReadsScan config moment range None g result place) (λ column. none_read moment)) (sym (within first own.plan own.stands.planned)) read) in
       subst (λ m. Executes config old (command asked) (SessionStands config entries g m notes) f g told told_now result) (sym r.mounted_is)
-      (executes-by E config old (command asked) (SessionStands config entries g true notes) f g told told_now result moment refl step (session-still config entries notes f g old only h') (counts moment counted) (states g moment stated) s.risen s.wrote)
+      (executes-read E config old (command asked) entries notes f g true told told_now result moment only refl step (session-still config entries notes f g old only h') (counts moment counted) (states g moment stated) s.risen s.wrote)
 
   -- it asks for a column that isn't there
   pub operator-no_column : (at : ℕ) (entry : Entry) → ((moment : Moment) → HasRead f moment.reads f → CountsReads f moment f (command asked)) →
@@ -108,7 +107,7 @@ module _ (E : Type 0) (config : Config) (old : Machine) (entries : List Entry) (
       let step = steps asked moment refl (table-step config old moment asked (WithColumns old moment columns (λ place. Counts old moment (lines place) old)) place h'.is_mounted own.found here) in
       subst (λ m. Executes config old (command asked) (SessionStands config entries f m notes) f f told told_now result) (sym r.mounted_is)
       (executes-answered E config old (command asked) (SessionStands config entries f true notes) f f (text (reply.NoColumn column)) told told_now result
-      (answers-saying config old (command asked) (reply.NoColumn column) old (SessionStands config entries f true notes) f.media.faults f.media.faults step h') (λ moment none. counts moment (read-none f moment.reads none))
+      (answers-saying config old (command asked) (reply.NoColumn column) old entries notes f f true refl step h') (λ moment none. counts moment (read-none f moment.reads none))
       (λ moment none. states f moment (on-table config old moment asked (OnColumns moment columns (ReadsScan config moment range None f result)) place h'.is_mounted own.found
       (subst (λ (some : Option ℕ). MatchOption some (ReadsScan config moment range None f result place) (λ column. none_read moment)) (sym (lacks (first_of config.plans at) own.plan own.stands.planned)) none))) wrote)
 
@@ -118,7 +117,7 @@ module _ (E : Type 0) (config : Config) (old : Machine) (entries : List Entry) (
       Executes config old (command asked) (SessionStands config entries f mounted notes) f f told told_now result
   operator-refused counts h said r wrote =
       executes-answered E config old (command asked) (SessionStands config entries f mounted notes) f f (reply_text said) told told_now result
-      (answers-refused config old entries notes f mounted (command asked) asked (λ moment. WithColumns old moment columns (λ place. Counts old moment (lines place) old)) said f.media.faults h r (λ moment is w. steps asked moment is w)) (λ moment none. counts moment (read-none f moment.reads none))
+      (answers-refused config old entries notes f mounted (command asked) asked (λ moment. WithColumns old moment columns (λ place. Counts old moment (lines place) old)) said h r (λ moment is w. steps asked moment is w)) (λ moment none. counts moment (read-none f moment.reads none))
       (λ moment none. states f moment (off-table config old entries notes f mounted moment asked (OnColumns moment columns (ReadsScan config moment range None f result)) said h r none)) wrote
 
 -- the same value by another name
@@ -171,14 +170,14 @@ module _ (E : Type 0) (config : Config) (old : Machine) (entries : List Entry) (
             (on-table config old moment right (λ b. FaultHasRead moment) beside h'.is_mounted other.found (λ unread. let more = s.failed unread below in omega (arith, more, counted.flash))),
       ) in
       subst (λ m. Executes config old (words.Join left right range) (SessionStands config entries g m notes) f g told told_now result) (sym at_left.mounted_is)
-      (executes-by E config old (words.Join left right range) (SessionStands config entries g true notes) f g told told_now result moment refl step (session-still config entries notes f g old only h') counted stated s.risen s.wrote)
+      (executes-read E config old (words.Join left right range) entries notes f g true told told_now result moment only refl step (session-still config entries notes f g old only h') counted stated s.risen s.wrote)
 
   -- the left one isn't there, or nothing is mounted
   pub join-refused : SessionStands config entries f mounted notes old → (said : code.Reply) → Refusal entries mounted left said → Written told told_now result (reply_text said) →
       Executes config old (words.Join left right range) (SessionStands config entries f mounted notes) f f told told_now result
   join-refused h said r wrote =
       executes-answered E config old (words.Join left right range) (SessionStands config entries f mounted notes) f f (reply_text said) told told_now result
-      (answers-refused config old entries notes f mounted (words.Join left right range) left (λ moment a. WithTable config old moment right (CountsPairs moment a)) said f.media.faults h r join-step) (λ moment none. read-none f moment.reads none)
+      (answers-refused config old entries notes f mounted (words.Join left right range) left (λ moment a. WithTable config old moment right (CountsPairs moment a)) said h r join-step) (λ moment none. read-none f moment.reads none)
       (λ moment none. (
         off-table config old entries notes f mounted moment left (λ a. OnTable config old moment right (IsWithinBoth moment a)) said h r none,
         λ below. off-table config old entries notes f mounted moment left (λ a. OnTable config old moment right (λ b. FaultHasRead moment)) said h r none,
@@ -192,7 +191,7 @@ module _ (E : Type 0) (config : Config) (old : Machine) (entries : List Entry) (
       let own = own-of config old entries f notes left l at_left.named.entry h' at_left.named.here at_left.named in
       let place : Located = record { place = l; plan = own.plan; table = own.table } in
       executes-answered E config old (words.Join left right range) (SessionStands config entries f mounted notes) f f (reply_text said) told told_now result
-      (answers-refused config old entries notes f mounted (words.Join left right range) right (λ moment. CountsPairs moment place) said f.media.faults h r
+      (answers-refused config old entries notes f mounted (words.Join left right range) right (λ moment. CountsPairs moment place) said h r
       (λ moment is w. join-step moment is (table-step config old moment left (λ a. WithTable config old moment right (CountsPairs moment a)) place h'.is_mounted own.found w))) (λ moment none. read-none f moment.reads none)
       (λ moment none. (
         on-table config old moment left (λ a. OnTable config old moment right (IsWithinBoth moment a)) place h'.is_mounted own.found

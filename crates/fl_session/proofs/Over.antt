@@ -45,7 +45,7 @@ use Rattle.fl_session.proofs.Ready.{ready-room, stands-ready}
 use Rattle.fl_session.proofs.Ending.{runs-seen, ends-of_run, begins-ready, begins-takes}
 use Rattle.fl_session.proofs.Apart.{blocks-apart}
 use Rattle.fl_session.proofs.TablesChanged.{some-is}
-use Rattle.fl_session.proofs.Rested.{session-begins, session-ends, opened-rests, opened-formed}
+use Rattle.fl_session.proofs.Rested.{session-begins, session-ends, opened-rests, opened-content, opened-formed}
 
 -- the parts of a whole configuration
 pub record AreParts (knots : ℕ) (lines : Lines) (config : Config) : Type 0 where
@@ -173,6 +173,8 @@ ends-opened knots text lines first number state left left_now told told_now conf
     ends-of_run knots text lines first number state left config (told_of old new left_now told told_now) (around_of config mid new told told_now) (RestsOn config mid.content) (StandsAfter config (Some new.content)) status begins w
     (record {
       config_is = refl;
+      content = opened-content config old mid tells opened;
+      content_now = refl;
       faults_now = refl;
       faults = later;
       written = refl;

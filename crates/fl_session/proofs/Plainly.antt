@@ -53,24 +53,26 @@ plain-run config old commands moments e run risen uncut =
 stands-plain : (config : Config) (content : List ℕ) (a b : Machine) → state_without_reads a ≡ state_without_reads b → StandsAfter config (Some content) a → StandsAfter config (Some content) b
 stands-plain config content a b e h = subst (λ ts. IsImage config content (map lose ts)) (ap (λ (m : Machine). m.tables) e) h
 
-pub ran-plainly : (config : Config) (old : Machine) (commands : List Command) (content : List ℕ) (faults faults_now : ℕ) (told told_now : Option (List ℕ)) →
-    (Rose faults faults_now → ⊥) → IsUncut config old commands → Ran config old commands (StandsAfter config (Some content)) faults faults_now told told_now → RanPlainly config old commands content told told_now
-ran-plainly config old commands content faults faults_now told told_now calm uncut h =
+pub ran-plainly : (config : Config) (old : Machine) (commands : List Command) (content content_now : List ℕ) (faults faults_now : ℕ) (told told_now : Option (List ℕ)) →
+    (Rose faults faults_now → ⊥) → IsUncut config old commands → Ran config old commands (StandsAfter config (Some content_now)) content content_now faults faults_now told told_now → RanPlainly config old commands content content_now told told_now
+ran-plainly config old commands content content_now faults faults_now told told_now calm uncut h =
     let plain = plain-run config old commands h.moments h.commands_are h.run (none-risen (risen_in h.moments) faults faults_now calm h.rose) uncut in record {
       moments = h.moments;
       plain = plain;
       reads = h.reads;
-      stands_after = stands-plain config content (end_of old h.moments) (end_of old (plain_run config old commands)) plain.same.ends h.stands_after;
+      stands_after = stands-plain config content_now (end_of old h.moments) (end_of old (plain_run config old commands)) plain.same.ends h.stands_after;
+      stays = h.stays;
       told_all = h.told_all;
     }
 
-pub ran_into-plainly : (config : Config) (old : Machine) (commands : List Command) (content : List ℕ) (faults faults_now : ℕ) (told told_now : Option (List ℕ)) →
-    (Rose faults faults_now → ⊥) → IsUncut config old commands → RanInto config old commands (StandsAfter config (Some content)) faults faults_now told told_now → RanPlainlyInto config old commands content told told_now
-ran_into-plainly config old commands content faults faults_now told told_now calm uncut h =
+pub ran_into-plainly : (config : Config) (old : Machine) (commands : List Command) (content content_now : List ℕ) (faults faults_now : ℕ) (told told_now : Option (List ℕ)) →
+    (Rose faults faults_now → ⊥) → IsUncut config old commands → RanInto config old commands (StandsAfter config (Some content_now)) content content_now faults faults_now told told_now → RanPlainlyInto config old commands content content_now told told_now
+ran_into-plainly config old commands content content_now faults faults_now told told_now calm uncut h =
     let plain = plain-run config old commands h.moments h.commands_are h.run (none-risen (risen_in h.moments) faults faults_now calm h.rose) uncut in record {
       moments = h.moments;
       plain = plain;
-      stands_after = stands-plain config content (end_of old h.moments) (end_of old (plain_run config old commands)) plain.same.ends h.stands_after;
+      stands_after = stands-plain config content_now (end_of old h.moments) (end_of old (plain_run config old commands)) plain.same.ends h.stands_after;
+      stays = h.stays;
       before = h.before;
       last = h.last;
       split = h.split;

@@ -18,24 +18,24 @@ use Rattle.fl_session.specs.Standing.{SessionStands}
 use Rattle.fl_session.proofs.Answering.{answers-saying, saying, step-is, not_mounted-step, no_table-step}
 use Rattle.fl_session.proofs.Owning.{own-none}
 
-pub answers-refused : (config : Config) (old : Machine) (entries : List Entry) (notes : Notes) (f : FlashState) (mounted : Bool) (c : Command) (asked : List ℕ) (P : Moment → Located → Type 0) (said : code.Reply) (faults : ℕ) →
+pub answers-refused : (config : Config) (old : Machine) (entries : List Entry) (notes : Notes) (f : FlashState) (mounted : Bool) (c : Command) (asked : List ℕ) (P : Moment → Located → Type 0) (said : code.Reply) →
     SessionStands config entries f mounted notes old → Refusal entries mounted asked said → ((moment : Moment) → moment.command ≡ c → WithTable config old moment asked (P moment) → Step config old moment) →
-    Answers config old c (SessionStands config entries f mounted notes) faults faults (reply_text said)
-answers-refused config old entries notes f mounted c asked P code.TheVariants.NotMounted faults h r step =
+    Answers config old c (SessionStands config entries f mounted notes) f f (reply_text said)
+answers-refused config old entries notes f mounted c asked P code.TheVariants.NotMounted h r step =
     let moment = saying c (reply.NotMounted ∷ []) old in
-    answers-saying config old c reply.NotMounted old (SessionStands config entries f mounted notes) faults faults (step moment refl (not_mounted-step config old c asked (P moment) (h.is_mounted ∙ r))) h
-answers-refused config old entries notes f mounted c asked P code.TheVariants.NoTable faults h r step =
+    answers-saying config old c reply.NotMounted old entries notes f f mounted refl (step moment refl (not_mounted-step config old c asked (P moment) (h.is_mounted ∙ r))) h
+answers-refused config old entries notes f mounted c asked P code.TheVariants.NoTable h r step =
     let moment = saying c (reply.NoTable ∷ []) old in
     let none = own-none config old entries f mounted notes asked h r.1 in
-    answers-saying config old c reply.NoTable old (SessionStands config entries f mounted notes) faults faults (step moment refl (no_table-step config old c asked (P moment) (h.is_mounted ∙ r.0) none)) h
-answers-refused config old entries notes f mounted c asked P said faults h r step = absurd r
+    answers-saying config old c reply.NoTable old entries notes f f mounted refl (step moment refl (no_table-step config old c asked (P moment) (h.is_mounted ∙ r.0) none)) h
+answers-refused config old entries notes f mounted c asked P said h r step = absurd r
 
-pub put-refused_so : (config : Config) (old : Machine) (entries : List Entry) (notes : Notes) (f : FlashState) (mounted : Bool) (asked : List ℕ) (key : ℕ) (values : List ℤ) (blob : Option (List ℕ)) (said : code.Reply) (faults : ℕ) →
-    SessionStands config entries f mounted notes old → Refusal entries mounted asked said → Answers config old (command.Put asked key values blob) (SessionStands config entries f mounted notes) faults faults (reply_text said)
-put-refused_so config old entries notes f mounted asked key values blob said faults h r =
-    answers-refused config old entries notes f mounted (command.Put asked key values blob) asked (λ moment. PutStep config old moment (record { key = key; values = values; blob = blob })) said faults h r (λ moment is w. step-is config old moment (command.Put asked key values blob) is w)
+pub put-refused_so : (config : Config) (old : Machine) (entries : List Entry) (notes : Notes) (f : FlashState) (mounted : Bool) (asked : List ℕ) (key : ℕ) (values : List ℤ) (blob : Option (List ℕ)) (said : code.Reply) →
+    SessionStands config entries f mounted notes old → Refusal entries mounted asked said → Answers config old (command.Put asked key values blob) (SessionStands config entries f mounted notes) f f (reply_text said)
+put-refused_so config old entries notes f mounted asked key values blob said h r =
+    answers-refused config old entries notes f mounted (command.Put asked key values blob) asked (λ moment. PutStep config old moment (record { key = key; values = values; blob = blob })) said h r (λ moment is w. step-is config old moment (command.Put asked key values blob) is w)
 
-pub flush-refused_so : (config : Config) (old : Machine) (entries : List Entry) (notes : Notes) (f : FlashState) (mounted : Bool) (asked : List ℕ) (said : code.Reply) (faults : ℕ) →
-    SessionStands config entries f mounted notes old → Refusal entries mounted asked said → Answers config old (command.Flush asked) (SessionStands config entries f mounted notes) faults faults (reply_text said)
-flush-refused_so config old entries notes f mounted asked said faults h r =
-    answers-refused config old entries notes f mounted (command.Flush asked) asked (λ moment. FlushStep config old moment) said faults h r (λ moment is w. step-is config old moment (command.Flush asked) is w)
+pub flush-refused_so : (config : Config) (old : Machine) (entries : List Entry) (notes : Notes) (f : FlashState) (mounted : Bool) (asked : List ℕ) (said : code.Reply) →
+    SessionStands config entries f mounted notes old → Refusal entries mounted asked said → Answers config old (command.Flush asked) (SessionStands config entries f mounted notes) f f (reply_text said)
+flush-refused_so config old entries notes f mounted asked said h r =
+    answers-refused config old entries notes f mounted (command.Flush asked) asked (λ moment. FlushStep config old moment) said h r (λ moment is w. step-is config old moment (command.Flush asked) is w)

@@ -18,12 +18,14 @@ use Rattle.fl_words.specs.Medium.{header, IsImage}
 use Rattle.fl_machine.specs.Machine.{Machine, fresh_tables}
 use Rattle.fl_machine.specs.Found.{HasRoom}
 use Rattle.fl_machine.specs.Script.{StandsFor, StandsAfter}
-use Rattle.fl_session.specs.Ends.{IsOwn, IsFormed, new_content}
+use Rattle.fl_machine.specs.Stays.{MomentStays}
+use Rattle.fl_machine.specs.Step.{Moment}
+use Rattle.fl_machine.proofs.Stays.{moment-same}
+use Rattle.fl_session.specs.Ends.{IsOwn, IsFormed, new_content, opened}
 use Rattle.fl_session.specs.Opening.{Opened}
 use Rattle.fl_table.specs.Memory.{IsPlanned}
 use Rattle.fl_table.specs.Pages.{place_in}
-use Rattle.fl_session.proofs.StepsOf.{entry-off}
-use Rattle.fl_session.proofs.TablesChanged.{some-is, tables-become}
+use Rattle.fl_session.proofs.TablesChanged.{entry-off, some-is, tables-become}
 use Rattle.fl_session.specs.Cost.{cost_of}
 use Rattle.fl_session.specs.Notes.{no_notes}
 use Rattle.fl_session.specs.declared.notes.Notes.{Notes}
@@ -107,6 +109,17 @@ new-rests config old new f start geometry content room h e = record {
         ∙ blank-part (header config) (medium_len config - 1024) (f.start + place_in first plan ring n * f.geometry.page) (f.start + place_in first plan ring n * f.geometry.page + f.geometry.page) (omega (arith, size, start)) in
         subst (λ c. IsTableImage config c i plan (fresh_table plan)) content (rests-image config i plan (fresh_table plan) f start geometry (blank-rests f first plan blank))
 
+-- .. and holds what it had, or is new
+pub opened-content : (config : Config) (old new : MediaState) → IsTrue old.tells → Opened config old new → new.content ≡ opened config old.content
+opened-content config old new told h = by-content old.content refl
+  where
+    by-content : (content : List ℕ) → old.content ≡ content → new.content ≡ opened config content
+    by-content [] e = h.made told e
+    by-content (byte ∷ bytes) e = h.kept told (λ empty. some (sym e ∙ empty)) ∙ e
+      where
+        some : byte ∷ bytes ≡ [] → ⊥
+        some k = cc
+
 -- .. and has the form of its configuration
 pub opened-formed : (config : Config) (old new : MediaState) → IsTrue old.tells → Opened config old new → IsFormed config new.content
 opened-formed config old new told h = (h.len, by-own (h.own told))
@@ -171,3 +184,8 @@ session-ends config entries notes f mounted m h =
           subst (λ n. IsTableImage config f.media.content n plan table) (let m : i ≡ 0 + i = omega arith in m)
           (rests-image config i plan table f h.medium.start h.medium.geometry (off.each i plan entry.0 table p entry.1 r).on_flash));
     }
+
+-- a command that leaves its content as it is
+pub stays-still : (config : Config) (old : Machine) (moment : Moment) (entries : List Entry) (notes : Notes) (f g : FlashState) (mounted : Bool) → SessionStands config entries g mounted notes moment.after → g.media.content ≡ f.media.content →
+    MomentStays config old moment f.media.content g.media.content
+stays-still config old moment entries notes f g mounted h same = moment-same config old moment f.media.content g.media.content (session-ends config entries notes g mounted moment.after h) same

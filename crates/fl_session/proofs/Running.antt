@@ -18,6 +18,7 @@ use Rattle.fl_machine.specs.Reads.{none_read, OnTable, OnColumns, WithinScan, Ge
 use Rattle.fl_machine.specs.Step.{Moment, Step, Located, located, no_column}
 use Rattle.fl_machine.specs.Run.{Run, end_of, written_by, risen_in}
 use Rattle.fl_machine.specs.Script.{Ran, RanInto, RoseBy}
+use Rattle.fl_machine.proofs.Stays.{stays-more}
 use Rattle.fl_machine.proofs.Steps.{finds}
 use Rattle.fl_session.specs.Cost.{CountsReads, ReadsGet, ReadsScan, ReadsAsStated}
 use Rattle.fl_session.specs.Execute.{Executes, IsAlike, IsReady, StandsAlike}
@@ -148,33 +149,34 @@ exact-more config before old [] moment run exact = (λ below. exact (omega (arit
 exact-more config before old (m ∷ moments) moment run exact = (run.0, exact-more config (before + m.reads) m.after moments moment run.1 (λ below. exact (omega (arith, below))))
 
 -- a run, and the flash counts no more reads than it made
-abbrev pub RanSoFar : Config → Machine → List Command → (Machine → Type 0) → ℕ → ℕ → ℕ → Option (List ℕ) → Option (List ℕ) → Type 0
-RanSoFar config old commands stands faults now reads told told_now =
-    (ran : Ran config old commands stands faults now told told_now) × (reads ≤ reads_in ran.moments)
+abbrev pub RanSoFar : Config → Machine → List Command → (Machine → Type 0) → List ℕ → List ℕ → ℕ → ℕ → ℕ → Option (List ℕ) → Option (List ℕ) → Type 0
+RanSoFar config old commands stands content content_now faults now reads told told_now =
+    (ran : Ran config old commands stands content content_now faults now told told_now) × (reads ≤ reads_in ran.moments)
 
 -- before any command
-pub ran-none : (config : Config) (old : Machine) (stands : Machine → Type 0) (faults : ℕ) (told : Option (List ℕ)) → stands old → Ran config old [] stands faults faults told told
-ran-none config old stands faults told h = record {
+pub ran-none : (config : Config) (old : Machine) (stands : Machine → Type 0) (content : List ℕ) (faults : ℕ) (told : Option (List ℕ)) → stands old → Ran config old [] stands content content faults faults told told
+ran-none config old stands content faults told h = record {
   moments = [];
   commands_are = refl;
   run = tt;
   stands_after = h;
   reads = record { limits = tt; exact = tt };
+  stays = refl;
   rose = inl (omega arith);
   found = λ place. tt;
   told_all = nothing-added told;
 }
 
 -- .. which a flash counts that was never read
-pub none-counted : (config : Config) (old : Machine) (stands : Machine → Type 0) (faults reads : ℕ) (told : Option (List ℕ)) → reads ≡ 0 → stands old → RanSoFar config old [] stands faults faults reads told told
-none-counted config old stands faults reads told unread h = (ran-none config old stands faults told h, omega (arith, unread))
+pub none-counted : (config : Config) (old : Machine) (stands : Machine → Type 0) (content : List ℕ) (faults reads : ℕ) (told : Option (List ℕ)) → reads ≡ 0 → stands old → RanSoFar config old [] stands content content faults faults reads told told
+none-counted config old stands content faults reads told unread h = (ran-none config old stands content faults told h, omega (arith, unread))
 
 -- the commands before, and one more
-pub ran-more : {E : Type 0} (config : Config) (old : Machine) (commands : List Command) (command : Command) (stands stands_now : Machine → Type 0) (faults : ℕ) (mid now : FlashState) (told told_mid told_now : Option (List ℕ)) →
-    IsReady config old → RanSoFar config old commands stands faults mid.media.faults mid.work.reads told told_mid → mid.media.faults ≤ now.media.faults →
+pub ran-more : {E : Type 0} (config : Config) (old : Machine) (commands : List Command) (command : Command) (stands stands_now : Machine → Type 0) (content : List ℕ) (faults : ℕ) (mid now : FlashState) (told told_mid told_now : Option (List ℕ)) →
+    IsReady config old → RanSoFar config old commands stands content mid.media.content faults mid.media.faults mid.work.reads told told_mid → mid.media.faults ≤ now.media.faults →
     ((m : Machine) → stands m → Executes {E = E} config m command stands_now mid now told_mid told_now (Ok tt)) →
-    RanSoFar config old (commands ++ command ∷ []) stands_now faults now.media.faults now.work.reads told told_now
-ran-more {E} config old commands command stands stands_now faults mid now told told_mid told_now ready (h, counted) later executes =
+    RanSoFar config old (commands ++ command ∷ []) stands_now content now.media.content faults now.media.faults now.work.reads told told_now
+ran-more {E} config old commands command stands stands_now content faults mid now told told_mid told_now ready (h, counted) later executes =
     let e = executes (end_of old h.moments) h.stands_after in
     let run = run-more config old h.moments e.moment h.run e.step in
     let more = counted-by mid e.moment now command e.reads in
@@ -189,6 +191,7 @@ ran-more {E} config old commands command stands stands_now faults mid now told t
           limits = limits-more config old h.moments e.moment h.reads.limits (limit config (end_of old h.moments) e.moment mid now (Ok tt) command e.command_is (run-within config old h.moments ready.cursors h.run) e.reads e.stated);
           exact = exact-more config 0 old h.moments e.moment h.reads.exact exact;
         };
+        stays = stays-more config old h.moments e.moment content mid.media.content now.media.content h.stays e.stays;
         rose = rw risen-more (rose-more (risen_in h.moments) faults mid.media.faults now.media.faults e.moment.rose h.rose later e.rose);
         found = λ place. finds config old (h.moments ++ e.moment ∷ []) place ready.room ready.off ready.rest run;
         told_all = rw written-more (appends-more told told_mid told_now (written_by h.moments) (texts e.moment.replies) h.told_all e.told_all);
@@ -197,11 +200,11 @@ ran-more {E} config old commands command stands stands_now faults mid now told t
     )
 
 -- .. and into the reply of one more
-pub ran-into : {E : Type 0} (config : Config) (old : Machine) (commands : List Command) (command : Command) (stands stands_now : Machine → Type 0) (faults : ℕ) (mid now : FlashState) (told told_mid told_now : Option (List ℕ)) (error : E) →
-    IsReady config old → RanSoFar config old commands stands faults mid.media.faults mid.work.reads told told_mid → mid.media.faults ≤ now.media.faults →
+pub ran-into : {E : Type 0} (config : Config) (old : Machine) (commands : List Command) (command : Command) (stands stands_now : Machine → Type 0) (content : List ℕ) (faults : ℕ) (mid now : FlashState) (told told_mid told_now : Option (List ℕ)) (error : E) →
+    IsReady config old → RanSoFar config old commands stands content mid.media.content faults mid.media.faults mid.work.reads told told_mid → mid.media.faults ≤ now.media.faults →
     ((m : Machine) → stands m → Executes {E = E} config m command stands_now mid now told_mid told_now (Err error)) →
-    RanInto config old (commands ++ command ∷ []) (StandsAlike stands_now) faults now.media.faults told told_now
-ran-into config old commands command stands stands_now faults mid now told told_mid told_now error ready (h, counted) later executes =
+    RanInto config old (commands ++ command ∷ []) (StandsAlike stands_now) content now.media.content faults now.media.faults told told_now
+ran-into config old commands command stands stands_now content faults mid now told told_mid told_now error ready (h, counted) later executes =
     let e = executes (end_of old h.moments) h.stands_after in
     let run = run-more config old h.moments e.moment h.run e.step in
     record {
@@ -210,6 +213,7 @@ ran-into config old commands command stands stands_now faults mid now told told_
       run = run;
       stands_after = (e.after, e.stands_after, subst (λ m. IsAlike m e.after) (sym (end_of-more old h.moments e.moment)) e.alike);
       limits = limits-more config old h.moments e.moment h.reads.limits (limit config (end_of old h.moments) e.moment mid now (Err error) command e.command_is (run-within config old h.moments ready.cursors h.run) e.reads e.stated);
+      stays = stays-more config old h.moments e.moment content mid.media.content now.media.content h.stays e.stays;
       rose = rw risen-more (rose-more (risen_in h.moments) faults mid.media.faults now.media.faults e.moment.rose h.rose later e.rose);
       found = λ place. finds config old (h.moments ++ e.moment ∷ []) place ready.room ready.off ready.rest run;
       before = h.moments;
@@ -222,27 +226,29 @@ ran-into config old commands command stands stands_now faults mid now told told_
     }
 
 -- the same run, seen through another relation to the state after it
-pub ran-seen : (config : Config) (old : Machine) (commands : List Command) (stands stands_now : Machine → Type 0) (faults now : ℕ) (told told_now : Option (List ℕ)) →
-    ((m : Machine) → stands m → stands_now m) → Ran config old commands stands faults now told told_now → Ran config old commands stands_now faults now told told_now
-ran-seen config old commands stands stands_now faults now told told_now f h = record {
+pub ran-seen : (config : Config) (old : Machine) (commands : List Command) (stands stands_now : Machine → Type 0) (content content_now : List ℕ) (faults now : ℕ) (told told_now : Option (List ℕ)) →
+    ((m : Machine) → stands m → stands_now m) → Ran config old commands stands content content_now faults now told told_now → Ran config old commands stands_now content content_now faults now told told_now
+ran-seen config old commands stands stands_now content content_now faults now told told_now f h = record {
   moments = h.moments;
   commands_are = h.commands_are;
   run = h.run;
   stands_after = f (end_of old h.moments) h.stands_after;
   reads = h.reads;
+  stays = h.stays;
   rose = h.rose;
   found = h.found;
   told_all = h.told_all;
 }
 
-pub ran_into-seen : (config : Config) (old : Machine) (commands : List Command) (stands stands_now : Machine → Type 0) (faults now : ℕ) (told told_now : Option (List ℕ)) →
-    ((m : Machine) → stands m → stands_now m) → RanInto config old commands stands faults now told told_now → RanInto config old commands stands_now faults now told told_now
-ran_into-seen config old commands stands stands_now faults now told told_now f h = record {
+pub ran_into-seen : (config : Config) (old : Machine) (commands : List Command) (stands stands_now : Machine → Type 0) (content content_now : List ℕ) (faults now : ℕ) (told told_now : Option (List ℕ)) →
+    ((m : Machine) → stands m → stands_now m) → RanInto config old commands stands content content_now faults now told told_now → RanInto config old commands stands_now content content_now faults now told told_now
+ran_into-seen config old commands stands stands_now content content_now faults now told told_now f h = record {
   moments = h.moments;
   commands_are = h.commands_are;
   run = h.run;
   stands_after = f (end_of old h.moments) h.stands_after;
   limits = h.limits;
+  stays = h.stays;
   rose = h.rose;
   found = h.found;
   before = h.before;

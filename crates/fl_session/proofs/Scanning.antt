@@ -24,10 +24,9 @@ use Rattle.fl_session.specs.declared.tables.Entry.{Entry}
 use Rattle.fl_session.specs.declared.cost.Cost.TheVariants as code_cost
 use Rattle.fl_session.specs.Standing.{SessionStands}
 use Rattle.fl_session.specs.Tables.{first_of}
-use Rattle.fl_session.proofs.Answering.{executes-answered, step-is, table-step}
+use Rattle.fl_session.proofs.Answering.{executes-answered, executes-read, step-is, table-step}
 use Rattle.fl_session.proofs.Owning.{own-of}
 use Rattle.fl_session.proofs.Costing.{read-none}
-use Rattle.fl_session.proofs.Executing.{executes-by}
 use Rattle.fl_session.proofs.Getting.{session-read, on-table, off-table}
 use Rattle.fl_session.proofs.Refusing.{answers-refused}
 use Rattle.fl_session.proofs.Scanned.{on-ok-weaker}
@@ -51,7 +50,7 @@ scan-executes E config old entries at entry asked notes f g reads mounted range 
     let step = table-step config old moment asked (ScanStep config old moment range span) place h'.is_mounted own.found (refl, refl, s.lists) in
     let notes' : Notes = record notes { cost = code_cost.OfScan reads } in
     subst (λ m. Executes config old (command.Scan asked range span) (SessionStands config entries g m notes') f g told told_now result) (sym r.mounted_is)
-    (executes-by E config old (command.Scan asked range span) (SessionStands config entries g true notes') f g told told_now result moment refl step (session-read f g only config entries notes (code_cost.OfScan reads) old h') counted
+    (executes-read E config old (command.Scan asked range span) entries notes' f g true told told_now result moment only refl step (session-read f g only config entries notes (code_cost.OfScan reads) old h') counted
     (on-table config old moment asked (ReadsScan config moment range span g result) place h'.is_mounted own.found stated) s.risen s.wrote)
 
 -- .. and one that isn't
@@ -60,4 +59,4 @@ pub scan-refused : (E : Type 0) (config : Config) (old : Machine) (entries : Lis
     Executes config old (command.Scan asked range span) (SessionStands config entries f mounted notes) f f told told_now result
 scan-refused E config old entries notes f mounted asked range span said told told_now result h r wrote =
     executes-answered E config old (command.Scan asked range span) (SessionStands config entries f mounted notes) f f (reply_text said) told told_now result
-    (answers-refused config old entries notes f mounted (command.Scan asked range span) asked (λ moment. ScanStep config old moment range span) said f.media.faults h r (λ moment is w. step-is config old moment (command.Scan asked range span) is w)) (λ moment none. read-none f moment.reads none) (λ moment none. off-table config old entries notes f mounted moment asked (ReadsScan config moment range span f result) said h r none) wrote
+    (answers-refused config old entries notes f mounted (command.Scan asked range span) asked (λ moment. ScanStep config old moment range span) said h r (λ moment is w. step-is config old moment (command.Scan asked range span) is w)) (λ moment none. read-none f moment.reads none) (λ moment none. off-table config old entries notes f mounted moment asked (ReadsScan config moment range span f result) said h r none) wrote

@@ -1,5 +1,5 @@
 -- What a session tells of its table.
-use Rattle.std.proofs.Common.{◌≡◌, ℕ, true, Bool, Some, List, [], ◌∷◌, sym, ◌∙◌, ap, subst}
+use Rattle.std.proofs.Common.{◌≡◌, ℕ, true, Bool, Some, List, [], ◌∷◌, refl, sym, ◌∙◌, ap, subst}
 use Rattle.std.specs.List.{slice_get}
 use Rattle.fl_flash.specs.Flash.{FlashState}
 use Rattle.fl_model.specs.Record.{Config, Plan}
@@ -23,20 +23,20 @@ use Rattle.fl_session.proofs.Answering.{answers-saying, saying, says, step-is, t
 use Rattle.fl_session.proofs.Owning.{own-of}
 use Rattle.fl_session.proofs.Refusing.{answers-refused}
 
-pub stat-answers : (config : Config) (old : Machine) (entries : List Entry) (asked : List ℕ) (at : ℕ) (entry : Entry) (notes : Notes) (f : FlashState) (faults : ℕ) (counts : TableCounts) (programs erases : ℕ) →
+pub stat-answers : (config : Config) (old : Machine) (entries : List Entry) (asked : List ℕ) (at : ℕ) (entry : Entry) (notes : Notes) (f : FlashState) (counts : TableCounts) (programs erases : ℕ) →
     (h : SessionStands config entries f true notes old) → slice_get entries at ≡ Some entry → IsNamed entries asked at → ((first : ℕ) (plan : Plan) (table : model.Table) → Stands entry.table f first plan table → counts ≡ counts_of table) →
     programs ≡ f.work.programs → erases ≡ f.work.erases →
-    Answers config old (command.Stat asked) (SessionStands config entries f true notes) faults faults (text (reply.Stat counts.rows counts.pending counts.pages counts.voids programs erases))
-stat-answers config old entries asked at entry notes f faults counts programs erases h here named holds p e =
+    Answers config old (command.Stat asked) (SessionStands config entries f true notes) f f (text (reply.Stat counts.rows counts.pending counts.pages counts.voids programs erases))
+stat-answers config old entries asked at entry notes f counts programs erases h here named holds p e =
     let own = own-of config old entries f notes asked at entry h here named in
     let c = command.Stat asked in
     let r = stat_reply old own.table in
     let moment = saying c (r ∷ []) old in
     let place : Located = record { place = at; plan = own.plan; table = own.table } in
     let step = table-step config old moment asked (λ at. Says moment (stat_reply old at.table ∷ []) old) place h.is_mounted own.found (says c (r ∷ []) old) in
-    subst (λ x. Answers config old c (SessionStands config entries f true notes) faults faults (text x))
+    subst (λ x. Answers config old c (SessionStands config entries f true notes) f f (text x))
     (same-stat own.table (holds (first_of config.plans at) own.plan own.table own.stands.on_flash) (h.device.programs ∙ sym p) (h.device.erases ∙ sym e))
-    (answers-saying config old c r old (SessionStands config entries f true notes) faults faults step h)
+    (answers-saying config old c r old entries notes f f true refl step h)
   where
     same-stat : (table : model.Table) → counts ≡ counts_of table → old.device.programs ≡ programs → old.device.erases ≡ erases → stat_reply old table ≡ reply.Stat counts.rows counts.pending counts.pages counts.voids programs erases
     same-stat table counted p' e' =
@@ -44,7 +44,7 @@ stat-answers config old entries asked at entry notes f faults counts programs er
         ∙ (ap (λ n. reply.Stat counts.rows counts.pending counts.pages counts.voids n old.device.erases) p'
         ∙ ap (λ n. reply.Stat counts.rows counts.pending counts.pages counts.voids programs n) e')
 
-pub stat-refused : (config : Config) (old : Machine) (entries : List Entry) (notes : Notes) (f : FlashState) (mounted : Bool) (asked : List ℕ) (said : code.Reply) (faults : ℕ) →
-    SessionStands config entries f mounted notes old → Refusal entries mounted asked said → Answers config old (command.Stat asked) (SessionStands config entries f mounted notes) faults faults (reply_text said)
-stat-refused config old entries notes f mounted asked said faults h r =
-    answers-refused config old entries notes f mounted (command.Stat asked) asked (λ moment at. Says moment (stat_reply old at.table ∷ []) old) said faults h r (λ moment is w. step-is config old moment (command.Stat asked) is w)
+pub stat-refused : (config : Config) (old : Machine) (entries : List Entry) (notes : Notes) (f : FlashState) (mounted : Bool) (asked : List ℕ) (said : code.Reply) →
+    SessionStands config entries f mounted notes old → Refusal entries mounted asked said → Answers config old (command.Stat asked) (SessionStands config entries f mounted notes) f f (reply_text said)
+stat-refused config old entries notes f mounted asked said h r =
+    answers-refused config old entries notes f mounted (command.Stat asked) asked (λ moment at. Says moment (stat_reply old at.table ∷ []) old) said h r (λ moment is w. step-is config old moment (command.Stat asked) is w)

@@ -1,6 +1,5 @@
 -- The commands of a session, each by its step.
-use Rattle.std.proofs.Common.{◌≡◌, ℕ, ◌≤◌, Bool, true, false, Option, Some, None, Ok, List, [], ◌∷◌, refl, sym, subst, arith}
-use Rattle.std.specs.Prelude.{MatchBool}
+use Rattle.std.proofs.Common.{◌≡◌, ℕ, ◌≤◌, Bool, true, false, Option, Some, None, Ok, List, [], ◌∷◌, refl, sym, ap, subst, arith}
 use Rattle.fl_base.specs.declared.types.CutKind.{CutKind}
 use Rattle.fl_flash.specs.declared.tear.Tear.TheVariants.{Kind}
 use Rattle.fl_flash.specs.Flash.{FlashState}
@@ -15,11 +14,6 @@ use Rattle.fl_machine.specs.Machine.{Machine, stopped}
 use Rattle.fl_script.specs.Written.{Written}
 use Rattle.fl_script.specs.declared.command.Command as code
 use Rattle.fl_script.specs.CommandView.{command_view}
-use Rattle.fl_table.specs.declared.table.Table.{Table}
-use Rattle.fl_table.specs.Pages.{Rests}
-use Rattle.fl_table.specs.Standing.{Stands}
-use Rattle.fl_table.proofs.Holding.{lost-twice}
-use Rattle.fl_table.proofs.Plain.{plain-lose, table-facts, table-parts}
 use Rattle.fl_session.specs.Answer.{Answers}
 use Rattle.fl_session.specs.Runnable.{IsRunnable}
 use Rattle.fl_session.specs.Execute.{Executes}
@@ -30,36 +24,24 @@ use Rattle.fl_session.specs.declared.tables.Entry.{Entry}
 use Rattle.fl_session.proofs.Apart.{stands-pages}
 use Rattle.fl_session.proofs.Answering.{answers-saying, saying, says}
 use Rattle.fl_session.proofs.Executing.{executes-by}
+use Rattle.fl_session.proofs.Rested.{stays-still}
 use Rattle.fl_session.proofs.Running.{nothing-added}
-use Rattle.fl_session.proofs.TablesChanged.{tables-still, tables-become}
+use Rattle.fl_session.proofs.TablesChanged.{entry-off, tables-still, tables-become}
 
 -- nothing is done
-pub executes-nothing : (E : Type 0) (config : Config) (old : Machine) (c : Command) (stands : Machine → Type 0) (f : FlashState) (told : Option (List ℕ)) → c ≡ command.Nothing → stands old →
-    Executes {E = E} config old c stands f f told told (Ok tt)
-executes-nothing E config old c stands f told e s =
+pub executes-nothing : (E : Type 0) (config : Config) (old : Machine) (c : Command) (entries : List Entry) (notes : Notes) (f : FlashState) (mounted : Bool) (told : Option (List ℕ)) → c ≡ command.Nothing → SessionStands config entries f mounted notes old →
+    Executes {E = E} config old c (SessionStands config entries f mounted notes) f f told told (Ok tt)
+executes-nothing E config old c entries notes f mounted told e s =
+    let moment = saying command.Nothing [] old in
     let w : Written {E = E} told told (Ok tt) [] = nothing-added told in
-    subst (λ x. Executes {E = E} config old x stands f f told told (Ok tt)) (sym e)
-    (executes-by E config old command.Nothing stands f f told told (Ok tt) (saying command.Nothing [] old) refl (record { replies_are = refl; after_is = refl; last_is = refl }) s (refl, omega arith) tt (λ t. cc) w)
-
--- a table rests where what it has in memory is lost
-stands-rests : (t : Table 64 64) (f : FlashState) (first : ℕ) (plan : Plan) (table : model.Table) → Stands t f first plan table → Rests f first plan (lose table)
-stands-rests t f first plan table h =
-    record {
-      settled = record { facts = table-facts plan (lose table) (plain-lose plan table (table-parts plan table h.facts)); lost = lost-twice table };
-      pages = h.pages;
-    }
-
-pub off-rests : (t : Table 64 64) (f : FlashState) (first : ℕ) (plan : Plan) (table : model.Table) (mounted : Bool) → MatchBool mounted (Stands t f first plan table) (Rests f first plan table) → Rests f first plan (lose table)
-off-rests t f first plan table true h = stands-rests t f first plan table h
-off-rests t f first plan table false h = subst (λ x. Rests f first plan x) h.settled.lost h
-
-pub entry-off : (entry : Entry) (f : FlashState) (mounted : Bool) (first : ℕ) (plan : Plan) (table : model.Table) → EntryStands entry f mounted first plan table → EntryStands entry f false first plan (lose table)
-entry-off entry f mounted first plan table h = record { named = h.named; geometry = h.geometry; planned = h.planned; on_flash = off-rests entry.table f first plan table mounted h.on_flash }
+    subst (λ x. Executes {E = E} config old x (SessionStands config entries f mounted notes) f f told told (Ok tt)) (sym e)
+    (executes-by E config old command.Nothing (SessionStands config entries f mounted notes) f f told told (Ok tt) moment refl (record { replies_are = refl; after_is = refl; last_is = refl }) s
+    (stays-still config old moment entries notes f f mounted s refl) (refl, omega arith) tt (λ t. cc) w)
 
 entry-dark : (entry : Entry) (f : FlashState) (first : ℕ) (plan : Plan) (table : model.Table) → EntryStands entry f false first plan table → EntryStands entry (record f { is_on = false }) false first plan table
 entry-dark entry f first plan table h = record { named = h.named; geometry = h.geometry; planned = h.planned; on_flash = record { settled = h.on_flash.settled; pages = h.on_flash.pages } }
 
-pub stands-off : (config : Config) (old : Machine) (entries : List Entry) (notes : Notes) (f : FlashState) (mounted : Bool) → SessionStands config entries f mounted notes old → SessionStands config entries (record f { is_on = false }) false notes (stopped old)
+stands-off : (config : Config) (old : Machine) (entries : List Entry) (notes : Notes) (f : FlashState) (mounted : Bool) → SessionStands config entries f mounted notes old → SessionStands config entries (record f { is_on = false }) false notes (stopped old)
 stands-off config old entries notes f mounted h = record {
   knots = h.knots;
   medium = record { told = h.medium.told; len = h.medium.len; head = h.medium.head; start = h.medium.start; geometry = h.medium.geometry };
@@ -72,8 +54,11 @@ stands-off config old entries notes f mounted h = record {
   power = λ t. cc;
 }
 
-pub answers-off : (config : Config) (old : Machine) (stands : Machine → Type 0) (faults faults_now : ℕ) → stands (stopped old) → Answers config old command.Off stands faults faults_now (text reply.Done)
-answers-off config old stands faults faults_now s = answers-saying config old command.Off reply.Done (stopped old) stands faults faults_now (says command.Off (reply.Done ∷ []) (stopped old)) s
+pub answers-off : (config : Config) (old : Machine) (entries : List Entry) (notes : Notes) (f g : FlashState) (mounted : Bool) → g ≡ record f { is_on = false } → SessionStands config entries f mounted notes old →
+    Answers config old command.Off (SessionStands config entries g false notes) f g (text reply.Done)
+answers-off config old entries notes f g mounted is h =
+    answers-saying config old command.Off reply.Done (stopped old) entries notes f g false (ap (λ (x : FlashState). x.media.content) is) (says command.Off (reply.Done ∷ []) (stopped old))
+    (subst (λ x. SessionStands config entries x false notes (stopped old)) (sym is) (stands-off config old entries notes f mounted h))
 
 entry-cut : (entry : Entry) (f : FlashState) (mounted : Bool) (first : ℕ) (plan : Plan) (table : model.Table) (n : ℕ) (kind : CutKind) → EntryStands entry f mounted first plan table →
     EntryStands entry (record f { armed = Some (record { left = n; tear = Kind kind }) }) mounted first plan table
@@ -83,10 +68,10 @@ entry-cut entry f false first plan table n kind h =
     record { named = h.named; geometry = h.geometry; planned = h.planned; on_flash = record { settled = h.on_flash.settled; pages = h.on_flash.pages } }
 
 -- a cut is armed
-abbrev pub cut_to_come : Machine → ℕ → CutKind → Machine
+abbrev cut_to_come : Machine → ℕ → CutKind → Machine
 cut_to_come old n kind = record old { device = record old.device { armed = Some (n, kind) } }
 
-pub stands-cut : (config : Config) (old : Machine) (entries : List Entry) (notes : Notes) (f : FlashState) (mounted : Bool) (n : ℕ) (kind : CutKind) → 1 ≤ n →
+stands-cut : (config : Config) (old : Machine) (entries : List Entry) (notes : Notes) (f : FlashState) (mounted : Bool) (n : ℕ) (kind : CutKind) → 1 ≤ n →
     SessionStands config entries f mounted notes old → SessionStands config entries (record f { armed = Some (record { left = n; tear = Kind kind }) }) mounted notes (cut_to_come old n kind)
 stands-cut config old entries notes f mounted n kind counted h = record {
   knots = h.knots;
@@ -100,9 +85,11 @@ stands-cut config old entries notes f mounted n kind counted h = record {
   power = h.power;
 }
 
-pub answers-cut : (config : Config) (old : Machine) (n : ℕ) (kind : CutKind) (stands : Machine → Type 0) (faults faults_now : ℕ) → stands (cut_to_come old n kind) → Answers config old (command.Cut n kind) stands faults faults_now (text reply.Done)
-answers-cut config old n kind stands faults faults_now s =
-    answers-saying config old (command.Cut n kind) reply.Done (cut_to_come old n kind) stands faults faults_now (says (command.Cut n kind) (reply.Done ∷ []) (cut_to_come old n kind)) s
+pub answers-cut : (config : Config) (old : Machine) (entries : List Entry) (notes : Notes) (f g : FlashState) (mounted : Bool) (n : ℕ) (kind : CutKind) → 1 ≤ n → g ≡ record f { armed = Some (record { left = n; tear = Kind kind }) } →
+    SessionStands config entries f mounted notes old → Answers config old (command.Cut n kind) (SessionStands config entries g mounted notes) f g (text reply.Done)
+answers-cut config old entries notes f g mounted n kind counted is h =
+    answers-saying config old (command.Cut n kind) reply.Done (cut_to_come old n kind) entries notes f g mounted (ap (λ (x : FlashState). x.media.content) is) (says (command.Cut n kind) (reply.Done ∷ []) (cut_to_come old n kind))
+    (subst (λ x. SessionStands config entries x mounted notes (cut_to_come old n kind)) (sym is) (stands-cut config old entries notes f mounted n kind counted h))
 
 -- a command that is run and isn't one of the others is nothing
 pub default-view : (c : code.Command) (room : List ℕ) → IsRunnable (command_view c room) → (c ≡ code.TheVariants.Mount → ⊥) → (c ≡ code.TheVariants.Off → ⊥) → ((n : ℕ) (kind : CutKind) → c ≡ code.TheVariants.Cut n kind → ⊥) →

@@ -1,6 +1,6 @@
 -- The tables of a session after one of them was changed.
 use Rattle.std.proofs.Common.{◌≡◌, ℕ, zero, suc, ◌<◌, ◌⊎◌, Bool, true, false, inl, inr, Option, None, Some, List, [], ◌∷◌, length, map, set, get_or, refl, sym, ◌∙◌, ap, subst, arith}
-use Rattle.std.specs.Prelude.{option_map}
+use Rattle.std.specs.Prelude.{MatchBool, option_map}
 use Rattle.std.proofs.Math.Dec.{eqb}
 use Rattle.std.specs.List.{slice_get}
 use Rattle.std.proofs.lemmas.Bool.Decides.{eqb_tells}
@@ -9,9 +9,15 @@ use Rattle.std.proofs.lemmas.Option.{slice_get-map, slice_get_within, slice_get_
 use Rattle.fl_flash.specs.Flash.{FlashState, page_at}
 use Rattle.fl_model.specs.Record.{Plan}
 use Rattle.fl_model.specs.Table as model
+use Rattle.fl_model.specs.Table.{lose}
 use Rattle.fl_model.specs.Work.{changed_at}
 use Rattle.fl_model.proofs.Lists.{slice_get-some}
 use Rattle.fl_table.specs.Mounting.{OutsideStands}
+use Rattle.fl_table.specs.declared.table.Table.{Table}
+use Rattle.fl_table.specs.Pages.{Rests}
+use Rattle.fl_table.specs.Standing.{Stands}
+use Rattle.fl_table.proofs.Holding.{lost-twice}
+use Rattle.fl_table.proofs.Plain.{plain-lose, table-facts, table-parts}
 use Rattle.fl_session.specs.Tables.{first_of, EntryStands, TablesStand}
 use Rattle.fl_session.specs.declared.tables.Entry.{Entry}
 use Rattle.fl_session.proofs.Apart.{other-stands}
@@ -139,3 +145,18 @@ tables-become f g mounted now plans entries tables k h become = record {
       subst (λ y. EntryStands e g (now i) (first_of plans i) plan y) x_is
       (subst (λ y. EntryStands e g (now i) (first_of plans i) y (k o.table)) plan_is (become i o.plan e o.table o.stands));
 }
+
+-- a table rests where what it has in memory is lost
+stands-rests : (t : Table 64 64) (f : FlashState) (first : ℕ) (plan : Plan) (table : model.Table) → Stands t f first plan table → Rests f first plan (lose table)
+stands-rests t f first plan table h =
+    record {
+      settled = record { facts = table-facts plan (lose table) (plain-lose plan table (table-parts plan table h.facts)); lost = lost-twice table };
+      pages = h.pages;
+    }
+
+pub off-rests : (t : Table 64 64) (f : FlashState) (first : ℕ) (plan : Plan) (table : model.Table) (mounted : Bool) → MatchBool mounted (Stands t f first plan table) (Rests f first plan table) → Rests f first plan (lose table)
+off-rests t f first plan table true h = stands-rests t f first plan table h
+off-rests t f first plan table false h = subst (λ x. Rests f first plan x) h.settled.lost h
+
+pub entry-off : (entry : Entry) (f : FlashState) (mounted : Bool) (first : ℕ) (plan : Plan) (table : model.Table) → EntryStands entry f mounted first plan table → EntryStands entry f false first plan (lose table)
+entry-off entry f mounted first plan table h = record { named = h.named; geometry = h.geometry; planned = h.planned; on_flash = off-rests entry.table f first plan table mounted h.on_flash }

@@ -8,7 +8,7 @@ use Rattle.fl_session.specs.Tables.{pages_of}
 use Rattle.fl_session.specs.declared.tables.Entry.{Entry}
 
 -- a sum over one more
-sum-more : {X : Type 0} (f : X → ℕ) (xs : List X) (i : ℕ) (x : X) → slice_get xs i ≡ Some x → sum_by f (take (suc i) xs) ≡ sum_by f (take i xs) + f x
+pub sum-more : {X : Type 0} (f : X → ℕ) (xs : List X) (i : ℕ) (x : X) → slice_get xs i ≡ Some x → sum_by f (take (suc i) xs) ≡ sum_by f (take i xs) + f x
 sum-more f [] i x e = absurd (none e)
   where
     none : None ≡ Some x → ⊥

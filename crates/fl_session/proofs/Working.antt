@@ -22,6 +22,7 @@ use Rattle.fl_words.specs.Command.{Command}
 use Rattle.fl_words.specs.Reply as reply
 use Rattle.fl_words.specs.Reply.{Reply, text, texts}
 use Rattle.fl_machine.specs.Machine.{Machine, stopped}
+use Rattle.fl_machine.specs.Stays.{CommandStays, TablesStay}
 use Rattle.fl_machine.specs.Step.{Moment, Step, Says, EndsAs, Located, refused, PutStep, FlushStep}
 use Rattle.fl_table.specs.declared.table.Table.{Table}
 use Rattle.fl_table.specs.declared.faults.PutRefusal.{PutRefusal}
@@ -31,7 +32,7 @@ use Rattle.fl_table.specs.declared.faults.FlushFault.TheVariants as flush
 use Rattle.fl_table.specs.Causes.{RefusedSame, put_breaks, flush_breaks}
 use Rattle.fl_table.specs.Memory.{IsSamePlan}
 use Rattle.fl_table.specs.Outcomes.{Finishes, FaultEnds, Breaks, PutEnds, FlushEnds}
-use Rattle.fl_table.specs.Pages.{Rests}
+use Rattle.fl_table.specs.Pages.{KeptStand, Rests}
 use Rattle.fl_table.specs.Standing.{Stands}
 use Rattle.fl_table.proofs.SealAnswers.{planned-same}
 use Rattle.fl_session.specs.Answer.{Answers, fault_reply, put_reply, flush_reply}
@@ -41,9 +42,10 @@ use Rattle.fl_session.specs.Tables.{first_of, entries_with, EntryStands, TablesS
 use Rattle.fl_session.specs.declared.tables.Entry.{Entry}
 use Rattle.fl_session.proofs.Answering.{answers-saying, saying, says, step-is, table-step}
 use Rattle.fl_session.proofs.Executing.{one-text}
+use Rattle.fl_session.proofs.Keeping.{TablesKeep, table-keeps, tables-keep_changed, tables-stay, mounted-stays}
 use Rattle.fl_session.proofs.Owning.{Own}
-use Rattle.fl_session.proofs.StepsOf.{entry-off}
-use Rattle.fl_session.proofs.TablesChanged.{some-is, set-same, length-changed, tables-changed, option_map-same}
+use Rattle.fl_session.proofs.Rested.{session-ends}
+use Rattle.fl_session.proofs.TablesChanged.{entry-off, some-is, set-same, length-changed, tables-changed, option_map-same}
 
 -- what the calls of a table leave as it is
 pub medium-goes : (config : Config) (f g : FlashState) → Goes f g → IsOnMedium config f → IsOnMedium config g
@@ -90,6 +92,11 @@ abbrev pub last_of : ℕ → List model.Table → PartEnd model.Table → Option
 last_of at tables Whole = None
 last_of at tables (CutIn before) = Some (with_table at tables before)
 last_of at tables (FailedIn before) = Some (with_table at tables before)
+
+pub not-whole : (at : ℕ) (tables : List model.Table) (e : PartEnd model.Table) (fault : FlashFault) (f : FlashState) → FaultEnds e fault f → last_of at tables e ≡ None → ⊥
+not-whole at tables Whole fault f h k = h
+not-whole at tables (CutIn before) fault f h k = let no : ◌≡◌ {A = Option (List model.Table)} (Some (with_table at tables before)) None = k in cc
+not-whole at tables (FailedIn before) fault f h k = let no : ◌≡◌ {A = Option (List model.Table)} (Some (with_table at tables before)) None = k in cc
 
 abbrev broken_so : Command → Bool → Machine → ℕ → PartProgress model.Table → FlashFault → Moment
 broken_so c rose old at now fault = record {
@@ -168,14 +175,28 @@ module _ (config : Config) (old : Machine) (entries : List Entry) (at : ℕ) (en
   abbrev at_own : Located
   at_own = record { place = at; plan = own.plan; table = own.table }
 
+  -- .. and the pages that are kept stand
+  pub keeps-done : (after : model.Table → model.Table) → KeptStand first own.plan own.table (after own.table) (page_at f) (page_at g) → Stands u g first own.plan (after own.table) →
+      TablesKeep config f.media.content g.media.content old.tables (changed_at at after old.tables)
+  keeps-done after kept stands =
+      let now = medium-goes config f g goes h.medium in
+      let one : changed_at at after old.tables ≡ changed_at at (λ _. after own.table) old.tables = changed-at at after old.tables own.table own.table_is in
+      let left = changed_at at (λ _. after own.table) old.tables in
+      subst (λ ts. TablesKeep config f.media.content g.media.content old.tables ts) (sym one)
+      (tables-keep_changed config f g entries old.tables left at entry own.plan own.table (after own.table) h.medium now h.tables (outside h.medium.told) own.plan_is own.table_is own.stands
+      (length-changed at (after own.table) old.tables) (changed-there at own.table (after own.table) old.tables own.table_is) (λ i other. changed-elsewhere at i (after own.table) old.tables other)
+      (table-keeps config f g at own.plan entry.table u own.table (after own.table) h.medium now kept own.stands.on_flash stands))
+
   -- the operations were done, or one failed
   answers-done : (c : Command) (rings : List RingName) (after : model.Table → model.Table) →
-      Finishes first own.plan (seals_within own.plan rings own.table) own.table (after own.table) (has_risen f g) old.device u g →
+      Finishes first own.plan (seals_within own.plan rings own.table) own.table (after own.table) (has_risen f g) old.device u f g →
+      ((bytes now : List ℕ) (m : Machine) → TablesStay config bytes now old.tables m.tables → CommandStays config old c m bytes now) →
       ((moment : Moment) → Works config old moment own.plan at rings own.table (record old { tables = changed_at at after old.tables }) → moment.command ≡ c → Step config old moment) →
-      Answers config old c (SessionStands config (entries_with entries at entry u) g true notes) f.media.faults g.media.faults (text reply.Done)
-  answers-done c rings after fin step =
+      Answers config old c (SessionStands config (entries_with entries at entry u) g true notes) f g (text reply.Done)
+  answers-done c rings after fin says step =
       let after_is : Machine = record old { device = fin.now.device; tables = changed_at at after old.tables } in
       let moment = done_so c (has_risen f g) after_is in
+      let stands = stands-done after fin.now.device fin.counts fin.power fin.stands in
       record {
         moment = moment;
         command_is = refl;
@@ -185,16 +206,21 @@ module _ (config : Config) (old : Machine) (entries : List Entry) (at : ℕ) (en
           ends-whole old moment at fin.now.end (progress_at at old.tables fin.now) after_is fin.whole (record { replies_are = refl; after_is = refl; last_is = refl }),
         ) refl;
         none = refl;
-        stands_after = stands-done after fin.now.device fin.counts fin.power fin.stands;
+        stands_after = stands;
+        stays = record {
+          image = session-ends config (entries_with entries at entry u) notes g true after_is stands;
+          stays = λ calm whole. says f.media.content g.media.content after_is (tables-stay config f.media.content g.media.content old.tables after_is.tables (keeps-done after fin.stand fin.stands));
+        };
         rose = risen-rose f g;
         said_is = one-text reply.Done;
       }
 
   answers-broken : (c : Command) (rings : List RingName) (new : Machine) (fault : FlashFault) → Breaks first own.plan (seals_within own.plan rings own.table) own.table (has_risen f g) old.device fault g →
       ((moment : Moment) → Works config old moment own.plan at rings own.table new → moment.command ≡ c → Step config old moment) →
-      Answers config old c (SessionStands config (entries_with entries at entry u) g false notes) f.media.faults g.media.faults (text (fault_reply fault))
+      Answers config old c (SessionStands config (entries_with entries at entry u) g false notes) f g (text (fault_reply fault))
   answers-broken c rings new fault b step =
       let moment = broken_so c (has_risen f g) old at b.now fault in
+      let stands = stands-broken b.now.state b.now.device b.counts b.rests in
       record {
         moment = moment;
         command_is = refl;
@@ -204,7 +230,8 @@ module _ (config : Config) (old : Machine) (entries : List Entry) (at : ℕ) (en
           ends-broken c (has_risen f g) old at b.now fault g b.now.end (record new { device = b.now.device }) refl b.answer,
         ) refl;
         none = refl;
-        stands_after = stands-broken b.now.state b.now.device b.counts b.rests;
+        stands_after = stands;
+        stays = record { image = session-ends config (entries_with entries at entry u) notes g false moment.after stands; stays = λ calm whole. absurd (not-whole at old.tables b.now.end fault g b.answer whole) };
         rose = risen-rose f g;
         said_is = one-text (fault_reply fault);
       }
@@ -228,19 +255,19 @@ module _ (config : Config) (old : Machine) (entries : List Entry) (at : ℕ) (en
         step-is config old moment (command.Put asked key values blob) is (table-step config old moment asked (PutStep config old moment item) at_own h.is_mounted own.found step)
 
     put-refused : (refusal : Refusal) → u ≡ entry.table → g ≡ f → refusal_of own.plan own.table item ≡ Some refusal →
-        Answers config old (command.Put asked key values blob) (SessionStands config (entries_with entries at entry u) g true notes) f.media.faults g.media.faults (text (refused refusal))
+        Answers config old (command.Put asked key values blob) (SessionStands config (entries_with entries at entry u) g true notes) f g (text (refused refusal))
     put-refused refusal e k is =
         let c = command.Put asked key values blob in
         let step : PutStep config old (saying c (refused refusal ∷ []) old) item at_own = rw is (says c (refused refusal ∷ []) old) in
-        answers-saying config old c (refused refusal) old (SessionStands config (entries_with entries at entry u) g true notes) f.media.faults g.media.faults
+        answers-saying config old c (refused refusal) old (entries_with entries at entry u) notes f g true (ap (λ (x : FlashState). x.media.content) k)
         (table-step config old (saying c (refused refusal ∷ []) old) asked (PutStep config old (saying c (refused refusal ∷ []) old) item) at_own h.is_mounted own.found step)
         (same-tables e k)
 
     pub put-answers : (result : Result (Unit {0}) PutRefusal) (mounted : Bool) → mounted ≡ not (put_breaks result) →
-        PutEnds first own.plan item own.table (has_risen f g) old.device result u g → IfErr result (λ e. RefusedSame entry.table f e u g) →
-        Answers config old (command.Put asked key values blob) (SessionStands config (entries_with entries at entry u) g mounted notes) f.media.faults g.media.faults (text (put_reply result))
+        PutEnds first own.plan item own.table (has_risen f g) old.device result u f g → IfErr result (λ e. RefusedSame entry.table f e u g) →
+        Answers config old (command.Put asked key values blob) (SessionStands config (entries_with entries at entry u) g mounted notes) f g (text (put_reply result))
     put-answers (Ok done) mounted m ends r =
-        rw m (answers-done (command.Put asked key values blob) (put_seals own.plan item own.table) (put_record own.plan item) ends.1 (put-works ends.0))
+        rw m (answers-done (command.Put asked key values blob) (put_seals own.plan item own.table) (put_record own.plan item) ends.1 (λ bytes now m stay. mounted-stays config old.mounted bytes now old.tables m.tables h.is_mounted stay) (put-works ends.0))
     put-answers (Err (put.Flash fault)) mounted m ends r =
         rw m (answers-broken (command.Put asked key values blob) (put_seals own.plan item own.table) (record old { tables = changed_at at (put_record own.plan item) old.tables }) fault ends.1 (put-works ends.0))
     put-answers (Err (put.Key last)) mounted m ends r = rw m (put-refused (BadKey last) r.0 r.1 ends)
@@ -255,9 +282,9 @@ module _ (config : Config) (old : Machine) (entries : List Entry) (at : ℕ) (en
   flush-works moment w is =
       step-is config old moment (command.Flush asked) is (table-step config old moment asked (FlushStep config old moment) at_own h.is_mounted own.found w)
 
-  pub flush-answers : (result : Result (Unit {0}) FlushFault) (mounted : Bool) → mounted ≡ not (flush_breaks result) → FlushEnds first own.plan own.table (has_risen f g) old.device result u g →
-      Answers config old (command.Flush asked) (SessionStands config (entries_with entries at entry u) g mounted notes) f.media.faults g.media.faults (text (flush_reply result))
-  flush-answers (Ok done) mounted m ends = rw m (answers-done (command.Flush asked) (table_seals own.plan own.table) (flushed own.plan) ends flush-works)
+  pub flush-answers : (result : Result (Unit {0}) FlushFault) (mounted : Bool) → mounted ≡ not (flush_breaks result) → FlushEnds first own.plan own.table (has_risen f g) old.device result u f g →
+      Answers config old (command.Flush asked) (SessionStands config (entries_with entries at entry u) g mounted notes) f g (text (flush_reply result))
+  flush-answers (Ok done) mounted m ends = rw m (answers-done (command.Flush asked) (table_seals own.plan own.table) (flushed own.plan) ends (λ bytes now m stay. mounted-stays config old.mounted bytes now old.tables m.tables h.is_mounted stay) flush-works)
   flush-answers (Err (flush.Flash fault)) mounted m ends =
       rw m (answers-broken (command.Flush asked) (table_seals own.plan own.table) (record old { tables = changed_at at (flushed own.plan) old.tables }) fault ends flush-works)
   flush-answers (Err flush.Stopped) mounted m ends = absurd ends

@@ -1,6 +1,7 @@
 -- One command of a session, up to its reply.
 use Rattle.std.specs.Prelude.{◌≡◌, ℕ, Bool, true, false, IsTrue, None, Result, Ok, Err, List, [], ◌∷◌}
 use Rattle.fl_base.specs.Causes.{Rose}
+use Rattle.fl_flash.specs.Flash.{FlashState}
 use Rattle.fl_flash.specs.declared.flash.FlashFault.{FlashFault}
 use Rattle.fl_flash.specs.declared.flash.FlashFault.TheVariants.{PowerLost, Media}
 use Rattle.fl_model.specs.Record.{Config}
@@ -9,6 +10,7 @@ use Rattle.fl_words.specs.Reply as reply
 use Rattle.fl_words.specs.Reply.{Reply, text, texts}
 use Rattle.fl_machine.specs.Machine.{Machine}
 use Rattle.fl_machine.specs.Reads.{none_read}
+use Rattle.fl_machine.specs.Stays.{MomentStays}
 use Rattle.fl_machine.specs.Step.{Moment, Step}
 use Rattle.fl_script.specs.declared.reply.Reply as code
 use Rattle.fl_table.specs.declared.faults.PutRefusal.{PutRefusal}
@@ -23,13 +25,14 @@ use Rattle.fl_session.specs.declared.tables.Entry.{Entry}
 
 -- From a state of the machine a command that reads no rows went on to another one, for which the session stands; this is
 -- the text of its replies.
-pub record Answers (config : Config) (old : Machine) (command : Command) (stands : Machine → Type 0) (faults faults_now : ℕ) (said : List ℕ) : Type 0 where
+pub record Answers (config : Config) (old : Machine) (command : Command) (stands : Machine → Type 0) (flash flash_now : FlashState) (said : List ℕ) : Type 0 where
   pub moment : Moment
   pub command_is : moment.command ≡ command
   pub step : Step config old moment
   pub stands_after : stands moment.after
   pub none : none_read moment
-  pub rose : IsTrue moment.rose → Rose faults faults_now
+  pub stays : MomentStays config old moment flash.media.content flash_now.media.content
+  pub rose : IsTrue moment.rose → Rose flash.media.faults flash_now.media.faults
   pub said_is : texts moment.replies ≡ said
 
 -- the reply to an operation that failed

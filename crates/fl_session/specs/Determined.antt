@@ -12,6 +12,7 @@ use Rattle.fl_machine.specs.Operations.{DoesEach}
 use Rattle.fl_machine.specs.Plain.{plain_run}
 use Rattle.fl_machine.specs.Run.{Run, end_of, commands_of, written_by}
 use Rattle.fl_machine.specs.Script.{KeepsReads, StandsAfter}
+use Rattle.fl_machine.specs.Stays.{StaysEach}
 use Rattle.fl_machine.specs.Step.{Moment}
 
 -- no cut falls into an operation of the plain machine
@@ -31,19 +32,21 @@ pub record IsPlainRun (config : Config) (old : Machine) (commands : List Command
 
 -- These commands were run as the plain machine does, each of them whole, and their replies written. The medium stands for
 -- the plain machine's state at the end.
-pub record RanPlainly (config : Config) (old : Machine) (commands : List Command) (content_now : List ℕ) (told told_now : Option (List ℕ)) : Type 0 where
+pub record RanPlainly (config : Config) (old : Machine) (commands : List Command) (content content_now : List ℕ) (told told_now : Option (List ℕ)) : Type 0 where
   pub moments : List Moment
   pub plain : IsPlainRun config old commands moments
   -- the numbers of reads are as is promised
   pub reads : KeepsReads config old moments
   pub stands_after : StandsAfter config (Some content_now) (end_of old (plain_run config old commands))
+  pub stays : StaysEach config old moments content content_now
   pub told_all : Appends told told_now (written_by moments)
 
 -- .. and in the reply of the last of them the sink failed
-pub record RanPlainlyInto (config : Config) (old : Machine) (commands : List Command) (content_now : List ℕ) (told told_now : Option (List ℕ)) : Type 0 where
+pub record RanPlainlyInto (config : Config) (old : Machine) (commands : List Command) (content content_now : List ℕ) (told told_now : Option (List ℕ)) : Type 0 where
   pub moments : List Moment
   pub plain : IsPlainRun config old commands moments
   pub stands_after : StandsAfter config (Some content_now) (end_of old (plain_run config old commands))
+  pub stays : StaysEach config old moments content content_now
   pub before : List Moment
   pub last : Moment
   pub split : moments ≡ before ++ last ∷ []

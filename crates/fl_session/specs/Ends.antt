@@ -1,5 +1,5 @@
 -- How a run over a script and a medium ends, by its status.
-use Rattle.std.specs.Prelude.{◌≡◌, ℕ, ◌+◌, ◌-◌, ◌<◌, ◌≤◌, ◌⊎◌, IsTrue, Option, Some, None, List, [], ◌++◌, length, take, drop, replicate, slice_get, if◌then◌else◌}
+use Rattle.std.specs.Prelude.{◌≡◌, ℕ, ◌+◌, ◌-◌, ◌<◌, ◌≤◌, ◌⊎◌, IsTrue, Option, Some, None, List, [], ◌∷◌, ◌++◌, length, take, drop, replicate, slice_get, if◌then◌else◌}
 use Rattle.fl_base.specs.Causes.{Rose, Appends}
 use Rattle.fl_flash.specs.Media.{MediaState}
 use Rattle.fl_model.specs.Record.{Config}
@@ -42,25 +42,34 @@ IsFormed config content = (length content ≡ medium_len config) × (take 1024 c
 abbrev pub IsOwn : Config → List ℕ → Type 0
 IsOwn config content = (content ≡ []) ⊎ IsFormed config content
 
+-- the medium is newly made: the header and blank pages
+abbrev pub new_content : Config → List ℕ
+new_content config = header config ++ replicate (medium_len config - 1024) 255
+
+-- what a medium holds once its image is opened
+abbrev pub opened : Config → List ℕ → List ℕ
+opened config [] = new_content config
+opened config (byte ∷ bytes) = byte ∷ bytes
+
 -- From each state for which the medium stands these commands were run, and it stands for the state after them. Its length
 -- and its header are those of the configuration, whatever stands behind them.
 pub record RunsAll (config : Config) (commands : List Command) (told : Told) : Type 0 where
   pub own : IsOwn config told.content
   pub formed : IsFormed config told.content_now
   pub runs : (old : Machine) → StandsFor config told.content old →
-      Ran config old commands (StandsAfter config (Some told.content_now)) told.faults told.faults_now told.written told.written_now
+      Ran config old commands (StandsAfter config (Some told.content_now)) (opened config told.content) told.content_now told.faults told.faults_now told.written told.written_now
   -- where the medium doesn't fail and no cut falls into an operation, as the plain machine runs them
   pub plain : IsCalm told → (old : Machine) → StandsFor config told.content old → IsUncut config old commands →
-      RanPlainly config old commands told.content_now told.written told.written_now
+      RanPlainly config old commands (opened config told.content) told.content_now told.written told.written_now
 
 -- .. and in the reply of the last of them the sink failed
 pub record RunsInto (config : Config) (commands : List Command) (told : Told) : Type 0 where
   pub own : IsOwn config told.content
   pub formed : IsFormed config told.content_now
   pub runs : (old : Machine) → StandsFor config told.content old →
-      RanInto config old commands (StandsAfter config (Some told.content_now)) told.faults told.faults_now told.written told.written_now
+      RanInto config old commands (StandsAfter config (Some told.content_now)) (opened config told.content) told.content_now told.faults told.faults_now told.written told.written_now
   pub plain : IsCalm told → (old : Machine) → StandsFor config told.content old → IsUncut config old commands →
-      RanPlainlyInto config old commands told.content_now told.written told.written_now
+      RanPlainlyInto config old commands (opened config told.content) told.content_now told.written told.written_now
 
 -- the first place at which two texts differ
 pub record Differs (wanted found : List ℕ) (at a b : ℕ) : Type 0 where
@@ -138,10 +147,6 @@ EndsOther (Ready config n lines) told wanted found at = IsOther config told.cont
 EndsOther (Unended config n) told wanted found at = ⊥
 EndsOther (BadLine n) told wanted found at = ⊥
 EndsOther (BadConfig n) told wanted found at = ⊥
-
--- the medium is newly made: the header and blank pages
-abbrev pub new_content : Config → List ℕ
-new_content config = header config ++ replicate (medium_len config - 1024) 255
 
 abbrev pub IsNew : Start → Told → Type 0
 IsNew (Ready config n lines) told = (told.content ≡ []) × (told.content_now ≡ new_content config)

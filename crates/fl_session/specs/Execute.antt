@@ -11,6 +11,7 @@ use Rattle.fl_machine.specs.Step.{Moment, Step}
 use Rattle.fl_machine.specs.Found.{HasRoom, IsAtRest}
 use Rattle.fl_machine.specs.OpenCursors.{AreWithin}
 use Rattle.fl_machine.specs.Script.{Ran, RanInto}
+use Rattle.fl_machine.specs.Stays.{MomentStays}
 use Rattle.fl_session.specs.Cost.{CountsReads, ReadsAsStated}
 
 -- all but the cursors is the same
@@ -32,6 +33,7 @@ pub record Executes {E : Type 0} (config : Config) (old : Machine) (command : Co
   pub same : OnOk result (after ≡ moment.after)
   pub reads : CountsReads flash moment flash_now command
   pub stated : ReadsAsStated config old moment flash_now result command
+  pub stays : MomentStays config old moment flash.media.content flash_now.media.content
   pub rose : IsTrue moment.rose → Rose flash.media.faults flash_now.media.faults
   pub told_all : OnOk result (Appends told told_now (texts moment.replies))
   pub told_front : OnErr result (AppendsFront told told_now (texts moment.replies))
@@ -47,9 +49,11 @@ pub record IsReady (config : Config) (old : Machine) : Type 0 where
 abbrev pub StandsAlike : (Machine → Type 0) → Machine → Type 0
 StandsAlike stands machine = (after : Machine) × stands after × IsAlike machine after
 
--- the session, the sink and the medium's faults before and after
+-- the session, the sink and the medium's content and faults before and after
 pub record Around : Type 0 where
   pub config : Config
+  pub content : List ℕ
+  pub content_now : List ℕ
   pub faults : ℕ
   pub faults_now : ℕ
   pub told : Option (List ℕ)
@@ -59,10 +63,10 @@ pub record Around : Type 0 where
 abbrev pub RanAll : Around → (Machine → Type 0) → (Machine → Type 0) → List Command → Type 0
 RanAll around stands stands_now commands =
     (old : Machine) → stands old → IsReady around.config old →
-    Ran around.config old commands stands_now around.faults around.faults_now around.told around.told_now
+    Ran around.config old commands stands_now around.content around.content_now around.faults around.faults_now around.told around.told_now
 
 -- .. and in the reply of the last of them the sink failed
 abbrev pub RanPart : Around → (Machine → Type 0) → (Machine → Type 0) → List Command → Type 0
 RanPart around stands stands_now commands =
     (old : Machine) → stands old → IsReady around.config old →
-    RanInto around.config old commands (StandsAlike stands_now) around.faults around.faults_now around.told around.told_now
+    RanInto around.config old commands (StandsAlike stands_now) around.content around.content_now around.faults around.faults_now around.told around.told_now

@@ -24,6 +24,7 @@ pub mod Nexts
 pub mod Standing
 pub mod Load
 pub mod Run
+pub mod Repaired
 pub mod Rows
 pub mod Listed
 pub mod Looked

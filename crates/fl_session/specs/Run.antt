@@ -19,13 +19,14 @@ abbrev pub tail_of : ℕ → LinesState → List ℕ → Tail
 tail_of number state left = record { number = number; first = state.line; text = state.ahead ++ left; taken = length state.ahead; most = state.most; closed = state.closed }
 
 abbrev pub around_of : Config → MediaState → MediaState → Option (List ℕ) → Option (List ℕ) → Around
-around_of config old new told told_now = record { config = config; faults = old.faults; faults_now = new.faults; told = told; told_now = told_now }
+around_of config old new told told_now = record { config = config; content = old.content; content_now = new.content; faults = old.faults; faults_now = new.faults; told = told; told_now = told_now }
 
 -- nothing was run
 pub record RunsNothing (left left_now : Option (List ℕ)) (around : Around) (stands stands_now : Machine → Type 0) (status : Status) : Type 0 where
   pub done : status ≡ Done
   pub untaken : left_now ≡ left
   pub written : around.told_now ≡ around.told
+  pub content : around.content_now ≡ around.content
   pub goes_on : (m : Machine) → stands m → stands_now m
 
 -- the commands from the first on were run, if there is one and the source tells

@@ -34,7 +34,7 @@ pub(crate) fn run_commands<T: Executor, S: Source, K: Sink>(
         EndsCommands
         (record { number = number; first = lines.old.line; text = lines.old.ahead ++ left; taken = length lines.old.ahead; most = lines.old.most; closed = lines.old.closed })
         (S.left script.new)
-        (record { config = config; faults = (T.flash session.old).media.faults; faults_now = (T.flash session.new).media.faults; told = K.written out.old; told_now = K.written out.new })
+        (record { config = config; content = (T.flash session.old).media.content; content_now = (T.flash session.new).media.content; faults = (T.flash session.old).media.faults; faults_now = (T.flash session.new).media.faults; told = K.written out.old; told_now = K.written out.new })
         (T.stands session.old config) (T.stands session.new config) result }
     ensures read { result ≡ Status.ScriptRead → Rose (S.faults script.old) (S.faults script.new) }
     ensures write { result ≡ Status.OutWrite → Rose (K.faults out.old) (K.faults out.new) }

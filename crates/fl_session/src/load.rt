@@ -64,7 +64,7 @@ pub(crate) fn load<F: Flash>(
     ensures answers { (config : Config) → (entries : List Entry) → (at : ℕ) → (entry : Entry) → (name : List ℕ) → (notes : Notes) → (old : Machine) → SessionStands config entries (F.state flash.old) true notes old →
         slice_get entries at ≡ Some entry → entry.table ≡ table.old → IsNamed entries name at →
         Answers config old (words.Load name count step seed) (SessionStands config (entries_with entries at entry table.new) (F.state flash.new) (not (put_breaks result.outcome)) notes)
-        (F.state flash.old).media.faults (F.state flash.new).media.faults (texts (load_replies result.count result.outcome)) }
+        (F.state flash.old) (F.state flash.new) (texts (load_replies result.count result.outcome)) }
 {
     let mut records = Generator::new(table, step, seed);
     for loaded in 0..count {

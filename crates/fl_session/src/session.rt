@@ -85,7 +85,7 @@ impl<'m, M: Media> Session<'m, M> {
         ensures reads { (⟦<Self as Executor>⟧.flash self.new).work.reads ≡ (⟦<Self as Executor>⟧.flash self.old).work.reads }
         ensures step { (config : Config) (old : Machine) → ⟦<Self as Executor>⟧.stands self.old config old →
             Answers config old words.Off (⟦<Self as Executor>⟧.stands self.new config)
-            (⟦<Self as Executor>⟧.flash self.old).media.faults (⟦<Self as Executor>⟧.flash self.new).media.faults (reply_text result) }
+            (⟦<Self as Executor>⟧.flash self.old) (⟦<Self as Executor>⟧.flash self.new) (reply_text result) }
     {
         self.flash.power_off();
         self.mounted = false;
@@ -102,7 +102,7 @@ impl<'m, M: Media> Session<'m, M> {
         ensures reads { (⟦<Self as Executor>⟧.flash self.new).work.reads ≡ (⟦<Self as Executor>⟧.flash self.old).work.reads }
         ensures step { (config : Config) (old : Machine) → ⟦<Self as Executor>⟧.stands self.old config old →
             Answers config old (words.Cut n kind) (⟦<Self as Executor>⟧.stands self.new config)
-            (⟦<Self as Executor>⟧.flash self.old).media.faults (⟦<Self as Executor>⟧.flash self.new).media.faults (reply_text result) }
+            (⟦<Self as Executor>⟧.flash self.old) (⟦<Self as Executor>⟧.flash self.new) (reply_text result) }
     {
         self.flash.arm(n, kind);
         Reply::Done
@@ -115,7 +115,7 @@ impl<'m, M: Media> Session<'m, M> {
         ensures goes { Goes (⟦<Self as Executor>⟧.flash self.old) (⟦<Self as Executor>⟧.flash self.new) }
         ensures step { (config : Config) (old : Machine) → ⟦<Self as Executor>⟧.stands self.old config old →
             Answers config old words.Mount (⟦<Self as Executor>⟧.stands self.new config)
-            (⟦<Self as Executor>⟧.flash self.old).media.faults (⟦<Self as Executor>⟧.flash self.new).media.faults (reply_text result) }
+            (⟦<Self as Executor>⟧.flash self.old) (⟦<Self as Executor>⟧.flash self.new) (reply_text result) }
         ensures reads { IsTrue (⟦<Self as Executor>⟧.flash self.old).media.tells →
             ReadsMount self.old.mounted (⟦<Self as Executor>⟧.flash self.old) (⟦<Self as Executor>⟧.flash self.new) (4 * pages_of self.old.tables.entries.items) }
     {
@@ -147,7 +147,7 @@ impl<'m, M: Media> Session<'m, M> {
         ensures reads { (⟦<Self as Executor>⟧.flash self.new).work.reads ≡ (⟦<Self as Executor>⟧.flash self.old).work.reads }
         ensures step { (config : Config) (old : Machine) → ⟦<Self as Executor>⟧.stands self.old config old →
             Answers config old (words.Put name key values.now (option_map (λ b. b.now) blob.entry)) (⟦<Self as Executor>⟧.stands self.new config)
-            (⟦<Self as Executor>⟧.flash self.old).media.faults (⟦<Self as Executor>⟧.flash self.new).media.faults (reply_text result) }
+            (⟦<Self as Executor>⟧.flash self.old) (⟦<Self as Executor>⟧.flash self.new) (reply_text result) }
     {
         let at = match self.find(name) {
             Ok(at) => at,
@@ -168,7 +168,7 @@ impl<'m, M: Media> Session<'m, M> {
         ensures reads { (⟦<Self as Executor>⟧.flash self.new).work.reads ≡ (⟦<Self as Executor>⟧.flash self.old).work.reads }
         ensures step { (config : Config) (old : Machine) → ⟦<Self as Executor>⟧.stands self.old config old →
             Answers config old (words.Flush name) (⟦<Self as Executor>⟧.stands self.new config)
-            (⟦<Self as Executor>⟧.flash self.old).media.faults (⟦<Self as Executor>⟧.flash self.new).media.faults (reply_text result) }
+            (⟦<Self as Executor>⟧.flash self.old) (⟦<Self as Executor>⟧.flash self.new) (reply_text result) }
     {
         let at = match self.find(name) {
             Ok(at) => at,
@@ -183,7 +183,7 @@ impl<'m, M: Media> Session<'m, M> {
     fn stat(&self, name: Name) -> Reply
         ensures { (config : Config) (old : Machine) → ⟦<Self as Executor>⟧.stands self.now config old →
             Answers config old (words.Stat name) (⟦<Self as Executor>⟧.stands self.now config)
-            (⟦<Self as Executor>⟧.flash self.now).media.faults (⟦<Self as Executor>⟧.flash self.now).media.faults (reply_text result) }
+            (⟦<Self as Executor>⟧.flash self.now) (⟦<Self as Executor>⟧.flash self.now) (reply_text result) }
     {
         let at = match self.find(name) {
             Ok(at) => at,
@@ -205,7 +205,7 @@ impl<'m, M: Media> Session<'m, M> {
     fn cost(&self) -> Reply
         ensures { (config : Config) (old : Machine) → ⟦<Self as Executor>⟧.stands self.now config old →
             Answers config old words.Cost (⟦<Self as Executor>⟧.stands self.now config)
-            (⟦<Self as Executor>⟧.flash self.now).media.faults (⟦<Self as Executor>⟧.flash self.now).media.faults (reply_text result) }
+            (⟦<Self as Executor>⟧.flash self.now) (⟦<Self as Executor>⟧.flash self.now) (reply_text result) }
     {
         cost_reply(self.notes.cost)
     }
@@ -219,7 +219,7 @@ impl<'m, M: Media> Session<'m, M> {
         ensures reads { (⟦<Self as Executor>⟧.flash self.new).work.reads ≡ (⟦<Self as Executor>⟧.flash self.old).work.reads }
         ensures step { (config : Config) (old : Machine) → ⟦<Self as Executor>⟧.stands self.old config old →
             Answers config old (words.Open cursor name range span) (⟦<Self as Executor>⟧.stands self.new config)
-            (⟦<Self as Executor>⟧.flash self.old).media.faults (⟦<Self as Executor>⟧.flash self.new).media.faults (reply_text result) }
+            (⟦<Self as Executor>⟧.flash self.old) (⟦<Self as Executor>⟧.flash self.new) (reply_text result) }
     {
         let at = match self.find(name) {
             Ok(at) => at,
@@ -241,7 +241,7 @@ impl<'m, M: Media> Session<'m, M> {
         ensures reads { (⟦<Self as Executor>⟧.flash self.new).work.reads ≡ (⟦<Self as Executor>⟧.flash self.old).work.reads }
         ensures step { (config : Config) (old : Machine) → ⟦<Self as Executor>⟧.stands self.old config old →
             Answers config old (words.Close cursor) (⟦<Self as Executor>⟧.stands self.new config)
-            (⟦<Self as Executor>⟧.flash self.old).media.faults (⟦<Self as Executor>⟧.flash self.new).media.faults (reply_text result) }
+            (⟦<Self as Executor>⟧.flash self.old) (⟦<Self as Executor>⟧.flash self.new) (reply_text result) }
     {
         if !self.mounted {
             return Reply::NotMounted;

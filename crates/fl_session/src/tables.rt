@@ -1,7 +1,7 @@
 // The tables of a session.
-ghost use Rattle.std.specs.Prelude.{◌≡◌, ◌≤◌, ◌+◌, ◌*◌, ℕ, Bool, List, false, true, length, IsTrue, IfOk, OnOk};
-ghost use Rattle.fl_flash.specs.Flash.{Goes};
-ghost use Rattle.fl_model.specs.Record.{Plan};
+ghost use Rattle.std.specs.Prelude.{◌≡◌, ◌<◌, ◌≤◌, ◌+◌, ◌*◌, ℕ, Bool, List, false, true, length, sum_by, IsTrue, IfOk, OnOk};
+ghost use Rattle.fl_flash.specs.Flash.{Goes, page_at};
+ghost use Rattle.fl_model.specs.Record.{Plan, blocks_of};
 ghost use Rattle.fl_model.specs.Table as model;
 ghost use Rattle.fl_model.specs.Work.{Device};
 ghost use Rattle.fl_ring.specs.Step.{IsWatched};
@@ -34,6 +34,7 @@ pub(crate) struct BadMount {
 }
 
 impl Tables {
+    ghost use Rattle.fl_session.specs.Repaired.{IsRepaired};
     ghost use Rattle.fl_session.specs.Tables.{AreNewTables, Names, LieOn, AreRunning, TablesStand, TablesMount, pages_of};
 
     /// The tables of a configuration. None of them is mounted.
@@ -79,6 +80,8 @@ impl Tables {
         ensures reads { IsTrue (F.state flash.old).media.tells → (F.state flash.new).work.reads ≤ (F.state flash.old).work.reads + 4 * pages_of self.old.entries.items }
         ensures ends { (plans : List Plan) → (tables : List model.Table) → (rose : Bool) → (device : Device) → IsWatched (F.state flash.old) (F.state flash.new) rose device
             → TablesStand (F.state flash.old) (λ i. false) plans self.old.entries.items tables → TablesMount plans tables rose device result self.new.entries.items (F.state flash.new) }
+        ensures repaired { OnOk result (IsTrue (F.state flash.old).media.tells → (plans : List Plan) → (tables : List model.Table) → TablesStand (F.state flash.old) (λ i. false) plans self.old.entries.items tables
+            → (page : ℕ) → page < sum_by blocks_of plans * (F.state flash.old).geometry.block → IsRepaired (F.state flash.old).geometry.page (page_at (F.state flash.old) page) (page_at (F.state flash.new) page)) }
     {
         for i in 0..self.entries.len() {
             if let Err(fault) = self.entries[i].table.mount(flash, buf) {

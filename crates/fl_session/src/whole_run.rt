@@ -206,7 +206,8 @@ pub fn run<M: Media, S: Source, K: Sink>(
     script: &mut S,
     out: &mut K,
 ) -> Status
-    // What is written is a run of the machine, and the medium stands for the state after it.
+    // What is written is a run of the machine. After each of its commands the medium stands for the state, and where the
+    // command ended well the bytes that it doesn't touch are as they were.
     ensures run { (text : List ℕ) → IsTrue (M.state media.old).tells → S.left script.old ≡ Some text →
         Ends KNOTS text (told_of (M.state media.old) (M.state media.new) (S.left script.new) (K.written out.old) (K.written out.new)) result }
 

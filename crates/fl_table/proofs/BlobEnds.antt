@@ -1,7 +1,6 @@
 -- The end of the blobs of rows, read one row after another, and that of a table's records.
-use Rattle.std.proofs.Common.{◌≡◌, ℕ, zero, suc, ◌+◌, ◌-◌, ◌^◌, ◌<◌, ◌≤◌, Bool, false, cond, ◌==◌, Option, Some, None, List, [], ◌∷◌, ◌++◌, length, map, take, min, max, refl, sym, ◌∙◌, ap, arith}
+use Rattle.std.proofs.Common.{◌≡◌, ℕ, zero, suc, ◌+◌, ◌≤◌, cond, ◌==◌, Option, Some, None, List, [], ◌∷◌, ◌++◌, length, map, take, max, refl, ◌∙◌, ap, arith}
 use Rattle.std.specs.List.{slice_get, fold}
-use Rattle.std.proofs.lemmas.Bool.{ne_eqb}
 use Rattle.std.proofs.lemmas.List.{map-append, take_all}
 use Rattle.std.proofs.lemmas.List.Sums.{fold-append}
 use Rattle.fl_model.specs.Mount.{blob_end}

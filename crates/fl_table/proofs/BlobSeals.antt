@@ -1,5 +1,5 @@
 -- What the seals of variable data make of their table.
-use Rattle.std.proofs.Common.{◌≡◌, ℕ, zero, suc, ◌+◌, ◌-◌, ◌*◌, ◌%◌, ◌<◌, ◌≤◌, ◌⊎◌, inl, inr, Bool, true, false, cond, Option, Some, None, IfSome, option_map, List, [], ◌∷◌, ◌++◌, length, refl, sym, ◌∙◌, ap, subst, arith, length-append}
+use Rattle.std.proofs.Common.{◌≡◌, ℕ, suc, ◌+◌, ◌-◌, ◌*◌, ◌<◌, ◌≤◌, inl, Bool, true, false, cond, Option, Some, None, IfSome, option_map, List, [], ◌∷◌, ◌++◌, length, refl, sym, ◌∙◌, ap, subst, arith, length-append}
 use Rattle.std.proofs.Math.Path.{fun_ext}
 use Rattle.std.proofs.Math.Nat.{mod-lt, add-mul}
 use Rattle.std.specs.List.{AllByRecursion}
@@ -21,7 +21,7 @@ use Rattle.fl_table.proofs.HeldBlobs.{held-front}
 use Rattle.fl_table.proofs.BlobTables.{HoldsVar, IsBlobbed, ring-holds, broken-blobbed, standing-blobbed, standing-holds, var-pages}
 use Rattle.fl_table.proofs.Holding.{lost-twice}
 use Rattle.fl_table.proofs.IndexSeals.{IsFront, front-left}
-use Rattle.fl_table.proofs.Plain.{IsPlainTable, IsIndexed, table-facts, plain-lose}
+use Rattle.fl_table.proofs.Plain.{IsPlainTable, table-facts, plain-lose}
 use Rattle.fl_var.specs.Memory.{next_in, page_in, var_shape}
 use Rattle.fl_var.specs.Standing.{IsVarRing}
 use Rattle.fl_var.specs.declared.var_data.VarData.{VarData}

@@ -1,39 +1,37 @@
 -- How the seal of the blob bytes that wait ends, for the whole of their table.
-use Rattle.std.proofs.Common.{◌≡◌, ℕ, ◌+◌, ◌-◌, ◌*◌, ◌<◌, ◌≤◌, ◌⊎◌, inl, inr, Bool, true, false, cond, ◌==◌, nat_lt, Option, Some, None, IfSome, Result, Ok, Err, List, [], ◌∷◌, length, take, drop, refl, sym, ◌∙◌, ap, subst, arith}
+use Rattle.std.proofs.Common.{◌≡◌, ℕ, ◌+◌, ◌*◌, ◌<◌, ◌≤◌, Bool, true, false, cond, ◌==◌, nat_lt, Option, Some, None, Result, Ok, Err, List, [], ◌∷◌, length, refl, sym, ◌∙◌, ap, subst, arith}
 use Rattle.std.specs.Prelude.{OnOk}
-use Rattle.std.specs.List.{slice_get}
-use Rattle.std.proofs.Math.Path.{fun_ext}
 use Rattle.std.proofs.Math.Nat.{mul-le-mul_right}
 use Rattle.std.proofs.lemmas.Bool.{ltb-true}
 use Rattle.fl_flash.specs.Flash.{FlashState, page_at}
 use Rattle.fl_flash.specs.declared.flash.FlashFault.{FlashFault}
 use Rattle.fl_index.specs.declared.index.Index.{Index}
 use Rattle.fl_model.specs.Facts.{IsTable, is_some_ring}
-use Rattle.fl_model.specs.Image.{IsRingImage, HoldsContent, HoldsBlob}
-use Rattle.fl_model.specs.Query.{page_stands}
-use Rattle.fl_model.specs.Record.{Plan, has_index}
-use Rattle.fl_model.specs.Ring as model
-use Rattle.fl_model.specs.Ring.{Ring, oldest}
-use Rattle.fl_model.specs.Table.{Table, Entry, RingName, DataRing, IndexRing, VarRing, shape_of, after_seals, written, lose, spent_from}
+use Rattle.fl_model.specs.Record.{Plan}
+use Rattle.fl_model.specs.Ring.{Ring}
+use Rattle.fl_model.specs.Table.{Table, RingName, DataRing, IndexRing, VarRing, after_seals, lose, spent_from}
 use Rattle.fl_model.specs.Within.{seals_within, TablePerforms}
 use Rattle.fl_model.specs.Work.{Device, PartEnd, Whole, CutIn, FailedIn, PartProgress}
-use Rattle.fl_model.proofs.Lists.{slice_get-drop, slice_get-front}
 use Rattle.fl_ring.specs.Device.{SameDevice}
+use Rattle.fl_ring.specs.Kept.{PagesStand}
+use Rattle.fl_ring.specs.Ring.{OutsideStands}
 use Rattle.fl_ring.specs.Step.{IsWatched}
 use Rattle.fl_table.specs.Bitmaps as bitmaps
 use Rattle.fl_table.specs.Blobs as variable
 use Rattle.fl_table.specs.Blobs.{ArePlanned, Stand, StandOutside, IsStanding, RestEndsOf, RestEnds, blob_seals, next_of, next_after}
 use Rattle.fl_table.specs.Memory.{IsPlanned}
 use Rattle.fl_table.specs.Outcomes.{Finishes, Breaks, FaultEnds}
-use Rattle.fl_table.specs.Pages.{HoldsTable, bytes_in}
+use Rattle.fl_table.specs.Pages.{HoldsTable, KeptStand, bytes_in}
 use Rattle.fl_table.specs.Standing.{Stands}
 use Rattle.fl_table.specs.declared.table.Table as code
 use Rattle.fl_table.proofs.BlobSeals.{IsBesideVar, before-var, blobs-break, blobs-finish}
 use Rattle.fl_table.proofs.BlobSteps.{AreVar, after-var}
+use Rattle.fl_table.proofs.BlobTables.{var-pages}
 use Rattle.fl_table.proofs.Indexing.{stand-moved}
 use Rattle.fl_table.proofs.Moved.{KeepsPages, keeps-same}
 use Rattle.fl_table.proofs.Plain.{IsPlainTable, table-parts}
 use Rattle.fl_table.proofs.SealAnswers.{planned-shape}
+use Rattle.fl_table.proofs.Staying.{kept-same, pages-same, ring-same}
 use Rattle.fl_var.specs.Memory.{next_in, page_in, var_shape, waiting_in}
 use Rattle.fl_var.specs.Placing as placing
 use Rattle.fl_var.specs.declared.var_data.VarData.{VarData}
@@ -41,7 +39,7 @@ use Rattle.fl_var.specs.declared.var_data.VarData.{VarData}
 -- ---- the bytes that wait are sealed
 
 -- All was done: the variable data are these now, and all else is as it was.
-pub record IsRested (first : ℕ) (plan : Plan) (seals : List RingName) (table : Table) (rose : Bool) (device : Device) (left : Option VarData) (new : FlashState) : Type 0 where
+pub record IsRested (first : ℕ) (plan : Plan) (seals : List RingName) (table : Table) (rose : Bool) (device : Device) (left : Option VarData) (old new : FlashState) : Type 0 where
   pub now : PartProgress Table
   pub did : TablePerforms plan rose (seals_within plan seals table) device table now
   pub whole : now.end ≡ Whole
@@ -51,10 +49,11 @@ pub record IsRested (first : ℕ) (plan : Plan) (seals : List RingName) (table :
   pub facts : IsPlainTable plan (after_seals plan seals table)
   pub pages : HoldsTable (page_at new) first plan (lose (after_seals plan seals table))
   pub blobs : Stand left new (first + plan.data_blocks + plan.index_blocks) plan (after_seals plan seals table)
+  pub stand : KeptStand first plan table (after_seals plan seals table) (page_at old) (page_at new)
 
-abbrev pub RestedEnds : ℕ → Plan → List RingName → Table → Bool → Device → Result (Unit {0}) FlashFault → Option VarData → FlashState → Type 0
-RestedEnds first plan seals table rose device (Ok done) left new = IsRested first plan seals table rose device left new
-RestedEnds first plan seals table rose device (Err fault) left new = Breaks first plan (seals_within plan seals table) table rose device fault new
+abbrev pub RestedEnds : ℕ → Plan → List RingName → Table → Bool → Device → Result (Unit {0}) FlashFault → Option VarData → FlashState → FlashState → Type 0
+RestedEnds first plan seals table rose device (Ok done) left old new = IsRested first plan seals table rose device left old new
+RestedEnds first plan seals table rose device (Err fault) left old new = Breaks first plan (seals_within plan seals table) table rose device fault new
 
 pub rest-var : (table : Table) → AreVar (blob_seals table)
 rest-var table = by_fill (nat_lt 0 table.fill)
@@ -88,6 +87,24 @@ index-pages t first plan table planned facts r is =
 pub some-index : {KNOTS SLOTS : ℕ} (t : code.Table KNOTS SLOTS) (first : ℕ) (plan : Plan) (table : Table) (f : FlashState) → Stands t f first plan table → (r : Ring) → table.index ≡ Some r → 0 < plan.index_blocks * plan.geometry.block
 some-index t first plan table f s r is = index-pages t first plan table s.planned s.facts r is
 
+-- the pages of each ring that are kept stand, as the other rings lie before that of variable data
+pub kept-var : (v w : VarData) (f new : FlashState) (first : ℕ) (plan : Plan) (table after : Table) (ring : Ring) → after.rows ≡ table.rows → after.index ≡ table.index → after.var ≡ Some ring →
+    variable.IsPlanned v (first + plan.data_blocks + plan.index_blocks) plan → variable.IsPlanned w (first + plan.data_blocks + plan.index_blocks) plan → OutsideStands (var_shape v) (page_at f) (page_at new) →
+    0 < plan.data_blocks * plan.geometry.block → ((r : Ring) → table.index ≡ Some r → 0 < plan.index_blocks * plan.geometry.block) →
+    ((before : Ring) → table.var ≡ Some before → PagesStand before (page_in v f) ring (page_in w new)) → KeptStand first plan table after (page_at f) (page_at new)
+kept-var v w f new first plan table after ring rows index var planned planned_now outside some some_index stand = record {
+  rows = pages-same table.rows after.rows (bytes_in (page_at f) first plan DataRing) (bytes_in (page_at new) first plan DataRing) rows (λ n. (before-var v (page_at f) (page_at new) first plan planned outside n).0 some);
+  index = ring-same table.index after.index (bytes_in (page_at f) first plan IndexRing) (bytes_in (page_at new) first plan IndexRing) index
+      (λ r is n. (before-var v (page_at f) (page_at new) first plan planned outside n).1 (some_index r is));
+  var = λ a b before is.
+      subst (λ (at : ℕ → List ℕ). PagesStand a at b (bytes_in (page_at new) first plan VarRing)) (sym (var-pages v f first plan planned))
+      (subst (λ (at : ℕ → List ℕ). PagesStand a (page_in v f) b at) (sym (var-pages w new first plan planned_now))
+      (subst (λ (r : Ring). PagesStand a (page_in v f) r (page_in w new)) (one b (sym var ∙ is)) (stand a before)));
+}
+  where
+    one : (b : Ring) → Some ring ≡ Some b → ring ≡ b
+    one b e = cc
+
 -- the fault of an operation
 fault_ends : (e : PartEnd Table) (fault : FlashFault) (new : FlashState) → placing.FaultEnds e fault new → FaultEnds e fault new
 fault_ends Whole fault new a = absurd a
@@ -111,11 +128,11 @@ module _ {KNOTS SLOTS : ℕ} (t : code.Table KNOTS SLOTS) (f new : FlashState) (
   }
 
   pub rest-done : (blobs : Option VarData) (result : Result (Unit {0}) FlashFault) (now : Option VarData) → t.blobs ≡ blobs → next_after blobs ≤ spent_from + 64 → StandOutside blobs (page_at f) (page_at new) → OnOk result (next_of now ≡ next_after blobs) →
-      RestEndsOf blobs f (first + plan.data_blocks + plan.index_blocks) plan table rose device result now new → RestedEnds first plan (blob_seals table) table rose device result now new
+      RestEndsOf blobs f (first + plan.data_blocks + plan.index_blocks) plan table rose device result now new → RestedEnds first plan (blob_seals table) table rose device result now f new
   rest-done None result now is left outside next ends =
       let fill : table.fill ≡ 0 = subst (λ (o : Option VarData). Stand o f (first + plan.data_blocks + plan.index_blocks) plan table) is stands.blobs in
       let none : [] ≡ blob_seals table = sym (ap (λ n. cond (nat_lt 0 n) (VarRing ∷ []) []) fill) in
-      subst (λ (seals : List RingName). RestedEnds first plan seals table rose device result now new) none (rw (ends.0, ends.1, ends.2) (record {
+      subst (λ (seals : List RingName). RestedEnds first plan seals table rose device result now f new) none (rw (ends.0, ends.1, ends.2) (record {
         now = record { end = Whole; device = device; state = table };
         did = (refl, refl, refl);
         whole = refl;
@@ -125,6 +142,7 @@ module _ {KNOTS SLOTS : ℕ} (t : code.Table KNOTS SLOTS) (f new : FlashState) (
         facts = facts;
         pages = stands.pages;
         blobs = fill;
+        stand = kept-same first plan table table (page_at f) (page_at f) refl refl refl (λ ring n. refl);
       }))
   rest-done (Some v) result None is left outside next ends = absurd ends
   rest-done (Some v) result (Some w) is left outside next ends = by_result result next (ends watched standing)
@@ -139,8 +157,8 @@ module _ {KNOTS SLOTS : ℕ} (t : code.Table KNOTS SLOTS) (f new : FlashState) (
           by_fill true h = h
           by_fill false h = omega (arith, h)
 
-      by_result : (result : Result (Unit {0}) FlashFault) → OnOk result (next_in w ≡ next_after (Some v)) → RestEnds (first + plan.data_blocks + plan.index_blocks) plan table rose device v result w new →
-          RestedEnds first plan (blob_seals table) table rose device result (Some w) new
+      by_result : (result : Result (Unit {0}) FlashFault) → OnOk result (next_in w ≡ next_after (Some v)) → RestEnds (first + plan.data_blocks + plan.index_blocks) plan table rose device v f result w new →
+          RestedEnds first plan (blob_seals table) table rose device result (Some w) f new
       by_result (Ok u) at s =
           let beside = after-var plan (blob_seals table) table (rest-var table) in
           let both = blobs-finish v w f new first plan table (after_seals plan (blob_seals table) table) beside facts standing.planned stands.pages outside (some-rows t first plan table f stands) (some-index t first plan table f stands)
@@ -155,6 +173,8 @@ module _ {KNOTS SLOTS : ℕ} (t : code.Table KNOTS SLOTS) (f new : FlashState) (
             facts = both.0;
             pages = both.1;
             blobs = s.finishes.stands;
+            stand = kept-var v w f new first plan table (after_seals plan (blob_seals table) table) s.finishes.stands.in_pages.ring.ring (ap (λ (x : Table). x.rows) beside.2) (ap (λ (x : Table). x.index) beside.2)
+                s.finishes.stands.in_pages.ring.ring_is standing.planned s.finishes.stands.planned outside (some-rows t first plan table f stands) (some-index t first plan table f stands) s.finishes.stand;
           }
       by_result (Err fault) at b = var-breaks v is outside (blob_seals table) (rest-var table) (omega (arith, low, rest_few table)) fault b
 
@@ -181,11 +201,11 @@ bitmaps-stand indexed f g first plan table ring fill planned pages facts after s
     bitmaps-moved indexed f g first plan table (record table { var = ring; fill = fill }) planned pages (keeps-same table (record table { var = ring; fill = fill }) refl refl refl) refl refl refl refl facts after same s
 
 -- the table in memory stands where it stands with any variable data
-pub rested-finishes : {KNOTS SLOTS : ℕ} (t' : code.Table KNOTS SLOTS) (new : FlashState) (first : ℕ) (plan : Plan) (seals : List RingName) (table : Table) (rose : Bool) (device : Device) (left : Option VarData) → IsRested first plan seals table rose device left new →
+pub rested-finishes : {KNOTS SLOTS : ℕ} (t' : code.Table KNOTS SLOTS) (old new : FlashState) (first : ℕ) (plan : Plan) (seals : List RingName) (table : Table) (rose : Bool) (device : Device) (left : Option VarData) → IsRested first plan seals table rose device left old new →
     ((ring : Option Ring) (fill : ℕ) → IsPlainTable plan (record table { var = ring; fill = fill }) → HoldsTable (page_at new) first plan (lose (record table { var = ring; fill = fill })) →
     Stand left new (first + plan.data_blocks + plan.index_blocks) plan (record table { var = ring; fill = fill }) → Stands t' new first plan (record table { var = ring; fill = fill })) →
-    Finishes first plan (seals_within plan seals table) table (after_seals plan seals table) rose device t' new
-rested-finishes t' new first plan seals table rose device left h with_var = record {
+    Finishes first plan (seals_within plan seals table) table (after_seals plan seals table) rose device t' old new
+rested-finishes t' old new first plan seals table rose device left h with_var = record {
   now = h.now;
   did = h.did;
   whole = h.whole;
@@ -195,4 +215,5 @@ rested-finishes t' new first plan seals table rose device left h with_var = reco
       (subst (IsPlainTable plan) h.beside.2 h.facts)
       (subst (λ (x : Table). HoldsTable (page_at new) first plan (lose x)) h.beside.2 h.pages)
       (subst (λ (x : Table). Stand left new (first + plan.data_blocks + plan.index_blocks) plan x) h.beside.2 h.blobs));
+  stand = h.stand;
 }

@@ -15,6 +15,7 @@ use Rattle.fl_model.specs.Work.{Device, Whole}
 use Rattle.fl_ring.specs.Step.{IsWatched}
 use Rattle.fl_table.specs.Blobs.{AreHeld, IsPlanned, IsStanding, Finishes, Breaks, SealsRest, RestEnds, PlaceEnds, blob_seals, table_with}
 use Rattle.fl_table.proofs.HeldBlobs.{held-kept, held-front, held-push, held-extended, held-sealed, extended-oldest}
+use Rattle.fl_table.proofs.Staying.{ring-same}
 use Rattle.fl_var.specs.Growing.{Holds}
 use Rattle.fl_var.specs.Memory as memory
 use Rattle.fl_var.specs.Memory.{waiting_in, room_in, page_in, image_in, IsSamePlan}
@@ -118,7 +119,7 @@ module _ (old v : VarData) (f g : FlashState) (first : ℕ) (plan : Plan) (table
 
     -- the buffer was sealed, or was empty
     abbrev RestDone : List RingName → Type 0
-    RestDone seals = (done : Finishes first plan seals table (after_seals plan seals table) rose device v g) × AreHeld plan done.stands.in_pages.ring.ring (page_in v g) table.entries
+    RestDone seals = (done : Finishes first plan seals table (after_seals plan seals table) rose device old f v g) × AreHeld plan done.stands.in_pages.ring.ring (page_in v g) table.entries
 
     rest-done : (seals : List RingName) → AreVar seals → (s : Seals plan seals table rose device old f v g) → (after_seals plan seals table).fill ≡ 0 → waiting_in v ≡ [] → AreHeld plan s.has.ring (page_in v g) table.entries → RestDone seals
     rest-done seals are s none empty held =
@@ -135,14 +136,15 @@ module _ (old v : VarData) (f g : FlashState) (first : ℕ) (plan : Plan) (table
               all = held-extended v g plan (after_seals plan seals table) s.has (after_seals plan seals table).entries (subst (λ (es : List Entry). AreHeld plan s.has.ring (page_in v g) es) (sym (ap (λ (t : Table). t.entries) after)) held);
               written = subst (λ (es : List Entry). AreHeld plan s.has.ring (page_in v g) es) (sym (ap written after)) (held-front plan s.has.ring (page_in v g) table.entries (length table.entries - table.pending) held);
             };
+            stand = s.stand;
           },
           held,
         )
 
-    seals-rest : RestDone (blob_seals table) → SealsRest first plan table rose device v g
+    seals-rest : RestDone (blob_seals table) → SealsRest first plan table rose device old f v g
     seals-rest d = record { finishes = d.0; sealed = d.1 }
 
-    pub rest-ends : (result : Result (Unit {0}) FlashFault) → OnOk result (waiting_in v ≡ []) → (waiting_in old ≡ [] → result ≡ Ok tt) → placing.RestEnds plan table rose device old f result v g → RestEnds first plan table rose device old result v g
+    pub rest-ends : (result : Result (Unit {0}) FlashFault) → OnOk result (waiting_in v ≡ []) → (waiting_in old ≡ [] → result ≡ Ok tt) → placing.RestEnds plan table rose device old f result v g → RestEnds first plan table rose device old f result v g
     rest-ends result empty quiet ends = by_fill (table.fill == 0) refl result empty quiet ends
       where
         nothing : (xs : List ℕ) → length xs ≡ 0 → xs ≡ []
@@ -162,7 +164,7 @@ module _ (old v : VarData) (f g : FlashState) (first : ℕ) (plan : Plan) (table
             positive zero e = cc
             positive (suc n) e = omega arith
 
-        by_fill : (b : Bool) → (table.fill == 0) ≡ b → (x : Result (Unit {0}) FlashFault) → OnOk x (waiting_in v ≡ []) → (waiting_in old ≡ [] → x ≡ Ok tt) → SealsWhere b plan table rose device old f x v g → RestEnds first plan table rose device old x v g
+        by_fill : (b : Bool) → (table.fill == 0) ≡ b → (x : Result (Unit {0}) FlashFault) → OnOk x (waiting_in v ≡ []) → (waiting_in old ≡ [] → x ≡ Ok tt) → SealsWhere b plan table rose device old f x v g → RestEnds first plan table rose device old f x v g
         by_fill true e (Err fault) empty quiet s = absurd (not_ok fault (Err fault) refl (quiet (nothing (waiting_in old) (sym stands.in_pages.fill ∙ eqb-true table.fill 0 e))))
         by_fill true e (Ok u) empty quiet s =
             let none = eqb-true table.fill 0 e in
@@ -185,7 +187,7 @@ module _ (old v : VarData) (f g : FlashState) (first : ℕ) (plan : Plan) (table
       seals = place_seals plan (length bytes) table
 
       placed : (at : BlobRef) → IsWatched f g rose device → Places plan (length bytes) table rose device old f at v g → Holds bytes old f at v g →
-          Finishes first plan (place_seals plan (length bytes) table) table (table_with plan (record item { blob = Some bytes }) table) rose device v g
+          Finishes first plan (place_seals plan (length bytes) table) table (table_with plan (record item { blob = Some bytes }) table) rose device old f v g
       placed at watched p holds = record {
         now = s.now;
         did = s.did;
@@ -201,6 +203,7 @@ module _ (old v : VarData) (f g : FlashState) (first : ℕ) (plan : Plan) (table
           all = held-push plan (extended 1 s.has.ring) (image_in v g) (after_seals plan seals table).entries _ (subst (λ (es : List Entry). AreHeld plan (extended 1 s.has.ring) (image_in v g) es) (sym entries) others) this;
           written = subst (λ (es : List Entry). AreHeld plan s.has.ring (page_in v g) es) (sym written_is) (in-ring s.has.ring keeps (written table) stands.written);
         };
+        stand = s.stand;
       }
         where
           s : Seals plan (place_seals plan (length bytes) table) table rose device old f v g
@@ -247,21 +250,21 @@ module _ (old v : VarData) (f g : FlashState) (first : ℕ) (plan : Plan) (table
               ap (λ n. take n (es ++ entry ∷ [])) count
               ∙ (take-append-le (length table.entries - table.pending) es (entry ∷ []) (omega (arith, ap length entries)) ∙ ap (take (length table.entries - table.pending)) entries)
 
-      pub place-ok : (at : BlobRef) → item.blob ≡ Some bytes → IsWatched f g rose device → Places plan (length bytes) table rose device old f at v g → Holds bytes old f at v g → PlaceEnds first plan item table rose device old (Ok (Some at)) v g
+      pub place-ok : (at : BlobRef) → item.blob ≡ Some bytes → IsWatched f g rose device → Places plan (length bytes) table rose device old f at v g → Holds bytes old f at v g → PlaceEnds first plan item table rose device old f (Ok (Some at)) v g
       place-ok at e watched p holds =
           let is : record item { blob = Some bytes } ≡ item = ap (λ b. record item { blob = b }) (sym e) in
-          subst (λ (x : Record). PlaceEnds first plan x table rose device old (Ok (Some at)) v g) is (ap (λ (x : BlobRef). Some x) p.at_is, placed at watched p holds)
+          subst (λ (x : Record). PlaceEnds first plan x table rose device old f (Ok (Some at)) v g) is (ap (λ (x : BlobRef). Some x) p.at_is, placed at watched p holds)
 
-      pub place-err : (fault : FlashFault) → item.blob ≡ Some bytes → placing.Breaks plan (place_seals plan (length bytes) table) table rose device fault old f g → PlaceEnds first plan item table rose device old (Err fault) v g
+      pub place-err : (fault : FlashFault) → item.blob ≡ Some bytes → placing.Breaks plan (place_seals plan (length bytes) table) table rose device fault old f g → PlaceEnds first plan item table rose device old f (Err fault) v g
       place-err fault e b =
           let is : record item { blob = Some bytes } ≡ item = ap (λ b. record item { blob = b }) (sym e) in
-          subst (λ (x : Record). PlaceEnds first plan x table rose device old (Err fault) v g) is (breaks (place_seals plan (length bytes) table) fault b)
+          subst (λ (x : Record). PlaceEnds first plan x table rose device old f (Err fault) v g) is (breaks (place_seals plan (length bytes) table) fault b)
 
 -- without a blob
-pub place-none : (v : VarData) (f : FlashState) (first : ℕ) (plan : Plan) (table : Table) (item : Record) (rose : Bool) (device : Device) → item.blob ≡ None → IsWatched f f rose device → IsStanding v f first plan table → PlaceEnds first plan item table rose device v (Ok None) v f
+pub place-none : (v : VarData) (f : FlashState) (first : ℕ) (plan : Plan) (table : Table) (item : Record) (rose : Bool) (device : Device) → item.blob ≡ None → IsWatched f f rose device → IsStanding v f first plan table → PlaceEnds first plan item table rose device v f (Ok None) v f
 place-none v f first plan table item rose device e watched stands =
     let is : record item { blob = None } ≡ item = ap (λ b. record item { blob = b }) (sym e) in
-    subst (λ (x : Record). PlaceEnds first plan x table rose device v (Ok None) v f) is (refl, done)
+    subst (λ (x : Record). PlaceEnds first plan x table rose device v f (Ok None) v f) is (refl, done)
   where
     entry : Entry
     entry = record { kept = record item { blob = None }; page = 0; offset = 0 }
@@ -274,7 +277,7 @@ place-none v f first plan table item rose device e watched stands =
         let count : length (table.entries ++ entry ∷ []) - (table.pending + 1) ≡ length table.entries - table.pending = omega (arith, length-append table.entries (entry ∷ [])) in
         ap (λ n. take n (table.entries ++ entry ∷ [])) count ∙ take-append-le (length table.entries - table.pending) table.entries (entry ∷ []) (omega arith)
 
-    done : Finishes first plan [] table (with_record plan (record item { blob = None }) table table) rose device v f
+    done : Finishes first plan [] table (with_record plan (record item { blob = None }) table table) rose device v f v f
     done = record {
       now = record { end = Whole; device = device; state = table };
       did = (refl, refl, refl);
@@ -287,6 +290,7 @@ place-none v f first plan table item rose device e watched stands =
         all = held-push plan (extended 1 stands.in_pages.ring.ring) (image_in v f) table.entries entry stands.all (λ blob k some. absurd (none blob k));
         written = subst (λ (es : List Entry). AreHeld plan stands.in_pages.ring.ring (page_in v f) es) (sym written_is) stands.written;
       };
+      stand = λ before is. ring-same table.var table.var (page_in v f) (page_in v f) refl (λ r has n. refl) before stands.in_pages.ring.ring is stands.in_pages.ring.ring_is;
     }
 
 -- at most so many pages are sealed for a blob

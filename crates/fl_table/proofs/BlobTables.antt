@@ -16,7 +16,6 @@ use Rattle.fl_model.specs.Ring.{Ring, IsRing, oldest, extended}
 use Rattle.fl_model.specs.Table.{Table, Entry, VarRing, shape_of, written, lose, spent_from}
 use Rattle.fl_model.proofs.Lists.{slice_get-drop}
 use Rattle.fl_model.proofs.Renumber.{least-alike}
-use Rattle.fl_ring.specs.Ring as rings
 use Rattle.fl_table.specs.Blobs.{AreHeld, IsPlanned, IsStanding}
 use Rattle.fl_table.specs.BlobMount.{Rests}
 use Rattle.fl_table.specs.Pages.{bytes_in}

@@ -1,5 +1,5 @@
 -- The variable data of a table, where it has any.
-use Rattle.std.proofs.Common.{◌≡◌, ℕ, ◌+◌, ◌-◌, ◌*◌, ◌/◌, ◌%◌, ◌^◌, ◌<◌, ◌≤◌, Bool, true, false, cond, nat_le, ◌==◌, is_some, option_map, unwrap_or, Option, Some, None, IfSome, List, length, take, drop, refl, sym, ◌∙◌, ap, subst, arith, ◌⊎◌, inl, inr}
+use Rattle.std.proofs.Common.{◌≡◌, ℕ, ◌+◌, ◌-◌, ◌*◌, ◌/◌, ◌^◌, ◌<◌, ◌≤◌, Bool, true, false, cond, nat_le, ◌==◌, is_some, option_map, unwrap_or, Option, Some, None, IfSome, List, length, take, drop, refl, sym, ◌∙◌, ap, subst, arith, inr}
 use Rattle.std.proofs.Math.Path.{fun_ext}
 use Rattle.std.proofs.Math.Nat.{add-mul, div-lt_iff_lt-mul}
 use Rattle.std.specs.List.{slice_get}
@@ -9,7 +9,7 @@ use Rattle.fl_model.specs.Layout.{committed}
 use Rattle.fl_model.specs.Record.{Plan, has_var}
 use Rattle.fl_model.specs.Ring as model
 use Rattle.fl_model.specs.Ring.{Ring, extended}
-use Rattle.fl_model.specs.Table.{Table, Entry, DataRing, VarRing, shape_of, written, spent_from}
+use Rattle.fl_model.specs.Table.{Table, Entry, VarRing, shape_of, written, spent_from}
 use Rattle.fl_model.specs.Query.{page_stands}
 use Rattle.fl_model.specs.Image.{IsRingImage, HoldsContent, HoldsBlob}
 use Rattle.fl_ring.specs.Ring.{Shape, OutsideStands, room}
@@ -21,7 +21,7 @@ use Rattle.fl_table.proofs.BlobTables as tables
 use Rattle.fl_table.proofs.HeldBlobs.{held-front, held-sealed}
 use Rattle.fl_table.proofs.States.{shape_in}
 use Rattle.fl_var.specs.Content.{content_body}
-use Rattle.fl_var.specs.Memory.{var_shape, next_in, waiting_in, room_in, page_in, image_in}
+use Rattle.fl_var.specs.Memory.{next_in, waiting_in, room_in, page_in, image_in}
 use Rattle.fl_var.specs.Placing.{is_full_in, pages_placed}
 use Rattle.fl_var.proofs.PageImages.{waiting-room}
 use Rattle.fl_var.specs.declared.var_data.VarData.{VarData}

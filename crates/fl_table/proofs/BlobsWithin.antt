@@ -1,5 +1,5 @@
 -- The mount of variable data whose blobs end before a page.
-use Rattle.std.proofs.Common.{◌≡◌, ℕ, ◌+◌, ◌-◌, ◌*◌, ◌<◌, ◌≤◌, Bool, Option, Some, None, Result, Ok, Err, refl, sym, ◌∙◌, ap, subst, arith}
+use Rattle.std.proofs.Common.{◌≡◌, ℕ, ◌<◌, Bool, Option, Some, None, Ok, Err, refl, ◌∙◌, arith}
 use Rattle.fl_flash.specs.Flash.{FlashState}
 use Rattle.fl_model.specs.Mount.{blob_end}
 use Rattle.fl_model.specs.Record.{Plan}
@@ -11,7 +11,6 @@ use Rattle.fl_table.specs.BlobEnds.{least_of}
 use Rattle.fl_table.specs.BlobMount.{Rests, MountsWell, MountEnds, MountEndsOf, FindsBlobs, RefusesBlobs, WithinEnds, WithinEndsOf}
 use Rattle.fl_table.specs.Blobs.{AreSamePlan}
 use Rattle.fl_table.specs.Causes.{of_ring}
-use Rattle.fl_table.specs.declared.faults.MountFault.{MountFault}
 use Rattle.fl_table.specs.declared.faults.MountFault.TheVariants as mount
 use Rattle.fl_table.proofs.BlobMount.{held-below}
 use Rattle.fl_var.specs.Memory.{next_in, page_in}

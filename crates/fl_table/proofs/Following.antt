@@ -1,6 +1,6 @@
 -- Seals of a table, one after another.
-use Rattle.std.proofs.Common.{◌≡◌, ◌⊎◌, inl, inr, ℕ, Bool, true, false, IsTrue, arith, Result, Ok, Err, List, [], ◌∷◌, ◌++◌, refl, sym, ◌∙◌, ap, subst, append_assoc}
-use Rattle.fl_flash.specs.Flash.{FlashState, Goes}
+use Rattle.std.proofs.Common.{◌≡◌, inl, inr, ℕ, Bool, true, false, IsTrue, arith, Result, Ok, Err, List, [], ◌∷◌, ◌++◌, refl, sym, ◌∙◌, ap, subst, append_assoc}
+use Rattle.fl_flash.specs.Flash.{FlashState, Goes, page_at}
 use Rattle.fl_flash.specs.declared.flash.FlashFault.TheVariants.{PowerLost, Media}
 use Rattle.fl_ring.specs.Causes.{CausedBy}
 use Rattle.fl_ring.specs.Device.{SameDevice}
@@ -9,12 +9,14 @@ use Rattle.fl_flash.specs.declared.flash.FlashFault.{FlashFault}
 use Rattle.fl_model.specs.Record.{Plan}
 use Rattle.fl_model.specs.Table.{Table, RingName, DataRing, after_seal, after_seals}
 use Rattle.fl_model.specs.Within.{seal_within, seals_within, effect_within, TablePerforms}
-use Rattle.fl_model.specs.Work.{Kind, Device, PartEnd, Whole, PartProgress}
+use Rattle.fl_model.specs.Work.{Kind, Device, PartEnd, PartProgress}
 use Rattle.fl_model.proofs.Among.{after_seals-append, seals-all_done}
 use Rattle.fl_model.proofs.Performs.{performs-front, performs-more, performs-whole}
 use Rattle.fl_table.specs.Outcomes.{Finishes, Breaks, FaultEnds, SealsEnd}
+use Rattle.fl_table.specs.Pages.{KeptStand}
 use Rattle.fl_table.specs.Standing.{Stands}
 use Rattle.fl_table.specs.declared.table.Table as code
+use Rattle.fl_table.proofs.Staying.{kept-then}
 
 pub within-append : (plan : Plan) (rings others : List RingName) (table : Table) → seals_within plan (rings ++ others) table ≡ seals_within plan rings table ++ seals_within plan others (after_seals plan rings table)
 within-append plan [] others table = refl
@@ -36,9 +38,9 @@ module _ (first : ℕ) (plan : Plan) (rings others : List RingName) (table : Tab
   }
 
   -- the first ones were done, and the others follow
-  pub seals-then : {KNOTS SLOTS : ℕ} (t : code.Table KNOTS SLOTS) (mid : FlashState) (result : Result (Unit {0}) FlashFault) (last : code.Table KNOTS SLOTS) (new : FlashState) (h : Finishes first plan (seals_within plan rings table) table (after_seals plan rings table) rose device t mid) →
-      SealsEnd first plan others (after_seals plan rings table) rose h.now.device result last new → SealsEnd first plan (rings ++ others) table rose device result last new
-  seals-then t mid result last new h k = by_result result k
+  pub seals-then : {KNOTS SLOTS : ℕ} (t : code.Table KNOTS SLOTS) (old mid : FlashState) (result : Result (Unit {0}) FlashFault) (last : code.Table KNOTS SLOTS) (new : FlashState) (h : Finishes first plan (seals_within plan rings table) table (after_seals plan rings table) rose device t old mid) →
+      SealsEnd first plan others (after_seals plan rings table) rose h.now.device result last mid new → SealsEnd first plan (rings ++ others) table rose device result last old new
+  seals-then t old mid result last new h k = by_result result k
     where
       did : (now : PartProgress Table) → TablePerforms plan rose (seals_within plan others (after_seals plan rings table)) h.now.device (after_seals plan rings table) now → TablePerforms plan rose (seals_within plan (rings ++ others) table) device table now
       did now d =
@@ -47,7 +49,7 @@ module _ (first : ℕ) (plan : Plan) (rings others : List RingName) (table : Tab
           (performs-more (λ (o : RingName × Kind). o.1) (effect_within plan) rose (seals_within plan rings table) (seals_within plan others (after_seals plan rings table)) device table h.now now h.did h.whole
           (subst (λ (x : Table). TablePerforms plan rose (seals_within plan others (after_seals plan rings table)) h.now.device x now) (sym done) d))
 
-      by_result : (result : Result (Unit {0}) FlashFault) → SealsEnd first plan others (after_seals plan rings table) rose h.now.device result last new → SealsEnd first plan (rings ++ others) table rose device result last new
+      by_result : (result : Result (Unit {0}) FlashFault) → SealsEnd first plan others (after_seals plan rings table) rose h.now.device result last mid new → SealsEnd first plan (rings ++ others) table rose device result last old new
       by_result (Ok u) k = record {
         now = k.now;
         did = did k.now k.did;
@@ -55,15 +57,17 @@ module _ (first : ℕ) (plan : Plan) (rings others : List RingName) (table : Tab
         counts = k.counts;
         power = k.power;
         stands = subst (λ (x : Table). Stands last new first plan x) (sym (after_seals-append plan rings others table)) k.stands;
+        stand = subst (λ (x : Table). KeptStand first plan table x (page_at old) (page_at new)) (sym (after_seals-append plan rings others table))
+            (kept-then first plan table (after_seals plan rings table) (after_seals plan others (after_seals plan rings table)) (page_at old) (page_at mid) (page_at new) h.stands.facts k.stands.facts h.stand k.stand);
       }
       by_result (Err fault) k = record { now = k.now; did = did k.now k.did; answer = k.answer; counts = k.counts; rests = k.rests }
 
 -- the first seals were done, and others, which made this table
-pub finishes-then : {KNOTS SLOTS : ℕ} (first : ℕ) (plan : Plan) (rings others : List RingName) (table last : Table) (rose : Bool) (device : Device) (t : code.Table KNOTS SLOTS) (mid : FlashState) (u : code.Table KNOTS SLOTS) (new : FlashState) →
-    (h : Finishes first plan (seals_within plan rings table) table (after_seals plan rings table) rose device t mid) →
-    Finishes first plan (seals_within plan others (after_seals plan rings table)) (after_seals plan rings table) last rose h.now.device u new →
-    Finishes first plan (seals_within plan (rings ++ others) table) table last rose device u new
-finishes-then first plan rings others table last rose device t mid u new h k =
+pub finishes-then : {KNOTS SLOTS : ℕ} (first : ℕ) (plan : Plan) (rings others : List RingName) (table last : Table) (rose : Bool) (device : Device) (t : code.Table KNOTS SLOTS) (old mid : FlashState) (u : code.Table KNOTS SLOTS) (new : FlashState) →
+    (h : Finishes first plan (seals_within plan rings table) table (after_seals plan rings table) rose device t old mid) →
+    Finishes first plan (seals_within plan others (after_seals plan rings table)) (after_seals plan rings table) last rose h.now.device u mid new →
+    Finishes first plan (seals_within plan (rings ++ others) table) table last rose device u old new
+finishes-then first plan rings others table last rose device t old mid u new h k =
     let done : h.now.state ≡ after_seals plan rings table = (performs-whole (λ (o : RingName × Kind). o.1) (effect_within plan) rose (seals_within plan rings table) device table h.now h.did h.whole).0 ∙ seals-all_done plan rings table in
     record {
       now = k.now;
@@ -74,6 +78,7 @@ finishes-then first plan rings others table last rose device t mid u new h k =
       counts = k.counts;
       power = k.power;
       stands = k.stands;
+      stand = kept-then first plan table (after_seals plan rings table) last (page_at old) (page_at mid) (page_at new) h.stands.facts k.stands.facts h.stand k.stand;
     }
 
 append-nil : {X : Type 0} (xs : List X) → xs ++ [] ≡ xs
@@ -81,15 +86,15 @@ append-nil [] = refl
 append-nil (x ∷ xs) = ap (λ ys. x ∷ ys) (append-nil xs)
 
 -- how a seal of the pending rows alone ends
-abbrev pub RowsEnd : {KNOTS SLOTS : ℕ} → ℕ → Plan → Table → Bool → Device → Result (Unit {0}) FlashFault → code.Table KNOTS SLOTS → FlashState → Type 0
-RowsEnd first plan table rose device (Ok done) t new = Finishes first plan (seal_within plan DataRing table) table (after_seal plan DataRing table) rose device t new
-RowsEnd first plan table rose device (Err fault) t new = Breaks first plan (seal_within plan DataRing table) table rose device fault new
+abbrev pub RowsEnd : {KNOTS SLOTS : ℕ} → ℕ → Plan → Table → Bool → Device → Result (Unit {0}) FlashFault → code.Table KNOTS SLOTS → FlashState → FlashState → Type 0
+RowsEnd first plan table rose device (Ok done) t old new = Finishes first plan (seal_within plan DataRing table) table (after_seal plan DataRing table) rose device t old new
+RowsEnd first plan table rose device (Err fault) t old new = Breaks first plan (seal_within plan DataRing table) table rose device fault new
 
-pub ends-alone : {KNOTS SLOTS : ℕ} (first : ℕ) (plan : Plan) (table : Table) (rose : Bool) (device : Device) (result : Result (Unit {0}) FlashFault) (t : code.Table KNOTS SLOTS) (new : FlashState) → RowsEnd first plan table rose device result t new →
-    SealsEnd first plan (DataRing ∷ []) table rose device result t new
-ends-alone first plan table rose device (Ok u) t new h =
-    subst (λ (ops : List (RingName × Kind)). Finishes first plan ops table (after_seal plan DataRing table) rose device t new) (sym (append-nil (seal_within plan DataRing table))) h
-ends-alone first plan table rose device (Err fault) t new h =
+pub ends-alone : {KNOTS SLOTS : ℕ} (first : ℕ) (plan : Plan) (table : Table) (rose : Bool) (device : Device) (result : Result (Unit {0}) FlashFault) (t : code.Table KNOTS SLOTS) (old new : FlashState) → RowsEnd first plan table rose device result t old new →
+    SealsEnd first plan (DataRing ∷ []) table rose device result t old new
+ends-alone first plan table rose device (Ok u) t old new h =
+    subst (λ (ops : List (RingName × Kind)). Finishes first plan ops table (after_seal plan DataRing table) rose device t old new) (sym (append-nil (seal_within plan DataRing table))) h
+ends-alone first plan table rose device (Err fault) t old new h =
     subst (λ (ops : List (RingName × Kind)). Breaks first plan ops table rose device fault new) (sym (append-nil (seal_within plan DataRing table))) h
 
 -- a call within another is watched as that is

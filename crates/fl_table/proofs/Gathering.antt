@@ -5,8 +5,7 @@ use Rattle.std.proofs.Math.Nat.{mod-lt, mod-eq_of_lt}
 use Rattle.std.specs.List.{slice_get}
 use Rattle.fl_base.specs.declared.types.Geometry.{Geometry}
 use Rattle.fl_index.specs.declared.index.Index.{Index}
-use Rattle.fl_index.specs.Memory as memory
-use Rattle.fl_index.specs.Memory.{waiting_in, first_waiting, per_page, IsSameRing}
+use Rattle.fl_index.specs.Memory.{waiting_in, first_waiting, per_page}
 use Rattle.fl_index.specs.Standing.{Waits}
 use Rattle.fl_model.specs.Image.{rows_at}
 use Rattle.fl_model.specs.Layout.{bitmap_of}
@@ -22,7 +21,7 @@ use Rattle.fl_mark.specs.declared.page_state.PageState.TheVariants.{Committed}
 use Rattle.fl_model.specs.Layout.{committed, data_body}
 use Rattle.fl_model.specs.Row.{le, number_of}
 use Rattle.fl_ring.proofs.Found.{committed_state}
-use Rattle.fl_table.specs.Bitmaps.{AreSamePlan, AreSameRing, AreIdle, AreWaiting, EndAt, HaveRoom, AreNoted, first_to_wait}
+use Rattle.fl_table.specs.Bitmaps.{AreSamePlan, AreIdle, AreWaiting, EndAt, HaveRoom, AreNoted, first_to_wait}
 use Rattle.fl_table.specs.Reading.{WaitFor, HaveBitmaps, GatherUpTo, AreGathered, bitmap_on, bitmap_where, page_bitmap}
 use Rattle.fl_table.proofs.States.{committed-end}
 

@@ -18,7 +18,6 @@ use Rattle.fl_table.specs.Blobs.{AreHeld, IsStanding}
 use Rattle.fl_var.specs.Growing.{KeepsBlobs}
 use Rattle.fl_var.specs.Memory.{next_in, waiting_in, page_in, image_in}
 use Rattle.fl_var.specs.Placing.{HoldsBytes}
-use Rattle.fl_var.specs.Standing as standing
 use Rattle.fl_var.specs.Standing.{HasRing}
 use Rattle.fl_var.specs.declared.var_data.VarData.{VarData}
 use Rattle.fl_var.proofs.Grown.{kept-blobs, content-wide}

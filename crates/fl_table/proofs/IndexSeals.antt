@@ -1,5 +1,5 @@
 -- How a seal of the waiting bitmaps ends for their table.
-use Rattle.std.proofs.Common.{◌≡◌, ℕ, suc, ◌+◌, ◌-◌, ◌*◌, ◌%◌, ◌<◌, ◌≤◌, Bool, true, false, cond, ◌&&◌, ◌==◌, Option, Some, None, IfSome, option_map, OnOk, Result, Ok, Err, List, [], ◌∷◌, ◌++◌, length, take, drop, refl, sym, ◌∙◌, ap, subst, arith, ◌⊎◌, inl, inr, length-append}
+use Rattle.std.proofs.Common.{◌≡◌, ℕ, suc, ◌+◌, ◌-◌, ◌*◌, ◌<◌, ◌≤◌, Bool, true, false, cond, ◌&&◌, ◌==◌, Option, Some, None, IfSome, option_map, OnOk, Result, Ok, Err, List, [], ◌∷◌, ◌++◌, length, take, drop, refl, sym, ◌∙◌, ap, subst, arith, ◌⊎◌, inl, inr, length-append}
 use Rattle.std.proofs.Math.Path.{fun_ext}
 use Rattle.std.proofs.Math.Nat.{mod-lt, mul-le-mul_right, add-mul}
 use Rattle.std.specs.List.{AllByRecursion, sum}
@@ -18,27 +18,27 @@ use Rattle.fl_model.specs.Mount.{index_end}
 use Rattle.fl_model.specs.Record.{Plan, has_index, entries_per_page}
 use Rattle.fl_model.specs.Ring as model
 use Rattle.fl_model.specs.Ring.{oldest}
-use Rattle.fl_model.specs.Table.{Table, Entry, RingName, DataRing, IndexRing, VarRing, shape_of, full_pages, is_dirty, seal_buffer, after_seal, after_seals, lose, spent_from}
-use Rattle.fl_model.specs.Work.{Kind, Body, Mark, VoidMark, Erase, Ending, AsBefore, AsAfter, Either, Leaves, Device, PartEnd, Whole, CutIn, FailedIn, PartProgress, PartFirst, PartPerforms, cut_now, counted, is_erase}
+use Rattle.fl_model.specs.Table.{Table, Entry, RingName, DataRing, IndexRing, VarRing, shape_of, full_pages, is_dirty, seal_buffer, after_seals, lose, spent_from}
+use Rattle.fl_model.specs.Work.{Kind, Body, Mark, VoidMark, Erase, Ending, AsBefore, AsAfter, Either, Leaves, Device, PartEnd, Whole, CutIn, FailedIn, PartProgress, PartFirst, PartPerforms, cut_now, counted}
 use Rattle.fl_model.specs.Within.{seal_within, seals_within, effect_within, all_done, TablePerforms}
 use Rattle.fl_model.proofs.Kept.{AreKept}
 use Rattle.fl_model.proofs.Plain.{sealed-next, sealed-torn}
-use Rattle.fl_ring.specs.Ring.{Shape, OutsideStands, room}
+use Rattle.fl_ring.specs.Ring.{Shape, OutsideStands}
 use Rattle.fl_model.specs.Layout.{committed, data_body}
 use Rattle.fl_ring.specs.Device.{SameDevice}
 use Rattle.fl_ring.specs.Step.{IsWatched}
 use Rattle.fl_table.specs.Bitmaps.{ArePlanned, Stand, StandOutside, IsRoomMade, RoomMade, MakesRoomOf, bitmap_seals, next_after}
 use Rattle.fl_table.specs.Outcomes.{Finishes, Breaks, FaultEnds}
-use Rattle.fl_table.specs.Pages.{HoldsTable, bytes_in, place_in}
+use Rattle.fl_table.specs.Pages.{HoldsTable, KeptStand, bytes_in, place_in}
 use Rattle.fl_table.specs.Standing.{Stands}
 use Rattle.fl_table.specs.declared.table.Table as code
 use Rattle.fl_table.proofs.Holding.{lost-twice}
-use Rattle.fl_table.proofs.BlobTables.{HoldsVar}
 use Rattle.fl_table.proofs.Blobbing.{var-as, var-behind, var-same}
 use Rattle.fl_table.proofs.SealAnswers.{planned-shape}
 use Rattle.fl_table.proofs.Plain.{IsPlainTable, IsIndexed, AreInPages, blobbed-moved, table-parts, table-facts, plain-lose}
 use Rattle.fl_table.proofs.Indexing.{planned-some, planned-none, index-next}
 use Rattle.fl_table.proofs.Moved.{HoldsIndexed, indexed-moved, keeps-lose}
+use Rattle.fl_table.proofs.Staying.{kept-same, pages-same, ring-same}
 
 -- What is left of a list of operations, of which one may have failed, is what some of the first ones make.
 pub record IsFront {O S : Type 0} (change : O → S → S) (operations : List O) (s left : S) : Type 0 where
@@ -230,7 +230,7 @@ append-nil [] = refl
 append-nil (x ∷ xs) = ap (λ ys. x ∷ ys) (append-nil xs)
 
 -- These seals of the index ring were done, and the table stands beside them.
-pub record IsMade {KNOTS SLOTS : ℕ} (t : code.Table KNOTS SLOTS) (first : ℕ) (plan : Plan) (rings : List RingName) (table : Table) (rose : Bool) (device : Device) (left : Option Index) (new : FlashState) : Type 0 where
+pub record IsMade {KNOTS SLOTS : ℕ} (t : code.Table KNOTS SLOTS) (first : ℕ) (plan : Plan) (rings : List RingName) (table : Table) (rose : Bool) (device : Device) (left : Option Index) (old new : FlashState) : Type 0 where
   pub now : PartProgress Table
   pub did : TablePerforms plan rose (seals_within plan rings table) device table now
   pub whole : now.end ≡ Whole
@@ -240,6 +240,7 @@ pub record IsMade {KNOTS SLOTS : ℕ} (t : code.Table KNOTS SLOTS) (first : ℕ)
   pub facts : IsTable plan (after_seals plan rings table)
   pub pages : HoldsTable (page_at new) first plan (lose (after_seals plan rings table))
   pub bitmaps : Stand left new (first + plan.data_blocks) plan (after_seals plan rings table)
+  pub stand : KeptStand first plan table (after_seals plan rings table) (page_at old) (page_at new)
 
 -- what a seal of the waiting bitmaps is told of its table
 module _ {KNOTS SLOTS : ℕ} (t : code.Table KNOTS SLOTS) (f new : FlashState) (first : ℕ) (plan : Plan) (table : Table) (rose : Bool) (device : Device) (index : Index) (some : t.bitmaps ≡ Some index) (stands : Stands t f first plan table) (pending : table.pending ≡ 0 → ⊥)
@@ -336,8 +337,8 @@ module _ {KNOTS SLOTS : ℕ} (t : code.Table KNOTS SLOTS) (f new : FlashState) (
       fault_ends (FailedIn before) a = a
 
   -- all were done
-  pub index-finishes : (now : Index) → IsRoomMade index now → (h : outcomes.Finishes (first + plan.data_blocks) plan (seals_within plan (outcomes.index_seals plan table) table) table (after_seals plan (outcomes.index_seals plan table) table) rose device now new) →
-      IsMade t first plan (outcomes.index_seals plan table) table rose device (Some now) new
+  pub index-finishes : (now : Index) → IsRoomMade index now → (h : outcomes.Finishes (first + plan.data_blocks) plan (seals_within plan (outcomes.index_seals plan table) table) table (after_seals plan (outcomes.index_seals plan table) table) rose device now f new) →
+      IsMade t first plan (outcomes.index_seals plan table) table rose device (Some now) f new
   index-finishes now made h =
       let after = after_seals plan (outcomes.index_seals plan table) table in
       let s = h.stands in
@@ -358,6 +359,11 @@ module _ {KNOTS SLOTS : ℕ} (t : code.Table KNOTS SLOTS) (f new : FlashState) (
         pages = holds-beside (page_at f) (page_at new) first plan (lose table) (lose after) (lose-beside table after beside) same_rows same_var stands.pages
             (indexed-moved (page_at new) first plan after (lose after) known.index (keeps-lose after known.kept.counted) refl refl (holds-indexed (page_at new) first plan after ring s.in_ring.facts.ring_is s.in_ring.pages));
         bitmaps = s;
+        stand = record {
+          rows = pages-same table.rows after.rows (bytes_in (page_at f) first plan DataRing) (bytes_in (page_at new) first plan DataRing) beside.rows same_rows;
+          index = h.stand;
+          var = ring-same table.var after.var (bytes_in (page_at f) first plan VarRing) (bytes_in (page_at new) first plan VarRing) beside.var (λ r has. same_var);
+        };
       }
     where
       by_full : (b : Bool) → IsBeside table (after_seals plan (cond b (IndexRing ∷ []) []) table)
@@ -369,15 +375,15 @@ module _ {KNOTS SLOTS : ℕ} (t : code.Table KNOTS SLOTS) (f new : FlashState) (
       up_by false le = omega (arith, le)
 
 -- how a call ends that makes room for one bitmap more
-abbrev pub MadeEnds : {KNOTS SLOTS : ℕ} → code.Table KNOTS SLOTS → ℕ → Plan → List RingName → Table → Bool → Device → Result (Unit {0}) FlashFault → Option Index → FlashState → Type 0
-MadeEnds t first plan rings table rose device (Ok done) now new = IsMade t first plan rings table rose device now new
-MadeEnds t first plan rings table rose device (Err fault) now new = Breaks first plan (seals_within plan rings table) table rose device fault new
+abbrev pub MadeEnds : {KNOTS SLOTS : ℕ} → code.Table KNOTS SLOTS → ℕ → Plan → List RingName → Table → Bool → Device → Result (Unit {0}) FlashFault → Option Index → FlashState → FlashState → Type 0
+MadeEnds t first plan rings table rose device (Ok done) now old new = IsMade t first plan rings table rose device now old new
+MadeEnds t first plan rings table rose device (Err fault) now old new = Breaks first plan (seals_within plan rings table) table rose device fault new
 
 pub bitmaps-end : {KNOTS SLOTS : ℕ} (t : code.Table KNOTS SLOTS) (f new : FlashState) (first : ℕ) (plan : Plan) (table : Table) (rose : Bool) (device : Device) (bitmaps : Option Index) (result : Result (Unit {0}) FlashFault) (now : Option Index) → t.bitmaps ≡ bitmaps → Stands t f first plan table →
     (table.pending ≡ 0 → ⊥) → IsWatched f new rose device → next_after bitmaps ≤ spent_from + 1 → StandOutside bitmaps (page_at f) (page_at new) → OnOk result (RoomMade bitmaps now) → MakesRoomOf bitmaps f (first + plan.data_blocks) plan table rose device result now new →
-    MadeEnds t first plan (bitmap_seals plan table) table rose device result now new
+    MadeEnds t first plan (bitmap_seals plan table) table rose device result now f new
 bitmaps-end t f new first plan table rose device None result now is stands pending watched left outside made ends =
-    subst (λ (rings : List RingName). MadeEnds t first plan rings table rose device result now new) (sym none) (rw (ends.0, ends.1, ends.2) (record {
+    subst (λ (rings : List RingName). MadeEnds t first plan rings table rose device result now f new) (sym none) (rw (ends.0, ends.1, ends.2) (record {
       now = record { end = Whole; device = device; state = table };
       did = (refl, refl, refl);
       whole = refl;
@@ -387,6 +393,7 @@ bitmaps-end t f new first plan table rose device None result now is stands pendi
       facts = stands.facts;
       pages = stands.pages;
       bitmaps = subst (λ (o : Option Index). Stand o f (first + plan.data_blocks) plan table) is stands.bitmaps;
+      stand = kept-same first plan table table (page_at f) (page_at f) refl refl refl (λ ring n. refl);
     }))
   where
     none : bitmap_seals plan table ≡ []
@@ -394,7 +401,7 @@ bitmaps-end t f new first plan table rose device None result now is stands pendi
         (planned-none (first + plan.data_blocks) plan (subst (λ (o : Option Index). ArePlanned o (first + plan.data_blocks) plan) is stands.planned.index))
 bitmaps-end t f new first plan table rose device (Some index) result None is stands pending watched left outside made ends = absurd ends
 bitmaps-end t f new first plan table rose device (Some index) result (Some now) is stands pending watched left outside made ends =
-    subst (λ (rings : List RingName). MadeEnds t first plan rings table rose device result (Some now) new) (sym same) (by_result result made (ends watched s))
+    subst (λ (rings : List RingName). MadeEnds t first plan rings table rose device result (Some now) f new) (sym same) (by_result result made (ends watched s))
   where
     s : standing.Stands index f (first + plan.data_blocks) plan table
     s = subst (λ (o : Option Index). Stand o f (first + plan.data_blocks) plan table) is stands.bitmaps
@@ -403,7 +410,7 @@ bitmaps-end t f new first plan table rose device (Some index) result (Some now) 
     same = ap (λ b. cond (b && (table.waiting == entries_per_page plan)) (IndexRing ∷ []) [])
         (planned-some index (first + plan.data_blocks) plan (subst (λ (o : Option Index). ArePlanned o (first + plan.data_blocks) plan) is stands.planned.index))
 
-    by_result : (result : Result (Unit {0}) FlashFault) → OnOk result (IsRoomMade index now) → outcomes.MakesRoom (first + plan.data_blocks) plan table rose device result now new → MadeEnds t first plan (outcomes.index_seals plan table) table rose device result (Some now) new
+    by_result : (result : Result (Unit {0}) FlashFault) → OnOk result (IsRoomMade index now) → outcomes.MakesRoom (first + plan.data_blocks) plan table rose device result now f new → MadeEnds t first plan (outcomes.index_seals plan table) table rose device result (Some now) f new
     by_result (Ok u) made h = index-finishes t f new first plan table rose device index is stands pending left outside now made h
     by_result (Err fault) made h = index-breaks t f new first plan table rose device index is stands pending left outside fault h
 
@@ -421,11 +428,11 @@ beside-is table new b =
     ∙ ap (λ (ps : List (ℕ × ℕ)). record new { entries = table.entries; rows = table.rows; var = table.var; pending = table.pending; fill = table.fill; points = ps }) b.points))))
 
 -- the table in memory stands where it stands with any index
-pub made-finishes : {KNOTS SLOTS : ℕ} (t t' : code.Table KNOTS SLOTS) (new : FlashState) (first : ℕ) (plan : Plan) (rings : List RingName) (table : Table) (rose : Bool) (device : Device) (left : Option Index) → IsMade t first plan rings table rose device left new →
+pub made-finishes : {KNOTS SLOTS : ℕ} (t t' : code.Table KNOTS SLOTS) (old new : FlashState) (first : ℕ) (plan : Plan) (rings : List RingName) (table : Table) (rose : Bool) (device : Device) (left : Option Index) → IsMade t first plan rings table rose device left old new →
     ((index : Option model.Ring) (waiting : ℕ) (firsts : List ℕ) → IsTable plan (with_index table index waiting firsts) → HoldsTable (page_at new) first plan (lose (with_index table index waiting firsts)) →
     Stand left new (first + plan.data_blocks) plan (with_index table index waiting firsts) → Stands t' new first plan (with_index table index waiting firsts)) →
-    Finishes first plan (seals_within plan rings table) table (after_seals plan rings table) rose device t' new
-made-finishes t t' new first plan rings table rose device left h stands =
+    Finishes first plan (seals_within plan rings table) table (after_seals plan rings table) rose device t' old new
+made-finishes t t' old new first plan rings table rose device left h stands =
     let after = after_seals plan rings table in
     let is = beside-is table after h.beside in
     record {
@@ -437,4 +444,5 @@ made-finishes t t' new first plan rings table rose device left h stands =
       stands = subst (λ (x : Table). Stands t' new first plan x) (sym is)
           (stands after.index after.waiting after.firsts (subst (IsTable plan) is h.facts) (subst (λ (x : Table). HoldsTable (page_at new) first plan (lose x)) is h.pages)
           (subst (λ (x : Table). Stand left new (first + plan.data_blocks) plan x) is h.bitmaps));
+      stand = h.stand;
     }

@@ -1,8 +1,7 @@
 -- The index of a table, where it has one.
-use Rattle.std.proofs.Common.{◌≡◌, ℕ, ◌+◌, ◌-◌, ◌*◌, ◌^◌, ◌<◌, ◌≤◌, Bool, true, false, cond, nat_lt, nat_le, ◌==◌, is_some, option_map, unwrap_or, Option, Some, None, IfSome, List, [], ◌∷◌, ◌++◌, length, take, drop, refl, sym, ◌∙◌, ap, subst, arith, ◌⊎◌, inl, inr, IsTrue, length-append, length-drop}
+use Rattle.std.proofs.Common.{◌≡◌, ℕ, ◌+◌, ◌-◌, ◌*◌, ◌^◌, ◌<◌, ◌≤◌, Bool, true, false, cond, nat_le, ◌==◌, is_some, option_map, unwrap_or, Option, Some, None, IfSome, List, [], ◌∷◌, ◌++◌, length, take, drop, refl, sym, ◌∙◌, ap, subst, arith, inl, inr, IsTrue, length-append, length-drop}
 use Rattle.std.proofs.lemmas.Bool.{lt-ltb, ne_eqb}
 use Rattle.std.proofs.lemmas.List.{take_all}
-use Rattle.std.proofs.lemmas.List.Sums.{sum_by-take-drop}
 use Rattle.std.specs.List.{slice_get, sum}
 use Rattle.std.specs.Option.{ForSome}
 use Rattle.fl_base.specs.declared.types.RingPlace.{RingPlace}
@@ -10,7 +9,7 @@ use Rattle.fl_flash.specs.Flash.{FlashState, Goes, page_at, pages}
 use Rattle.fl_index.specs.declared.index.Index.{Index}
 use Rattle.fl_index.specs.Memory as memory
 use Rattle.fl_index.specs.Memory.{waiting_in, first_waiting, per_page}
-use Rattle.fl_index.specs.Standing.{Stands, StandsForRing, Waits}
+use Rattle.fl_index.specs.Standing.{Stands, Waits}
 use Rattle.fl_index.proofs.Memories as memories
 use Rattle.fl_index.proofs.Sealings.{planned-page}
 use Rattle.fl_model.specs.Image.{rows_at}

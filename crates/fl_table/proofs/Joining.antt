@@ -1,8 +1,7 @@
 -- A record joins its table, after its blob was placed.
-use Rattle.std.proofs.Common.{◌≡◌, ℕ, ◌+◌, ◌-◌, ◌*◌, ◌/◌, ◌<◌, ◌≤◌, Bool, true, false, cond, ◌==◌, replicate, Option, Some, None, IfSome, IsTrue, Result, Ok, Err, unwrap_or, List, [], ◌∷◌, ◌++◌, length, take, drop, refl, sym, ◌∙◌, ap, subst, arith, length-append, eq-eqb}
+use Rattle.std.proofs.Common.{◌≡◌, ℕ, ◌+◌, ◌-◌, ◌*◌, ◌/◌, ◌<◌, ◌≤◌, Bool, true, false, cond, ◌==◌, replicate, Option, Some, None, IfSome, Result, Ok, Err, unwrap_or, List, [], ◌∷◌, ◌++◌, length, refl, sym, ◌∙◌, ap, subst, arith, eq-eqb}
 use Rattle.std.specs.Prelude.{option_map}
 use Rattle.std.specs.List.{last_or}
-use Rattle.std.proofs.Math.IntN.{ℤ}
 use Rattle.fl_base.specs.declared.types.BlobRef.{BlobRef}
 use Rattle.fl_flash.specs.Flash.{FlashState, page_at}
 use Rattle.fl_flash.specs.declared.flash.FlashFault.{FlashFault}
@@ -12,7 +11,7 @@ use Rattle.fl_model.specs.Ring.{Ring}
 use Rattle.fl_model.specs.Row.{stored_row}
 use Rattle.std.proofs.Math.Nat.{div-le_self}
 use Rattle.std.proofs.lemmas.List.{length-replicate}
-use Rattle.fl_model.specs.Table.{Table, Entry, RingName, IndexRing, VarRing, blob_len, place_seals, after_seals, start_page, start_offset, start_fill, end_fill, with_record, lose, written, spent_from}
+use Rattle.fl_model.specs.Table.{Table, Entry, RingName, IndexRing, VarRing, blob_len, place_seals, after_seals, start_page, start_offset, start_fill, end_fill, with_record, lose, spent_from}
 use Rattle.fl_model.specs.Within.{seals_within, TablePerforms}
 use Rattle.fl_model.specs.Work.{Device, Whole, PartProgress}
 use Rattle.fl_model.proofs.Kept.{kept-record}
@@ -22,17 +21,18 @@ use Rattle.fl_table.specs.Accepting.{IsAcceptedBy}
 use Rattle.fl_table.specs.Bitmaps as bitmaps
 use Rattle.fl_table.specs.Blobs.{ArePlanned, Stand, StandOutside, IsStanding, PlaceEndsOf, PlaceEnds, table_with, reference_of, next_of, next_after}
 use Rattle.fl_table.specs.Outcomes.{Breaks}
-use Rattle.fl_table.specs.Pages.{HoldsTable, bytes_in}
+use Rattle.fl_table.specs.Pages.{HoldsTable, KeptStand, bytes_in}
 use Rattle.fl_table.specs.Standing.{Stands}
 use Rattle.fl_table.specs.declared.table.Table as code
 use Rattle.fl_table.proofs.BlobSeals.{holds-with_var}
 use Rattle.fl_table.proofs.BlobSteps.{place-var, after-var}
-use Rattle.fl_table.proofs.BlobStands.{some-rows, some-index, index-before, bitmaps-moved, var-breaks}
+use Rattle.fl_table.proofs.BlobStands.{some-rows, some-index, index-before, bitmaps-moved, kept-var, var-breaks}
 use Rattle.fl_table.proofs.BlobTables.{IsBlobbed, HoldsVar, standing-blobbed, standing-holds}
-use Rattle.fl_table.proofs.Blobbing.{none-var, planned-none, var-number}
+use Rattle.fl_table.proofs.Blobbing.{none-var, planned-none}
 use Rattle.fl_table.proofs.Indexing.{index-number}
 use Rattle.fl_table.proofs.Moved.{keeps-record}
 use Rattle.fl_table.proofs.Plain.{IsPlainTable, table-parts, written-push}
+use Rattle.fl_table.proofs.Staying.{kept-same}
 use Rattle.fl_var.specs.Memory.{next_in, waiting_in}
 use Rattle.fl_var.specs.declared.var_data.VarData.{VarData}
 
@@ -164,6 +164,7 @@ pub record IsJoined {KNOTS SLOTS : ℕ} (t : code.Table KNOTS SLOTS) (f new : Fl
   pub pages : HoldsTable (page_at new) first plan (lose (joined_to table (entry_of plan item table) ring fill))
   pub bitmaps : bitmaps.Stand t.bitmaps new (first + plan.data_blocks) plan (joined_to table (entry_of plan item table) ring fill)
   pub blobs : Stand left new (first + plan.data_blocks + plan.index_blocks) plan (joined_to table (entry_of plan item table) ring fill)
+  pub stand : KeptStand first plan table (table_with plan item table) (page_at f) (page_at new)
 
 module _ {KNOTS SLOTS : ℕ} (t : code.Table KNOTS SLOTS) (f new : FlashState) (first : ℕ) (plan : Plan) (table : Table) (rose : Bool) (device : Device) (item : Record) (stands : Stands t f first plan table) (watched : IsWatched f new rose device) (ok : IsAcceptedBy plan table item.key item.values item.blob)
     (index_left : bitmaps.next_of t.bitmaps ≤ spent_from) where
@@ -207,6 +208,8 @@ module _ {KNOTS SLOTS : ℕ} (t : code.Table KNOTS SLOTS) (f new : FlashState) (
         number_pending = λ p. rw (none-var (first + plan.data_blocks + plan.index_blocks) plan table planned facts.blobs) tt;
       } in
       let known = joined table.var table.fill blobbed in
+      let joins : table_with plan item table ≡ joined_to table (entry_of plan item table) table.var table.fill =
+      ap (λ (seals : List RingName). with_record plan item table (after_seals plan seals table)) (sym none) ∙ ap (λ n. joined_to table (entry_of plan item table) table.var n) (ap (λ n. end_fill plan n table) len) in
       record {
         now = record { end = Whole; device = device; state = table };
         did = subst (λ (seals : List RingName). TablePerforms plan rose (seals_within plan seals table) device table (record { end = Whole; device = device; state = table })) none (refl, refl, refl);
@@ -215,12 +218,14 @@ module _ {KNOTS SLOTS : ℕ} (t : code.Table KNOTS SLOTS) (f new : FlashState) (
         power = ap (λ (x : FlashState). x.is_on) same ∙ watched.on;
         ring = table.var;
         fill = table.fill;
-        is = ap (λ (seals : List RingName). with_record plan item table (after_seals plan seals table)) (sym none) ∙ ap (λ n. joined_to table (entry_of plan item table) table.var n) (ap (λ n. end_fill plan n table) len);
+        is = joins;
         at_is = at_none ends.0 ∙ sym (none_at item.blob no_blob);
         facts = known;
         pages = joined-holds (page_at new) first plan table (entry_of plan item table) table.var table.fill (subst (λ (x : FlashState). HoldsTable (page_at x) first plan (lose table)) (sym same) stands.pages);
         bitmaps = indexed table.var table.fill known (λ some n. ap (λ (x : FlashState). bytes_in (page_at x) first plan IndexRing n) same);
         blobs = subst (λ (o : Option VarData). Stand o new (first + plan.data_blocks + plan.index_blocks) plan (joined_to table (entry_of plan item table) table.var table.fill)) (sym ends.1) fill;
+        stand = kept-same first plan table (table_with plan item table) (page_at f) (page_at new) (ap (λ (x : Table). x.rows) joins) (ap (λ (x : Table). x.index) joins) (ap (λ (x : Table). x.var) joins)
+            (λ ring n. ap (λ (x : FlashState). bytes_in (page_at x) first plan ring n) same);
       }
     where
       none_at : (o : Option (List ℕ)) → o ≡ None → reference_of plan (record item { blob = o }) table ≡ None
@@ -240,7 +245,7 @@ module _ {KNOTS SLOTS : ℕ} (t : code.Table KNOTS SLOTS) (f new : FlashState) (
   join-done (Some v) at (Some w) is left outside ends =
       let entry = entry_of plan item table in
       let standing = subst (λ (o : Option VarData). Stand o f (first + plan.data_blocks + plan.index_blocks) plan table) is stands.blobs in
-      let h : PlaceEnds (first + plan.data_blocks + plan.index_blocks) plan item table rose device v (Ok at) w new = ends watched standing in
+      let h : PlaceEnds (first + plan.data_blocks + plan.index_blocks) plan item table rose device v f (Ok at) w new = ends watched standing in
       let seals = place_seals plan (blob_len item) table in
       let var = after-var plan seals table (place-var plan (blob_len item) table) in
       let is_after : table_with plan item table ≡ joined_to table entry var.0 (end_fill plan (blob_len item) table) = ap (λ (x : Table). with_record plan item table x) var.2 in
@@ -266,6 +271,8 @@ module _ {KNOTS SLOTS : ℕ} (t : code.Table KNOTS SLOTS) (f new : FlashState) (
             (holds-with_var v (page_at f) (page_at new) first plan (lose table) var.0 0 standing.planned outside (some-rows t first plan table f stands) (some-index t first plan table f stands) stands.pages var_held);
         bitmaps = indexed var.0 (end_fill plan (blob_len item) table) known (λ some. index-before (Some v) (page_at f) (page_at new) first plan standing.planned outside some);
         blobs = stood;
+        stand = kept-var v w f new first plan table (table_with plan item table) h.1.stands.in_pages.ring.ring (ap (λ (x : Table). x.rows) is_after) (ap (λ (x : Table). x.index) is_after)
+            h.1.stands.in_pages.ring.ring_is standing.planned h.1.stands.planned outside (some-rows t first plan table f stands) (some-index t first plan table f stands) h.1.stand;
       }
     where
       by_fill : (b : Bool) → cond b (next_in w) (next_in w + 1) ≤ spent_from + 64 → next_in w ≤ spent_from + 64

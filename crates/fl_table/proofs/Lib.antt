@@ -1,3 +1,4 @@
+pub mod Staying
 pub mod HeldBlobs
 pub mod BlobSteps
 pub mod BlobMount

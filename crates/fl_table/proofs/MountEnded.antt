@@ -17,10 +17,10 @@ use Rattle.fl_model.specs.Work.{Device, PartProgress}
 use Rattle.fl_model.specs.Within.{TableMounts, TableStopped, TableUnread}
 use Rattle.fl_model.proofs.Lists.{slice_get-short}
 use Rattle.fl_table.proofs.BlobTables.{HoldsVar}
-use Rattle.fl_table.proofs.Blobbing.{var-front, var-moved, var-same}
+use Rattle.fl_table.proofs.Blobbing.{var-moved, var-same}
 use Rattle.fl_table.proofs.MountCalls.{OthersStill}
-use Rattle.fl_table.proofs.Plain.{IsPlainTable, indexed-as, blobbed-moved, plain-lose, table-parts, table-facts}
-use Rattle.fl_table.proofs.Moved.{HoldsIndexed, KeepsPages, has-index, indexed-moved, indexed-same, keeps-lost, keeps-same, ring-moved}
+use Rattle.fl_table.proofs.Plain.{IsPlainTable, indexed-as, blobbed-moved, table-parts, table-facts}
+use Rattle.fl_table.proofs.Moved.{HoldsIndexed, KeepsPages, has-index, indexed-moved, indexed-same, keeps-same, ring-moved}
 use Rattle.fl_page.specs.Writer.{Gathers}
 use Rattle.fl_ring.specs.Device.{ArmsAs, SameDevice}
 use Rattle.fl_ring.specs.Looking.{OnlyReads, ReadFails}
@@ -58,7 +58,7 @@ use Rattle.fl_table.specs.declared.counts.Mounted.{Mounted}
 use Rattle.fl_table.specs.declared.faults.MountFault.{MountFault}
 use Rattle.fl_table.specs.declared.faults.MountFault.TheVariants as mount
 use Rattle.fl_table.specs.declared.table.Table as code
-use Rattle.fl_table.proofs.Holding.{plain-holds, plain-on, plain-rests}
+use Rattle.fl_table.proofs.Holding.{plain-on, plain-rests}
 use Rattle.fl_table.proofs.Lifted.{TableAnswers}
 use Rattle.fl_table.proofs.Memories.{few-kept}
 use Rattle.fl_table.proofs.MountGood.{ring-renumbered, numbered-facts, numbered-idle, keeps-numbered, good-ring}

@@ -11,7 +11,6 @@ use Rattle.fl_model.specs.Mount.{renumber, at_least_of, index_end}
 use Rattle.fl_model.specs.Mount as numbering
 use Rattle.fl_model.proofs.Lists.{slice_get-some}
 use Rattle.fl_model.proofs.Pages.{pages-at}
-use Rattle.fl_ring.specs.Ring.{IsShape}
 use Rattle.fl_ring.proofs.Moved.{renumbered_on}
 use Rattle.fl_table.proofs.Memories.{few-kept}
 use Rattle.fl_table.proofs.Moved.{KeepsPages, keeps-same, keeps-none}

@@ -1,5 +1,5 @@
 -- The mount of the index ring is part of the mount of its table.
-use Rattle.std.proofs.Common.{◌≡◌, ℕ, ◌+◌, ◌-◌, ◌*◌, ◌<◌, ◌≤◌, Bool, true, false, cond, Option, Some, None, option_map, unwrap_or, IfSome, nat_lt, append_assoc, Result, Ok, Err, List, [], ◌∷◌, ◌++◌, length, refl, sym, ◌∙◌, ap, subst, arith, ◌⊎◌, inl, inr, IsTrue}
+use Rattle.std.proofs.Common.{◌≡◌, ℕ, ◌+◌, ◌*◌, ◌<◌, ◌≤◌, Bool, true, false, cond, Option, Some, None, option_map, unwrap_or, IfSome, nat_lt, append_assoc, Result, Ok, Err, List, [], ◌∷◌, ◌++◌, length, refl, sym, ◌∙◌, ap, subst, arith, ◌⊎◌, inl, inr}
 use Rattle.std.specs.List.{list_any}
 use Rattle.fl_flash.specs.Flash.{FlashState, page_at}
 use Rattle.fl_flash.specs.declared.flash.FlashFault.{FlashFault}
@@ -9,12 +9,11 @@ use Rattle.fl_index.specs.Outcomes as outcomes
 use Rattle.fl_index.specs.Standing as standing
 use Rattle.fl_index.specs.Standing.{HasIndex}
 use Rattle.fl_index.proofs.Lists.{end-drop}
-use Rattle.fl_model.specs.Facts.{IsTable}
 use Rattle.fl_model.specs.Mount.{renumber, renumbered, rings_of, index_end, least_alike}
 use Rattle.fl_model.specs.Record.{Plan, has_index, entries_per_page}
 use Rattle.fl_model.specs.Ring as model
 use Rattle.fl_model.specs.Ring.{oldest}
-use Rattle.fl_model.specs.Table.{Table, RingName, DataRing, IndexRing, VarRing, shape_of, full_pages, is_torn, is_dirty, seal_page, with_ring, lose, spent_from}
+use Rattle.fl_model.specs.Table.{Table, RingName, DataRing, IndexRing, VarRing, shape_of, full_pages, is_torn, is_dirty, seal_page, spent_from}
 use Rattle.fl_model.specs.Work.{Kind, Body, Mark, VoidMark, Erase, Device, PartEnd, Whole, CutIn, FailedIn, PartProgress}
 use Rattle.fl_model.specs.Within.{repair_within, effect_within, all_done, TablePerforms, TableUnreads, TableGoesOn, TableMounts, TableMountEnd, TableMounted, TableStopped, TableUnread}
 use Rattle.fl_model.proofs.Plain.{sealed-next, sealed-torn}

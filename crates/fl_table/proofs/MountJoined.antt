@@ -1,17 +1,13 @@
 -- A mount is that of the index, and then that of the data ring.
-use Rattle.std.proofs.Common.{◌≡◌, ℕ, ◌+◌, ◌-◌, ◌*◌, ◌%◌, ◌<◌, ◌≤◌, Bool, true, false, cond, Option, Some, None, IfSome, option_map, unwrap_or, get_or, Result, Ok, Err, List, [], ◌∷◌, ◌++◌, length, refl, sym, ◌∙◌, ap, subst, arith, ◌⊎◌, inl, inr, IsTrue}
+use Rattle.std.proofs.Common.{◌≡◌, ℕ, ◌+◌, ◌-◌, ◌*◌, ◌%◌, ◌<◌, ◌≤◌, Bool, true, false, cond, Option, Some, None, IfSome, unwrap_or, get_or, Result, Ok, Err, List, [], ◌∷◌, ◌++◌, length, refl, sym, ◌∙◌, ap, subst, arith, inl, inr}
 use Rattle.std.proofs.Math.Nat.{mul-le-mul_right}
 use Rattle.fl_base.specs.declared.types.Geometry.{Geometry}
 use Rattle.fl_base.specs.declared.types.RingPlace.{RingPlace}
 use Rattle.fl_flash.specs.Flash.{FlashState, Goes, page_at}
-use Rattle.fl_flash.specs.declared.flash.FlashFault.{FlashFault}
 use Rattle.fl_index.specs.declared.index.Index.{Index}
-use Rattle.fl_index.specs.Finding.{FindsIndex}
 use Rattle.fl_index.specs.Memory as memory
 use Rattle.fl_index.specs.Outcomes as outcomes
 use Rattle.fl_index.specs.Outcomes.{end_of}
-use Rattle.fl_index.specs.Page.{first_on}
-use Rattle.fl_index.specs.Finding as finding
 use Rattle.fl_index.proofs.Sealings.{planned-ring}
 use Rattle.fl_model.specs.Facts.{counts_in, is_some_ring}
 use Rattle.fl_model.specs.Image.{IsRingImage, HoldsBitmaps}
@@ -19,12 +15,10 @@ use Rattle.fl_index.specs.Standing as standing
 use Rattle.fl_ring.specs.Mounting.{shape_at}
 use Rattle.fl_table.proofs.Moved.{has-index}
 use Rattle.fl_model.specs.Mount.{rings_of, index_end}
-use Rattle.fl_model.specs.Record.{Plan, RowLayout, has_index, entries_per_page}
+use Rattle.fl_model.specs.Record.{Plan, RowLayout, has_index}
 use Rattle.fl_model.specs.Ring as model
 use Rattle.fl_model.specs.Table.{Table, RingName, DataRing, IndexRing, VarRing, shape_of, full_pages}
 use Rattle.fl_model.specs.Work.{Device}
-use Rattle.fl_ring.specs.Causes as ring_causes
-use Rattle.fl_ring.specs.Causes.{CausedBy}
 use Rattle.fl_ring.specs.Device.{SameDevice}
 use Rattle.fl_ring.specs.Finding.{FoundFault}
 use Rattle.fl_ring.specs.Looking.{OnlyReads}
@@ -35,13 +29,12 @@ use Rattle.fl_ring.specs.Step.{IsWatched}
 use Rattle.fl_ring.specs.declared.fault.RingFault.{RingFault}
 use Rattle.fl_ring.specs.declared.fault.RingFault.TheVariants as ring
 use Rattle.fl_ring.specs.declared.ring.Ring.{Ring}
-use Rattle.fl_schema.specs.Schema.{layout_of}
 use Rattle.fl_table.specs.Bitmaps.{ArePlanned, AreSamePlan, AreSameRing, StandForRing, StandOutside, MountEndsOf, IsOutside}
 use Rattle.fl_table.specs.BlobEnds.{least_of}
 use Rattle.fl_table.specs.BlobMount.{FindsBlobs, RefusesWithin}
 use Rattle.fl_table.specs.Causes.{MountCausedBy, of_ring}
 use Rattle.fl_table.specs.Memory.{IsPlanned, IsSamePlan, ring_shape}
-use Rattle.fl_table.specs.Mounting.{FindsBitmaps, FindsRows, ReadsRing, HasBadPage, PagesUnread, HasBadRing, FindsData, RefusesData, RefusesRows}
+use Rattle.fl_table.specs.Mounting.{FindsBitmaps, FindsRows, ReadsRing, HasBadPage, FindsData, RefusesData, RefusesRows}
 use Rattle.fl_table.specs.Outcomes.{RingsEnd, MountEnds, var_rings}
 use Rattle.fl_table.specs.Pages.{Rests, bytes_in}
 use Rattle.fl_table.specs.Reading.{AreRead, AreRefused, last_after, rows_after, voids_after, ends_after, pages_of}

@@ -1,14 +1,13 @@
 -- The mount of variable data is the last part of the mount of their table.
-use Rattle.std.proofs.Common.{◌≡◌, ℕ, ◌+◌, ◌-◌, ◌*◌, ◌<◌, ◌≤◌, Bool, true, false, cond, Option, Some, None, IfSome, Result, Ok, Err, List, [], ◌∷◌, ◌++◌, length, take, refl, sym, ◌∙◌, ap, subst, arith, ◌⊎◌, inl, inr}
+use Rattle.std.proofs.Common.{◌≡◌, ℕ, ◌+◌, ◌-◌, ◌*◌, ◌<◌, ◌≤◌, Bool, true, cond, Option, Some, None, IfSome, Result, Ok, Err, List, [], ◌∷◌, ◌++◌, length, refl, sym, ◌∙◌, ap, subst, arith, ◌⊎◌, inl, inr}
 use Rattle.std.proofs.Math.Nat.{mul-le-mul_right}
-use Rattle.std.proofs.lemmas.List.{take_all}
 use Rattle.fl_flash.specs.Flash.{FlashState, page_at}
 use Rattle.fl_flash.specs.declared.flash.FlashFault.{FlashFault}
 use Rattle.fl_flash.specs.declared.flash.FlashFault.TheVariants.{Media}
 use Rattle.fl_model.specs.Mount.{renumber, ready}
 use Rattle.fl_model.specs.Record.{Plan, has_var}
 use Rattle.fl_model.specs.Ring.{Ring}
-use Rattle.fl_model.specs.Table.{Table, Entry, RingName, DataRing, VarRing, written, lose}
+use Rattle.fl_model.specs.Table.{Table, RingName, DataRing, VarRing, lose}
 use Rattle.fl_model.specs.Work.{Device, PartEnd, Whole, CutIn, FailedIn, PartProgress}
 use Rattle.fl_model.specs.Within.{repair_within, TablePerforms, TableUnreads, TableGoesOn, TableMounts, TableMountEnd, TableMounted, TableStopped, TableUnread}
 use Rattle.fl_ring.specs.Device.{SameDevice}
@@ -17,22 +16,22 @@ use Rattle.fl_table.specs.Bitmaps as bitmaps
 use Rattle.fl_table.specs.BlobMount as variable
 use Rattle.fl_table.specs.BlobMount.{WithinEndsOf, WithinEnds}
 use Rattle.fl_table.specs.Blobs.{AreHeld, ArePlanned, Stand, StandOutside, IsPlanned, IsStanding}
-use Rattle.fl_table.specs.Outcomes.{DataWell, DataEnds, FaultEnds, MountsBadly, MountsWell, RingsEnd, mounted_of, var_rings}
-use Rattle.fl_table.specs.Pages.{HoldsTable, Rests, bytes_in}
+use Rattle.fl_table.specs.Outcomes.{DataWell, DataEnds, FaultEnds, MountsBadly, RingsEnd, mounted_of, var_rings}
+use Rattle.fl_table.specs.Pages.{HoldsTable, Rests}
 use Rattle.fl_table.specs.Standing.{Stands}
 use Rattle.fl_table.specs.declared.faults.MountFault.{MountFault}
 use Rattle.fl_table.specs.declared.faults.MountFault.TheVariants as mount
 use Rattle.fl_table.specs.declared.mount.FoundRows.{FoundRows}
 use Rattle.fl_table.specs.declared.table.Table as code
-use Rattle.fl_table.proofs.BlobSeals.{IsBesideVar, facts-with_var, holds-with_var}
+use Rattle.fl_table.proofs.BlobSeals.{facts-with_var, holds-with_var}
 use Rattle.fl_table.proofs.BlobStands.{bitmaps-stand, index-before, index-pages}
-use Rattle.fl_table.proofs.BlobTables.{HoldsVar, IsBlobbed, broken-blobbed, planned-var, ring-holds, rests-var, standing-blobbed, standing-holds, var-pages}
+use Rattle.fl_table.proofs.BlobTables.{HoldsVar, IsBlobbed, broken-blobbed, ring-holds, rests-var, standing-blobbed, standing-holds, var-pages}
 use Rattle.fl_table.proofs.Blobbing.{planned-none, planned-some, stand-moved}
 use Rattle.fl_table.proofs.HeldBlobs.{held-front}
 use Rattle.fl_table.proofs.Plain.{IsPlainTable, table-facts, table-parts}
 use Rattle.fl_table.proofs.Repaired.{IsIdle, idle-lost, lost-idle}
 use Rattle.fl_table.proofs.SealAnswers.{planned-shape}
-use Rattle.fl_table.proofs.VarRepairs.{IsLeft, done-leaves, part-leaves}
+use Rattle.fl_table.proofs.VarRepairs.{done-leaves, part-leaves}
 use Rattle.fl_var.specs.Memory.{page_in}
 use Rattle.fl_var.specs.Placing as placing
 use Rattle.fl_var.specs.Standing.{IsVarRing}

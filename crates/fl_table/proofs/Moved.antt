@@ -1,23 +1,22 @@
 -- What an index lists stays right where other parts of its table change.
-use Rattle.std.proofs.Common.{◌≡◌, ℕ, zero, suc, ◌+◌, ◌-◌, ◌*◌, ◌<◌, ◌≤◌, Bool, true, false, cond, nat_lt, ◌==◌, Option, Some, None, IfSome, List, [], ◌∷◌, ◌++◌, length, take, drop, refl, sym, ◌∙◌, ap, subst, arith, ◌⊎◌, inl, inr, length-append, length-drop}
+use Rattle.std.proofs.Common.{◌≡◌, ℕ, suc, ◌+◌, ◌-◌, ◌<◌, ◌≤◌, Bool, true, false, cond, nat_lt, ◌==◌, Option, Some, None, IfSome, List, [], ◌∷◌, ◌++◌, length, take, drop, refl, sym, ◌∙◌, ap, subst, arith, ◌⊎◌, inl, inr, length-append, length-drop}
 use Rattle.std.proofs.Math.Path.{fun_ext}
 use Rattle.std.proofs.lemmas.List.{drop-drop, drop-take, take-take, take-append-le, drop-append-le}
-use Rattle.std.proofs.lemmas.List.Sums.{sum_by-take-drop, sum_by-append, sum_by-take-le}
+use Rattle.std.proofs.lemmas.List.Sums.{sum_by-take-drop, sum_by-take-le}
 use Rattle.std.proofs.lemmas.Bool.{lt-ltb}
 use Rattle.std.proofs.Math.Nat.{add-mul}
 use Rattle.std.specs.List.{slice_get, sum, list_any, AllByRecursion}
 use Rattle.fl_flash.specs.Flash.{FlashState, page_at}
-use Rattle.fl_model.specs.Facts.{IsTable, counts_in}
+use Rattle.fl_model.specs.Facts.{counts_in}
 use Rattle.fl_model.specs.Image.{IsRingImage, HoldsBitmaps, rows_at}
 use Rattle.fl_model.specs.Layout.{bitmap_of}
 use Rattle.fl_model.specs.Mount.{index_end}
-use Rattle.fl_model.specs.Record.{Plan, Record, entries_per_page}
+use Rattle.fl_model.specs.Record.{Plan, entries_per_page}
 use Rattle.fl_model.specs.Ring as model
 use Rattle.fl_model.specs.Ring.{oldest}
-use Rattle.fl_model.specs.Table.{Table, Entry, DataRing, IndexRing, shape_of, full_pages, lose, seal_page, seal_buffer}
+use Rattle.fl_model.specs.Table.{Table, Entry, IndexRing, shape_of, full_pages, lose}
 use Rattle.fl_model.proofs.Lists.{slice_get-drop, slice_get-push, slice_get-short}
 use Rattle.fl_index.specs.declared.index.Index.{Index}
-use Rattle.fl_index.specs.Standing as standing
 use Rattle.fl_index.specs.Standing.{HasIndex, HoldsIndex, StandsForRing, Waits, bytes_in}
 use Rattle.fl_index.proofs.Lists.{below-end}
 use Rattle.fl_index.proofs.Sealings.{rows-lost}

@@ -8,7 +8,7 @@ use Rattle.fl_ring.specs.Mounting.{shape_at}
 use Rattle.fl_ring.specs.Ring.{Shape}
 use Rattle.fl_table.specs.Bitmaps.{AreSamePlan, IsOutside}
 use Rattle.fl_table.specs.Blobs as variable
-use Rattle.fl_table.specs.Memory.{IsSamePlan, ring_shape}
+use Rattle.fl_table.specs.Memory.{IsSamePlan}
 use Rattle.fl_table.specs.Mounting.{OutsideStands}
 use Rattle.fl_table.specs.declared.table.Table.{Table}
 use Rattle.fl_var.specs.Memory.{var_shape}

@@ -1,11 +1,11 @@
 -- The rings of a configuration that isn't refused.
-use Rattle.std.proofs.Common.{◌≡◌, ℕ, ◌+◌, ◌*◌, ◌<◌, ◌≤◌, ◌-◌, ◌==◌, not, Bool, true, false, cond, ◌||◌, nat_lt, Option, Some, None, IfSome, List, [], ◌∷◌, ◌++◌, refl, sym, ◌∙◌, ap, subst, arith}
+use Rattle.std.proofs.Common.{◌≡◌, ◌+◌, ◌*◌, ◌≤◌, ◌-◌, ◌==◌, not, Bool, true, false, cond, ◌||◌, nat_lt, Option, Some, None, IfSome, List, [], ◌∷◌, ◌++◌, refl, sym, ◌∙◌, arith}
 use Rattle.std.proofs.lemmas.Bool.{ltb-false, eqb-true}
-use Rattle.std.proofs.Math.Nat.{mul-le-mul_right, mul-le-mul_left, add-mul}
+use Rattle.std.proofs.Math.Nat.{mul-le-mul_right, add-mul}
 use Rattle.fl_base.specs.declared.types.RingPlace.{RingPlace}
 use Rattle.std.specs.List.{sum_by}
 use Rattle.std.proofs.lemmas.List.Sums.{sum_by-cons}
-use Rattle.fl_model.specs.Record.{Plan, blocks_of, content_per_page}
+use Rattle.fl_model.specs.Record.{blocks_of, content_per_page}
 use Rattle.fl_model.specs.Table.{first_of}
 use Rattle.fl_plan.specs.declared.table_config.TableConfig.{TableConfig}
 use Rattle.fl_plan.specs.Limits.{IsWithinLimits, IsRingSize}

@@ -1,5 +1,5 @@
 -- How a put ends, by what it refused and what it put.
-use Rattle.std.proofs.Common.{◌≡◌, ℕ, ◌+◌, ◌-◌, ◌/◌, ◌≤◌, Bool, true, false, ◌&&◌, Option, Some, None, option_map, Ok, Err, List, length, refl, sym, ◌∙◌, ap, subst, arith}
+use Rattle.std.proofs.Common.{◌≡◌, ℕ, ◌+◌, ◌-◌, ◌/◌, ◌≤◌, Bool, true, false, ◌&&◌, Option, Some, None, option_map, Ok, Err, List, length, refl, ◌∙◌, ap, arith}
 use Rattle.std.proofs.Math.IntN.{ℤ}
 use Rattle.std.proofs.Math.Nat.{le-div_iff_mul-le}
 use Rattle.fl_flash.specs.Flash.{FlashState}
@@ -33,13 +33,13 @@ and-true false = refl
 
 -- a refused record
 pub refused-ends : {KNOTS SLOTS : ℕ} (t : code.Table KNOTS SLOTS) (f : FlashState) (first : ℕ) (plan : Plan) (table : Table) (key : ℕ) (values : List ℤ) (blob : Option (List ℕ)) (rose : Bool) (device : Device) → Stands t f first plan table →
-    (refusal : PutRefusal) → put_refusal t key values (option_map (λ (xs : List ℕ). length xs) blob) ≡ Some refusal → (after : code.Table KNOTS SLOTS) (new : FlashState) → PutEnds first plan (record { key = key; values = values; blob = blob }) table rose device (Err refusal) after new
+    (refusal : PutRefusal) → put_refusal t key values (option_map (λ (xs : List ℕ). length xs) blob) ≡ Some refusal → (after : code.Table KNOTS SLOTS) (new : FlashState) → PutEnds first plan (record { key = key; values = values; blob = blob }) table rose device (Err refusal) after f new
 refused-ends t f first plan table key values blob rose device s refusal e after new =
     let a = answered t f first plan table key values blob s refusal e in
     rw a.2 (by_refusal a.0 a.1)
   where
     by_refusal : (r : Refusal) → refusal_of plan table (record { key = key; values = values; blob = blob }) ≡ Some r →
-        PutEnds first plan (record { key = key; values = values; blob = blob }) table rose device (Err (answer_of r)) after new
+        PutEnds first plan (record { key = key; values = values; blob = blob }) table rose device (Err (answer_of r)) after f new
     by_refusal (BadKey last) k = k
     by_refusal (BadColumns wanted) k = k
     by_refusal (BadValue column) k = k
@@ -49,7 +49,7 @@ refused-ends t f first plan table key values blob rose device s refusal e after 
 -- an operation of the pages that make room failed
 pub broken-ends : {KNOTS SLOTS : ℕ} (t : code.Table KNOTS SLOTS) (f : FlashState) (first : ℕ) (plan : Plan) (table : Table) (key : ℕ) (values : List ℤ) (blob : Option (List ℕ)) (rose : Bool) (device : Device) → Stands t f first plan table →
     put_refusal t key values (option_map (λ (xs : List ℕ). length xs) blob) ≡ None → (fault : FlashFault) (after : code.Table KNOTS SLOTS) (new : FlashState) → Breaks first plan (seals_within plan (make_room_seals plan table) table) table rose device fault new →
-    PutEnds first plan (record { key = key; values = values; blob = blob }) table rose device (Err (put.Flash fault)) after new
+    PutEnds first plan (record { key = key; values = values; blob = blob }) table rose device (Err (put.Flash fault)) after f new
 broken-ends t f first plan table key values blob rose device s e fault after new h =
     (not-refused t f first plan table key values blob s e, put-stops first plan (record { key = key; values = values; blob = blob }) table rose device fault new h)
 
@@ -64,7 +64,7 @@ some-rows t f first plan table s =
 -- room was made, and the record joins or not
 module _ {KNOTS SLOTS : ℕ} (t : code.Table KNOTS SLOTS) (f : FlashState) (first : ℕ) (plan : Plan) (table : Table) (key : ℕ) (values : List ℤ) (blob : Option (List ℕ)) (rose : Bool) (device : Device) (s : Stands t f first plan table)
     (e : put_refusal t key values (option_map (λ (xs : List ℕ). length xs) blob) ≡ None) (room : code.Table KNOTS SLOTS) (mid : FlashState)
-    (h : Finishes first plan (seals_within plan (make_room_seals plan table) table) table (after_seals plan (make_room_seals plan table) table) rose device room mid) where
+    (h : Finishes first plan (seals_within plan (make_room_seals plan table) table) table (after_seals plan (make_room_seals plan table) table) rose device room f mid) where
   abbrev item : Record
   item = record { key = key; values = values; blob = blob }
 
@@ -73,10 +73,10 @@ module _ {KNOTS SLOTS : ℕ} (t : code.Table KNOTS SLOTS) (f : FlashState) (firs
       let ok = accepted plan table item (not-refused t f first plan table key values blob s e) in
       room-accepts plan table item (planned-shape t first plan s.planned) (table-parts plan table s.facts) (some-rows t f first plan table s) ok (has-room room mid first plan (after_seals plan (make_room_seals plan table) table) h.stands left)
 
-  pub join-fails : (fault : FlashFault) (after : code.Table KNOTS SLOTS) (new : FlashState) → JoinEnds first plan item (after_seals plan (make_room_seals plan table) table) rose h.now.device (Err fault) after new →
-      PutEnds first plan (record { key = key; values = values; blob = blob }) table rose device (Err (put.Flash fault)) after new
-  join-fails fault after new k = (not-refused t f first plan table key values blob s e, put-breaks first plan item table rose device room mid h fault after new k)
+  pub join-fails : (fault : FlashFault) (after : code.Table KNOTS SLOTS) (new : FlashState) → JoinEnds first plan item (after_seals plan (make_room_seals plan table) table) rose h.now.device (Err fault) after mid new →
+      PutEnds first plan (record { key = key; values = values; blob = blob }) table rose device (Err (put.Flash fault)) after f new
+  join-fails fault after new k = (not-refused t f first plan table key values blob s e, put-breaks first plan item table rose device room f mid h fault after new k)
 
-  pub put-ends : (after : code.Table KNOTS SLOTS) (new : FlashState) → JoinEnds first plan item (after_seals plan (make_room_seals plan table) table) rose h.now.device (Ok tt) after new →
-      PutEnds first plan (record { key = key; values = values; blob = blob }) table rose device (Ok tt) after new
-  put-ends after new k = (not-refused t f first plan table key values blob s e, put-finishes first plan item table rose device room mid h after new k)
+  pub put-ends : (after : code.Table KNOTS SLOTS) (new : FlashState) → JoinEnds first plan item (after_seals plan (make_room_seals plan table) table) rose h.now.device (Ok tt) after mid new →
+      PutEnds first plan (record { key = key; values = values; blob = blob }) table rose device (Ok tt) after f new
+  put-ends after new k = (not-refused t f first plan table key values blob s e, put-finishes first plan item table rose device room f mid h after new k)

@@ -1,9 +1,8 @@
 -- A record joins the pending ones, and pages that are full.
-use Rattle.std.proofs.Common.{◌≡◌, ℕ, ◌+◌, ◌-◌, ◌*◌, ◌/◌, ◌^◌, ◌<◌, ◌≤◌, Bool, true, false, cond, ◌&&◌, ◌==◌, Option, Some, None, Result, Ok, Err, eq-eqb, unwrap_or, List, [], ◌∷◌, ◌++◌, length, take, drop, get_or, fold, refl, sym, ◌∙◌, ap, subst, arith, inl, inr, length-append, pos, bit_or}
-use Rattle.std.proofs.Math.IntN.{ℤ}
+use Rattle.std.proofs.Common.{◌≡◌, ℕ, ◌+◌, ◌-◌, ◌*◌, ◌/◌, ◌^◌, ◌<◌, ◌≤◌, Bool, true, false, cond, ◌&&◌, ◌==◌, Option, Some, None, Err, eq-eqb, unwrap_or, List, [], ◌∷◌, ◌++◌, length, drop, get_or, fold, refl, sym, ◌∙◌, ap, subst, arith, inl, inr, length-append, pos, bit_or}
 use Rattle.std.proofs.Math.Nat.{le-div_iff_mul-le, add-mul}
 use Rattle.std.proofs.lemmas.Bool.{eqb-true, cases_lt}
-use Rattle.std.proofs.lemmas.List.{take-append-le, drop-append-le}
+use Rattle.std.proofs.lemmas.List.{drop-append-le}
 use Rattle.std.proofs.lemmas.List.Sums.{fold_push}
 use Rattle.std.proofs.lemmas.Option.{unwrap_or-slice_get}
 use Rattle.std.specs.List.{slice_get, sum, last_or}
@@ -14,7 +13,7 @@ use Rattle.fl_flash.specs.Flash.{FlashState, page_at}
 use Rattle.fl_model.specs.Layout.{bitmap_of, bucket_of}
 use Rattle.fl_model.specs.Record.{Record, Plan, RowLayout, layout_len, row_len, rows_per_page, entries_per_page, has_index}
 use Rattle.fl_model.specs.Table.{Table, Entry, DataRing, IndexRing, RingName, shape_of, blob_len, pending_entries, last_entry, after_seal, after_seals, place_seals, make_room_seals, table_seals, flushed, put_seals, put_record}
-use Rattle.fl_model.specs.Within.{seal_within, seals_within}
+use Rattle.fl_model.specs.Within.{seals_within}
 use Rattle.fl_model.specs.Ring.{Ring, IsShape}
 use Rattle.fl_model.specs.Work.{Kind, Device, Whole}
 use Rattle.fl_ring.specs.Device.{SameDevice}
@@ -38,6 +37,7 @@ use Rattle.fl_table.specs.Outcomes.{Finishes, Breaks}
 use Rattle.fl_table.specs.Standing.{Stands}
 use Rattle.fl_table.specs.declared.table.Table as code
 use Rattle.fl_table.proofs.Memories.{last-sealed}
+use Rattle.fl_table.proofs.Staying.{kept-same}
 use Rattle.fl_table.proofs.SealAnswers.{writer-count}
 
 -- the bitmap of one more row
@@ -134,10 +134,10 @@ append-nil (x ∷ xs) = ap (λ ys. x ∷ ys) (append-nil xs)
 pub no-seal : (plan : Plan) (table : Table) (rings : List RingName) → rings ≡ [] → [] ≡ seals_within plan rings table
 no-seal plan table rings e = sym (ap (λ (rs : List RingName). seals_within plan rs table) e)
 
-pub finishes-as : {KNOTS SLOTS : ℕ} (first : ℕ) (plan : Plan) (operations others : List (RingName × Kind)) (table after else_after : Table) (rose : Bool) (device : Device) (t : code.Table KNOTS SLOTS) (new : FlashState) →
-    operations ≡ others → after ≡ else_after → Finishes first plan operations table after rose device t new → Finishes first plan others table else_after rose device t new
-finishes-as first plan operations others table after else_after rose device t new e k h =
-    subst (λ (ops : List (RingName × Kind)). Finishes first plan ops table else_after rose device t new) e (subst (λ (x : Table). Finishes first plan operations table x rose device t new) k h)
+pub finishes-as : {KNOTS SLOTS : ℕ} (first : ℕ) (plan : Plan) (operations others : List (RingName × Kind)) (table after else_after : Table) (rose : Bool) (device : Device) (t : code.Table KNOTS SLOTS) (old new : FlashState) →
+    operations ≡ others → after ≡ else_after → Finishes first plan operations table after rose device t old new → Finishes first plan others table else_after rose device t old new
+finishes-as first plan operations others table after else_after rose device t old new e k h =
+    subst (λ (ops : List (RingName × Kind)). Finishes first plan ops table else_after rose device t old new) e (subst (λ (x : Table). Finishes first plan operations table x rose device t old new) k h)
 
 pub breaks-as : (first : ℕ) (plan : Plan) (operations others : List (RingName × Kind)) (table : Table) (rose : Bool) (device : Device) (fault : FlashFault) (new : FlashState) →
     operations ≡ others → Breaks first plan operations table rose device fault new → Breaks first plan others table rose device fault new
@@ -145,11 +145,11 @@ breaks-as first plan operations others table rose device fault new e h = subst (
 
 -- nothing is pending
 pub flush-idle : {KNOTS SLOTS : ℕ} (f : FlashState) (first : ℕ) (plan : Plan) (table : Table) (rose : Bool) (device : Device) (t : code.Table KNOTS SLOTS) → table.pending ≡ 0 → Stands t f first plan table → SameDevice f device → f.is_on ≡ true →
-    Finishes first plan (seals_within plan (table_seals plan table) table) table (flushed plan table) rose device t f
+    Finishes first plan (seals_within plan (table_seals plan table) table) table (flushed plan table) rose device t f f
 flush-idle f first plan table rose device t none stands counts power =
-    finishes-as first plan [] (seals_within plan (table_seals plan table) table) table table (flushed plan table) rose device t f
+    finishes-as first plan [] (seals_within plan (table_seals plan table) table) table table (flushed plan table) rose device t f f
     (no-seal plan table (table_seals plan table) (idle-table_seals plan table none)) (sym (ap (λ (rs : List RingName). after_seals plan rs table) (idle-table_seals plan table none)))
-    (record { now = record { end = Whole; device = device; state = table }; did = (refl, refl, refl); whole = refl; counts = counts; power = power; stands = stands })
+    (record { now = record { end = Whole; device = device; state = table }; did = (refl, refl, refl); whole = refl; counts = counts; power = power; stands = stands; stand = kept-same first plan table table (page_at f) (page_at f) refl refl refl (λ ring n. refl) })
 
 -- a put, which makes room and then places its blob
 module _ (first : ℕ) (plan : Plan) (item : Record) (table : Table) (rose : Bool) (device : Device) where
@@ -159,14 +159,14 @@ module _ (first : ℕ) (plan : Plan) (item : Record) (table : Table) (rose : Boo
   pub put-stops : (fault : FlashFault) (new : FlashState) → Breaks first plan (seals_within plan (make_room_seals plan table) table) table rose device fault new → Breaks first plan (seals_within plan (put_seals plan item table) table) table rose device fault new
   put-stops fault new h = seals-stop first plan (make_room_seals plan table) (place_seals plan (blob_len item) roomed) table rose device fault new h
 
-  module _ {KNOTS SLOTS : ℕ} (room : code.Table KNOTS SLOTS) (mid : FlashState) (h : Finishes first plan (seals_within plan (make_room_seals plan table) table) table (after_seals plan (make_room_seals plan table) table) rose device room mid) where
+  module _ {KNOTS SLOTS : ℕ} (room : code.Table KNOTS SLOTS) (old mid : FlashState) (h : Finishes first plan (seals_within plan (make_room_seals plan table) table) table (after_seals plan (make_room_seals plan table) table) rose device room old mid) where
     pub put-breaks : (fault : FlashFault) (t : code.Table KNOTS SLOTS) (new : FlashState) → Breaks first plan (seals_within plan (place_seals plan (blob_len item) roomed) roomed) roomed rose h.now.device fault new →
         Breaks first plan (seals_within plan (put_seals plan item table) table) table rose device fault new
-    put-breaks fault t new k = seals-then first plan (make_room_seals plan table) (place_seals plan (blob_len item) roomed) table rose device room mid (Err fault) t new h k
+    put-breaks fault t new k = seals-then first plan (make_room_seals plan table) (place_seals plan (blob_len item) roomed) table rose device room old mid (Err fault) t new h k
 
-    pub put-finishes : (t : code.Table KNOTS SLOTS) (new : FlashState) → Finishes first plan (seals_within plan (place_seals plan (blob_len item) roomed) roomed) roomed (put_record plan item table) rose h.now.device t new →
-        Finishes first plan (seals_within plan (put_seals plan item table) table) table (put_record plan item table) rose device t new
-    put-finishes t new k = finishes-then first plan (make_room_seals plan table) (place_seals plan (blob_len item) roomed) table (put_record plan item table) rose device room mid t new h k
+    pub put-finishes : (t : code.Table KNOTS SLOTS) (new : FlashState) → Finishes first plan (seals_within plan (place_seals plan (blob_len item) roomed) roomed) roomed (put_record plan item table) rose h.now.device t mid new →
+        Finishes first plan (seals_within plan (put_seals plan item table) table) table (put_record plan item table) rose device t old new
+    put-finishes t new k = finishes-then first plan (make_room_seals plan table) (place_seals plan (blob_len item) roomed) table (put_record plan item table) rose device room old mid t new h k
 
 -- a seal of the waiting bitmaps leaves all else
 beside-bitmaps : (plan : Plan) (table : Table) → IsBeside table (after_seals plan (bitmap_seals plan table) table)

@@ -1,5 +1,5 @@
 -- A table refuses as its model does.
-use Rattle.std.proofs.Common.{◌≡◌, ℕ, ◌+◌, Bool, true, false, cond, not, ◌&&◌, ◌||◌, ◌==◌, nat_le, nat_lt, Option, Some, None, IfSome, Err, subst, is_some, option_map, unwrap_or, List, length, refl, sym, ◌∙◌, ap, arith, ◌<◌, ◌≤◌}
+use Rattle.std.proofs.Common.{◌≡◌, ℕ, ◌+◌, Bool, true, false, cond, not, ◌||◌, ◌==◌, nat_le, nat_lt, Option, Some, None, IfSome, Err, subst, is_some, option_map, unwrap_or, List, length, refl, sym, ◌∙◌, ap, arith, ◌<◌, ◌≤◌}
 use Rattle.std.proofs.lemmas.Bool.{ltb-false, leb-false, eqb-true}
 use Rattle.std.specs.Prelude.{if◌then◌else◌}
 use Rattle.std.proofs.Math.IntN.{ℤ}

@@ -4,7 +4,7 @@ use Rattle.std.specs.List.{slice_get}
 use Rattle.fl_flash.specs.Flash.{FlashState, page_at}
 use Rattle.fl_model.specs.Record.{Plan}
 use Rattle.fl_model.specs.Ring.{Ring, oldest}
-use Rattle.fl_model.specs.Table.{Table, Entry}
+use Rattle.fl_model.specs.Table.{Table}
 use Rattle.fl_table.specs.Blobs.{AreHeld, AreEmpty, ArePlanned, Stand}
 use Rattle.fl_table.proofs.BlobTables.{HoldsVar, IsBlobbed, ring-holds, var-pages}
 use Rattle.fl_table.proofs.Blobbing.{none-var}

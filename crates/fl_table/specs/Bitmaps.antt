@@ -142,7 +142,7 @@ abbrev pub MakesRoomOf : Option Index → FlashState → ℕ → Plan → Table 
 MakesRoomOf None old first plan table rose device result new_index new = (result ≡ Ok tt) × (new_index ≡ None) × (new ≡ old)
 MakesRoomOf (Some index) old first plan table rose device result None new = ⊥
 MakesRoomOf (Some index) old first plan table rose device result (Some now) new =
-    IsWatched old new rose device → standing.Stands index old first plan table → outcomes.MakesRoom first plan table rose device result now new
+    IsWatched old new rose device → standing.Stands index old first plan table → outcomes.MakesRoom first plan table rose device result now old new
 
 abbrev pub MountEndsOf : Option Index → FlashState → ℕ → Plan → Table → Bool → Device → Result (Option ℕ) RingFault → Option Index → FlashState → Type 0
 MountEndsOf None old first plan table rose device result new_index new = (result ≡ Ok None) × (new_index ≡ None) × (new ≡ old)

@@ -11,6 +11,7 @@ use Rattle.fl_model.specs.Table.{Table, Entry, RingName, VarRing, written, blob_
 use Rattle.fl_model.specs.Within.{TablePerforms, seals_within}
 use Rattle.fl_model.specs.Work.{Device, Whole, PartProgress}
 use Rattle.fl_ring.specs.Device.{SameDevice}
+use Rattle.fl_ring.specs.Kept.{PagesStand}
 use Rattle.fl_ring.specs.Ring.{OutsideStands, room}
 use Rattle.fl_ring.specs.Step.{IsWatched}
 use Rattle.fl_var.specs.Memory as memory
@@ -104,13 +105,14 @@ abbrev pub blob_seals : Table → List RingName
 blob_seals table = if nat_lt 0 table.fill then VarRing ∷ [] else []
 
 -- These seals were all done, and left the variable data of this table.
-pub record Finishes (first : ℕ) (plan : Plan) (seals : List RingName) (table after : Table) (rose : Bool) (device : Device) (var : VarData) (new : FlashState) : Type 0 where
+pub record Finishes (first : ℕ) (plan : Plan) (seals : List RingName) (table after : Table) (rose : Bool) (device : Device) (old : VarData) (old_f : FlashState) (var : VarData) (new : FlashState) : Type 0 where
   pub now : PartProgress Table
   pub did : TablePerforms plan rose (seals_within plan seals table) device table now
   pub whole : now.end ≡ Whole
   pub counts : SameDevice new now.device
   pub power : new.is_on ≡ true
   pub stands : IsStanding var new first plan after
+  pub stand : (before : Ring) → table.var ≡ Some before → PagesStand before (page_in old old_f) stands.in_pages.ring.ring (page_in var new)
 
 -- One of their operations failed. The flash stands for the ring that this leaves, and holds the blobs of the written records.
 pub record Breaks (first : ℕ) (plan : Plan) (seals : List RingName) (table : Table) (rose : Bool) (device : Device) (fault : FlashFault) (old : VarData) (new : FlashState) : Type 0 where
@@ -124,19 +126,19 @@ pub record Breaks (first : ℕ) (plan : Plan) (seals : List RingName) (table : T
   pub written : AreHeld plan ring (page_in old new) (written table)
 
 -- The bytes that waited were sealed: all blobs stand in the ring.
-pub record SealsRest (first : ℕ) (plan : Plan) (table : Table) (rose : Bool) (device : Device) (var : VarData) (new : FlashState) : Type 0 where
-  pub finishes : Finishes first plan (blob_seals table) table (after_seals plan (blob_seals table) table) rose device var new
+pub record SealsRest (first : ℕ) (plan : Plan) (table : Table) (rose : Bool) (device : Device) (old : VarData) (old_f : FlashState) (var : VarData) (new : FlashState) : Type 0 where
+  pub finishes : Finishes first plan (blob_seals table) table (after_seals plan (blob_seals table) table) rose device old old_f var new
   pub sealed : AreHeld plan finishes.stands.in_pages.ring.ring (page_in var new) table.entries
 
-abbrev pub RestEnds : ℕ → Plan → Table → Bool → Device → VarData → Result (Unit {0}) FlashFault → VarData → FlashState → Type 0
-RestEnds first plan table rose device old (Ok done) var new = SealsRest first plan table rose device var new
-RestEnds first plan table rose device old (Err fault) var new = Breaks first plan (blob_seals table) table rose device fault old new
+abbrev pub RestEnds : ℕ → Plan → Table → Bool → Device → VarData → FlashState → Result (Unit {0}) FlashFault → VarData → FlashState → Type 0
+RestEnds first plan table rose device old old_f (Ok done) var new = SealsRest first plan table rose device old old_f var new
+RestEnds first plan table rose device old old_f (Err fault) var new = Breaks first plan (blob_seals table) table rose device fault old new
 
 abbrev pub RestEndsOf : Option VarData → FlashState → ℕ → Plan → Table → Bool → Device → Result (Unit {0}) FlashFault → Option VarData → FlashState → Type 0
 RestEndsOf None old first plan table rose device result blobs new = (result ≡ Ok tt) × (blobs ≡ None) × (new ≡ old)
 RestEndsOf (Some var) old first plan table rose device result None new = ⊥
 RestEndsOf (Some var) old first plan table rose device result (Some now) new =
-    IsWatched old new rose device → IsStanding var old first plan table → RestEnds first plan table rose device var result now new
+    IsWatched old new rose device → IsStanding var old first plan table → RestEnds first plan table rose device var old result now new
 
 -- the table that a record joins, after its blob was placed
 abbrev pub table_with : Plan → Record → Table → Table
@@ -147,16 +149,16 @@ abbrev pub reference_of : Plan → Record → Table → Option BlobRef
 reference_of plan item table = option_map (λ bytes. where_placed plan (length bytes) table) item.blob
 
 -- a record's blob was placed, where it has one: it stands with those of the others
-abbrev pub PlaceEnds : ℕ → Plan → Record → Table → Bool → Device → VarData → Result (Option BlobRef) FlashFault → VarData → FlashState → Type 0
-PlaceEnds first plan item table rose device old (Ok at) var new =
-    (at ≡ reference_of plan item table) × Finishes first plan (place_seals plan (blob_len item) table) table (table_with plan item table) rose device var new
-PlaceEnds first plan item table rose device old (Err fault) var new = Breaks first plan (place_seals plan (blob_len item) table) table rose device fault old new
+abbrev pub PlaceEnds : ℕ → Plan → Record → Table → Bool → Device → VarData → FlashState → Result (Option BlobRef) FlashFault → VarData → FlashState → Type 0
+PlaceEnds first plan item table rose device old old_f (Ok at) var new =
+    (at ≡ reference_of plan item table) × Finishes first plan (place_seals plan (blob_len item) table) table (table_with plan item table) rose device old old_f var new
+PlaceEnds first plan item table rose device old old_f (Err fault) var new = Breaks first plan (place_seals plan (blob_len item) table) table rose device fault old new
 
 abbrev pub PlaceEndsOf : Option VarData → FlashState → ℕ → Plan → Record → Table → Bool → Device → Result (Option BlobRef) FlashFault → Option VarData → FlashState → Type 0
 PlaceEndsOf None old first plan item table rose device result blobs new = (result ≡ Ok None) × (blobs ≡ None) × (new ≡ old)
 PlaceEndsOf (Some var) old first plan item table rose device result None new = ⊥
 PlaceEndsOf (Some var) old first plan item table rose device result (Some now) new =
-    IsWatched old new rose device → IsStanding var old first plan table → PlaceEnds first plan item table rose device var result now new
+    IsWatched old new rose device → IsStanding var old first plan table → PlaceEnds first plan item table rose device var old result now new
 
 -- the flash pages outside the ring stand
 abbrev pub StandOutside : Option VarData → (ℕ → List ℕ) → (ℕ → List ℕ) → Type 0

@@ -1,6 +1,6 @@
 -- How the calls of a table end, over a flash that stands for a table of the model.
 use Rattle.std.specs.Prelude.{◌≡◌, ℕ, ◌+◌, Bool, true, false, ◌⊎◌, Some, None, Result, Ok, Err, List, [], ◌∷◌, length, if◌then◌else◌}
-use Rattle.fl_flash.specs.Flash.{FlashState}
+use Rattle.fl_flash.specs.Flash.{FlashState, page_at}
 use Rattle.fl_flash.specs.declared.flash.FlashFault.{FlashFault}
 use Rattle.fl_flash.specs.declared.flash.FlashFault.TheVariants.{PowerLost, Media}
 use Rattle.fl_ring.specs.Device.{SameDevice}
@@ -24,17 +24,18 @@ use Rattle.fl_model.specs.Facts.{IsTable}
 use Rattle.fl_table.specs.Bitmaps.{Stand}
 use Rattle.fl_table.specs.Memory.{IsPlanned, HoldsInMemory}
 use Rattle.fl_table.specs.Blobs.{table_with}
-use Rattle.fl_table.specs.Pages.{Rests}
+use Rattle.fl_table.specs.Pages.{KeptStand, Rests}
 use Rattle.fl_table.specs.Standing.{Stands}
 
 -- The operations of a call were all done, and it left this table.
-pub record Finishes {KNOTS SLOTS : ℕ} (first : ℕ) (plan : Plan) (operations : List (RingName × Kind)) (table after : model.Table) (rose : Bool) (device : Device) (t : Table KNOTS SLOTS) (new : FlashState) : Type 0 where
+pub record Finishes {KNOTS SLOTS : ℕ} (first : ℕ) (plan : Plan) (operations : List (RingName × Kind)) (table after : model.Table) (rose : Bool) (device : Device) (t : Table KNOTS SLOTS) (old new : FlashState) : Type 0 where
   pub now : PartProgress model.Table
   pub did : TablePerforms plan rose operations device table now
   pub whole : now.end ≡ Whole
   pub counts : SameDevice new now.device
   pub power : new.is_on ≡ true
   pub stands : Stands t new first plan after
+  pub stand : KeptStand first plan table after (page_at old) (page_at new)
 
 -- the fault that an operation answers where it fails so
 abbrev pub FaultEnds : PartEnd model.Table → FlashFault → FlashState → Type 0
@@ -51,38 +52,38 @@ pub record Breaks (first : ℕ) (plan : Plan) (operations : List (RingName × Ki
   pub rests : Rests new first plan (lose now.state)
 
 -- the seals of these rings, one after another
-abbrev pub SealsEnd : {KNOTS SLOTS : ℕ} → ℕ → Plan → List RingName → model.Table → Bool → Device → Result (Unit {0}) FlashFault → Table KNOTS SLOTS → FlashState → Type 0
-SealsEnd first plan rings table rose device (Ok done) t new =
-    Finishes first plan (seals_within plan rings table) table (after_seals plan rings table) rose device t new
-SealsEnd first plan rings table rose device (Err fault) t new = Breaks first plan (seals_within plan rings table) table rose device fault new
+abbrev pub SealsEnd : {KNOTS SLOTS : ℕ} → ℕ → Plan → List RingName → model.Table → Bool → Device → Result (Unit {0}) FlashFault → Table KNOTS SLOTS → FlashState → FlashState → Type 0
+SealsEnd first plan rings table rose device (Ok done) t old new =
+    Finishes first plan (seals_within plan rings table) table (after_seals plan rings table) rose device t old new
+SealsEnd first plan rings table rose device (Err fault) t old new = Breaks first plan (seals_within plan rings table) table rose device fault new
 
 -- the blob of a record was placed, where it has one, and the record joined the table
-abbrev pub JoinEnds : {KNOTS SLOTS : ℕ} → ℕ → Plan → Record → model.Table → Bool → Device → Result (Unit {0}) FlashFault → Table KNOTS SLOTS → FlashState → Type 0
-JoinEnds first plan item table rose device (Ok done) t new =
-    Finishes first plan (seals_within plan (place_seals plan (blob_len item) table) table) table (table_with plan item table) rose device t new
-JoinEnds first plan item table rose device (Err fault) t new = Breaks first plan (seals_within plan (place_seals plan (blob_len item) table) table) table rose device fault new
+abbrev pub JoinEnds : {KNOTS SLOTS : ℕ} → ℕ → Plan → Record → model.Table → Bool → Device → Result (Unit {0}) FlashFault → Table KNOTS SLOTS → FlashState → FlashState → Type 0
+JoinEnds first plan item table rose device (Ok done) t old new =
+    Finishes first plan (seals_within plan (place_seals plan (blob_len item) table) table) table (table_with plan item table) rose device t old new
+JoinEnds first plan item table rose device (Err fault) t old new = Breaks first plan (seals_within plan (place_seals plan (blob_len item) table) table) table rose device fault new
 
 -- a put of an accepted record, by the refusal that it answers
-abbrev pub PutEnds : {KNOTS SLOTS : ℕ} → ℕ → Plan → Record → model.Table → Bool → Device → Result (Unit {0}) PutRefusal → Table KNOTS SLOTS → FlashState → Type 0
-PutEnds first plan item table rose device (Ok done) t new =
+abbrev pub PutEnds : {KNOTS SLOTS : ℕ} → ℕ → Plan → Record → model.Table → Bool → Device → Result (Unit {0}) PutRefusal → Table KNOTS SLOTS → FlashState → FlashState → Type 0
+PutEnds first plan item table rose device (Ok done) t old new =
     (refusal_of plan table item ≡ None)
-    × Finishes first plan (seals_within plan (put_seals plan item table) table) table (put_record plan item table) rose device t new
-PutEnds first plan item table rose device (Err (put.Flash fault)) t new =
+    × Finishes first plan (seals_within plan (put_seals plan item table) table) table (put_record plan item table) rose device t old new
+PutEnds first plan item table rose device (Err (put.Flash fault)) t old new =
     (refusal_of plan table item ≡ None) × Breaks first plan (seals_within plan (put_seals plan item table) table) table rose device fault new
-PutEnds first plan item table rose device (Err (put.Key last)) t new = refusal_of plan table item ≡ Some (model.BadKey last)
-PutEnds first plan item table rose device (Err (put.Columns wanted)) t new = refusal_of plan table item ≡ Some (model.BadColumns wanted)
-PutEnds first plan item table rose device (Err (put.Value column)) t new = refusal_of plan table item ≡ Some (model.BadValue column)
-PutEnds first plan item table rose device (Err (put.Blob limit)) t new = refusal_of plan table item ≡ Some (model.BadBlob limit)
-PutEnds first plan item table rose device (Err put.Spent) t new = refusal_of plan table item ≡ Some model.Spent
-PutEnds first plan item table rose device (Err put.Stopped) t new = ⊥
+PutEnds first plan item table rose device (Err (put.Key last)) t old new = refusal_of plan table item ≡ Some (model.BadKey last)
+PutEnds first plan item table rose device (Err (put.Columns wanted)) t old new = refusal_of plan table item ≡ Some (model.BadColumns wanted)
+PutEnds first plan item table rose device (Err (put.Value column)) t old new = refusal_of plan table item ≡ Some (model.BadValue column)
+PutEnds first plan item table rose device (Err (put.Blob limit)) t old new = refusal_of plan table item ≡ Some (model.BadBlob limit)
+PutEnds first plan item table rose device (Err put.Spent) t old new = refusal_of plan table item ≡ Some model.Spent
+PutEnds first plan item table rose device (Err put.Stopped) t old new = ⊥
 
 -- a flush
-abbrev pub FlushEnds : {KNOTS SLOTS : ℕ} → ℕ → Plan → model.Table → Bool → Device → Result (Unit {0}) FlushFault → Table KNOTS SLOTS → FlashState → Type 0
-FlushEnds first plan table rose device (Ok done) t new =
-    Finishes first plan (seals_within plan (table_seals plan table) table) table (flushed plan table) rose device t new
-FlushEnds first plan table rose device (Err (flush.Flash fault)) t new =
+abbrev pub FlushEnds : {KNOTS SLOTS : ℕ} → ℕ → Plan → model.Table → Bool → Device → Result (Unit {0}) FlushFault → Table KNOTS SLOTS → FlashState → FlashState → Type 0
+FlushEnds first plan table rose device (Ok done) t old new =
+    Finishes first plan (seals_within plan (table_seals plan table) table) table (flushed plan table) rose device t old new
+FlushEnds first plan table rose device (Err (flush.Flash fault)) t old new =
     Breaks first plan (seals_within plan (table_seals plan table) table) table rose device fault new
-FlushEnds first plan table rose device (Err flush.Stopped) t new = ⊥
+FlushEnds first plan table rose device (Err flush.Stopped) t old new = ⊥
 
 -- what a mount answers of the table that it leaves: the records, the kept data pages, and the void ones among these
 abbrev pub mounted_of : model.Table → Mounted

@@ -5,7 +5,9 @@ use Rattle.fl_model.specs.Record.{Plan}
 use Rattle.fl_model.specs.Table.{Table, Entry, RingName, DataRing, IndexRing, VarRing, shape_of}
 use Rattle.fl_model.specs.Query.{page_stands}
 use Rattle.fl_model.specs.Facts.{IsSettled}
+use Rattle.fl_model.specs.Ring.{Ring}
 use Rattle.fl_model.specs.Image.{IsRingImage, HoldsRows, HoldsBitmaps, HoldsContent, HoldsBlob}
+use Rattle.fl_ring.specs.Kept.{PagesStand}
 
 -- the first block of a ring, where the blocks of its table begin at `first`
 abbrev pub ring_begin : ℕ → Plan → RingName → ℕ
@@ -34,3 +36,9 @@ pub record HoldsTable (page : ℕ → List ℕ) (first : ℕ) (plan : Plan) (tab
 pub record Rests (f : FlashState) (first : ℕ) (plan : Plan) (table : Table) : Type 0 where
   pub settled : IsSettled plan table
   pub pages : HoldsTable (page_at f) first plan table
+
+-- the pages of each ring that were kept and still are have the bytes that they had
+pub record KeptStand (first : ℕ) (plan : Plan) (before after : Table) (old new : ℕ → List ℕ) : Type 0 where
+  pub rows : PagesStand before.rows (bytes_in old first plan DataRing) after.rows (bytes_in new first plan DataRing)
+  pub index : (a b : Ring) → before.index ≡ Some a → after.index ≡ Some b → PagesStand a (bytes_in old first plan IndexRing) b (bytes_in new first plan IndexRing)
+  pub var : (a b : Ring) → before.var ≡ Some a → after.var ≡ Some b → PagesStand a (bytes_in old first plan VarRing) b (bytes_in new first plan VarRing)

@@ -57,7 +57,7 @@ impl<const KNOTS: usize, const SLOTS: usize> Table<KNOTS, SLOTS> {
         ensures same { IsSamePlan self.old self.new }
         ensures lies { LiesOn self.new (F.state flash.new) }
         ensures ends { (first : ℕ) → (plan : Plan) → (table : model.Table) → (rose : Bool) → (device : Device) → IsWatched (F.state flash.old) (F.state flash.new) rose device
-            → Stands self.old (F.state flash.old) first plan table → SealsEnd first plan (make_room_seals plan table) table rose device result self.new (F.state flash.new) }
+            → Stands self.old (F.state flash.old) first plan table → SealsEnd first plan (make_room_seals plan table) table rose device result self.new (F.state flash.old) (F.state flash.new) }
         ensures room { OnOk result (HasRoom self.new) }
         ensures quiet { HasRoom self.old → (result ≡ Ok tt) × (self.new ≡ self.old) × (F.state flash.new ≡ F.state flash.old) }
         ensures running { OnOk result (is_running self.new ≡ true) }
@@ -121,7 +121,7 @@ impl<const KNOTS: usize, const SLOTS: usize> Table<KNOTS, SLOTS> {
         ensures lies { LiesOn self.new (F.state flash.new) }
         ensures ends { (first : ℕ) → (plan : Plan) → (table : model.Table) → (rose : Bool) → (device : Device) → IsWatched (F.state flash.old) (F.state flash.new) rose device
             → Stands self.old (F.state flash.old) first plan table → IsAcceptedBy plan table key values.now (option_map (λ b. b.now) blob.entry)
-            → JoinEnds first plan (record { key = key; values = values.now; blob = option_map (λ b. b.now) blob.entry }) table rose device result self.new (F.state flash.new) }
+            → JoinEnds first plan (record { key = key; values = values.now; blob = option_map (λ b. b.now) blob.entry }) table rose device result self.new (F.state flash.old) (F.state flash.new) }
         ensures quiet { variable.pages_for self.old.blobs (option_map (λ b. b.now) blob.entry) ≡ 0 → (result ≡ Ok tt) × (F.state flash.new ≡ F.state flash.old) }
         ensures off { 1 ≤ variable.pages_for self.old.blobs (option_map (λ b. b.now) blob.entry) → OffChangesNothing (F.state flash.old) result (F.state flash.new) }
         ensures running { OnOk result (is_running self.new ≡ true) }
@@ -160,7 +160,7 @@ impl<const KNOTS: usize, const SLOTS: usize> Table<KNOTS, SLOTS> {
         ensures lies { LiesOn self.new (F.state flash.new) }
         ensures ends { (first : ℕ) → (plan : Plan) → (table : model.Table) → (rose : Bool) → (device : Device) → IsWatched (F.state flash.old) (F.state flash.new) rose device
             → Stands self.old (F.state flash.old) first plan table
-            → PutEnds first plan (record { key = key; values = values.now; blob = option_map (λ b. b.now) blob.entry }) table rose device result self.new (F.state flash.new) }
+            → PutEnds first plan (record { key = key; values = values.now; blob = option_map (λ b. b.now) blob.entry }) table rose device result self.new (F.state flash.old) (F.state flash.new) }
         ensures exact { RefusesAs (put_refusal self.old key values.now (option_map (λ b. length b.now) blob.entry)) result }
         ensures refused { IfErr result (λ e. RefusedSame self.old (F.state flash.old) e self.new (F.state flash.new)) }
         ensures stopped { is_stopped self.new ≡ (put_breaks result || is_stopped self.old) }
@@ -189,7 +189,7 @@ impl<const KNOTS: usize, const SLOTS: usize> Table<KNOTS, SLOTS> {
         ensures same { IsSamePlan self.old self.new }
         ensures lies { LiesOn self.new (F.state flash.new) }
         ensures ends { (first : ℕ) → (plan : Plan) → (table : model.Table) → (rose : Bool) → (device : Device) → IsWatched (F.state flash.old) (F.state flash.new) rose device
-            → Stands self.old (F.state flash.old) first plan table → FlushEnds first plan table rose device result self.new (F.state flash.new) }
+            → Stands self.old (F.state flash.old) first plan table → FlushEnds first plan table rose device result self.new (F.state flash.old) (F.state flash.new) }
         ensures exact { (result ≡ Err FlushFault.Stopped) ↔ (is_running self.old ≡ false) }
         ensures stopped { is_stopped self.new ≡ (flush_breaks result || is_stopped self.old) }
         ensures running { is_running self.new ≡ (is_running self.old && not (flush_breaks result)) }

@@ -35,7 +35,7 @@ impl<const KNOTS: usize, const SLOTS: usize> Table<KNOTS, SLOTS> {
         ensures same { IsSamePlan self.old self.new }
         ensures lies { LiesOn self.new (F.state flash.new) }
         ensures ends { (first : ℕ) → (plan : Plan) → (table : model.Table) → (rose : Bool) → (device : Device) → IsWatched (F.state flash.old) (F.state flash.new) rose device
-            → Stands self.old (F.state flash.old) first plan table → SealsEnd first plan (table_seals plan table) table rose device result self.new (F.state flash.new) }
+            → Stands self.old (F.state flash.old) first plan table → SealsEnd first plan (table_seals plan table) table rose device result self.new (F.state flash.old) (F.state flash.new) }
         ensures empty { OnOk result (self.new.writer.count ≡ 0) }
         ensures running { OnOk result (is_running self.new ≡ true) }
         ensures next { OnOk result (next_in self.new ≡ next_in self.old + 1) }
@@ -64,7 +64,7 @@ impl<const KNOTS: usize, const SLOTS: usize> Table<KNOTS, SLOTS> {
         ensures same { IsSamePlan self.old self.new }
         ensures lies { LiesOn self.new (F.state flash.new) }
         ensures ends { (first : ℕ) → (plan : Plan) → (table : model.Table) → (rose : Bool) → (device : Device) → IsWatched (F.state flash.old) (F.state flash.new) rose device
-            → Stands self.old (F.state flash.old) first plan table → SealsEnd first plan (bitmap_seals plan table) table rose device result self.new (F.state flash.new) }
+            → Stands self.old (F.state flash.old) first plan table → SealsEnd first plan (bitmap_seals plan table) table rose device result self.new (F.state flash.old) (F.state flash.new) }
         ensures room { OnOk result (HaveRoom self.new.bitmaps) }
         ensures some { self.new.writer.count ≡ self.old.writer.count }
         ensures blobs { self.new.blobs ≡ self.old.blobs }
@@ -97,7 +97,7 @@ impl<const KNOTS: usize, const SLOTS: usize> Table<KNOTS, SLOTS> {
         ensures same { IsSamePlan self.old self.new }
         ensures lies { LiesOn self.new (F.state flash.new) }
         ensures ends { (first : ℕ) → (plan : Plan) → (table : model.Table) → (rose : Bool) → (device : Device) → IsWatched (F.state flash.old) (F.state flash.new) rose device
-            → Stands self.old (F.state flash.old) first plan table → SealsEnd first plan (blob_seals table) table rose device result self.new (F.state flash.new) }
+            → Stands self.old (F.state flash.old) first plan table → SealsEnd first plan (blob_seals table) table rose device result self.new (F.state flash.old) (F.state flash.new) }
         ensures empty { OnOk result (AreEmpty self.new.blobs) }
         ensures some { self.new.writer.count ≡ self.old.writer.count }
         ensures bitmaps { self.new.bitmaps ≡ self.old.bitmaps }
@@ -132,7 +132,7 @@ impl<const KNOTS: usize, const SLOTS: usize> Table<KNOTS, SLOTS> {
         ensures same { IsSamePlan self.old self.new }
         ensures lies { LiesOn self.new (F.state flash.new) }
         ensures ends { (first : ℕ) → (plan : Plan) → (table : model.Table) → (rose : Bool) → (device : Device) → IsWatched (F.state flash.old) (F.state flash.new) rose device
-            → Stands self.old (F.state flash.old) first plan table → SealsEnd first plan (DataRing ∷ []) table rose device result self.new (F.state flash.new) }
+            → Stands self.old (F.state flash.old) first plan table → SealsEnd first plan (DataRing ∷ []) table rose device result self.new (F.state flash.old) (F.state flash.new) }
         ensures empty { OnOk result (self.new.writer.count ≡ 0) }
         ensures running { OnOk result (is_running self.new ≡ true) }
         ensures next { OnOk result (next_in self.new ≡ next_in self.old + 1) }

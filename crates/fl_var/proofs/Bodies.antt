@@ -1,9 +1,9 @@
 -- The bodies of a ring's pages while pages are added to it.
-use Rattle.std.proofs.Common.{◌≡◌, ℕ, ◌+◌, ◌-◌, ◌*◌, ◌<◌, ◌≤◌, Bool, true, false, cond, Option, Some, None, List, [], ◌∷◌, ◌++◌, length, drop, get_or, refl, sym, ◌∙◌, ap, subst, arith, inl, inr, ◌⊎◌, length-append, length-drop}
+use Rattle.std.proofs.Common.{◌≡◌, ℕ, ◌+◌, ◌-◌, ◌<◌, ◌≤◌, Bool, true, false, cond, Option, Some, None, List, [], ◌∷◌, ◌++◌, length, drop, get_or, refl, sym, ◌∙◌, ap, subst, arith, inl, inr, length-append, length-drop}
 use Rattle.std.proofs.lemmas.Bool.{cases_lt}
 use Rattle.std.proofs.lemmas.List.{get_or-drop, get_or_push}
 use Rattle.std.proofs.Math.ListN.{get_or-append}
-use Rattle.fl_ring.specs.Ring.{Shape, RingState, IsShape, count, oldest, is_due, appended, trimmed, sealed, voided}
+use Rattle.fl_ring.specs.Ring.{Shape, RingState, IsShape, count, oldest, is_due, appended, trimmed}
 use Rattle.fl_ring.proofs.Facts.{due_true, two_blocks}
 
 -- what holds of the body of each kept page, by its number

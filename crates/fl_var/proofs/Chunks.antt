@@ -1,5 +1,5 @@
 -- The chunks of a blob.
-use Rattle.std.proofs.Common.{◌≡◌, ℕ, zero, suc, ◌+◌, ◌-◌, ◌*◌, ◌/◌, ◌^◌, ◌<◌, ◌≤◌, Bool, true, false, cond, ◌==◌, List, [], ◌∷◌, ◌++◌, length, take, drop, slice_range, refl, sym, ◌∙◌, ap, subst, arith, inl, inr, ◌⊎◌, length-append}
+use Rattle.std.proofs.Common.{◌≡◌, ℕ, suc, ◌+◌, ◌-◌, ◌^◌, ◌<◌, ◌≤◌, Bool, true, false, cond, ◌==◌, List, [], ◌∷◌, ◌++◌, length, take, drop, slice_range, refl, sym, ◌∙◌, ap, arith, inl, inr, ◌⊎◌}
 use Rattle.std.proofs.Math.Seq.{take-add, drop-append_seam}
 use Rattle.std.proofs.lemmas.Bool.{cases_lt, eq-eqb, eqb-true}
 use Rattle.std.proofs.lemmas.List.{take-take, take-append-le, drop-drop, drop-append-le, length-take-le, length-drop}
@@ -9,8 +9,6 @@ use Rattle.fl_page.specs.Header.{page_count}
 use Rattle.fl_var.specs.Blobs.{contents_from, contents_in}
 use Rattle.fl_var.specs.Content.{content_of}
 use Rattle.fl_var.specs.Memory.{next_in, waiting_in, page_in, image_in, present}
-use Rattle.fl_var.specs.Reading.{Reads}
-use Rattle.fl_var.specs.declared.reader.BlobReader.{BlobReader}
 use Rattle.fl_var.specs.declared.var_data.VarData.{VarData}
 use Rattle.fl_var.proofs.PageImages.{image-other, next-content, next-count}
 

@@ -1,19 +1,17 @@
 -- A blob of an entry, where its bytes stand and where it is gone.
-use Rattle.std.proofs.Common.{◌≡◌, ℕ, zero, suc, ◌+◌, ◌-◌, ◌*◌, ◌/◌, ◌%◌, ◌^◌, ◌<◌, ◌≤◌, Bool, true, false, cond, ◌==◌, ◌&&◌, Option, Some, None, unwrap_or, Result, Ok, Err, List, [], ◌∷◌, ◌++◌, length, take, drop, refl, sym, ◌∙◌, ap, subst, arith, inl, inr, ◌⊎◌, length-append, IsTrue}
+use Rattle.std.proofs.Common.{◌≡◌, ℕ, zero, suc, ◌+◌, ◌-◌, ◌/◌, ◌%◌, ◌^◌, ◌<◌, ◌≤◌, Bool, true, false, cond, ◌==◌, ◌&&◌, Option, Some, unwrap_or, Result, Err, List, [], ◌∷◌, ◌++◌, length, take, drop, refl, sym, ◌∙◌, ap, subst, arith, inl, inr, ◌⊎◌, length-append}
 use Rattle.std.specs.Prelude.{option_map, nat_le}
-use Rattle.std.specs.List.{slice_get, AllByRecursion}
-use Rattle.std.proofs.lemmas.Bool.{cases_lt, cases_Bool, le-leb, lt-leb, eq-eqb, eqb-true, ne_eqb}
-use Rattle.std.proofs.lemmas.List.{take-take, drop-take, length-take-le, length-drop}
+use Rattle.std.specs.List.{slice_get}
+use Rattle.std.proofs.lemmas.Bool.{cases_lt, le-leb, lt-leb, eq-eqb, ne_eqb}
+use Rattle.std.proofs.lemmas.List.{take-take, drop-take}
 use Rattle.std.proofs.lemmas.Nat.{div-add-mod'}
 use Rattle.fl_base.specs.declared.types.BlobRef.{BlobRef}
 use Rattle.fl_flash.specs.Flash.{FlashState, page_at}
 use Rattle.fl_mark.specs.Mark.{state_of_page}
-use Rattle.fl_mark.specs.InModel.{IsModelState}
-use Rattle.fl_mark.specs.declared.page_state.PageState.{PageState}
 use Rattle.fl_mark.specs.declared.page_state.PageState.TheVariants.{Committed, Void}
 use Rattle.fl_mark.proofs.InModel.{model_state}
-use Rattle.fl_model.specs.Image.{HoldsContent, HoldsBlob}
-use Rattle.fl_model.specs.Layout.{le, committed}
+use Rattle.fl_model.specs.Image.{HoldsBlob}
+use Rattle.fl_model.specs.Layout.{le}
 use Rattle.fl_model.specs.Query.{BlobState, Lost, Stands as StandsWith, page_stands, blob_in, blob_of}
 use Rattle.fl_model.specs.Record.{Plan, content_per_page}
 use Rattle.fl_model.specs.Ring.{Ring, oldest, extended}
@@ -21,7 +19,7 @@ use Rattle.fl_model.specs.Row.{number_of}
 use Rattle.fl_model.specs.Table as model
 use Rattle.fl_model.specs.Table.{Entry}
 use Rattle.fl_model.proofs.Lists.{slice_get-left, slice_get-short, slice_get-some, slice_get-drop, slice_get-take, each-at}
-use Rattle.fl_page.specs.Header.{page_number, page_count}
+use Rattle.fl_page.specs.Header.{page_count}
 use Rattle.fl_page.specs.declared.fault.BadPage.{BadPage}
 use Rattle.fl_page.specs.declared.fault.ReadFault.{ReadFault}
 use Rattle.fl_page.specs.declared.fault.ReadFault.TheVariants as fault
@@ -30,8 +28,8 @@ use Rattle.fl_ring.proofs.Found.{committed_state}
 use Rattle.fl_ring.proofs.Images.{committed_is}
 use Rattle.fl_schema.proofs.Numbers.{number_of-le}
 use Rattle.fl_var.specs.Blobs.{IsGone, contents_from, contents_in, bytes_of, IsWhole, IsBadFirst}
-use Rattle.fl_var.specs.Content.{content_of, HasContent}
-use Rattle.fl_var.specs.Memory.{next_in, oldest_in, waiting_in, room_in, page_in, image_in, var_shape}
+use Rattle.fl_var.specs.Content.{HasContent}
+use Rattle.fl_var.specs.Memory.{next_in, room_in, page_in, image_in, var_shape}
 use Rattle.fl_var.specs.Placing.{HoldsBytes}
 use Rattle.fl_var.specs.Reading.{IfBad, NoneBad, Finds}
 use Rattle.fl_var.specs.Standing.{Stands}

@@ -17,7 +17,6 @@ use Rattle.fl_model.proofs.Among.{after_seals-append}
 use Rattle.fl_model.proofs.Lists.{slice_get-left, slice_get-last}
 use Rattle.fl_ring.specs.Place as place_words
 use Rattle.fl_ring.specs.Step.{IsWatched}
-use Rattle.fl_ring.specs.declared.ring.Ring as memory
 use Rattle.fl_var.specs.Blobs.{contents_from, contents_in, bytes_of}
 use Rattle.fl_var.specs.Growing.{CommittedFrom, KeepsBlobs, GoesOn, Holds}
 use Rattle.fl_var.specs.Memory.{next_in, oldest_in, waiting_in, room_in, page_in, image_in, IsSamePlan}

@@ -1,26 +1,27 @@
 -- Seals of the buffer, one after another.
-use Rattle.std.proofs.Common.{◌≡◌, ℕ, zero, suc, ◌+◌, ◌-◌, ◌*◌, ◌/◌, ◌^◌, ◌<◌, ◌≤◌, Bool, true, false, Option, Some, None, unwrap_or, Result, Ok, Err, List, [], ◌∷◌, ◌++◌, length, replicate, refl, sym, ◌∙◌, ap, subst, arith, append_assoc, IsTrue}
+use Rattle.std.proofs.Common.{◌≡◌, ℕ, zero, suc, ◌+◌, Bool, true, Option, Some, unwrap_or, List, [], ◌∷◌, ◌++◌, replicate, refl, sym, ◌∙◌, ap, subst, arith, append_assoc, IsTrue}
 use Rattle.std.specs.Prelude.{option_map, is_some}
 use Rattle.fl_flash.specs.Flash.{FlashState, Goes, page_at}
 use Rattle.fl_flash.specs.declared.flash.FlashFault.{FlashFault}
 use Rattle.fl_model.specs.Record.{Plan}
-use Rattle.fl_model.specs.Ring.{Ring, oldest}
+use Rattle.fl_model.specs.Ring.{Ring}
 use Rattle.fl_model.specs.Table.{Table, RingName, VarRing, after_seal, after_seals}
 use Rattle.fl_model.specs.Work.{Kind, Device, PartEnd, Whole, CutIn, FailedIn, PartProgress}
 use Rattle.fl_model.specs.Within.{seal_within, seals_within, effect_within, TablePerforms}
 use Rattle.fl_model.proofs.Among.{seals-all_done, after_seals-append}
 use Rattle.fl_model.proofs.Performs.{performs-whole, performs-more, performs-front}
 use Rattle.fl_ring.specs.Device.{SameDevice}
+use Rattle.fl_ring.specs.Kept.{PagesStand}
 use Rattle.fl_ring.specs.Place as place_words
 use Rattle.fl_ring.specs.Ring as rings
 use Rattle.fl_ring.specs.Ring.{Shape}
 use Rattle.fl_ring.specs.Step.{IsWatched}
 use Rattle.fl_ring.specs.declared.ring.Ring as memory
-use Rattle.fl_var.specs.Memory.{is_mounted, next_in, oldest_in, page_in, var_shape, IsSamePlan}
+use Rattle.fl_var.specs.Memory.{page_in, var_shape, IsSamePlan}
 use Rattle.fl_ring.specs.Mounting.{shape_at}
 use Rattle.fl_base.specs.declared.types.Geometry.{Geometry}
 use Rattle.fl_base.specs.declared.types.RingPlace.{RingPlace}
-use Rattle.fl_var.specs.Placing.{Seals, SealsPage, Breaks, FaultEnds}
+use Rattle.fl_var.specs.Placing.{Seals, Breaks, FaultEnds}
 use Rattle.fl_var.specs.Standing.{IsVarRing, HasRing, KeepsPages}
 use Rattle.fl_var.specs.declared.var_data.VarData.{VarData}
 
@@ -41,6 +42,16 @@ keeps-pages_then a b c x y z first second = record {
   counts = λ n low high. second.counts n low (omega (arith, high, first.further)) ∙ first.counts n (omega (arith, low, second.later)) high;
   bytes = λ n low high one.
       second.bytes n low (omega (arith, high, first.further)) (first.counts n (omega (arith, low, second.later)) high ∙ one) ∙ first.bytes n (omega (arith, low, second.later)) high one;
+}
+
+pub stands-same : (ring : Ring) (at : ℕ → List ℕ) → PagesStand ring at ring at
+stands-same ring at = record { later = omega arith; further = omega arith; bytes = λ n low high. refl }
+
+pub stands-then : (a b c : Ring) (x y z : ℕ → List ℕ) → PagesStand a x b y → PagesStand b y c z → PagesStand a x c z
+stands-then a b c x y z first second = record {
+  later = omega (arith, first.later, second.later);
+  further = omega (arith, first.further, second.further);
+  bytes = λ n low high. second.bytes n low (omega (arith, high, first.further)) ∙ first.bytes n (omega (arith, low, second.later)) high;
 }
 
 -- where the ring lies doesn't change
@@ -73,6 +84,7 @@ seals-refilled plan xs table rose device old v w old_f f ring same s = record {
   power = s.power;
   has = has-refilled v w f plan (after_seals plan xs table) ring same s.has;
   keeps = λ before e. subst (λ (at : ℕ → List ℕ). KeepsPages before (page_in old old_f) s.has.ring at) (sym (same-pages_in v w f same)) (s.keeps before e);
+  stand = λ before e. subst (λ (at : ℕ → List ℕ). PagesStand before (page_in old old_f) s.has.ring at) (sym (same-pages_in v w f same)) (s.stand before e);
 }
 
 -- nothing was sealed
@@ -88,6 +100,10 @@ seals-none plan table rose device v w f ring same has watched = record {
       let is : before ≡ has.ring = some_is before has.ring (sym e ∙ has.ring_is) in
       subst (λ (x : Ring). KeepsPages x (page_in v f) has.ring (page_in w f)) (sym is)
       (subst (λ (at : ℕ → List ℕ). KeepsPages has.ring (page_in v f) has.ring at) (sym (same-pages_in v w f same)) (keeps-pages_same has.ring (page_in v f)));
+  stand = λ before e.
+      let is : before ≡ has.ring = some_is before has.ring (sym e ∙ has.ring_is) in
+      subst (λ (x : Ring). PagesStand x (page_in v f) has.ring (page_in w f)) (sym is)
+      (subst (λ (at : ℕ → List ℕ). PagesStand has.ring (page_in v f) has.ring at) (sym (same-pages_in v w f same)) (stands-same has.ring (page_in v f)));
 }
   where
     some_is : (a b : Ring) → Some a ≡ Some b → a ≡ b
@@ -122,6 +138,7 @@ module _ (plan : Plan) (xs ys : List RingName) (table : Table) (rose : Bool) (de
       oldest_is = b.has.oldest_is;
     };
     keeps = λ before e. keeps-pages_then before a.has.ring b.has.ring (page_in old old_f) (page_in v f) (page_in w g) (a.keeps before e) (b.keeps a.has.ring a.has.ring_is);
+    stand = λ before e. stands-then before a.has.ring b.has.ring (page_in old old_f) (page_in v f) (page_in w g) (a.stand before e) (b.stand a.has.ring a.has.ring_is);
   }
 
   pub breaks-join : (fault : FlashFault) (g : FlashState) → IsSamePlan old v → Breaks plan ys (after_seals plan xs table) rose a.now.device fault v f g → Breaks plan (xs ++ ys) table rose device fault old old_f g

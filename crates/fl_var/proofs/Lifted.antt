@@ -1,7 +1,7 @@
 -- The operations of a ring of variable data are those of its table.
-use Rattle.std.proofs.Common.{◌≡◌, ℕ, ◌+◌, ◌<◌, ◌≤◌, Bool, true, false, cond, Option, Some, None, Result, Ok, Err, List, [], ◌∷◌, ◌++◌, map, refl, sym, ◌∙◌, ap, subst, arith, IsOk, IsErrOf}
+use Rattle.std.proofs.Common.{◌≡◌, ℕ, ◌+◌, ◌<◌, ◌≤◌, Bool, true, false, Option, Some, None, Result, Ok, Err, List, [], ◌∷◌, ◌++◌, map, refl, sym, ◌∙◌, ap, subst, arith, IsOk, IsErrOf}
 use Rattle.std.specs.Prelude.{option_map}
-use Rattle.fl_flash.specs.Flash.{FlashState, page_at}
+use Rattle.fl_flash.specs.Flash.{FlashState}
 use Rattle.fl_flash.specs.declared.flash.FlashFault.{FlashFault}
 use Rattle.fl_flash.specs.declared.flash.FlashFault.TheVariants.{PowerLost, Media}
 use Rattle.fl_model.specs.Record.{Plan}
@@ -13,7 +13,7 @@ use Rattle.fl_model.proofs.Performs.{performs-along, performs-map, EndsAlong, So
 use Rattle.fl_ring.specs.Counts.{model_shape}
 use Rattle.fl_ring.specs.Device.{SameDevice}
 use Rattle.fl_ring.specs.Operations.{change}
-use Rattle.fl_ring.specs.Ring.{Shape, RingState, IsShape, OnRing, count}
+use Rattle.fl_ring.specs.Ring.{Shape, RingState, IsShape, count}
 use Rattle.fl_ring.specs.Sealing.{Performed, AnswersEnd}
 use Rattle.fl_ring.proofs.Counts.{counts_sealed, counts_voided}
 use Rattle.fl_var.specs.Placing.{FaultEnds}

@@ -1,9 +1,7 @@
 -- The mount of the ring, in the words of its table.
-use Rattle.std.proofs.Common.{◌≡◌, ◌⊎◌, inl, inr, ℕ, zero, suc, ◌+◌, ◌-◌, ◌^◌, ◌<◌, ◌≤◌, Bool, true, false, cond, ◌||◌, Option, Some, None, unwrap_or, Result, Ok, Err, List, [], ◌∷◌, ◌++◌, map, length, take, drop, replicate, length-append, get_or, slice_range, refl, sym, ◌∙◌, ap, subst, arith, IsTrue}
+use Rattle.std.proofs.Common.{◌≡◌, inl, inr, ℕ, zero, suc, ◌+◌, ◌-◌, ◌<◌, ◌≤◌, Bool, true, false, cond, ◌||◌, Option, Some, None, unwrap_or, Result, Ok, Err, List, [], ◌∷◌, ◌++◌, map, length, take, drop, replicate, length-append, get_or, refl, sym, ◌∙◌, ap, subst, arith, IsTrue}
 use Rattle.std.specs.Prelude.{option_map, is_some, IfSome}
 use Rattle.std.specs.List.{list_any}
-use Rattle.std.specs.Int.{w32, from_le_bytes}
-use Rattle.std.proofs.lemmas.Bool.{cases_Bool}
 use Rattle.std.proofs.lemmas.List.{take-append-le, take-take}
 use Rattle.fl_flash.specs.Flash.{FlashState, page_at}
 use Rattle.fl_flash.specs.declared.flash.FlashFault.{FlashFault}
@@ -15,20 +13,17 @@ use Rattle.fl_model.specs.Mount.{renumber, blob_end}
 use Rattle.fl_model.specs.Record.{Plan}
 use Rattle.fl_model.specs.Ring as model
 use Rattle.fl_model.specs.Table.{Table, RingName, VarRing, shape_of, seal_page, is_dirty, is_torn}
-use Rattle.fl_model.specs.Work.{Kind, VoidMark, Erase, Device, PartEnd, Whole, CutIn, FailedIn, PartProgress}
-use Rattle.fl_model.specs.Within.{repair_within, TablePerforms, TableUnreads, effect_within, all_done}
+use Rattle.fl_model.specs.Work.{Kind, VoidMark, Erase, Device, PartEnd, Whole, CutIn, FailedIn}
+use Rattle.fl_model.specs.Within.{repair_within, TablePerforms, effect_within, all_done}
 use Rattle.fl_model.proofs.Performs.{performs-whole}
-use Rattle.fl_ring.specs.Counts.{model_shape}
 use Rattle.fl_ring.specs.Head.{one}
 use Rattle.fl_ring.specs.Mounting.{IsGood, Mounted, RepairEnds}
 use Rattle.fl_ring.specs.Mounting as ring_mounting
 use Rattle.fl_ring.specs.Newest.{number_of}
-use Rattle.fl_ring.specs.Numbers.{renumbered, IsNumbered, least_alike}
+use Rattle.fl_ring.specs.Numbers.{renumbered, least_alike}
 use Rattle.fl_ring.specs.Operations.{change, repair_kinds}
-use Rattle.fl_ring.specs.Place.{StandsFor}
-use Rattle.fl_ring.specs.Ring.{Shape, RingState, IsShape, OnRing, HoldsKept, room, place, count, oldest, voided, unerased}
-use Rattle.fl_ring.specs.Sealing.{Performed, AnswersEnd}
-use Rattle.fl_ring.specs.Step.{IsWatched}
+use Rattle.fl_ring.specs.Ring.{Shape, RingState, IsShape, OnRing, HoldsKept, room, place, count, oldest, voided}
+use Rattle.fl_ring.specs.Sealing.{AnswersEnd}
 use Rattle.fl_ring.specs.declared.fault.RingFault.{RingFault}
 use Rattle.fl_ring.specs.declared.fault.RingFault.TheVariants as ring_fault
 use Rattle.fl_ring.specs.declared.ring.Ring as memory
@@ -36,12 +31,12 @@ use Rattle.fl_ring.proofs.Counts.{counts_length, counts_renumbered, counts_voide
 use Rattle.fl_ring.proofs.Moved.{renumbered_on, renumbered_same}
 use Rattle.fl_schema.proofs.Numbers.{number_of-le}
 use Rattle.fl_schema.proofs.References.{field_4}
-use Rattle.fl_var.specs.Memory.{next_in, oldest_in, waiting_in, page_in, var_shape, IsPlanned, IsSamePlan}
-use Rattle.fl_var.specs.Mounting.{Rests, MountsWell, MountsBadly, KeepsAll, MountEnds}
-use Rattle.fl_var.specs.Standing.{IsVarRing, HasRing, Stands, KeepsPages}
+use Rattle.fl_var.specs.Memory.{waiting_in, page_in, var_shape, IsSamePlan}
+use Rattle.fl_var.specs.Mounting.{Rests, KeepsAll, MountEnds}
+use Rattle.fl_var.specs.Standing.{IsVarRing, KeepsPages}
 use Rattle.fl_var.specs.declared.var_data.VarData.{VarData}
 use Rattle.fl_var.proofs.Bodies.{EachBody, KeepsBodies, keeps-same, kept-torn}
-use Rattle.fl_var.proofs.Lifted.{of_var, AreErases, HasCome, IsRingOf, come-front, come-small, VarPerformed, performed-lifts, fault-ends, all-whole}
+use Rattle.fl_var.proofs.Lifted.{of_var, AreErases, HasCome, IsRingOf, come-front, come-small, performed-lifts, fault-ends, all-whole}
 use Rattle.fl_var.proofs.Sealings.{shape-is, shape-here, next-is, oldest-is}
 use Rattle.fl_var.proofs.States.{counted, once, all-once, HasBody, state_from, IsStateOf, state-is, var-ring-of, pages-kept}
 

@@ -12,10 +12,9 @@ use Rattle.fl_model.specs.Ring.{Ring, oldest}
 use Rattle.fl_ring.proofs.Steps.{blank_is}
 use Rattle.fl_page.specs.Header.{page_number, page_count}
 use Rattle.fl_page.specs.Page.{bad_page}
-use Rattle.fl_page.specs.declared.fault.BadPage.{BadPage}
 use Rattle.fl_ring.proofs.Found.{committed_state}
 use Rattle.fl_ring.proofs.Images.{committed_is}
-use Rattle.fl_schema.proofs.Numbers.{number_of-le, length-le}
+use Rattle.fl_schema.proofs.Numbers.{number_of-le}
 use Rattle.fl_var.specs.Blobs.{end_fault}
 use Rattle.fl_var.specs.Content.{content_body, content_of, HasContent}
 use Rattle.fl_var.specs.Memory.{next_in, waiting_in, room_in, page_in, image_in}

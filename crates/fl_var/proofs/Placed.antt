@@ -1,5 +1,5 @@
 -- A blob that is placed: a full buffer is sealed first, and then its bytes are written.
-use Rattle.std.proofs.Common.{◌≡◌, ℕ, ◌+◌, ◌-◌, ◌*◌, ◌/◌, ◌<◌, ◌≤◌, inl, inr, Bool, true, false, cond, ◌==◌, Option, Some, unwrap_or, Result, Ok, Err, List, [], ◌∷◌, ◌++◌, length, replicate, refl, sym, ◌∙◌, ap, subst, arith}
+use Rattle.std.proofs.Common.{◌≡◌, ℕ, ◌+◌, ◌-◌, ◌*◌, ◌/◌, ◌≤◌, inl, inr, Bool, true, false, cond, ◌==◌, Option, unwrap_or, Result, Ok, Err, List, [], ◌∷◌, ◌++◌, length, replicate, refl, sym, ◌∙◌, ap, subst, arith}
 use Rattle.std.specs.Prelude.{option_map}
 use Rattle.std.proofs.lemmas.Bool.{eq-eqb, eqb-true, cases_Bool}
 use Rattle.std.proofs.lemmas.Bool.{ne_eqb}
@@ -14,10 +14,10 @@ use Rattle.fl_model.specs.Table.{Table, RingName, VarRing, after_seals, place_se
 use Rattle.fl_model.specs.Work.{Device}
 use Rattle.fl_ring.specs.Step.{IsWatched}
 use Rattle.fl_var.specs.Memory.{next_in, waiting_in, room_in, IsSamePlan}
-use Rattle.fl_var.specs.Placing.{Seals, SealsPage, SealEnds, Breaks, EndsWith, Places, PlaceEnds, SealsWhere, RestEnds, where_placed, is_full_in, room_seals, pages_filled, pages_placed}
+use Rattle.fl_var.specs.Placing.{Seals, SealEnds, Breaks, EndsWith, Places, PlaceEnds, SealsWhere, RestEnds, where_placed, is_full_in, room_seals, pages_filled, pages_placed}
 use Rattle.fl_var.specs.Standing.{Stands, HasRing}
 use Rattle.fl_var.specs.declared.var_data.VarData.{VarData}
-use Rattle.fl_var.proofs.Joins.{seals-none, seals-join, breaks-join, breaks-front, watched-first, watched-then}
+use Rattle.fl_var.proofs.Joins.{seals-none, seals-join, breaks-join, breaks-front, watched-then}
 use Rattle.fl_var.proofs.PageImages.{waiting-length}
 
 -- the buffer is full where its body is

@@ -1,5 +1,5 @@
 -- A seal of the buffer, in the words of the table.
-use Rattle.std.proofs.Common.{◌≡◌, ℕ, ◌+◌, ◌-◌, ◌*◌, ◌%◌, ◌^◌, ◌<◌, ◌≤◌, Bool, true, false, cond, Option, Some, None, unwrap_or, Result, Ok, Err, List, [], ◌∷◌, ◌++◌, map, length, get_or, refl, sym, ◌∙◌, ap, subst, arith, inl, inr, ◌⊎◌, length-append}
+use Rattle.std.proofs.Common.{◌≡◌, ℕ, ◌+◌, ◌-◌, ◌*◌, ◌%◌, ◌<◌, ◌≤◌, Bool, true, false, cond, Option, Some, None, unwrap_or, Result, Ok, Err, List, [], ◌∷◌, map, length, get_or, refl, sym, ◌∙◌, ap, subst, arith, inl, inr, length-append}
 use Rattle.std.specs.Prelude.{option_map, is_some}
 use Rattle.std.proofs.Math.Nat.{mod-lt, mul-le-mul_right, add-mul}
 use Rattle.std.proofs.Math.ListN.{get_or-append}
@@ -13,16 +13,16 @@ use Rattle.fl_model.specs.Image.{HoldsContent}
 use Rattle.fl_model.specs.Layout.{committed}
 use Rattle.fl_model.specs.Record.{Plan}
 use Rattle.fl_model.specs.Ring as model
-use Rattle.fl_model.specs.Table.{Table, RingName, VarRing, shape_of, after_seal, after_seals, seal_buffer, is_dirty}
-use Rattle.fl_model.specs.Work.{Kind, Body, Mark, Erase, Device, PartEnd, Whole, CutIn, FailedIn, PartProgress}
+use Rattle.fl_model.specs.Table.{Table, RingName, VarRing, shape_of, after_seals, seal_buffer, is_dirty}
+use Rattle.fl_model.specs.Work.{Kind, Body, Mark, Erase, Device, PartEnd, Whole, CutIn, FailedIn}
 use Rattle.fl_model.specs.Within.{seal_within, seals_within, effect_within, TablePerforms, all_done}
 use Rattle.fl_model.proofs.Among.{seal-all_done}
 use Rattle.fl_model.proofs.Performs.{performs-whole}
 use Rattle.fl_ring.specs.Counts.{page_count, model_shape}
+use Rattle.fl_ring.specs.Kept.{PagesStand}
 use Rattle.fl_ring.specs.Operations.{change, seal_kinds}
 use Rattle.fl_ring.specs.Place as place_words
 use Rattle.fl_ring.specs.Place.{StandsFor}
-use Rattle.fl_ring.specs.Ring as rings
 use Rattle.fl_ring.specs.Ring.{Shape, RingState, IsShape, OnRing, HoldsKept, place, count, oldest, sealed, appended}
 use Rattle.fl_ring.specs.Sealing.{IsReady, Performed, AnswersEnd}
 use Rattle.fl_ring.specs.declared.ring.Ring as memory
@@ -30,12 +30,12 @@ use Rattle.fl_ring.proofs.Counts.{counts_length, counts_sealed}
 use Rattle.fl_ring.proofs.Images.{committed_is}
 use Rattle.fl_ring.proofs.Lengths.{page_length}
 use Rattle.fl_var.specs.Content.{content_body}
-use Rattle.fl_var.specs.Memory.{is_mounted, next_in, oldest_in, waiting_in, page_in, image_in, var_shape, IsPlanned, IsSamePlan, LiesOn}
-use Rattle.fl_var.specs.Placing.{Seals, SealsPage, SealEnds, Breaks}
+use Rattle.fl_var.specs.Memory.{next_in, oldest_in, waiting_in, page_in, image_in, var_shape, IsPlanned, IsSamePlan}
+use Rattle.fl_var.specs.Placing.{SealsPage, SealEnds, Breaks}
 use Rattle.fl_var.specs.Standing.{IsVarRing, HasRing, KeepsPages}
 use Rattle.fl_var.specs.declared.var_data.VarData.{VarData}
-use Rattle.fl_var.proofs.Bodies.{EachBody, KeepsBodies, keeps-same, appended-oldest, kept-keeps_all, kept-torn}
-use Rattle.fl_var.proofs.Lifted.{of_var, AreErases, IsRingOf, IsNext, come-small, performed-lifts, fault-ends, all-whole}
+use Rattle.fl_var.proofs.Bodies.{KeepsBodies, keeps-same, appended-oldest, kept-keeps_all, kept-torn}
+use Rattle.fl_var.proofs.Lifted.{of_var, AreErases, IsRingOf, come-small, performed-lifts, fault-ends, all-whole}
 use Rattle.fl_var.proofs.PageImages.{body-length, image-next, image-other, waiting-room, waiting-few, sealed-holds}
 use Rattle.fl_var.proofs.States.{counted, once, HasBody, state_from, IsStateOf, state-is, var-ring-of, pages-kept, state-oldest}
 
@@ -70,6 +70,7 @@ module _ (r : Shape) (s : RingState) (body : List ℕ) (shape : IsShape r) (know
   pub record IsEnd (left : RingState) : Type 0 where
     pub whole : left.torn ≡ false
     pub clean : left.dirty ≡ false
+    pub oldest_is : oldest left ≡ oldest (sealed r s body)
     pub keeps : KeepsBodies (appended s (Some body)) left
 
   pub seal-end : IsEnd (all_done (change r body) (seal_kinds r s body) s)
@@ -79,8 +80,8 @@ module _ (r : Shape) (s : RingState) (body : List ℕ) (shape : IsShape r) (know
       keeps = kept-keeps_all r s (Some body) shape known
 
       by_dirt : (b : Bool) → (sealed r s body).dirty ≡ b → IsEnd (all_done (change r body) (cond b (Erase ∷ []) []) (sealed r s body))
-      by_dirt true e = record { whole = kept-torn r s (Some body) shape known; clean = refl; keeps = record { later = keeps.later; further = keeps.further; same = keeps.same } }
-      by_dirt false e = record { whole = kept-torn r s (Some body) shape known; clean = e; keeps = keeps }
+      by_dirt true e = record { whole = kept-torn r s (Some body) shape known; clean = refl; oldest_is = refl; keeps = record { later = keeps.later; further = keeps.further; same = keeps.same } }
+      by_dirt false e = record { whole = kept-torn r s (Some body) shape known; clean = e; oldest_is = refl; keeps = keeps }
 
 -- a seal of a ring that stands for the variable data of a table
 module _ (v : VarData) (f g : FlashState) (plan : Plan) (table : Table) (has : HasRing v f plan table) (body : List ℕ)
@@ -193,8 +194,10 @@ module _ (v : VarData) (f g : FlashState) (plan : Plan) (table : Table) (has : H
   -- all were done
   pub seal-finishes : (rose : Bool) (device : Device) (u : Unit {0}) (w : VarData) (ring : memory.Ring) →
       (h : Performed (var_shape v) (change (var_shape v) body) rose (seal_kinds (var_shape v) (state_from (page_in v f) v.geometry.page has.ring) body) device (state_from (page_in v f) v.geometry.page has.ring) (Ok u) g) →
-      StandsFor ring h.now.state → w.ring ≡ Some ring → IsSamePlan v w → page_in w g ≡ page_in v g → SealsPage plan table rose device v f w g
-  seal-finishes rose device u w ring h stands ring_is same page_is =
+      StandsFor ring h.now.state → w.ring ≡ Some ring → IsSamePlan v w → page_in w g ≡ page_in v g →
+      ((n : ℕ) → oldest (sealed (var_shape v) (state_from (page_in v f) v.geometry.page has.ring) body) ≤ n → n < has.ring.next → page_in v g n ≡ page_in v f n) →
+      SealsPage plan table rose device v f w g
+  seal-finishes rose device u w ring h stands ring_is same page_is stays =
       let l = performed-lifts (var_shape v) plan body s (shape-is v) (shape-here v plan has.planned) rose (seal_kinds r s body) device s table (Ok u) g begins h in
       let all = all-whole (var_shape v) plan body s (shape-is v) (shape-here v plan has.planned) l.now.end u g l.answer in
       let did : TablePerforms plan rose (seals_within plan (VarRing ∷ []) table) device table l.now = subst (λ (ops : List (RingName × Kind)). TablePerforms plan rose ops device table l.now) kinds-are l.did in
@@ -202,6 +205,9 @@ module _ (v : VarData) (f g : FlashState) (plan : Plan) (table : Table) (has : H
       let after : l.now.state ≡ after_seals plan (VarRing ∷ []) table = (performs-whole (λ operation. operation.1) (effect_within plan) rose (seal_within plan VarRing table) device table l.now alone all.0).0 ∙ seal-all_done plan VarRing table in
       let ends : IsEnd (var_shape v) s body (shape-is v) known h.now.state = subst (IsEnd (var_shape v) s body (shape-is v) known) (sym (ring_whole h)) (seal-end (var_shape v) s body (shape-is v) known) in
       let at = sym page_is in
+      let kept = pages-kept (var_shape v) (page_in v f) (page_at g) s h.now.state known is.on.kept h.on l.is.keeps in
+      let oldest_now : model.oldest (counted h.now.state) ≡ oldest (sealed (var_shape v) (state_from (page_in v f) v.geometry.page has.ring) body) =
+      ap (λ n. h.now.state.next - n) (counts_length once h.now.state) ∙ ends.oldest_is in
       record {
         seals = record {
           now = l.now;
@@ -222,8 +228,10 @@ module _ (v : VarData) (f g : FlashState) (plan : Plan) (table : Table) (has : H
             oldest_is = oldest-is w ring ring_is ∙ (stands.oldest ∙ ap (λ n. h.now.state.next - n) (sym (counts_length once h.now.state)));
           };
           keeps = λ before e. subst (λ (pg : ℕ → List ℕ). KeepsPages before (page_in v f) (counted h.now.state) pg) at
-              (subst (λ (x : model.Ring). KeepsPages x (page_in v f) (counted h.now.state) (page_in v g)) (is.counts ∙ sym (old_kept before e))
-              (pages-kept (var_shape v) (page_in v f) (page_at g) s h.now.state known is.on.kept h.on l.is.keeps));
+              (subst (λ (x : model.Ring). KeepsPages x (page_in v f) (counted h.now.state) (page_in v g)) (is.counts ∙ sym (old_kept before e)) kept);
+          stand = λ before e. subst (λ (pg : ℕ → List ℕ). PagesStand before (page_in v f) (counted h.now.state) pg) at
+              (subst (λ (x : model.Ring). PagesStand x (page_in v f) (counted h.now.state) (page_in v g)) (is.counts ∙ sym (old_kept before e))
+              (record { later = kept.later; further = kept.further; bytes = λ n low high. stays n (omega (arith, low, oldest_now)) high }));
         };
         page = λ before e. subst (λ (pg : ℕ → List ℕ). KeepsPages (model.extended 1 before) (image_in v f) (counted h.now.state) pg) at
             (subst (λ (x : model.Ring). KeepsPages x (image_in v f) (counted h.now.state) (page_in v g)) (with_page ∙ ap (model.extended 1) (is.counts ∙ sym (old_kept before e)))

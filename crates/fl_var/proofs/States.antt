@@ -1,6 +1,5 @@
 -- The pages of a ring of variable data as a list of bodies, and in the words of the model's image.
-use Rattle.std.proofs.Common.{◌≡◌, ℕ, zero, suc, ◌+◌, ◌-◌, ◌*◌, ◌%◌, ◌<◌, ◌≤◌, Bool, true, false, cond, ◌&&◌, ◌==◌, Option, Some, None, List, [], ◌∷◌, ◌++◌, map, length, take, drop, replicate, get_or, refl, sym, ◌∙◌, ap, subst, arith, inl, inr, ◌⊎◌, length-append}
-use Rattle.std.proofs.lemmas.Bool.{eqb-true as is_same}
+use Rattle.std.proofs.Common.{◌≡◌, ℕ, zero, suc, ◌+◌, ◌-◌, ◌*◌, ◌%◌, ◌<◌, ◌≤◌, Bool, true, false, cond, ◌&&◌, ◌==◌, Option, Some, None, List, [], ◌∷◌, ◌++◌, map, length, take, drop, replicate, get_or, refl, sym, ◌∙◌, ap, subst, arith, inl, inr, ◌⊎◌}
 use Rattle.std.proofs.lemmas.List.{take-append-drop}
 use Rattle.std.proofs.lemmas.Nat.Gcd.{mod-eq-zero_of_dvd}
 use Rattle.std.proofs.lemmas.Option.{slice_get-map, slice_get-get_or}
@@ -12,7 +11,7 @@ use Rattle.fl_model.specs.Record.{Plan}
 use Rattle.fl_model.specs.Ring as model
 use Rattle.fl_model.specs.Table.{VarRing, shape_of}
 use Rattle.fl_ring.specs.Counts.{page_count, ring_counts, model_shape, HoldsSome}
-use Rattle.fl_ring.specs.Ring.{Shape, RingState, IsShape, IsRing, OnRing, HoldsKept, place, count, oldest, committed_end}
+use Rattle.fl_ring.specs.Ring.{Shape, RingState, IsShape, IsRing, OnRing, HoldsKept, place, count, oldest}
 use Rattle.fl_ring.proofs.Counts.{counts_length, counts_ring}
 use Rattle.fl_ring.proofs.Images.{bytes_of, committed_is, on_from_image, image_from_on}
 use Rattle.fl_var.specs.Standing.{IsVarRing, KeepsPages}

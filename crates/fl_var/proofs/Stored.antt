@@ -1,11 +1,10 @@
 -- The bytes of a blob in the contents of its pages.
-use Rattle.std.proofs.Common.{◌≡◌, ℕ, zero, suc, ◌+◌, ◌-◌, ◌*◌, ◌/◌, ◌%◌, ◌<◌, ◌≤◌, Some, None, List, [], ◌∷◌, ◌++◌, length, take, drop, refl, sym, ◌∙◌, ap, subst, arith, inl, inr, ◌⊎◌, length-append}
-use Rattle.std.proofs.Math.Nat.{mod-lt, mul-le-mul_right}
-use Rattle.std.proofs.lemmas.Bool.{cases_lt}
+use Rattle.std.proofs.Common.{◌≡◌, ℕ, zero, suc, ◌+◌, ◌-◌, ◌*◌, ◌/◌, ◌%◌, ◌<◌, ◌≤◌, Some, None, List, [], ◌∷◌, ◌++◌, length, drop, refl, ◌∙◌, ap, arith}
+use Rattle.std.proofs.Math.Nat.{mod-lt}
 use Rattle.std.proofs.lemmas.List.{length-take-le, length-drop}
 use Rattle.std.proofs.lemmas.Nat.{le-div, div-add-mod'}
 use Rattle.std.specs.List.{slice_get}
-use Rattle.fl_model.proofs.Lists.{slice_get-drop, slice_get-take, slice_get-short}
+use Rattle.fl_model.proofs.Lists.{slice_get-drop, slice_get-take}
 use Rattle.fl_page.specs.Header.{page_count}
 use Rattle.fl_var.specs.Blobs.{contents_from}
 use Rattle.fl_var.specs.Content.{content_of}

@@ -1,6 +1,6 @@
 -- Bytes that are written into the buffer, page by page.
-use Rattle.std.proofs.Common.{◌≡◌, ℕ, zero, suc, ◌+◌, ◌-◌, ◌*◌, ◌/◌, ◌^◌, ◌<◌, ◌≤◌, min, Bool, true, Option, unwrap_or, ◌⊎◌, inl, inr, false, Result, Ok, Err, List, [], ◌∷◌, ◌++◌, length, replicate, refl, sym, ◌∙◌, ap, subst, arith, IsTrue, IsErr}
-use Rattle.std.proofs.Math.Nat.{mul-le-mul_left, mul-add-div_right, div-eq_of_lt}
+use Rattle.std.proofs.Common.{◌≡◌, ℕ, ◌+◌, ◌-◌, ◌*◌, ◌/◌, ◌<◌, ◌≤◌, min, Bool, true, Option, unwrap_or, ◌⊎◌, inl, inr, false, Result, Ok, Err, List, [], ◌∷◌, ◌++◌, length, replicate, refl, sym, ◌∙◌, ap, subst, arith, IsTrue, IsErr}
+use Rattle.std.proofs.Math.Nat.{mul-add-div_right, div-eq_of_lt}
 use Rattle.std.proofs.lemmas.Nat.{le-div}
 use Rattle.std.specs.Prelude.{option_map, is_some, IfErr}
 use Rattle.std.specs.Option.{ForSome}
@@ -21,7 +21,7 @@ use Rattle.fl_ring.specs.Sealing.{SealCalls}
 use Rattle.fl_ring.specs.Step.{IsWatched}
 use Rattle.fl_ring.proofs.Readings.{goes_more, goes_same}
 use Rattle.fl_var.specs.Memory.{is_mounted, next_in, waiting_in, room_in, var_shape, IsSamePlan, LiesOn}
-use Rattle.fl_var.specs.Placing.{Seals, SealsPage, SealEnds, Breaks, EndsWith, pages_filled}
+use Rattle.fl_var.specs.Placing.{Seals, SealsPage, Breaks, EndsWith, pages_filled}
 use Rattle.fl_var.specs.Standing.{HasRing}
 use Rattle.fl_var.specs.declared.var_data.VarData.{VarData}
 use Rattle.fl_var.proofs.PageImages.{waiting-length}

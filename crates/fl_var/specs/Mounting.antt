@@ -1,14 +1,14 @@
 -- The mount of variable data.
-use Rattle.std.specs.Prelude.{◌≡◌, ◌⊎◌, ℕ, ◌+◌, ◌<◌, Bool, true, if◌then◌else◌, IsTrue, Some, Result, Ok, Err, List, ◌++◌}
+use Rattle.std.specs.Prelude.{◌≡◌, ◌⊎◌, ℕ, ◌+◌, ◌<◌, Bool, true, if◌then◌else◌, Some, Result, Ok, Err}
 use Rattle.fl_flash.specs.Flash.{FlashState}
 use Rattle.fl_flash.specs.declared.flash.FlashFault.{FlashFault}
 use Rattle.fl_flash.specs.declared.flash.FlashFault.TheVariants.{Media}
-use Rattle.fl_model.specs.Mount.{blob_end, renumber}
+use Rattle.fl_model.specs.Mount.{renumber}
 use Rattle.fl_model.specs.Record.{Plan}
 use Rattle.fl_model.specs.Ring.{Ring}
 use Rattle.fl_model.specs.Table as model
 use Rattle.fl_model.specs.Table.{RingName, VarRing}
-use Rattle.fl_model.specs.Work.{Kind, Device, Whole, PartProgress}
+use Rattle.fl_model.specs.Work.{Device, Whole, PartProgress}
 use Rattle.fl_model.specs.Within.{TablePerforms, TableUnreads, repair_within}
 use Rattle.fl_ring.specs.Device.{SameDevice}
 use Rattle.fl_ring.specs.Mounting.{HasNumbers}

@@ -1,17 +1,18 @@
 -- How blobs are placed and the rest of the buffer is sealed, over a flash that stands for the variable data of a table.
-use Rattle.std.specs.Prelude.{◌≡◌, ◌⊎◌, ℕ, ◌+◌, ◌-◌, ◌*◌, ◌/◌, ◌<◌, ◌≤◌, Bool, true, false, if◌then◌else◌, ◌==◌, Some, Result, Ok, Err, List, [], ◌∷◌, length}
+use Rattle.std.specs.Prelude.{◌≡◌, ℕ, ◌+◌, ◌-◌, ◌/◌, Bool, true, false, if◌then◌else◌, ◌==◌, Some, Result, Ok, Err, List, [], ◌∷◌, length}
 use Rattle.fl_base.specs.declared.types.BlobRef.{BlobRef}
 use Rattle.fl_flash.specs.Flash.{FlashState}
 use Rattle.fl_flash.specs.declared.flash.FlashFault.{FlashFault}
 use Rattle.fl_flash.specs.declared.flash.FlashFault.TheVariants.{PowerLost, Media}
 use Rattle.fl_model.specs.Image.{HoldsBlob}
 use Rattle.fl_model.specs.Record.{Plan}
-use Rattle.fl_model.specs.Ring.{Ring, extended, oldest}
+use Rattle.fl_model.specs.Ring.{Ring, extended}
 use Rattle.fl_model.specs.Table as model
 use Rattle.fl_model.specs.Table.{Entry, RingName, VarRing, after_seals, place_seals, start_page, start_offset, end_fill}
-use Rattle.fl_model.specs.Work.{Kind, Device, PartEnd, Whole, CutIn, FailedIn, PartProgress}
+use Rattle.fl_model.specs.Work.{Device, PartEnd, Whole, CutIn, FailedIn, PartProgress}
 use Rattle.fl_model.specs.Within.{TablePerforms, seals_within}
 use Rattle.fl_ring.specs.Device.{SameDevice}
+use Rattle.fl_ring.specs.Kept.{PagesStand}
 use Rattle.fl_var.specs.Memory.{next_in, waiting_in, room_in, page_in, image_in}
 use Rattle.fl_var.specs.Standing.{IsVarRing, HasRing, KeepsPages}
 use Rattle.fl_var.specs.declared.var_data.VarData.{VarData}
@@ -48,6 +49,8 @@ pub record Seals (plan : Plan) (seals : List RingName) (table : model.Table) (ro
   pub power : new.is_on ≡ true
   pub has : HasRing v new plan (after_seals plan seals table)
   pub keeps : (before : Ring) → table.var ≡ Some before → KeepsPages before (page_in old old_f) has.ring (page_in v new)
+  -- byte by byte, void pages too
+  pub stand : (before : Ring) → table.var ≡ Some before → PagesStand before (page_in old old_f) has.ring (page_in v new)
 
 -- the fault that an operation answers where it fails so
 abbrev pub FaultEnds : PartEnd model.Table → FlashFault → FlashState → Type 0

@@ -4,7 +4,7 @@ use base.Fml.{GName}
 use Rattle.fl_base.specs.declared.types.BlobRef.{BlobRef}
 use Rattle.fl_flash.specs.Buffer.{BufferState}
 use Rattle.fl_flash.specs.Flash.{FlashState}
-use Rattle.fl_model.specs.Query.{BlobState, Lost, Stands, blob_of}
+use Rattle.fl_model.specs.Query.{Lost, Stands, blob_of}
 use Rattle.fl_model.specs.Table as model
 use Rattle.fl_model.specs.Table.{Entry}
 use Rattle.fl_page.specs.Contents.{IsCaused}
@@ -12,7 +12,7 @@ use Rattle.fl_page.specs.Header.{page_count}
 use Rattle.fl_page.specs.declared.fault.BadPage.{BadPage}
 use Rattle.fl_page.specs.declared.fault.ReadFault.{ReadFault}
 use Rattle.fl_page.specs.declared.fault.ReadFault.TheVariants as fault
-use Rattle.fl_var.specs.Blobs.{IsGone, contents_in, bytes_of, IsWhole, IsBadFirst, IsBadLater}
+use Rattle.fl_var.specs.Blobs.{IsGone, contents_in, bytes_of, IsWhole, IsBadFirst}
 use Rattle.fl_var.specs.Content.{content_of}
 use Rattle.fl_var.specs.Memory.{next_in, room_in, page_in, image_in, present}
 use Rattle.fl_var.specs.declared.reader.BlobReader.{BlobReader}

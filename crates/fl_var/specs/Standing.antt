@@ -1,14 +1,13 @@
 -- Variable data in memory and on a flash, and the variable-data ring of the model for which they stand.
-use Rattle.std.specs.Prelude.{◌≡◌, ◌⊎◌, ℕ, ◌+◌, ◌-◌, ◌<◌, ◌≤◌, true, false, Some, List, length, take, drop, slice_get}
+use Rattle.std.specs.Prelude.{◌≡◌, ◌⊎◌, ℕ, ◌-◌, ◌<◌, ◌≤◌, true, false, Some, List, length, slice_get}
 use Rattle.std.specs.List.{AllByRecursion}
 use Rattle.fl_flash.specs.Flash.{FlashState}
 use Rattle.fl_model.specs.Image.{IsRingImage, HoldsContent}
-use Rattle.fl_model.specs.Layout.{le}
-use Rattle.fl_model.specs.Record.{Plan, content_per_page}
-use Rattle.fl_model.specs.Ring.{Ring, IsRing, oldest, extended}
+use Rattle.fl_model.specs.Record.{Plan}
+use Rattle.fl_model.specs.Ring.{Ring, IsRing, oldest}
 use Rattle.fl_model.specs.Table as model
 use Rattle.fl_model.specs.Table.{VarRing, shape_of}
-use Rattle.fl_var.specs.Memory.{is_mounted, next_in, oldest_in, waiting_in, page_in, image_in, IsPlanned}
+use Rattle.fl_var.specs.Memory.{is_mounted, next_in, oldest_in, waiting_in, page_in, IsPlanned}
 use Rattle.fl_var.specs.declared.var_data.VarData.{VarData}
 
 -- pages that are those of a ring of variable data

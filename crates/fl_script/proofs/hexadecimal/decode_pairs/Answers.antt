@@ -1,18 +1,17 @@
-use Rattle.std.proofs.Common.{rules, ◌≡◌, length, arith}
-use Rattle.fl_script.proofs.DigitPairs.{start, step, ended}
+use Rattle.std.proofs.Common.{◌≡◌, ◌-◌, ◌*◌, ◌%◌, ◌++◌, ◌&&◌, Some, None, length, take, drop, length-drop, length-take, arith, subst, ap, ◌∙◌}
+use Rattle.std.specs.Prelude.{MatchBool}
+use Rattle.std.proofs.lemmas.List.{take-append-drop, take_all}
+use Rattle.fl_words.specs.Grammar.{hex_bytes}
+use Rattle.fl_script.proofs.Blocks.{both}
 use Rattle.fl_script.proofs.hexadecimal.decode_pairs.Goals as goal
-
-pub pairs-init : goal.pairs-init
-pairs-init c = (c.requires, start _)
-
-pub pairs-preserved : goal.pairs-preserved
-pairs-preserved c =
-    let greatest = c.max-greatest.ensures in (
-      search rules,
-      rw (greatest, c.max.ensures) (step _ _ c.pairs.i c.pairs.greatest _ _ c.pairs.invariant.0 (omega arith) c.digit_value-high.ensures c.digit_value-low.ensures c.pairs.invariant.1),
-    )
 
 pub returns : goal.returns
 returns c =
-    let at_end : c.pairs.i ≡ length c.pairs.bytes = omega arith in
-    ended _ _ c.pairs.greatest c.pairs.invariant.0 (rw at_end at c.pairs.invariant.1)
+    let whole = length c.args.bytes.now - length c.args.bytes.now % 16 in
+    let digits = c.args.digits.now in
+    let others = take (length digits - 2 * whole) (drop (2 * whole) digits) in
+    let all : take (2 * whole) digits ++ others ≡ digits =
+    ap (λ l. take (2 * whole) digits ++ l) (take_all (length digits - 2 * whole) (drop (2 * whole) digits) (omega (arith, length-drop (2 * whole) digits))) ∙ take-append-drop (2 * whole) digits in
+    subst (λ l. MatchBool (c.decode_blocks-front.result && c.decode_each-back.result) (hex_bytes l ≡ Some (c.decode_blocks-front.new.bytes ++ c.decode_each-back.new.bytes)) (hex_bytes l ≡ None)) all
+    (both whole (take (2 * whole) digits) others c.decode_blocks-front.new.bytes c.decode_each-back.new.bytes c.decode_blocks-front.result c.decode_each-back.result
+    (omega (arith, length-take (2 * whole) digits, c.requires)) c.decode_blocks-front.ensures c.decode_each-back.ensures)

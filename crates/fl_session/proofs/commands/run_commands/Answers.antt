@@ -12,12 +12,12 @@ lines-init g c = record {
   sink_later = omega arith;
   sound = c.requires.sound;
   goes = goes-same _;
-  runs = λ config left e ended. in_hand-first _ _ _ _ _ _ _ left _ c.requires.unread e ended refl refl refl refl refl;
+  runs = λ config left e ended. in_hand-first _ _ _ _ _ _ _ _ left _ c.requires.unread e ended refl refl refl refl refl;
 }
 
 pub returns-in-Err-clause-runs : goal.returns-in-Err-clause-runs
 returns-in-Err-clause-runs g c = λ config left e ended.
-    ends-in_reply _ _ _ _ _ _ _ _ _ _ _ _ _ _ _ c.in-Err.field-0 (c.lines.invariant.runs config left e ended) (runs-runnable _ _ c.lines.invariant.reads) c.execute.ensures.goes.faults
+    ends-in_reply _ _ _ _ _ _ _ _ _ _ _ _ _ _ _ _ c.in-Err.field-0 (c.lines.invariant.runs config left e ended) (runs-runnable _ _ c.lines.invariant.reads) c.execute.ensures.goes.faults
     (step-result config _ _ _ _ _ _ _ _ _ c.in-Err.is (c.execute.ensures.step config))
 
 pub overflow_add-line : goal.overflow_add-line
@@ -35,22 +35,22 @@ lines-preserved g c =
       sound = c.execute.ensures.sound;
       goes = goes-on _ _ _ c.lines.invariant.goes c.execute.ensures.goes;
       runs = λ config left e ended.
-          then-in_hand _ _ _ _ _ _ _ _ _ _ _ _ _ _ _ _ _ _
-          (all_done-next _ _ _ _ _ _ _ _ _ _ _ _ _ _ _ (c.lines.invariant.runs config left e ended) (runs-runnable _ _ c.lines.invariant.reads) c.execute.ensures.goes.faults
+          then-in_hand _ _ _ _ _ _ _ _ _ _ _ _ _ _ _ _ _ _ _ _
+          (all_done-next _ _ _ _ _ _ _ _ _ _ _ _ _ _ _ _ (c.lines.invariant.runs config left e ended) (runs-runnable _ _ c.lines.invariant.reads) c.execute.ensures.goes.faults
           (step-result config _ _ _ _ _ _ _ _ _ c.in-Ok.is (c.execute.ensures.step config)))
           n;
     }
 
 pub returns-in-Ok-None-clause-runs : goal.returns-in-Ok-None-clause-runs
 returns-in-Ok-None-clause-runs g c = λ config left e ended.
-    then-done _ _ _ _ _ _ _ _ _ _ _ _ _ _ _ _ _
-    (all_done-next _ _ _ _ _ _ _ _ _ _ _ _ _ _ _ (c.lines.invariant.runs config left e ended) (runs-runnable _ _ c.lines.invariant.reads) c.execute.ensures.goes.faults
+    then-done _ _ _ _ _ _ _ _ _ _ _ _ _ _ _ _ _ _ _
+    (all_done-next _ _ _ _ _ _ _ _ _ _ _ _ _ _ _ _ (c.lines.invariant.runs config left e ended) (runs-runnable _ _ c.lines.invariant.reads) c.execute.ensures.goes.faults
     (step-result config _ _ _ _ _ _ _ _ _ c.in-Ok.is (c.execute.ensures.step config)))
     (rw c.in-Ok-None.field-0-is at c.in-Ok-None.ensures)
 
 pub returns-in-Err-next_run-clause-runs : goal.returns-in-Err-next_run-clause-runs
 returns-in-Err-next_run-clause-runs g c = λ config left e ended.
-    then-ends _ _ _ _ _ _ _ _ _ _ _ _ _ _ _ _ _ c.in-Err-next_run.status
-    (all_done-next _ _ _ _ _ _ _ _ _ _ _ _ _ _ _ (c.lines.invariant.runs config left e ended) (runs-runnable _ _ c.lines.invariant.reads) c.execute.ensures.goes.faults
+    then-ends _ _ _ _ _ _ _ _ _ _ _ _ _ _ _ _ _ _ _ c.in-Err-next_run.status
+    (all_done-next _ _ _ _ _ _ _ _ _ _ _ _ _ _ _ _ (c.lines.invariant.runs config left e ended) (runs-runnable _ _ c.lines.invariant.reads) c.execute.ensures.goes.faults
     (step-result config _ _ _ _ _ _ _ _ _ c.in-Ok.is (c.execute.ensures.step config)))
     c.in-Err-next_run.ensures

@@ -21,7 +21,7 @@ invariant-lines g l =
       runs : (config : Config) (left : List ℕ) → S.left l.fn.script ≡ Some left → (l.fn.lines.closed ≡ true → l.fn.lines.ahead ++ left ≡ []) →
           InHand
           (record { number = l.fn.number; first = l.fn.lines.line; text = l.fn.lines.ahead ++ left; taken = length l.fn.lines.ahead; most = l.fn.lines.most; closed = l.fn.lines.closed })
-          config (T.stands l.fn.session config) (T.stands l.session config) (T.flash l.fn.session).media.faults (T.flash l.session).media.faults (T.flash l.session).work.reads (K.written l.fn.out) (K.written l.out)
+          config (T.stands l.fn.session config) (T.stands l.session config) (T.flash l.fn.session).media.content (T.flash l.session).media.content (T.flash l.fn.session).media.faults (T.flash l.session).media.faults (T.flash l.session).work.reads (K.written l.fn.out) (K.written l.out)
           l.line l.lines (S.left l.script);
     }
 

@@ -32,9 +32,9 @@ returns-then-is_err-clause-answers g c = λ config entries at entry asked notes 
     let p = c.put-outcome.ensures in
     let so_far = i.so_far config entries at entry asked notes old (has_risen f n) h here is named (λ r. rose-risen f n (rose-front f.media.faults m.media.faults n.media.faults p.goes.faults r)) in
     let key = c.next-record.ensures.key ∙ ap (λ s. load_key (unwrap_or c.last_key.result 0) s (random_of c.loop-loaded.records)) i.step_is in
-    let ends = ends-next config entries at entry asked notes old _ _ m n (has_risen f n) _ _ _ _ _ here named so_far c.loop-loaded-test.true p.goes p.same p.outside c.put-outcome.result _ _ c.last_key.result
+    let ends = ends-next config entries at entry asked notes old f.media.content _ _ m n (has_risen f n) _ _ _ _ _ here named so_far c.loop-loaded-test.true p.goes p.same p.outside c.put-outcome.result _ _ c.last_key.result
     (λ r. rose-risen f n (rose-back f.media.faults m.media.faults n.media.faults i.goes.faults r)) c.last_key.ensures.stands key (c.as_slice.ensures.value ∙ c.next-record.ensures.values _ _ _ i.makes) p.ends in
-    load-stopped config entries at entry asked notes old _ _ m n (has_risen f n) _ _ _ _ _ here named so_far c.loop-loaded-test.true p.goes p.same p.outside f c.put-outcome.result h refl (sym c.is_err.ensures.value ∙ c.if-is_err.true) ends p.refused
+    load-stopped config entries at entry asked notes old f.media.content _ _ m n (has_risen f n) _ _ _ _ _ here named so_far c.loop-loaded-test.true p.goes p.same p.outside f c.put-outcome.result refl h refl (sym c.is_err.ensures.value ∙ c.if-is_err.true) ends p.refused
 
 pub loop-loaded-preserved : goal.loop-loaded-preserved
 loop-loaded-preserved g c =
@@ -54,11 +54,11 @@ loop-loaded-preserved g c =
       same = same-on _ _ _ i.same p.same;
       so_far = λ config entries at entry asked notes old rose h here is named risen.
           let so_far = i.so_far config entries at entry asked notes old rose h here is named (λ r. risen (rose-front f.media.faults m.media.faults n.media.faults p.goes.faults r)) in
-          let ends = ends-next config entries at entry asked notes old _ _ m n rose _ _ _ _ _ here named so_far c.loop-loaded-test.true p.goes p.same p.outside c.put-outcome.result _ _ c.last_key.result
+          let ends = ends-next config entries at entry asked notes old f.media.content _ _ m n rose _ _ _ _ _ here named so_far c.loop-loaded-test.true p.goes p.same p.outside c.put-outcome.result _ _ c.last_key.result
           (λ r. risen (rose-back f.media.faults m.media.faults n.media.faults i.goes.faults r)) c.last_key.ensures.stands key (c.as_slice.ensures.value ∙ c.next-record.ensures.values _ _ _ i.makes) p.ends in
-          let done = ends-done config entries at entry asked notes old _ _ m n rose _ _ _ _ _ here named so_far c.loop-loaded-test.true p.goes p.same p.outside c.put-outcome.result (sym c.is_err.ensures.value ∙ c.if-is_err.false) ends in
-          subst (λ s. LoadedSoFar config entries at entry asked notes old c.put-outcome.new.self n rose c.args.count c.args.step c.args.seed (c.loop-loaded.loaded + 1) s) (sym c.next-record.ensures.random)
-          (loaded-more config entries at entry asked notes old _ _ m n rose _ _ _ _ _ here named so_far c.loop-loaded-test.true p.goes p.same p.outside done);
+          let done = ends-done config entries at entry asked notes old f.media.content _ _ m n rose _ _ _ _ _ here named so_far c.loop-loaded-test.true p.goes p.same p.outside c.put-outcome.result (sym c.is_err.ensures.value ∙ c.if-is_err.false) ends in
+          subst (λ s. LoadedSoFar config entries at entry asked notes old f.media.content c.put-outcome.new.self n rose c.args.count c.args.step c.args.seed (c.loop-loaded.loaded + 1) s) (sym c.next-record.ensures.random)
+          (loaded-more config entries at entry asked notes old f.media.content _ _ m n rose _ _ _ _ _ here named so_far c.loop-loaded-test.true p.goes p.same p.outside done);
     }
 
 pub returns-then-is_err-clause-running : goal.returns-then-is_err-clause-running

@@ -25,5 +25,5 @@ invariant-loop-loaded g l = record {
   same : IsSamePlan l.fn.table l.table;
   so_far : (config : Config) (entries : List Entry) (at : ℕ) (entry : Entry) (asked : List ℕ) (notes : Notes) (old : Machine) (rose : Bool) → SessionStands config entries (g.F.Flash.state l.fn.flash) true notes old →
       slice_get entries at ≡ Some entry → entry.table ≡ l.fn.table → IsNamed entries asked at → (Rose (g.F.Flash.state l.fn.flash).media.faults (g.F.Flash.state l.flash).media.faults → IsTrue rose) →
-      LoadedSoFar config entries at entry asked notes old l.table (g.F.Flash.state l.flash) rose l.count l.step l.seed l.loaded (random_of l.records);
+      LoadedSoFar config entries at entry asked notes old (g.F.Flash.state l.fn.flash).media.content l.table (g.F.Flash.state l.flash) rose l.count l.step l.seed l.loaded (random_of l.records);
 }

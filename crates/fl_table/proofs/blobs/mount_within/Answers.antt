@@ -1,4 +1,4 @@
-use Rattle.std.proofs.Common.{rules, ◌≡◌, ◌+◌, ◌-◌, ◌<◌, ℕ, Option, Some, Ok, sym, ◌∙◌, ap, subst, arith, inr}
+use Rattle.std.proofs.Common.{rules, ◌≡◌, ◌-◌, Option, Some, Ok, ◌∙◌, ap, subst, arith, inr}
 use Rattle.std.proofs.lemmas.Result.{err_from_is_err_and}
 use Rattle.fl_table.specs.BlobEnds.{least_of}
 use Rattle.fl_table.specs.BlobMount.{FindsBlobs, MountEndsOf}

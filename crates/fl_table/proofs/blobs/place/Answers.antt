@@ -1,4 +1,4 @@
-use Rattle.std.proofs.Common.{rules, ◌≡◌, ℕ, ◌≤◌, Option, Some, None, Result, Ok, Err, List, sym, ◌∙◌, ap, subst, arith}
+use Rattle.std.proofs.Common.{rules, ◌≡◌, ℕ, Option, Some, None, Result, Ok, Err, List, sym, ◌∙◌, ap, subst, arith}
 use Rattle.std.specs.Prelude.{option_map}
 use Rattle.std.specs.Borrow.{Bor}
 use Rattle.std.proofs.lemmas.Result.{err_from_is_err_and}
@@ -33,7 +33,7 @@ returns-in_err-at-clause-ends g c = λ first plan table item rose device blob_is
     let p = err_from_is_err_and c.from_residual.result c.from_residual.ensures.1 in
     let answer : Err c.in_err-at.field-0.0 ≡ c.from_residual.result = sym (p.1 ∙ ap (λ (x : FlashFault). Err x) p.2) in
     subst (λ (o : Option VarData). PlaceEndsOf o f first plan item table rose device c.from_residual.result (Some c.append.new.self) h) (sym is)
-    (λ watched stands. subst (λ (x : Result (Option BlobRef) FlashFault). PlaceEnds first plan item table rose device c.in-Some.var x c.append.new.self h) answer
+    (λ watched stands. subst (λ (x : Result (Option BlobRef) FlashFault). PlaceEnds first plan item table rose device c.in-Some.var f x c.append.new.self h) answer
     (place-err c.in-Some.var c.append.new.self f h first plan table e.same stands rose device item c.in-Some-blob.bytes.now c.in_err-at.field-0.0 placed (e.ends plan table rose device watched stands.in_pages)))
 
 pub returns-in_default-blob-clause-ends : goal.returns-in_default-blob-clause-ends

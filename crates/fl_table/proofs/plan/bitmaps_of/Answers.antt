@@ -1,9 +1,7 @@
-use Rattle.std.proofs.Common.{◌≡◌, ℕ, ◌+◌, ◌≤◌, ◌<◌, ◌*◌, Option, Some, IfSome, sym, ◌∙◌, ap, subst, arith}
+use Rattle.std.proofs.Common.{◌≡◌, ◌+◌, ◌≤◌, Option, IfSome, sym, ◌∙◌, ap, subst}
 use Rattle.fl_base.specs.declared.types.RingPlace.{RingPlace}
-use Rattle.fl_bitmap.specs.declared.buckets.Buckets.{Buckets}
-use Rattle.fl_flash.specs.Flash.{FlashState}
 use Rattle.fl_model.specs.Record.{Plan}
-use Rattle.fl_plan.specs.Plan.{blocks_in, bits_in, plan_of_table}
+use Rattle.fl_plan.specs.Plan.{blocks_in, bits_in}
 use Rattle.fl_table.proofs.Planning.{few-pages}
 use Rattle.fl_table.proofs.plan.bitmaps_of.Goals as goal
 

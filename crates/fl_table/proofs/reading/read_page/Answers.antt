@@ -6,7 +6,6 @@ use Rattle.fl_find.specs.Pages.{first_key}
 use Rattle.fl_table.specs.Reading.{bitmap_on}
 use Rattle.fl_table.specs.BlobEnds.{blobs_end}
 use Rattle.fl_table.specs.Reading.{IsRead}
-use Rattle.fl_flash.specs.Flash.{page_at}
 use Rattle.fl_schema.specs.Schema.{layout_of}
 use Rattle.fl_table.specs.Causes.{is_of_pages}
 use Rattle.fl_table.proofs.Refused.{refused-of_pages, refused-no_flash}

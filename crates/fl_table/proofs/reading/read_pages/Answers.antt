@@ -1,4 +1,4 @@
-use Rattle.std.proofs.Common.{rules, None, ◌<◌, ◌≡◌, ◌%◌, ◌==◌, cond, length, length-set, ◌+◌, ◌-◌, suc, IsTrue, arith, sym, ◌∙◌, ap, subst, refl}
+use Rattle.std.proofs.Common.{rules, None, ◌≡◌, ◌%◌, ◌==◌, cond, length, length-set, ◌+◌, ◌-◌, suc, IsTrue, arith, sym, ◌∙◌, ap, subst, refl}
 use Rattle.std.proofs.lemmas.Result.{err_from_is_err_and}
 use Rattle.fl_flash.specs.Flash.{page_at}
 use Rattle.fl_ring.specs.Looking.{OnlyReads}

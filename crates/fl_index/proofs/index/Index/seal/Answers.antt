@@ -1,10 +1,10 @@
-use Rattle.std.proofs.Common.{◌≡◌, ◌%◌, ℕ, List, ◌++◌, Some, Ok, Err, length, take, drop, set, arith, refl, sym, ◌∙◌, ap, subst}
+use Rattle.std.proofs.Common.{◌≡◌, ◌%◌, ℕ, ◌<◌, ◌≤◌, List, ◌++◌, Some, Ok, Err, length, take, drop, set, arith, refl, sym, ◌∙◌, ap, subst}
 use Rattle.std.proofs.lemmas.Result.{err_from_is_err_and}
 use Rattle.fl_base.specs.Bytes.{splice}
 use Rattle.fl_flash.specs.Flash.{page_at}
 use Rattle.fl_ring.specs.Operations.{change, seal_kinds}
 use Rattle.fl_ring.specs.Place.{shape_of, StandsFor}
-use Rattle.fl_ring.specs.Ring.{Shape, OutsideStands}
+use Rattle.fl_ring.specs.Ring.{Shape, OutsideStands, oldest, place, sealed}
 use Rattle.fl_ring.specs.Sealing.{Performed, Seals}
 use Rattle.fl_index.specs.Page.{header_bytes}
 use Rattle.fl_index.proofs.Gathering.{written-back, headed-length}
@@ -64,11 +64,16 @@ returns-clause-ends g c = λ first plan table rose device watched stands.
     (c.in_ok-seal.ensures.seals is.s rose device (seal-ready t old first plan table body is ring has shape) watched) in
     let both : (h : Performed (shape_in first plan) (change (shape_in first plan) body) rose (seal_kinds (shape_in first plan) is.s body) device is.s (Ok u) new) × StandsFor after h.now.state =
     subst (λ (r : Shape). (h : Performed r (change r body) rose (seal_kinds r is.s body) device is.s (Ok u) new) × StandsFor after h.now.state) shape (seals.performed, seals.stands) in
+    let keeps : (n : ℕ) → oldest (sealed (shape_in first plan) is.s body) ≤ n → n < is.s.next → page_at new (place (shape_in first plan) n) ≡ page_at old (place (shape_in first plan) n) =
+    subst (λ (r : Shape). (n : ℕ) → oldest (sealed r is.s body) ≤ n → n < is.s.next → page_at new (place r n) ≡ page_at old (place r n)) shape
+    (subst (λ (b : List ℕ). (n : ℕ) → oldest (sealed (shape_of ring) is.s b) ≤ n → n < is.s.next → page_at new (place (shape_of ring) n) ≡ page_at old (place (shape_of ring) n)) (c.deref.ensures.value ∙ headed)
+    (c.in_ok-seal.ensures.keeps watched.told is.s (seal-ready t old first plan table body is ring has shape))) in
     let number : c.next_number-number.result ≡ is.is.ring.next = number-of t old first plan table ring c.next_number-number.result stands has c.next_number-number.ensures is.s is.is in
     let len : c.len.result ≡ length t.firsts.items = c.len.ensures ∙ t.firsts.ok.0 in
     seal-finishes t old first plan table body is rose device new sizes_now after u _ both.0 both.1
     (record { geometry = refl; place = refl; bits = refl }) refl refl refl
     (ap (λ n. set t.firsts.items (n % c.len.result) (Some t.first)) number ∙ ap (λ n. set t.firsts.items (is.is.ring.next % n) (Some t.first)) len)
+    keeps
 
 pub returns-in_err-seal-clause-outside : goal.returns-in_err-seal-clause-outside
 returns-in_err-seal-clause-outside g c = λ told.

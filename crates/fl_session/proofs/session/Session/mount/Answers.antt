@@ -11,12 +11,12 @@ mount-outcome-requires-clause-lie g c =
     subst (λ (x : FlashState). LieOn c.args.self.now.tables.entries.items x) (sym c.power_on.ensures) (lie-on c.args.self.now.tables.entries.items _ _ (goes-set _ true _) c.requires.sound.lie)
 
 pub returns-then-self-clause-step : goal.returns-then-self-clause-step
-returns-then-self-clause-step g c = λ config old h. already-call config old _ _ _ _ _ h c.if-self.true
+returns-then-self-clause-step g c = λ config old h. already-call config old _ _ _ _ h c.if-self.true
 
 pub returns-clause-step : goal.returns-clause-step
 returns-clause-step g c = λ config old h.
     mount-call config old _ _ _ _ _ _ _ _ c.mount-outcome.result _ h c.if-self.false c.power_on.ensures c.mount-outcome.ensures.goes
-    c.mount-outcome.ensures.ends c.is_ok-self.ensures.value c.mount_reply.ensures
+    c.mount-outcome.ensures.ends c.mount-outcome.ensures.repaired c.is_ok-self.ensures.value c.mount_reply.ensures
 
 pub returns-then-self-clause-reads : goal.returns-then-self-clause-reads
 returns-then-self-clause-reads g c = λ tells. rw c.if-self.true refl

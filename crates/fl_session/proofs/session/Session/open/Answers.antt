@@ -9,7 +9,7 @@ use Rattle.fl_session.proofs.Sound.{sound-read, cursors-set}
 use Rattle.fl_session.proofs.session.Session.open.Goals as goal
 
 pub returns-in-Err-clause-step : goal.returns-in-Err-clause-step
-returns-in-Err-clause-step g c = λ config old h. open-refused config old _ _ _ _ c.args.name c.args.cursor c.args.range c.args.span c.in-Err.refusal _ h c.in-Err.ensures
+returns-in-Err-clause-step g c = λ config old h. open-refused config old _ _ _ _ c.args.name c.args.cursor c.args.range c.args.span c.in-Err.refusal h c.in-Err.ensures
 
 pub index-requires : goal.index-requires
 index-requires g c = reached-within c.args.self.now.tables.entries.items _ _ _ c.in-Ok.at c.args.self.now.tables.entries.ok.0 c.in-Ok.ensures
@@ -30,4 +30,4 @@ returns-clause-sound g c =
 pub returns-clause-step : goal.returns-clause-step
 returns-clause-step g c = λ config old h.
     let here : slice_get c.args.self.now.tables.entries.items c.in-Ok.at ≡ Some c.index.result.now = reached-here c.args.self.now.tables.entries.items _ _ c.in-Ok.at c.index.result.now c.in-Ok.ensures c.index.ensures in
-    rw c.set_cursor.ensures (open-call config old _ c.in-Ok.at c.index.result.now c.args.name _ _ _ _ c.args.cursor c.args.range c.args.span c.open_cursor-mark.result h c.in-Ok.ensures here c.open_cursor-mark.ensures.begins)
+    rw c.set_cursor.ensures (open-call config old _ c.in-Ok.at c.index.result.now c.args.name _ _ _ c.args.cursor c.args.range c.args.span c.open_cursor-mark.result h c.in-Ok.ensures here c.open_cursor-mark.ensures.begins)

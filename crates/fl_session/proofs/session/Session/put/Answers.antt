@@ -7,7 +7,7 @@ use Rattle.fl_session.proofs.Sound.{sound-with, runs-after}
 use Rattle.fl_session.proofs.session.Session.put.Goals as goal
 
 pub returns-in-Err-clause-step : goal.returns-in-Err-clause-step
-returns-in-Err-clause-step g c = λ config old h. put-refused_so config old _ _ _ _ c.args.name c.args.key c.args.values.now _ c.in-Err.refusal _ h c.in-Err.ensures
+returns-in-Err-clause-step g c = λ config old h. put-refused_so config old _ _ _ _ c.args.name c.args.key c.args.values.now _ c.in-Err.refusal h c.in-Err.ensures
 
 pub index_mut-requires : goal.index_mut-requires
 index_mut-requires g c = reached-within c.args.self.now.tables.entries.items _ _ _ c.in-Ok.at c.args.self.now.tables.entries.ok.0 c.in-Ok.ensures

@@ -16,7 +16,7 @@ returns-in_default g c = record {
   goes = goes-same _;
   sink = record { later = omega arith; failed = tt };
   step = λ config old h.
-      executes-nothing SinkFailed config old _ _ _ _ (default-view c.args.command.now c.args.room.now c.requires.runnable c.in_default.not-Mount c.in_default.not-Off (λ n kind e. c.in_default.not-Cut n kind e)
+      executes-nothing SinkFailed config old _ _ _ _ _ _ (default-view c.args.command.now c.args.room.now c.requires.runnable c.in_default.not-Mount c.in_default.not-Off (λ n kind e. c.in_default.not-Cut n kind e)
       (λ name key values blob e. c.in_default.not-Put name key values blob e) (λ name e. c.in_default.not-Flush name e) (λ name e. c.in_default.not-Stat name e) (λ name key e. c.in_default.not-Get name key e) (λ name range span e. c.in_default.not-Scan name range span e)
       (λ name count step seed e. c.in_default.not-Load name count step seed e) (λ cursor name range span e. c.in_default.not-Open cursor name range span e) (λ cursor e. c.in_default.not-Close cursor e) (λ cursor count e. c.in_default.not-Next cursor count e) c.in_default.not-Cost (λ name range column op value e. c.in_default.not-Select name range column op value e) (λ name range columns e. c.in_default.not-Project name range columns e) (λ name range column width e. c.in_default.not-Agg name range column width e) (λ left right range e. c.in_default.not-Join left right range e) (λ name key e. c.in_default.not-Blob name key e)) h;
 }

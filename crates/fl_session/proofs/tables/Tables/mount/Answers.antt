@@ -9,6 +9,7 @@ use Rattle.fl_session.proofs.Going.{goes-same, goes-on}
 use Rattle.fl_session.proofs.Loading.{rose-front, rose-back}
 use Rattle.fl_session.proofs.MountedSoFar.{mounted-none, mounted-more, mounted-err, mounted-all, own, was, stood}
 use Rattle.fl_session.proofs.Sound.{lie-with, running-more}
+use Rattle.fl_session.proofs.TableRepairs.{repaired-none, repaired-more}
 use Rattle.fl_session.proofs.TablesReads.{reads-more, reads-most}
 use Rattle.fl_session.proofs.TablesChanged.{item-there, set-elsewhere}
 use Rattle.fl_session.proofs.tables.Tables.mount.Goals as goal
@@ -23,6 +24,7 @@ loop-i-init g c = record {
   running = λ j entry lt e. absurd (omega (arith, lt));
   ahead = λ j le. refl;
   reads = λ told. omega arith;
+  repaired = λ told plans tables stand. repaired-none plans (g.F.Flash.state c.args.flash.now);
   so_far = λ plans tables rose device told on counts stand risen. mounted-none plans tables rose device c.args.self.now.entries.items (g.F.Flash.state c.args.flash.now) counts on stand;
 }
 
@@ -74,6 +76,9 @@ loop-i-preserved g c =
       running = running-more c.loop-i.self.entries.items c.loop-i.i c.index_mut.result.now c.mount.new.self here i.running c.in_default.ensures.mounted;
       ahead = λ j le. set-elsewhere c.loop-i.self.entries.items c.loop-i.i j (record { name = c.index_mut.result.now.name; table = c.mount.new.self }) (λ is. absurd (omega (arith, le, is))) ∙ i.ahead j (omega (arith, le));
       reads = λ told. reads-more c.args.self.now.entries.items c.loop-i.i c.index_mut.result.now f m n (sym (i.ahead c.loop-i.i (omega arith)) ∙ here) (i.reads told) (p.reads (subst IsTrue (sym i.goes.tells) told));
+      repaired = λ told plans tables stand.
+          repaired-more plans tables c.args.self.now.entries.items c.loop-i.i c.index_mut.result.now c.mount.new.self f m n c.in_default.field-0 stand (sym (i.ahead c.loop-i.i (omega arith)) ∙ here) i.goes told
+          (c.in_default.ensures.found (subst IsTrue (sym i.goes.tells) told)) (i.repaired told plans tables stand);
       so_far = λ plans tables rose device told on counts stand risen.
           let told' : IsTrue m.media.tells = subst IsTrue (sym i.goes.tells) told in
           let so_far = i.so_far plans tables rose device told on counts stand (λ r. risen (rose-front f.media.faults m.media.faults n.media.faults p.goes.faults r)) in
@@ -105,3 +110,6 @@ returns-in-Err-clause-reads g c = λ told.
 
 pub returns-clause-reads : goal.returns-clause-reads
 returns-clause-reads g c = λ told. reads-most c.args.self.now.entries.items c.loop-i.i (g.F.Flash.state c.args.flash.now) (g.F.Flash.state c.loop-i.flash) (c.loop-i.invariant.reads told)
+
+pub returns-clause-repaired : goal.returns-clause-repaired
+returns-clause-repaired g c = λ told plans tables stand page within. (c.loop-i.invariant.repaired told plans tables stand).each page

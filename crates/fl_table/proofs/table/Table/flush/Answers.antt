@@ -1,4 +1,4 @@
-use Rattle.std.proofs.Common.{◌≡◌, Result, Ok, Err, ap, arith}
+use Rattle.std.proofs.Common.{◌≡◌, Result, Err, ap, arith}
 use Rattle.std.proofs.lemmas.Result.{err_from_is_err_and}
 use Rattle.fl_table.proofs.SealAnswers.{writer-count}
 use Rattle.fl_table.proofs.Putting.{flush-idle}

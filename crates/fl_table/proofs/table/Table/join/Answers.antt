@@ -1,4 +1,4 @@
-use Rattle.std.proofs.Common.{rules, true, false, Bool, None, is_some, ◌&&◌, IsTrue, IfSome, ◌≡◌, ℕ, ◌+◌, ◌≤◌, Bor, List, Some, Ok, Err, option_map, arith, refl, sym, ◌∙◌, ap, subst, Option}
+use Rattle.std.proofs.Common.{true, false, Bool, None, is_some, ◌&&◌, IfSome, ◌≡◌, ℕ, ◌+◌, ◌≤◌, Bor, List, Some, option_map, arith, refl, sym, ◌∙◌, ap, subst, Option}
 use Rattle.fl_base.specs.declared.types.BlobRef.{BlobRef}
 use Rattle.fl_model.specs.Record.{Record}
 use Rattle.fl_model.specs.Row.{stored_row}
@@ -86,6 +86,7 @@ returns-clause-ends g c = λ first plan table rose device watched stands ok.
         blobs = subst (λ (o : Option VarData). variable.Stand o new (first + plan.data_blocks + plan.index_blocks) plan (joined_to table entry h.ring h.fill)) (sym c.add.ensures.blobs) h.blobs;
         points = record { older = points.older; points = points.points; last = points.last };
       });
+      stand = h.stand;
     }
 
 pub returns-clause-lies : goal.returns-clause-lies

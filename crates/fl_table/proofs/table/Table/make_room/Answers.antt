@@ -4,9 +4,11 @@ use Rattle.fl_model.specs.Record.{layout_len}
 use Rattle.fl_model.specs.Table.{RingName, make_room_seals}
 use Rattle.fl_model.specs.Work.{Whole}
 use Rattle.fl_model.proofs.Puts.{full-room_seals, room-room_seals}
+use Rattle.fl_flash.specs.Flash.{page_at}
 use Rattle.fl_schema.specs.Schema.{layout_of}
 use Rattle.fl_table.specs.Outcomes.{SealsEnd}
 use Rattle.fl_table.proofs.Putting.{has-room, is-full}
+use Rattle.fl_table.proofs.Staying.{kept-same}
 use Rattle.fl_table.proofs.Sizes.{table-fits}
 use Rattle.fl_table.proofs.table.Table.make_room.Goals as goal
 
@@ -56,6 +58,7 @@ returns-then-not-is_full-clause-ends g c = λ first plan table rose device watch
         blobs = stands.blobs;
         points = stands.points;
       };
+      stand = kept-same first plan table table (page_at f) (page_at f) refl refl refl (λ ring n. refl);
     })
 
 pub returns-clause-ends : goal.returns-clause-ends
@@ -64,7 +67,7 @@ returns-clause-ends g c = λ first plan table rose device watched stands.
     let f = g.F.Flash.state c.args.flash.now in
     let lt : length t.writer.body < t.writer.end + layout_len (layout_of t.schema) = ltb-true (length t.writer.body) (t.writer.end + layout_len (layout_of t.schema)) (sym c.is_full.ensures.room ∙ c.if-not-is_full.false) in
     let full = is-full t f first plan table stands lt in
-    subst (λ (rings : List RingName). SealsEnd first plan rings table rose device c.seal.result c.seal.new.self (g.F.Flash.state c.seal.new.flash)) (sym (full-room_seals plan table full))
+    subst (λ (rings : List RingName). SealsEnd first plan rings table rose device c.seal.result c.seal.new.self f (g.F.Flash.state c.seal.new.flash)) (sym (full-room_seals plan table full))
     (c.seal.ensures.ends first plan table rose device watched (search rules))
 
 pub returns-then-not-is_full-clause-off : goal.returns-then-not-is_full-clause-off

@@ -1,4 +1,4 @@
-use Rattle.std.proofs.Common.{ℕ, true, ◌+◌, Option, Ok, Err, not, ◌==◌, bit_and, sym, ap, subst, ◌≡◌, [], List, ◌∙◌, refl}
+use Rattle.std.proofs.Common.{ℕ, true, ◌+◌, Option, Ok, Err, not, ◌==◌, bit_and, sym, ap, subst, ◌≡◌, [], ◌∙◌}
 use Rattle.fl_base.specs.declared.types.Span.{Span}
 use Rattle.fl_flash.specs.Buffer.{BufferState}
 use Rattle.fl_index.specs.declared.index.Index.{Index}

@@ -1,4 +1,4 @@
-use Rattle.std.proofs.Common.{rules, arith, ◌≤◌, ◌*◌, ◌≡◌, ◌+◌, ℕ, Option, Err, IsTrue, sym, ◌∙◌, ap, subst, inr}
+use Rattle.std.proofs.Common.{arith, ◌*◌, ◌≡◌, ◌+◌, Option, Err, IsTrue, sym, ◌∙◌, ap, subst, inr}
 use Rattle.std.proofs.lemmas.Result.{err_from_is_err_and, IfErr-weaker, IfOk-weaker}
 use Rattle.fl_flash.specs.Flash.{FlashState, page_at}
 use Rattle.std.specs.Option.{unwrap_or}

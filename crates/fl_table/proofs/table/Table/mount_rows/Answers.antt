@@ -1,9 +1,8 @@
-use Rattle.std.proofs.Common.{◌≡◌, ◌+◌, ◌*◌, ◌≤◌, Some, Ok, Err, Option, IfSome, arith, refl, sym, ◌∙◌, ap, subst, IsTrue, inl, inr}
+use Rattle.std.proofs.Common.{◌≡◌, ◌+◌, Option, IfSome, arith, refl, sym, ◌∙◌, ap, subst, IsTrue, inl, inr}
 use Rattle.std.proofs.lemmas.Result.{err_from_is_err_and}
 use Rattle.fl_flash.specs.Flash.{page_at}
 use Rattle.fl_find.proofs.Points.{mounts-points}
 use Rattle.fl_model.specs.Mount.{ready}
-use Rattle.fl_model.specs.Table as model
 use Rattle.fl_ring.proofs.Readings.{goes_more}
 use Rattle.fl_table.specs.Bitmaps.{EndAt, IsOutside}
 use Rattle.fl_table.specs.BlobEnds.{least_of}
@@ -11,7 +10,6 @@ use Rattle.fl_table.specs.BlobMount.{FindsBlobs, RefusesWithin}
 use Rattle.fl_table.specs.Blobs.{room_of, rings_of}
 use Rattle.fl_table.proofs.Outsides.{var-outside}
 use Rattle.fl_var.specs.Memory.{var_shape}
-use Rattle.fl_table.specs.Outcomes.{RingsEnd, DataEnds, var_rings}
 use Rattle.fl_table.proofs.Blobbing as blobbing
 use Rattle.fl_table.proofs.Following.{watched-front, watched-then}
 use Rattle.fl_table.proofs.MountJoined.{mount-cause-later}

@@ -1,5 +1,5 @@
-use Rattle.std.proofs.Common.{rules, [], sym, ◌∙◌, ap, None, refl}
-use Rattle.fl_model.specs.Record.{Plan, row_layout}
+use Rattle.std.proofs.Common.{rules, [], sym, ap, None, refl}
+use Rattle.fl_model.specs.Record.{Plan}
 use Rattle.fl_schema.specs.Schema.{layout_of}
 use Rattle.fl_table.proofs.Planning.{few-blobs}
 use Rattle.fl_table.proofs.Writers.{gathers-end, gathers-blank}

@@ -1,12 +1,10 @@
-use Rattle.std.proofs.Common.{rules, true, false, Some, Option, IfSome, ◌≡◌, ◌+◌, ◌*◌, ◌-◌, ◌<◌, ◌≤◌, ℕ, List, [], Ok, Err, length, arith, refl, sym, ◌∙◌, ap, subst, IsTrue}
+use Rattle.std.proofs.Common.{rules, ◌+◌, ◌*◌, ◌-◌, ◌≤◌, ℕ, List, [], Ok, Err, length, arith, refl, sym, ◌∙◌, ap, subst, IsTrue}
 use Rattle.std.proofs.lemmas.Result.{err_from_is_err_and}
 use Rattle.fl_find.specs.Index.{IndexOf}
 use Rattle.fl_ring.specs.Mounting.{shape_at}
 use Rattle.fl_flash.specs.Flash.{page_at}
 use Rattle.fl_ring.specs.Place.{next_of, oldest_of}
 use Rattle.fl_ring.specs.Ring.{Shape, OutsideStands}
-use Rattle.fl_ring.specs.declared.ring.Ring.{Ring}
-use Rattle.fl_table.specs.Bitmaps.{EndAt}
 use Rattle.fl_schema.specs.Schema.{layout_of}
 use Rattle.fl_table.specs.Reading.{AreNoted, pages_of}
 use Rattle.fl_table.specs.declared.counts.Mounted.{Mounted}
@@ -17,7 +15,7 @@ use Rattle.fl_table.proofs.Indexing.{few-goes, lies-goes, none-is, none-there, p
 use Rattle.fl_table.proofs.MountCalls.{same-shape, risen-later, outside-stands, index-still, index-read, refuses-ring, refuses-end, refuses-page, finds-data, ring-cause, pages-cause}
 use Rattle.fl_table.proofs.MountEnded.{mounting-of, ring-fails, ring-ends, ring-mounts, reads-end, ends-within, same_device, rests_now, ready_facts, started-memory, started-stand, mount-answer, ends-there}
 use Rattle.fl_table.proofs.MountReads.{few-first, few-all}
-use Rattle.fl_table.proofs.SealAnswers.{plan-self, planned-ring, planned-same, lies-size, written-back}
+use Rattle.fl_table.proofs.SealAnswers.{plan-self, planned-ring, lies-size, written-back}
 use Rattle.fl_table.proofs.StillStands.{lies-moved}
 use Rattle.fl_ring.proofs.Readings.{goes_more}
 use Rattle.fl_table.proofs.table.Table.read_rows.Goals as goal

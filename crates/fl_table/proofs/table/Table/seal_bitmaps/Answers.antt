@@ -1,4 +1,4 @@
-use Rattle.std.proofs.Common.{◌≡◌, ◌+◌, ◌*◌, ◌≤◌, Ok, Err, arith, refl, None}
+use Rattle.std.proofs.Common.{◌≡◌, ◌+◌, ◌*◌, Ok, Err, arith, refl, None}
 use Rattle.fl_flash.specs.Flash.{page_at}
 use Rattle.fl_table.specs.Bitmaps.{bitmap_seals}
 use Rattle.fl_table.proofs.Blobbing.{stand-moved}
@@ -27,7 +27,7 @@ returns-clause-ends g c = λ first plan table rose device watched stands.
     let h = bitmaps-end t f (g.F.Flash.state c.make_room.new.flash) first plan table rose device t.bitmaps (Ok c.in_default.field-0) c.make_room.new.bitmaps refl stands some watched (t.pages_left c.requires.some) (c.in_default.ensures.outside watched.told) c.in_default.ensures.made
     (c.in_default.ensures.ends (first + plan.data_blocks) plan table rose device) in
     let memory = stands.memory in
-    made-finishes t _ (g.F.Flash.state c.make_room.new.flash) first plan (bitmap_seals plan table) table rose device c.make_room.new.bitmaps h
+    made-finishes t _ f (g.F.Flash.state c.make_room.new.flash) first plan (bitmap_seals plan table) table rose device c.make_room.new.bitmaps h
     (λ index waiting firsts facts pages bitmaps. record {
       planned = record {
         geometry = stands.planned.geometry;

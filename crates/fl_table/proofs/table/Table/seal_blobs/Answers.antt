@@ -1,4 +1,4 @@
-use Rattle.std.proofs.Common.{sym, ◌∙◌, ◌≡◌, ◌+◌, ◌*◌, ◌≤◌, Ok, Err, arith, ap, refl, None}
+use Rattle.std.proofs.Common.{sym, ◌∙◌, ◌+◌, Ok, Err, arith, ap, refl, None}
 use Rattle.fl_flash.specs.Flash.{page_at}
 use Rattle.fl_table.specs.Blobs.{blob_seals}
 use Rattle.fl_table.proofs.BlobStands.{rest-done, rested-finishes, index-before, bitmaps-stand}
@@ -29,7 +29,7 @@ returns-clause-ends g c = λ first plan table rose device watched stands.
     let h = rest-done t f new first plan table rose device stands watched t.blobs (Ok c.in_default.field-0) c.seal_rest.new.blobs refl (t.blobs_left c.requires.running c.requires.some) outside c.in_default.ensures.next
     (c.in_default.ensures.ends (first + plan.data_blocks + plan.index_blocks) plan table rose device) in
     let memory = stands.memory in
-    rested-finishes _ new first plan (blob_seals table) table rose device c.seal_rest.new.blobs h
+    rested-finishes _ f new first plan (blob_seals table) table rose device c.seal_rest.new.blobs h
     (λ ring fill facts pages blobs. record {
       planned = record {
         geometry = stands.planned.geometry;

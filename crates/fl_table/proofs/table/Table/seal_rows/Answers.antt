@@ -1,4 +1,4 @@
-use Rattle.std.proofs.Common.{rules, ◌≤◌, Option, IfSome, ◌≡◌, ◌+◌, ◌*◌, ◌%◌, length, ℕ, List, Some, Ok, Err, arith, sym, ◌∙◌, ap, subst, refl, set, get_or, map, option_map, length-set, None, is_some, mul-le-mul_right}
+use Rattle.std.proofs.Common.{rules, ◌≤◌, Option, IfSome, ◌≡◌, ◌+◌, ◌*◌, ◌%◌, length, ℕ, List, Some, Ok, Err, arith, sym, ◌∙◌, ap, subst, refl, set, get_or, map, option_map, length-set, is_some, mul-le-mul_right}
 use Rattle.fl_flash.specs.Flash.{page_at}
 use Rattle.fl_model.specs.Layout.{rows_body}
 use Rattle.fl_model.specs.Ring as rings
@@ -22,7 +22,7 @@ use Rattle.fl_table.proofs.Blobbing.{var-stands}
 use Rattle.fl_index.proofs.SealAnswers.{seal-on}
 use Rattle.fl_table.proofs.SealAnswers.{planned-ring, planned-shape, lies-size, sealing-of, seal-ready, writer-count, ring-next, counts-room, note-same, written-back}
 use Rattle.fl_table.proofs.VoidPages.{voids-told}
-use Rattle.fl_table.proofs.Sealings.{IsSealing, seal-breaks, seal-finishes}
+use Rattle.fl_table.proofs.Sealings.{IsSealing, KeepsAll, seal-breaks, seal-finishes}
 use Rattle.fl_table.proofs.Following.{ends-alone}
 use Rattle.fl_table.proofs.Indexing.{few-goes, lies-goes, plan-same, still-few, still-lies, still-next, still-planned, still-running, noted-end, stand-sealed, none-there, none-is}
 use Rattle.fl_table.proofs.Moved.{index-stands}
@@ -71,7 +71,7 @@ returns-in-Err-clause-ends g c = λ first plan table rose device watched stands.
     let seals : Seals s body rose device ring (Err c.in-Err.fault) c.seal.new.self new =
     subst (λ (b : List ℕ). Seals s b rose device ring (Err c.in-Err.fault) c.seal.new.self new) c.body.ensures
     (c.in-Err.ensures.seals s rose device (seal-ready t old first plan table ring stands has shape sizes) watched) in
-    ends-alone first plan table rose device (Err c.in-Err.fault) t new (seal-breaks first plan table body rose device new (page_at old) is sizes_now outside c.in-Err.fault
+    ends-alone first plan table rose device (Err c.in-Err.fault) t old new (seal-breaks first plan table body rose device new (page_at old) is sizes_now outside c.in-Err.fault
     (subst (λ (r : Shape). Performed r (change r body) rose (seal_kinds r s body) device s (Err c.in-Err.fault) new) shape seals.performed))
 
 pub returns-clause-ends : goal.returns-clause-ends
@@ -94,9 +94,12 @@ returns-clause-ends g c = λ first plan table rose device watched stands.
     let s = state_of plan (lose table) in
     let body = c.finish.new.self.body in
     let u = c.in_default-seal.field-0 in
+    let ready = seal-ready t old first plan table ring stands has shape sizes in
     let seals : Seals s body rose device ring (Ok u) after new =
-    subst (λ (b : List ℕ). Seals s b rose device ring (Ok u) after new) c.body.ensures
-    (c.in_default-seal.ensures.seals s rose device (seal-ready t old first plan table ring stands has shape sizes) watched) in
+    subst (λ (b : List ℕ). Seals s b rose device ring (Ok u) after new) c.body.ensures (c.in_default-seal.ensures.seals s rose device ready watched) in
+    let keeps : KeepsAll (shape_in first plan) s body (page_at old) (page_at new) =
+    subst (λ (r : Shape). KeepsAll r s body (page_at old) (page_at new)) shape
+    (subst (λ (b : List ℕ). KeepsAll (shape_of ring) s b (page_at old) (page_at new)) c.body.ensures (c.in_default-seal.ensures.keeps watched.told s ready)) in
     let both : (h : Performed (shape_in first plan) (change (shape_in first plan) body) rose (seal_kinds (shape_in first plan) s body) device s (Ok u) new) × StandsFor after h.now.state =
     subst (λ (r : Shape). (h : Performed r (change r body) rose (seal_kinds r s body) device s (Ok u) new) × StandsFor after h.now.state) shape (seals.performed, seals.stands) in
     let count : c.count.result ≡ table.pending = c.count.ensures ∙ (ap (λ w. w.count) c.finish.ensures.exact ∙ writer-count t old first plan table stands) in
@@ -108,12 +111,12 @@ returns-clause-ends g c = λ first plan table rose device watched stands.
     c.note.ensures ∙ note-same c.deref_mut.result.now t.counts.items c.next_number-number.result table.rows.next c.count.result table.pending (plan.data_blocks * plan.geometry.block) c.deref_mut.ensures.value number count room in
     let size : length c.note.new.counts ≡ length t.counts.items = ap length noted ∙ length-set t.counts.items (table.rows.next % (plan.data_blocks * plan.geometry.block)) table.pending in
     let back = written-back t.counts.items c.note.new.counts t.counts.len size t.counts.ok.0 in
-    let sealed = seal-finishes first plan table body rose device new (page_at old) is sizes_now outside u after t.counts.items both.0 both.1 room stands.memory.counts in
+    let sealed = seal-finishes first plan table body rose device new (page_at old) is sizes_now outside u after t.counts.items both.0 both.1 room stands.memory.counts keeps in
     let memory = stands.memory in
     let first_key : model.first_pending table ≡ Some c.key-first_key.result =
     first-key table (row_of c.row.result) (c.row.ensures.row (map stored_row (model.pending_entries table)) memory.gathers) ∙ ap (λ k. Some k) (sym c.key-first_key.ensures) in
     let facts = table-parts plan table stands.facts in
-    ends-alone first plan table rose device (Ok u) _ new (record {
+    ends-alone first plan table rose device (Ok u) _ old new (record {
       now = sealed.now;
       did = sealed.did;
       whole = sealed.whole;
@@ -155,6 +158,7 @@ returns-clause-ends g c = λ first plan table rose device watched stands.
             (var-stands (page_at old) (page_at new) first plan outside) refl refl refl c.requires.blobs stands.blobs;
         points = points-sealed plan table stands.facts (planned-shape t first plan stands.planned) stands.points (omega (arith, c.requires.some, writer-count t old first plan table stands));
       };
+      stand = sealed.stand;
     })
 
 pub returns-in-Err-clause-outside : goal.returns-in-Err-clause-outside

@@ -1,4 +1,4 @@
-use Rattle.std.proofs.Common.{rules, ◌≡◌, ◌<◌, ◌≤◌, Err, refl, arith}
+use Rattle.std.proofs.Common.{rules, ◌<◌, ◌≤◌, Err, refl, arith}
 use Rattle.fl_var.specs.Memory.{room_in}
 use Rattle.fl_var.proofs.Found.{found-none, found-some, found-err}
 use Rattle.fl_var.proofs.Sealings.{pages-size}

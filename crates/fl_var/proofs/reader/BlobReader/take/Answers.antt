@@ -1,4 +1,4 @@
-use Rattle.std.proofs.Common.{rules, ◌≡◌, ◌+◌, ◌-◌, ◌^◌, ◌<◌, ◌≤◌, ℕ, List, length, min, refl, sym, ◌∙◌, ap, subst, arith}
+use Rattle.std.proofs.Common.{rules, ◌≡◌, ◌+◌, ◌-◌, ◌^◌, ◌<◌, ◌≤◌, arith}
 use Rattle.fl_var.specs.Memory.{next_in, room_in, image_in}
 use Rattle.fl_var.proofs.Wholes.{whole-same}
 use Rattle.fl_var.proofs.Chunks.{chunk-front}

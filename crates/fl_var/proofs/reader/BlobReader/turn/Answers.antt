@@ -1,12 +1,12 @@
-use Rattle.std.proofs.Common.{rules, ◌≡◌, ◌+◌, ◌-◌, ◌*◌, ◌/◌, ◌^◌, ◌<◌, ◌≤◌, ℕ, List, None, length, take, drop, refl, sym, ◌∙◌, ap, subst, arith, cond, ◌==◌}
+use Rattle.std.proofs.Common.{rules, ◌≡◌, ◌+◌, ◌-◌, ◌<◌, ℕ, List, None, length, take, drop, sym, ◌∙◌, ap, subst, arith}
 use Rattle.std.proofs.lemmas.Result.{err_from_is_err_and}
 use Rattle.fl_page.specs.Header.{page_count}
 use Rattle.fl_var.specs.Blobs.{IsWhole, contents_from}
-use Rattle.fl_var.specs.Content.{HasContent, content_of}
-use Rattle.fl_var.specs.Memory.{next_in, room_in, image_in, page_in}
+use Rattle.fl_var.specs.Content.{content_of}
+use Rattle.fl_var.specs.Memory.{next_in, room_in, image_in}
 use Rattle.fl_mark.specs.Mark.{state_of_page}
 use Rattle.fl_var.proofs.PageImages.{image-other}
-use Rattle.fl_var.proofs.Chunks.{contents-turned, present-size}
+use Rattle.fl_var.proofs.Chunks.{contents-turned}
 use Rattle.fl_var.proofs.Wholes.{images-same, whole-good, whole-pages, whole-next, none-bad, pages-turned}
 use Rattle.fl_var.proofs.reader.BlobReader.turn.Goals as goal
 

@@ -1,7 +1,7 @@
-use Rattle.std.proofs.Common.{rules, ◌≡◌, ◌+◌, ◌-◌, ◌<◌, ◌≤◌, ◌==◌, ◌/◌, ℕ, Bool, true, false, cond, inl, inr, List, Ok, Err, Result, ◌++◌, length, refl, sym, ◌∙◌, ap, subst, arith}
+use Rattle.std.proofs.Common.{rules, ◌≡◌, ◌≤◌, inl, inr, Ok, Err, Result, ◌++◌, length, refl, ◌∙◌, ap, subst, arith}
 use Rattle.std.proofs.lemmas.Result.{err_from_is_err_and}
 use Rattle.fl_flash.specs.declared.flash.FlashFault.{FlashFault}
-use Rattle.fl_var.specs.Memory.{next_in, waiting_in, room_in}
+use Rattle.fl_var.specs.Memory.{next_in, waiting_in}
 use Rattle.fl_var.specs.Placing.{is_full_in, pages_filled, pages_placed}
 use Rattle.fl_var.specs.declared.var_data.VarData.{VarData}
 use Rattle.fl_var.proofs.Growing.{holds, holds-none, waits-none}

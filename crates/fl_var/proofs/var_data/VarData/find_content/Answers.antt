@@ -1,6 +1,6 @@
-use Rattle.std.proofs.Common.{rules, ◌≡◌, ◌+◌, ◌-◌, ◌^◌, ◌<◌, ◌≤◌, ℕ, List, length, sym, ◌∙◌, ap, subst, arith, Err}
+use Rattle.std.proofs.Common.{rules, ◌≡◌, ◌^◌, ◌<◌, ◌≤◌, length, sym, ◌∙◌, Err}
 use Rattle.fl_var.specs.Memory.{next_in, waiting_in}
-use Rattle.fl_var.proofs.PageImages.{next-state, next-count, next-has, next-bad, waiting-length}
+use Rattle.fl_var.proofs.PageImages.{next-state, next-count, next-has, next-bad}
 use Rattle.fl_page.proofs.Reading.{OnlyReads-read, IsCaused-read}
 use Rattle.fl_var.proofs.var_data.VarData.find_content.Goals as goal
 

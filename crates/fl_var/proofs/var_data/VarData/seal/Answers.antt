@@ -1,12 +1,11 @@
-use Rattle.std.proofs.Common.{rules, ◌≡◌, ◌+◌, ◌-◌, ◌^◌, ◌<◌, ◌≤◌, ℕ, Bool, List, Option, Some, Ok, Err, Result, length, refl, sym, ◌∙◌, ap, subst, arith}
+use Rattle.std.proofs.Common.{rules, ◌≡◌, ◌-◌, ◌<◌, ◌≤◌, ℕ, Some, Ok, Err, length, refl, sym, ◌∙◌, ap, subst, arith}
 use Rattle.std.proofs.lemmas.Result.{err_from_is_err_and}
 use Rattle.fl_flash.specs.Flash.{page_at}
 use Rattle.fl_flash.specs.declared.flash.FlashFault.{FlashFault}
 use Rattle.fl_ring.specs.Operations.{change, seal_kinds}
-use Rattle.fl_ring.specs.Place.{shape_of, next_of, StandsFor}
-use Rattle.fl_ring.specs.Ring.{Shape, OutsideStands}
+use Rattle.fl_ring.specs.Place.{shape_of, StandsFor}
+use Rattle.fl_ring.specs.Ring.{Shape, OutsideStands, oldest, place, sealed}
 use Rattle.fl_ring.specs.Sealing.{Performed}
-use Rattle.fl_ring.specs.declared.ring.Ring.{Ring}
 use Rattle.fl_var.specs.Content.{content_body}
 use Rattle.fl_var.specs.Memory.{next_in, waiting_in, page_in}
 use Rattle.fl_var.proofs.Sealings.{seal-breaks, seal-finishes, seal-err, ready, pages-size, next-is}
@@ -68,7 +67,8 @@ returns-clause-ends g c = λ plan table rose device watched has.
     let s = state_from (page_in v f) v.geometry.page has.ring in
     let done = c.in_ok-seal.ensures.seals s rose device is watched in
     let both = subst (λ (x : Shape). (p : Performed x (change x body) rose (seal_kinds x s body) device s (Ok c.in_ok-seal.field-0) h) × StandsFor c.seal.new.self p.now.state) (v.lies ring ring_is) (done.performed, done.stands) in
-    seal-finishes v f h plan table has body sizes later body_is c.requires.some c.requires.left rose device c.in_ok-seal.field-0 _ c.seal.new.self both.0 both.1 refl (record { geometry = refl; place = refl }) refl
+    let stays = subst (λ (x : Shape). (n : ℕ) → oldest (sealed x s body) ≤ n → n < s.next → page_at h (place x n) ≡ page_at f (place x n)) (v.lies ring ring_is) (c.in_ok-seal.ensures.keeps watched.told s is) in
+    seal-finishes v f h plan table has body sizes later body_is c.requires.some c.requires.left rose device c.in_ok-seal.field-0 _ c.seal.new.self both.0 both.1 refl (record { geometry = refl; place = refl }) refl stays
 
 pub returns-clause-power : goal.returns-clause-power
 returns-clause-power g c = seal-power (shape_of c.in-Some.ring) _ _ c.body.result.now (g.F.Flash.state c.args.flash.now) (g.F.Flash.state c.seal.new.flash) _ c.in_ok-seal.ensures.calls

@@ -1,8 +1,5 @@
-use Rattle.std.proofs.Common.{rules, ◌≡◌, ◌+◌, ◌==◌, ◌≤◌, ℕ, Bool, true, false, List, length, refl, sym, ◌∙◌, ap, subst, arith}
-use Rattle.std.proofs.lemmas.Bool.{ne_eqb}
+use Rattle.std.proofs.Common.{rules, ◌≡◌, ◌≤◌, length}
 use Rattle.fl_var.specs.Memory.{waiting_in}
-use Rattle.fl_var.specs.Placing.{SealsWhere}
-use Rattle.fl_var.proofs.Joins.{seals-none}
 use Rattle.fl_var.proofs.Placed.{rest-none, rest-some}
 use Rattle.fl_var.proofs.var_data.VarData.seal_rest.Goals as goal
 

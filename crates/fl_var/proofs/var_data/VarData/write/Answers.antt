@@ -1,8 +1,8 @@
-use Rattle.std.proofs.Common.{rules, ◌≡◌, ◌+◌, ◌-◌, ◌^◌, ◌<◌, ◌≤◌, ℕ, Bool, List, Option, Some, Ok, Err, Result, length, take, drop, min, refl, sym, ◌∙◌, ap, subst, arith}
+use Rattle.std.proofs.Common.{rules, ◌≡◌, ◌-◌, ◌<◌, ◌≤◌, Err, length, take, drop, refl, ◌∙◌, ap, arith}
 use Rattle.std.proofs.lemmas.List.{places}
 use Rattle.std.proofs.lemmas.Result.{err_from_is_err_and}
 use Rattle.fl_flash.specs.declared.flash.FlashFault.{FlashFault}
-use Rattle.fl_var.specs.Memory.{next_in, waiting_in, room_in}
+use Rattle.fl_var.specs.Memory.{room_in}
 use Rattle.fl_var.proofs.Growing.{wrote-first, wrote-more, wrote-still, wrote-all}
 use Rattle.fl_var.proofs.Writing.{writes-first, writes-next, writes-fail, writes-fill, writes-quiet, writes-end, writes-off, wrote-on, ok-on, cause-err}
 use Rattle.fl_var.proofs.var_data.VarData.write.Goals as goal

@@ -1,7 +1,7 @@
-use Rattle.std.proofs.Common.{rules, ◌≡◌, ◌+◌, ◌-◌, ◌≤◌, ◌++◌, ℕ, List, length, take, drop, replicate, sym, ◌∙◌, ap, subst, arith}
-use Rattle.std.proofs.lemmas.List.{with_items_is, places, length-replicate}
+use Rattle.std.proofs.Common.{rules, ◌≡◌, ◌+◌, ◌-◌, ◌≤◌, ℕ, List, length, take, drop, replicate, sym, ◌∙◌, ap, subst, arith}
+use Rattle.std.proofs.lemmas.List.{with_items_is, places}
 use borrow.Rule.Slice.PartMut.{put_mid}
-use Rattle.fl_var.specs.WaitingState.{WaitingState, IsBlankBehind}
+use Rattle.fl_var.specs.WaitingState.{IsBlankBehind}
 use Rattle.fl_var.proofs.Waitings.{blank-clear}
 use Rattle.fl_var.proofs.waiting.Waiting.clear.Goals as goal
 

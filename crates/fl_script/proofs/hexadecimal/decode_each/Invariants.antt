@@ -1,7 +1,7 @@
 use Rattle.std.proofs.Common.{◌≡◌, ◌*◌, length, take, drop, nat_lt}
 use Rattle.fl_words.specs.Grammar.{hex_bytes}
 use Rattle.fl_script.proofs.DigitPairs.{behind}
-use Rattle.fl_script.proofs.hexadecimal.decode_pairs.Given as goal
+use Rattle.fl_script.proofs.hexadecimal.decode_each.Given as goal
 
 abbrev pub invariant-pairs : goal.invariant-pairs
 invariant-pairs l =

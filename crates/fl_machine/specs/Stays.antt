@@ -1,0 +1,60 @@
+-- The bytes of a medium after each command of a run: they stand for the state, and what the command's operations don't
+-- touch is as it was.
+use Rattle.std.specs.Prelude.{◌≡◌, ◌⊎◌, ℕ, ◌-◌, ◌*◌, ◌<◌, ◌≤◌, true, false, Some, None, List, [], ◌∷◌, ◌++◌, map, take, replicate, slice_get, sum_by, MatchBool}
+use Rattle.fl_model.specs.Image.{bytes_at, page_bytes}
+use Rattle.fl_model.specs.Layout.{is_blank, IsTornPage}
+use Rattle.fl_model.specs.Record.{Plan, Config, blocks_of}
+use Rattle.fl_model.specs.Ring.{Ring, oldest}
+use Rattle.fl_model.specs.Table.{Table, RingName, DataRing, IndexRing, VarRing, lose}
+use Rattle.fl_words.specs.Command as command
+use Rattle.fl_words.specs.Command.{Command}
+use Rattle.fl_words.specs.Medium.{IsImage}
+use Rattle.fl_machine.specs.Machine.{Machine}
+use Rattle.fl_machine.specs.Step.{Moment}
+
+-- Each page of a ring that is kept before and after has the bytes that it had. The ring's other pages are those that were
+-- sealed since, and blank ones.
+abbrev pub RingStays : Config → List ℕ → List ℕ → ℕ → Plan → RingName → Ring → Ring → Type 0
+RingStays config bytes now place plan ring before after =
+    (number : ℕ) → oldest after ≤ number → number < before.next → bytes_at config now place plan ring number ≡ bytes_at config bytes place plan ring number
+
+-- .. each ring of a table
+pub record TableStays (config : Config) (bytes now : List ℕ) (place : ℕ) (plan : Plan) (before after : Table) : Type 0 where
+  pub rows : RingStays config bytes now place plan DataRing before.rows after.rows
+  pub index : (old new : Ring) → before.index ≡ Some old → after.index ≡ Some new → RingStays config bytes now place plan IndexRing old new
+  pub var : (old new : Ring) → before.var ≡ Some old → after.var ≡ Some new → RingStays config bytes now place plan VarRing old new
+
+-- .. of each table
+abbrev pub TablesStay : Config → List ℕ → List ℕ → List Table → List Table → Type 0
+TablesStay config bytes now tables after =
+    (place : ℕ) (plan : Plan) (old new : Table) → slice_get config.plans place ≡ Some plan → slice_get tables place ≡ Some old → slice_get after place ≡ Some new →
+    TableStays config bytes now place plan old new
+
+-- a page after the repairs of a mount: it stands, or it was torn and its last four bytes became zero, or it was erased
+abbrev pub IsRepaired : Config → List ℕ → List ℕ → Type 0
+IsRepaired config old new =
+    (new ≡ old) ⊎ ((IsTornPage old × (new ≡ take (config.geometry.page - 4) old ++ replicate 4 0)) ⊎ (is_blank new ≡ true))
+
+abbrev pub PagesAreRepaired : Config → List ℕ → List ℕ → Type 0
+PagesAreRepaired config bytes now =
+    (page : ℕ) → page < sum_by blocks_of config.plans * config.geometry.block → IsRepaired config (page_bytes config bytes page) (page_bytes config now page)
+
+-- what a command of which each operation was done leaves as it was
+abbrev pub CommandStays : Config → Machine → Command → Machine → List ℕ → List ℕ → Type 0
+CommandStays config old command.Mount after bytes now = MatchBool old.mounted (now ≡ bytes) (PagesAreRepaired config bytes now)
+CommandStays config old (command.Put name key values blob) after bytes now = MatchBool old.mounted (TablesStay config bytes now old.tables after.tables) (now ≡ bytes)
+CommandStays config old (command.Flush name) after bytes now = MatchBool old.mounted (TablesStay config bytes now old.tables after.tables) (now ≡ bytes)
+CommandStays config old (command.Load name count step seed) after bytes now = MatchBool old.mounted (TablesStay config bytes now old.tables after.tables) (now ≡ bytes)
+CommandStays config old _ after bytes now = now ≡ bytes
+
+-- the bytes before and after a moment
+pub record MomentStays (config : Config) (old : Machine) (moment : Moment) (bytes now : List ℕ) : Type 0 where
+  -- they stand for the state after it, whatever failed
+  pub image : IsImage config now (map lose moment.after.tables)
+  pub stays : moment.rose ≡ false → moment.last ≡ None → CommandStays config old moment.command moment.after bytes now
+
+-- .. and those before and after each of these moments
+abbrev pub StaysEach : Config → Machine → List Moment → List ℕ → List ℕ → Type 0
+StaysEach config old [] bytes now = now ≡ bytes
+StaysEach config old (moment ∷ moments) bytes now =
+    (mid : List ℕ) × MomentStays config old moment bytes mid × StaysEach config moment.after moments mid now

@@ -1,0 +1,139 @@
+-- The page after the kept ones of a ring is torn where a search for its numbers says so.
+use Rattle.std.proofs.Common.{◌≡◌, ℕ, zero, suc, ◌+◌, ◌-◌, ◌*◌, ◌/◌, ◌%◌, ◌<◌, ◌≤◌, min, Bool, true, false, not, ◌==◌, if◌then◌else◌, Option, Some, None, IsTrue, inl, inr, refl, sym, ◌∙◌, ap, arith}
+use Rattle.std.proofs.Math.Nat.{mul-le-mul_right, mod-eq_of_lt, add-mod_right, mul-add-mod_self_right, min-le_right}
+use Rattle.std.proofs.lemmas.Bool.{cases_lt, cases_eq, cases_Bool, and_parts, true≢false, cond-true, cond-false, ne_eqb}
+use Rattle.fl_flash.specs.Flash.{FlashState}
+use Rattle.fl_mark.specs.declared.page_state.PageState.{PageState}
+use Rattle.fl_mark.specs.declared.page_state.PageState.TheVariants.{Blank, Torn, Committed, Void}
+use Rattle.fl_ring.specs.declared.ring.Ring.{Ring}
+use Rattle.fl_ring.specs.Finding.{full_of, head_at, next_place, kept_at, NewestIs, IsFound}
+use Rattle.fl_ring.specs.Front.{blanks}
+use Rattle.fl_ring.specs.Head.{seals, page_in, one, fulls, before, is_head, ends, last_head, heads, head_of}
+use Rattle.fl_ring.specs.Looking.{state_at}
+use Rattle.fl_ring.specs.Mounting.{HasNumbers}
+use Rattle.fl_ring.specs.Numbers.{next_by, NumbersFit}
+use Rattle.fl_ring.specs.Ring.{Shape, place, room}
+use Rattle.fl_ring.proofs.Modulo.{parts, more, last_block}
+use Rattle.fl_ring.proofs.Moved.{least_is_alike}
+
+not_false : (b : Bool) → not b ≡ true → b ≡ false
+not_false true e = sym e
+not_false false e = refl
+
+one_none : (b : Bool) → one b ≡ 0 → b ≡ false
+one_none true e = absurd (omega (arith, e))
+one_none false e = refl
+
+-- the last of these blocks that is a head
+module _ (full : ℕ → Bool) (B : ℕ) where
+  none_full : (n i : ℕ) → fulls full n ≡ 0 → i < n → full i ≡ false
+  none_full zero i none lt = absurd (omega (arith, lt))
+  none_full (suc n) i none lt = elim (cases_eq i n) [
+    | inl same ↦ ap full same ∙ one_none (full n) (omega (arith, none))
+    | inr other ↦ none_full n i (omega (arith, none)) (omega (arith, lt, other))
+  ]
+
+  last_within : (n : ℕ) → last_head full B n ≤ n - 1
+  last_within zero = omega arith
+  last_within (suc n) = elim (cases_Bool (is_head full B n)) [
+    | inl is ↦ omega (arith, cond-true (is_head full B n) n (last_head full B n) is)
+    | inr isnt ↦ omega (arith, cond-false (is_head full B n) n (last_head full B n) isnt, last_within n)
+  ]
+
+  last_is_head : (n : ℕ) → (ends full B n ≡ 0 → ⊥) → is_head full B (last_head full B n) ≡ true
+  last_is_head zero some = absurd (some refl)
+  last_is_head (suc n) some = elim (cases_Bool (is_head full B n)) [
+    | inl is ↦ ap (λ (i : ℕ). is_head full B i) (cond-true (is_head full B n) n (last_head full B n) is) ∙ is
+    | inr isnt ↦
+        let none : one (is_head full B n) ≡ 0 = ap one isnt in
+        ap (λ (i : ℕ). is_head full B i) (cond-false (is_head full B n) n (last_head full B n) isnt) ∙ last_is_head n (λ e. some (omega (arith, e, none)))
+  ]
+
+  -- the one head isn't full
+  head_open : 0 < B → heads full B ≡ 1 → full (head_of full B) ≡ false
+  head_open some one_head = elim (cases_eq (fulls full B) 0) [
+    | inl none ↦ none_full B (head_of full B) none (omega (arith, last_within B, some))
+    | inr many ↦
+        let ends_one : ends full B B ≡ 1 = sym (cond-false (fulls full B == 0) 1 (ends full B B) (ne_eqb (fulls full B) 0 many)) ∙ one_head in
+        let b = head_of full B in
+        not_false (full b) (and_parts (full (before B b)) (not (full b)) (last_is_head B (λ e. absurd (omega (arith, e, ends_one))))).1
+  ]
+
+torn_of : (s : PageState) → seals s ≡ false → blanks s ≡ false → s ≡ Torn
+torn_of Blank unsealed some = absurd (true≢false some)
+torn_of Torn unsealed some = refl
+torn_of Committed unsealed some = absurd (true≢false unsealed)
+torn_of Void unsealed some = absurd (true≢false unsealed)
+
+-- a rest may be taken before an addition
+rest_first : (R n k : ℕ) → (n + k) % R ≡ (n % R + k) % R
+rest_first R n k =
+    let pn = parts R n in
+    let split : n + k ≡ n / R * R + (n % R + k) = omega arith in
+    ap (λ (i : ℕ). i % R) split ∙ mul-add-mod_self_right (n / R) R (n % R + k)
+
+-- by what an option is
+by_option : {A : Type 0} (P : Option A → Type 0) → P None → ((x : A) → P (Some x)) → (o : Option A) → P o
+by_option P none some None = none
+by_option P none some (Some x) = some x
+
+-- a ring's numbers after a mount that ended well, as the pages give them
+module _ (f new : FlashState) (r : Shape) (at_least : ℕ) (ring : Ring) (some : 0 < r.blocks) (told : IsTrue f.media.tells) (h : HasNumbers f r at_least ring new) where
+  abbrev found : IsFound f r at_least h.numbers
+  found = h.is_found told
+
+  abbrev at : ℕ
+  at = next_place f r found.front
+
+  at_within : at < room r
+  at_within =
+      let head = head_at f r in
+      let le : (head + 1) * r.per_block ≤ r.blocks * r.per_block = mul-le-mul_right r.per_block (let le : head + 1 ≤ r.blocks = omega (arith, last_within (full_of f r) r.blocks r.blocks, some) in le) in
+      omega (arith, le, more head r.per_block, found.head.front_is.below)
+
+  few : kept_at f r found.front ≤ room r
+  few =
+      let most = if found.front.sealed == r.per_block - 1 then r.blocks - 2 else r.blocks - 1 in
+      let blocks = min (fulls (full_of f r) r.blocks) most in
+      let le : blocks ≤ r.blocks - 1 = omega (arith, min-le_right (fulls (full_of f r) r.blocks) most, at_most (found.front.sealed == r.per_block - 1)) in
+      omega (arith, mul-le-mul_right r.per_block le, last_block r.blocks r.per_block (omega (arith, some)), found.head.front_is.below)
+    where
+      at_most : (b : Bool) → (if b then r.blocks - 2 else r.blocks - 1) ≤ r.blocks - 1
+      at_most true = omega arith
+      at_most false = omega arith
+
+  next_rest : h.numbers.next % room r ≡ at
+  next_rest =
+      ap (λ (n : ℕ). n % room r) found.next
+      ∙ by_option (λ newest. NewestIs f r found.front newest → NumbersFit r at (kept_at f r found.front) at_least found.front.torn newest → next_by r at (kept_at f r found.front) at_least newest % room r ≡ at)
+      (λ is fits. least_is_alike (room r) at (at_least + kept_at f r found.front) (omega (arith, at_within)) ∙ mod-eq_of_lt at_within)
+      (λ x is fits. by_newest x.number x.back (omega (arith, is.within, few)) fits.0)
+      found.newest found.newest_is found.fits
+    where
+      by_newest : (number back : ℕ) → back ≤ room r → number % room r ≡ (at + room r - back) % room r → (number + back) % room r ≡ at
+      by_newest number back within e =
+          let all : at + room r - back + back ≡ at + room r = omega (arith, within) in
+          rest_first (room r) number back
+          ∙ ap (λ (k : ℕ). (k + back) % room r) e
+          ∙ sym (rest_first (room r) (at + room r - back) back)
+          ∙ ap (λ (k : ℕ). k % room r) all
+          ∙ add-mod_right at (room r)
+          ∙ mod-eq_of_lt at_within
+
+  -- the page of the next number is the first of the head that isn't sealed
+  next_is : place r h.numbers.next ≡ page_in r (head_at f r) found.front.sealed
+  next_is = ap (λ (n : ℕ). r.first + n) next_rest
+
+  unsealed : seals (state_at f (page_in r (head_at f r) found.front.sealed)) ≡ false
+  unsealed = elim (cases_lt (found.front.sealed + 1) r.per_block) [
+    | inl inside ↦ found.head.front_is.unsealed found.head.front_is.below inside
+    | inr last ↦
+        let same : found.front.sealed ≡ r.per_block - 1 = omega (arith, last, found.head.front_is.below) in
+        ap (λ (i : ℕ). seals (state_at f (page_in r (head_at f r) i))) same ∙ head_open (full_of f r) r.blocks some found.head.one_head
+  ]
+
+  pub torn_there : h.numbers.torn ≡ true → state_at f (place r h.numbers.next) ≡ Torn
+  torn_there torn =
+      let some : blanks (state_at f (page_in r (head_at f r) found.front.sealed)) ≡ false =
+      not_false (blanks (state_at f (page_in r (head_at f r) found.front.sealed))) (sym (found.head.front_is.torn found.head.front_is.below) ∙ sym found.torn ∙ torn) in
+      ap (λ (p : ℕ). state_at f p) next_is ∙ torn_of (state_at f (page_in r (head_at f r) found.front.sealed)) unsealed some
