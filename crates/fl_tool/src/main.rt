@@ -1,12 +1,15 @@
-//! `flashts run IMAGE`: runs the script on standard input over the image, and writes its replies on standard output.
+//! `flashts run IMAGE` runs the script on standard input over the image, and writes its replies on standard output.
+//! `flashts check IMAGE` tells there whether each table of the image is sound.
 #![tactic(auto)]
 
 ghost use Rattle.std.specs.Prelude.{◌≡◌, OnOk, OnErr};
 
+mod checked;
 mod told;
 
 use fl_base::SinkFailed;
 use fl_edge::{FileMedia, ReplyBuffer, StandardInput, StandardOutput};
+use fl_jobs::{ToolJob, tool_of};
 use fl_session::{Status, image_of, run};
 use std::alloc::Global;
 use std::cell::RefCell;
@@ -17,11 +20,25 @@ use std::process::ExitCode;
 use std::rt::Files;
 
 fn main(rt: HostRuntime) -> ExitCode {
-    let status = match words_of(&rt) {
-        Some(words) => run_words(&rt, &words),
-        None => Status::NoMemory,
+    let Some(words) = words_of(&rt) else {
+        return end_run(&rt, Status::NoMemory);
     };
-    told::tell(&rt, status);
+    match tool_of(&words) {
+        Some(ToolJob::Check) => {
+            let status = checked::check_words(&rt, &words);
+            told::tell_job(&rt, status);
+            ExitCode::from(status.number())
+        }
+        None => {
+            let status = run_words(&rt, &words);
+            end_run(&rt, status)
+        }
+    }
+}
+
+/// Tells how a run ended.
+fn end_run<R: Eprint>(rt: &R, status: Status) -> ExitCode {
+    told::tell(rt, status);
     ExitCode::from(status.number())
 }
 

@@ -1,4 +1,5 @@
 // What standard error says of a run that didn't end well.
+use fl_jobs::ToolStatus;
 use fl_session::Status;
 
 /// Prints the line of the status; none where the run is done.
@@ -15,5 +16,18 @@ pub(crate) fn tell<R: Eprint>(rt: &R, status: Status) {
         Status::OtherConfig { .. } => eprintln!(rt; "flashts: the image has another configuration"),
         Status::ScriptLong => eprintln!(rt; "flashts: the script is longer than 16777216 bytes"),
         Status::NoMemory => eprintln!(rt; "flashts: no memory"),
+    };
+}
+
+/// Prints the line of the status of a job; none where the job was done.
+pub(crate) fn tell_job<R: Eprint>(rt: &R, status: ToolStatus) {
+    let _ = match status {
+        ToolStatus::Done => Ok(()),
+        ToolStatus::OutWrite => eprintln!(rt; "flashts: the replies cannot be written"),
+        ToolStatus::NoMemory => eprintln!(rt; "flashts: no memory"),
+        ToolStatus::NotImage | ToolStatus::Device | ToolStatus::Unsound => {
+            let number = status.number();
+            eprintln!(rt; "flashts: status {number}")
+        }
     };
 }

@@ -1,0 +1,39 @@
+-- Pages of variable data, by their bytes.
+use Rattle.std.proofs.Common.{◌≡◌, ℕ, ◌-◌, ◌^◌, ◌<◌, ◌≤◌, true, List, ◌++◌, length, take, drop, slice_range, refl, sym, ap, ◌∙◌, arith}
+use Rattle.std.proofs.Math.Seq.{take-add}
+use Rattle.std.proofs.lemmas.List.{drop-drop, take-take, drop-take}
+use Rattle.fl_mark.specs.Mark.{all_are}
+use Rattle.fl_model.specs.Row.{le, number_of}
+use Rattle.fl_page.specs.Header.{page_number, page_count}
+use Rattle.fl_schema.proofs.Numbers.{number_of-le}
+use Rattle.fl_check.specs.ContentPage.{IsContentPage}
+use Rattle.fl_check.specs.Endings.{IsEnded}
+use Rattle.fl_check.proofs.BytesBack.{AreBytes}
+use Rattle.fl_check.proofs.Parts.{field_is, zero_is, is_zero}
+
+module _ (page : List ℕ) (number : ℕ) (least : 24 ≤ length page) where
+  pub is_content : AreBytes page → page_number page ≡ number → 0 < page_count page → page_count page ≤ length page - 16 → all_are 0 (slice_range page 6 8) ≡ true
+      → IsEnded page → IsContentPage number page
+  is_content each number_is some most zero marks = record {
+    used = page_count page;
+    some = some;
+    most = most;
+    head =
+        take-add 4 4 page ∙ ap (λ (l : List ℕ). take 4 page ++ l) (take-add 2 2 (drop 4 page) ∙ ap (λ (l : List ℕ). take 2 (drop 4 page) ++ take 2 l) (drop-drop 2 4 page))
+        ∙ ap (λ (l : List ℕ). l ++ (take 2 (drop 4 page) ++ take 2 (drop 6 page))) (field_is page 0 4 number each (omega (arith, least)) number_is)
+        ∙ ap (λ (l : List ℕ). le 4 number ++ (l ++ take 2 (drop 6 page))) (field_is page 4 2 (page_count page) each (omega (arith, least)) refl)
+        ∙ ap (λ (l : List ℕ). le 4 number ++ (le 2 (page_count page) ++ l)) (zero_is page 6 2 8 refl (omega (arith, least)) zero);
+    marks = marks;
+  }
+
+  module _ (is : IsContentPage number page) (small : number < 2 ^ 32) (short : length page < 65536) where
+    pub content_number : page_number page ≡ number
+    content_number = ap number_of (sym (take-take 4 8 page (omega arith)) ∙ ap (λ (l : List ℕ). take 4 l) is.head) ∙ number_of-le 4 number small
+
+    pub content_count : page_count page ≡ is.used
+    content_count =
+        ap number_of (sym (take-take 2 4 (drop 4 page) (omega arith)) ∙ ap (λ (l : List ℕ). take 2 l) (sym (drop-take 4 4 page) ∙ ap (λ (l : List ℕ). drop 4 l) is.head))
+        ∙ number_of-le 2 is.used (omega (arith, is.most, short))
+
+    pub content_zero : all_are 0 (slice_range page 6 8) ≡ true
+    content_zero = is_zero page 6 2 8 refl (sym (drop-take 6 2 page) ∙ ap (λ (l : List ℕ). drop 6 l) is.head)

@@ -1,0 +1,95 @@
+-- Data pages in the words of a table.
+use Rattle.std.proofs.Common.{◌≡◌, ℕ, ◌-◌, ◌/◌, ◌^◌, ◌==◌, cond, IsTrue, pos, Option, Some, None, option_map, unwrap_or, slice_get, List, [], ◌∷◌, length, map, fold, replicate, bit_or, refl, sym, subst, ap, ◌∙◌, arith}
+use Rattle.std.specs.List.{AllByRecursion}
+use Rattle.std.proofs.lemmas.Bool.{eqb-true, false_from_ne_true, eq-eqb}
+use Rattle.std.proofs.lemmas.List.{length-replicate, length-map}
+use Rattle.fl_base.specs.declared.types.BlobRef.{BlobRef}
+use Rattle.fl_bitmap.specs.Bucket.{AreBucketsOf, with_value, bucket_in}
+use Rattle.fl_bitmap.specs.Widths.{is_bits}
+use Rattle.fl_bitmap.specs.declared.buckets.Buckets.{Buckets}
+use Rattle.fl_bitmap.proofs.Spans.{bucket_of-is}
+use Rattle.fl_model.specs.Layout.{bucket_of, bitmap_of, rows_body, data_body, committed}
+use Rattle.fl_model.specs.Record.{Plan, RowLayout, row_layout, layout_len, rows_per_page}
+use Rattle.fl_model.specs.Row.{Row, IsStorable, stored_row}
+use Rattle.fl_model.specs.Table.{Entry}
+use Rattle.fl_check.specs.DataPage.{IsDataPage, HasBuckets, HasForm, HoldsEntries, bitmap_in, are_plain}
+
+-- an entry with this row: its blob may have any bytes, as many as the row says
+abbrev entry_of : Row → Entry
+entry_of row = record {
+  kept = record { key = row.key; values = row.values; blob = option_map (λ blob. replicate blob.length 0) row.blob };
+  page = unwrap_or (option_map (λ blob. blob.page) row.blob) 0;
+  offset = unwrap_or (option_map (λ blob. blob.offset) row.blob) 0;
+}
+
+stored_back : (row : Row) → stored_row (entry_of row) ≡ row
+stored_back row = with_blob row.blob
+  where
+    with_blob : (blob : Option BlobRef) → stored_row (entry_of (record { key = row.key; values = row.values; blob = blob })) ≡ record { key = row.key; values = row.values; blob = blob }
+    with_blob None = refl
+    with_blob (Some blob) =
+        ap (λ (n : ℕ). record { key = row.key; values = row.values; blob = Some (record { page = blob.page; offset = blob.offset; length = n }) }) (length-replicate {A = ℕ} blob.length 0)
+
+stored_rows : (rows : List Row) → map stored_row (map entry_of rows) ≡ rows
+stored_rows [] = refl
+stored_rows (row ∷ rows) = ap (λ (r : Row). r ∷ map stored_row (map entry_of rows)) (stored_back row) ∙ ap (λ (l : List Row). row ∷ l) (stored_rows rows)
+
+-- ---- the bitmap
+
+bits-same : (plan : Plan) (buckets : Buckets) (bits : ℕ) (entries : List Entry) → AreBucketsOf plan buckets →
+    fold (λ bits (entry : Entry). bit_or bits (2 ^ bucket_of plan (unwrap_or (slice_get entry.kept.values 0) (pos 0)))) bits entries
+    ≡ fold (λ bits (row : Row). with_value buckets bits (unwrap_or (slice_get row.values 0) (pos 0))) bits (map stored_row entries)
+bits-same plan buckets bits [] same = refl
+bits-same plan buckets bits (entry ∷ entries) same =
+    ap (λ n. fold (λ bits (entry : Entry). bit_or bits (2 ^ bucket_of plan (unwrap_or (slice_get entry.kept.values 0) (pos 0)))) (bit_or bits (2 ^ n)) entries) (bucket_of-is plan buckets (unwrap_or (slice_get entry.kept.values 0) (pos 0)) same)
+    ∙ bits-same plan buckets (bit_or bits (2 ^ bucket_in buckets (unwrap_or (slice_get entry.kept.values 0) (pos 0)))) entries same
+
+some-bits : (bits : ℕ) → IsTrue (is_bits bits) → bits ≡ 0 → ⊥
+some-bits bits is none = cc (sym (ap is_bits none) ∙ is)
+
+bitmap-same : (plan : Plan) (buckets : Option Buckets) (entries : List Entry) → HasBuckets plan buckets → bitmap_of plan entries ≡ bitmap_in buckets (map stored_row entries)
+bitmap-same plan None entries none =
+    ap (λ b. cond b 0 (fold (λ bits (entry : Entry). bit_or bits (2 ^ bucket_of plan (unwrap_or (slice_get entry.kept.values 0) (pos 0)))) 0 entries)) (eq-eqb plan.bits 0 none)
+bitmap-same plan (Some buckets) entries same =
+    ap (λ b. cond b 0 (fold (λ bits (entry : Entry). bit_or bits (2 ^ bucket_of plan (unwrap_or (slice_get entry.kept.values 0) (pos 0)))) 0 entries))
+    (false_from_ne_true (plan.bits == 0) (λ e. some-bits buckets.bits buckets.some_bits (sym same.bits ∙ eqb-true plan.bits 0 e)))
+    ∙ bits-same plan buckets 0 entries same
+
+-- ---- pages
+
+module _ (plan : Plan) (layout : RowLayout) (buckets : Option Buckets) (number : ℕ) (page : List ℕ) (form : HasForm plan layout buckets (length page)) where
+  body-same : (entries : List Entry) (rows : List Row) → map stored_row entries ≡ rows
+      → committed (rows_body (length page - 8) layout number (bitmap_in buckets rows) rows) ≡ committed (data_body plan number entries)
+  body-same entries rows same =
+      ap (λ (k : ℕ). committed (rows_body (k - 8) layout number (bitmap_in buckets rows) rows)) (sym form.size_is)
+      ∙ ap (λ (l : RowLayout). committed (rows_body (plan.geometry.page - 8) l number (bitmap_in buckets rows) rows)) (sym form.layout_is)
+      ∙ ap (λ (rs : List Row). committed (rows_body (plan.geometry.page - 8) (row_layout plan) number (bitmap_in buckets rs) rs)) (sym same)
+      ∙ ap (λ (b : ℕ). committed (rows_body (plan.geometry.page - 8) (row_layout plan) number b (map stored_row entries))) (sym (bitmap-same plan buckets entries form.buckets_are))
+
+  room-same : rows_per_page plan ≡ (length page - 24) / layout_len layout
+  room-same = ap (λ (k : ℕ). (k - 24) / layout_len (row_layout plan)) form.size_is ∙ ap (λ (l : RowLayout). (length page - 24) / layout_len l) form.layout_is
+
+  pub holds_entries : IsDataPage layout buckets number page → HoldsEntries plan number page
+  holds_entries is =
+      let same = stored_rows is.rows in
+      let many : length (map entry_of is.rows) ≡ length is.rows = length-map is.rows entry_of in
+      record {
+        entries = map entry_of is.rows;
+        some = omega (arith, is.some, many);
+        few = rw (many, room-same) is.few;
+        storable = subst (λ (l : RowLayout). AllByRecursion (IsStorable l) (map stored_row (map entry_of is.rows))) (sym form.layout_is) (subst (AllByRecursion (IsStorable layout)) (sym same) is.storable);
+        plain = ap are_plain same ∙ is.plain;
+        bytes = is.bytes ∙ body-same (map entry_of is.rows) is.rows same;
+      }
+
+  pub is_data_page : HoldsEntries plan number page → IsDataPage layout buckets number page
+  is_data_page is =
+      let many : length (map stored_row is.entries) ≡ length is.entries = length-map is.entries stored_row in
+      record {
+        rows = map stored_row is.entries;
+        some = omega (arith, is.some, many);
+        few = rw (many, sym room-same) is.few;
+        storable = subst (λ (l : RowLayout). AllByRecursion (IsStorable l) (map stored_row is.entries)) form.layout_is is.storable;
+        plain = is.plain;
+        bytes = is.bytes ∙ sym (body-same is.entries (map stored_row is.entries) refl);
+      }

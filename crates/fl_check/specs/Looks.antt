@@ -1,0 +1,35 @@
+-- What a check leaves, and why it finds nothing.
+use Rattle.std.specs.Prelude.{◌≡◌}
+use Rattle.fl_flash.specs.Flash.{FlashState, Goes}
+use Rattle.fl_flash.specs.declared.flash.FlashFault.{FlashFault}
+use Rattle.fl_ring.specs.Looking.{ReadFails}
+use Rattle.fl_check.specs.declared.finding.CheckFault.{CheckFault}
+use Rattle.fl_check.specs.declared.finding.CheckFault.TheVariants.{Flash, NoMemory}
+use Rattle.fl_check.specs.declared.halt.Halt.{Halt}
+use Rattle.fl_check.specs.declared.halt.Fault.{Fault}
+use Rattle.fl_check.specs.declared.halt.Halt.TheVariants.{Failed, Found}
+
+-- nothing of the flash changes but the counts of reads and faults
+pub record OnlyLooks (old new : FlashState) : Type 0 where
+  pub goes : Goes old new
+  pub same : new.media.content ≡ old.media.content
+  pub armed : new.armed ≡ old.armed
+  pub power : new.is_on ≡ old.is_on
+  pub cuts : new.cuts ≡ old.cuts
+  pub programs : new.work.programs ≡ old.work.programs
+  pub erases : new.work.erases ≡ old.work.erases
+
+-- a fault of the flash has its cause; want of memory proves nothing
+abbrev pub CheckFails : FlashState → CheckFault → FlashState → Type 0
+CheckFails old (Flash fault) new = ReadFails old fault new
+CheckFails old NoMemory new = Unit {0}
+
+-- a fault of the flash has this cause
+abbrev pub IfFailed : (FlashFault → Type 0) → Halt → Type 0
+IfFailed P (Failed fault) = P fault
+IfFailed P (Found fault) = Unit {0}
+
+-- a rule that doesn't hold breaks so
+abbrev pub IfFound : (Fault → Type 0) → Halt → Type 0
+IfFound P (Failed fault) = Unit {0}
+IfFound P (Found fault) = P fault

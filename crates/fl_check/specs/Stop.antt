@@ -1,0 +1,20 @@
+-- Why a check ends before its end.
+use Rattle.std.specs.Prelude.{ℕ}
+use Rattle.fl_flash.specs.declared.flash.FlashFault.{FlashFault}
+use Rattle.fl_check.specs.declared.rule.Breach.{Breach}
+use Rattle.fl_check.specs.declared.rule.Rule.{Rule}
+use Rattle.fl_check.specs.declared.rule.Stop.{Stop}
+use Rattle.fl_check.specs.declared.rule.Stop.TheVariants.{Flash, Broken}
+
+-- a fault of the flash has this cause
+abbrev pub IfFlash : (FlashFault → Type 0) → Stop → Type 0
+IfFlash P (Flash fault) = P fault
+IfFlash P (Broken breach) = Unit {0}
+
+-- a rule that doesn't hold breaks so
+abbrev pub IfBroken : (Breach → Type 0) → Stop → Type 0
+IfBroken P (Flash fault) = Unit {0}
+IfBroken P (Broken breach) = P breach
+
+abbrev pub breach : Rule → ℕ → Breach
+breach rule page = record { rule = rule; page = page }

@@ -1,0 +1,28 @@
+// Parts of a page whose bytes are known.
+ghost use Rattle.std.specs.Prelude.{◌≡◌, ◌+◌, ◌≤◌, ◌↔◌, IsTrue, length};
+ghost use Rattle.fl_mark.specs.Mark.{all_are};
+ghost use Rattle.fl_check.specs.Endings.{IsFilled, IsEnded};
+
+/// Whether each of the bytes is this one.
+pub(crate) fn each_is(bytes: &[u8], value: u8) -> bool
+    ensures { result ≡ all_are value bytes.now }
+{
+    bytes.iter().all(|b| *b == value)
+}
+
+/// Whether a page ends with the fields of a committed page: four bytes 00, and four bytes FF in the void field.
+pub(crate) fn ends_committed(page: &[u8]) -> bool
+    requires { 8 ≤ length page.now }
+    ensures { IsTrue result ↔ IsEnded page.now }
+{
+    let size = page.len();
+    each_is(&page[size - 8..size - 4], 0) && each_is(&page[size - 4..size], 255)
+}
+
+/// Whether the bytes from `end` on up to those fields are FF.
+pub(crate) fn ends_filled(page: &[u8], end: usize) -> bool
+    requires { end + 8 ≤ length page.now }
+    ensures { IsTrue result ↔ IsFilled end page.now }
+{
+    each_is(&page[end..page.len() - 8], 255) && ends_committed(page)
+}

@@ -1,0 +1,43 @@
+//! A check of the rings of a table: it reads their pages, repairs nothing, and tells the first rule that doesn't hold.
+#![tactic(auto)]
+
+mod bodies;
+mod bytes;
+mod content_page;
+mod data_page;
+mod entries;
+mod finding;
+mod forms;
+mod halt;
+mod index_form;
+mod index_page;
+mod keys;
+mod laws;
+mod marks;
+mod numbering;
+mod numbers;
+mod references;
+mod rest;
+mod ringed;
+mod rising;
+mod rule;
+mod states;
+mod tally;
+mod whole;
+
+pub use bodies::{Form, check_bodies};
+pub use content_page::{content_page_is_good, content_rest_is_blank};
+pub use data_page::data_page_is_good;
+pub use entries::{Indexing, check_entries};
+pub use finding::{CheckFault, Finding, RingName};
+pub use forms::{ContentForm, DataForm};
+pub use index_page::index_page_is_good;
+pub use keys::keys_ascend;
+pub use laws::rings_keep_rules;
+pub use marks::{HeadPages, Marks};
+pub use numbering::{Numbering, check_numbering};
+pub use references::{BlobPages, find_misleading};
+pub use rest::check_rest;
+pub use rising::check_keys;
+pub use rule::{Breach, Rule, Stop};
+pub use whole::{TableNumbers, check_table};

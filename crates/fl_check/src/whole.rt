@@ -1,0 +1,379 @@
+// The check of a table: the rules of its rings, one ring after another, and then those on its index and its references.
+ghost use Rattle.std.specs.Prelude.{◌≡◌, ◌≤◌, ◌+◌, ℕ, List, None, Some, is_some, length, IsTrue, IfOk, IfErr, OnOk};
+ghost use Rattle.fl_flash.specs.Flash.{page_at};
+ghost use Rattle.fl_model.specs.Record.{layout_len};
+ghost use Rattle.fl_plan.specs.Limits.{IsWithinLimits};
+ghost use Rattle.fl_plan.specs.Refusal.{config_fault};
+ghost use Rattle.fl_ring.specs.Looking.{ReadFails};
+ghost use Rattle.fl_schema.specs.Schema.{layout_of, types_of};
+ghost use Rattle.fl_check.specs.Looks.{OnlyLooks, CheckFails, IfFailed, IfFound};
+ghost use Rattle.fl_check.specs.Marks.{AreWithin};
+ghost use Rattle.fl_check.specs.Rising.{HaveRows};
+ghost use Rattle.fl_check.specs.RingRules.{IsRingSound, BreaksRing};
+ghost use Rattle.fl_check.specs.Tally.{least_of};
+ghost use Rattle.fl_check.specs.Whole.{Fits, LiesWithin, OfRing, shape_in, rows_shape, layout_in, IsRowsForm, IsVarForm, IsIndexSound, AreRowsSound, AreRingsSound, AreEntriesSound, AreReferencesSound, IsSound, BreaksIndex, BreaksVarBy, BreaksEntries, BreaksReferences, IsFirstFault, index_end, tally_in, IsFinding};
+ghost use Rattle.fl_check.specs.declared.finding.RingName.{RingName};
+ghost use Rattle.fl_check.specs.declared.rule.Rule.{Rule};
+
+use crate::entries::{Indexing, check_entries};
+use crate::finding::{CheckFault, Finding, RingName};
+use crate::forms::{ContentForm, DataForm};
+use crate::halt::{Fault, Halt, in_ring};
+use crate::index_form::IndexForm;
+use crate::numbering::Numbering;
+use crate::references::{BlobPages, find_misleading};
+use crate::ringed::{check_ring, check_rows};
+use crate::rule::Rule;
+use crate::tally::{Tally, find_end, least_of, tally_pages};
+use fl_flash::{Flash, FlashFault, PageBuf};
+use fl_plan::TableConfig;
+use fl_ring::Ring;
+use fl_schema::Schema;
+use std::alloc::Global;
+
+/// The kept pages of each ring of a table, and the numbers of the next ones.
+#[derive(Clone, Copy)]
+pub struct TableNumbers {
+    pub index: Option<Numbering>,
+    pub rows: Numbering,
+    pub var: Option<Numbering>,
+}
+
+/// .. and what the data pages tell.
+#[derive(Clone, Copy)]
+pub(crate) struct Rings {
+    pub(crate) numbers: TableNumbers,
+    pub(crate) tally: Tally,
+}
+
+/// A table that is checked.
+#[derive(Drop)]
+pub(crate) struct Checked<'c> {
+    config: &'c TableConfig,
+    schema: Schema<8>,
+    ghost layout: { layout_of schema ≡ layout_in config.now },
+    ghost columns: { 1 ≤ length (types_of schema) },
+}
+
+impl Checked<'_> {
+    /// Checks the rules of the ring of index pages, where there is one.
+    fn check_index<F: Flash>(
+        &self,
+        flash: &mut F,
+        buf: &mut PageBuf,
+    ) -> Result<Option<Numbering>, Halt>
+        requires fits { Fits self.now.config.now (F.state flash.old) }
+        requires room { length buf.old.bytes ≡ self.now.config.now.geometry.page }
+        ensures looks { OnlyLooks (F.state flash.old) (F.state flash.new) }
+        ensures room { length buf.new.bytes ≡ self.now.config.now.geometry.page }
+        ensures within { IfOk result (λ index. LiesWithin self.now.config.now self.now.config.now.index index) }
+        ensures sound { IfOk result (λ index. IsTrue (F.state flash.old).media.tells → IsIndexSound self.now.config.now (page_at (F.state flash.old)) index) }
+        ensures broken { IfErr result (IfFound (λ fault. IsTrue (F.state flash.old).media.tells → (fault.ring ≡ RingName.Index) × BreaksIndex self.now.config.now (page_at (F.state flash.old)) fault.page fault.rule)) }
+        ensures fails { IfErr result (IfFailed (λ e. ReadFails (F.state flash.old) e (F.state flash.new))) }
+    {
+        let Some(place) = self.config.index else {
+            return Ok(None);
+        };
+        let Some(buckets) = self.config.buckets else {
+            unreachable!()
+        };
+        let ring = Ring::unnumbered(flash, place);
+        let form = IndexForm {
+            config: self.config,
+            bits: buckets.bits,
+        };
+        let n = in_ring(RingName::Index, check_ring(&ring, flash, 0, &form, buf))?;
+        Ok(Some(n))
+    }
+
+    /// The number after the data pages that the index lists.
+    fn find_index_end<F: Flash>(
+        &self,
+        flash: &mut F,
+        index: Option<Numbering>,
+        buf: &mut PageBuf,
+    ) -> Result<u64, FlashFault>
+        requires fits { Fits self.now.config.now (F.state flash.old) }
+        requires room { length buf.old.bytes ≡ self.now.config.now.geometry.page }
+        requires within { LiesWithin self.now.config.now self.now.config.now.index index }
+        ensures looks { OnlyLooks (F.state flash.old) (F.state flash.new) }
+        ensures room { length buf.new.bytes ≡ self.now.config.now.geometry.page }
+        ensures end { IfOk result (λ end. IsTrue (F.state flash.old).media.tells → end ≡ index_end self.now.config.now (page_at (F.state flash.old)) index) }
+        ensures fails { IfErr result (λ e. ReadFails (F.state flash.old) e (F.state flash.new)) }
+    {
+        let Some(place) = self.config.index else {
+            return Ok(0);
+        };
+        let Some(n) = index else { unreachable!() };
+        let Some(buckets) = self.config.buckets else {
+            unreachable!()
+        };
+        let ring = Ring::unnumbered(flash, place);
+        let per_page = (self.config.geometry.page - 24) / (buckets.bits / 8);
+        find_end(&ring, flash, n.marks, per_page, buf)
+    }
+
+    /// Checks the rules of the data ring.
+    fn check_data<F: Flash>(
+        &self,
+        flash: &mut F,
+        at_least: u32,
+        buf: &mut PageBuf,
+    ) -> Result<Numbering, Halt>
+        requires fits { Fits self.now.config.now (F.state flash.old) }
+        requires room { length buf.old.bytes ≡ self.now.config.now.geometry.page }
+        ensures looks { OnlyLooks (F.state flash.old) (F.state flash.new) }
+        ensures room { length buf.new.bytes ≡ self.now.config.now.geometry.page }
+        ensures within { IfOk result (λ n. AreWithin (rows_shape self.now.config.now) n.marks) }
+        ensures sound { IfOk result (λ n. IsTrue (F.state flash.old).media.tells
+            → IsRingSound (IsRowsForm self.now.config.now) (Some (layout_in self.now.config.now)) (page_at (F.state flash.old)) (rows_shape self.now.config.now) at_least n) }
+        ensures broken { IfErr result (IfFound (λ fault. IsTrue (F.state flash.old).media.tells
+            → (fault.ring ≡ RingName.Data) × BreaksRing (IsRowsForm self.now.config.now) (Some (layout_in self.now.config.now)) (page_at (F.state flash.old)) (rows_shape self.now.config.now) at_least fault.rule fault.page)) }
+        ensures fails { IfErr result (IfFailed (λ e. ReadFails (F.state flash.old) e (F.state flash.new))) }
+    {
+        let ring = Ring::unnumbered(flash, self.config.rows);
+        let form = DataForm {
+            schema: &self.schema,
+            buckets: self.config.buckets,
+        };
+        in_ring(
+            RingName::Data,
+            check_rows(&ring, flash, at_least, &form, buf),
+        )
+    }
+
+    /// Checks the rules of the ring of variable data, where there is one.
+    fn check_var<F: Flash>(
+        &self,
+        flash: &mut F,
+        at_least: u32,
+        buf: &mut PageBuf,
+    ) -> Result<Option<Numbering>, Halt>
+        requires fits { Fits self.now.config.now (F.state flash.old) }
+        requires room { length buf.old.bytes ≡ self.now.config.now.geometry.page }
+        ensures looks { OnlyLooks (F.state flash.old) (F.state flash.new) }
+        ensures room { length buf.new.bytes ≡ self.now.config.now.geometry.page }
+        ensures within { IfOk result (λ var. LiesWithin self.now.config.now self.now.config.now.var var) }
+        ensures sound { IfOk result (λ var. IsTrue (F.state flash.old).media.tells
+            → OfRing (λ place n. IsRingSound IsVarForm None (page_at (F.state flash.old)) (shape_in self.now.config.now place) at_least n) self.now.config.now.var var) }
+        ensures broken { IfErr result (IfFound (λ fault. IsTrue (F.state flash.old).media.tells
+            → (fault.ring ≡ RingName.Var) × BreaksVarBy self.now.config.now (page_at (F.state flash.old)) at_least fault.page fault.rule)) }
+        ensures fails { IfErr result (IfFailed (λ e. ReadFails (F.state flash.old) e (F.state flash.new))) }
+    {
+        let Some(place) = self.config.var else {
+            return Ok(None);
+        };
+        let ring = Ring::unnumbered(flash, place);
+        let n = in_ring(
+            RingName::Var,
+            check_ring(&ring, flash, at_least, &ContentForm, buf),
+        )?;
+        Ok(Some(n))
+    }
+
+    /// Checks the rules of all rings. The numbers of each ring follow what the ring before it tells.
+    fn check_rings<F: Flash>(&self, flash: &mut F, buf: &mut PageBuf) -> Result<Rings, Halt>
+        requires fits { Fits self.now.config.now (F.state flash.old) }
+        requires room { length buf.old.bytes ≡ self.now.config.now.geometry.page }
+        ensures looks { OnlyLooks (F.state flash.old) (F.state flash.new) }
+        ensures room { length buf.new.bytes ≡ self.now.config.now.geometry.page }
+        ensures index { IfOk result (λ rings. LiesWithin self.now.config.now self.now.config.now.index rings.numbers.index) }
+        ensures rows { IfOk result (λ rings. AreWithin (rows_shape self.now.config.now) rings.numbers.rows.marks) }
+        ensures var { IfOk result (λ rings. LiesWithin self.now.config.now self.now.config.now.var rings.numbers.var) }
+        ensures sound { IfOk result (λ rings. IsTrue (F.state flash.old).media.tells → AreRingsSound self.now.config.now (page_at (F.state flash.old)) rings.numbers) }
+        ensures tally { IfOk result (λ rings. IsTrue (F.state flash.old).media.tells → rings.tally ≡ tally_in self.now.config.now (page_at (F.state flash.old)) rings.numbers.rows) }
+        ensures broken { IfErr result (IfFound (λ fault. IsTrue (F.state flash.old).media.tells → IsFirstFault self.now.config.now (page_at (F.state flash.old)) fault.ring fault.page fault.rule)) }
+        ensures fails { IfErr result (IfFailed (λ e. ReadFails (F.state flash.old) e (F.state flash.new))) }
+    {
+        let index = self.check_index(flash, buf)?;
+        let end = self.find_index_end(flash, index, buf)?;
+        let rows = self.check_data(flash, least_of(end), buf)?;
+        let tally = self.tally_rows(flash, rows, buf)?;
+        let var = self.check_var(flash, least_of(tally.blob_end), buf)?;
+        Ok(Rings {
+            numbers: TableNumbers { index, rows, var },
+            tally,
+        })
+    }
+
+    /// What the data pages tell.
+    fn tally_rows<F: Flash>(
+        &self,
+        flash: &mut F,
+        rows: Numbering,
+        buf: &mut PageBuf,
+    ) -> Result<Tally, FlashFault>
+        requires fits { Fits self.now.config.now (F.state flash.old) }
+        requires room { length buf.old.bytes ≡ self.now.config.now.geometry.page }
+        requires within { AreWithin (rows_shape self.now.config.now) rows.marks }
+        ensures looks { OnlyLooks (F.state flash.old) (F.state flash.new) }
+        ensures room { length buf.new.bytes ≡ self.now.config.now.geometry.page }
+        ensures tally { IfOk result (λ tally. IsTrue (F.state flash.old).media.tells → HaveRows (layout_in self.now.config.now) (page_at (F.state flash.old)) (rows_shape self.now.config.now) rows.marks
+            → tally ≡ tally_in self.now.config.now (page_at (F.state flash.old)) rows) }
+        ensures fails { IfErr result (λ e. ReadFails (F.state flash.old) e (F.state flash.new)) }
+    {
+        let ring = Ring::unnumbered(flash, self.config.rows);
+        tally_pages(&ring, flash, rows.marks, &self.schema, buf)
+    }
+
+    /// Checks the rule on the entries of the index, where there is one.
+    fn check_index_entries<F: Flash>(
+        &self,
+        flash: &mut F,
+        t: TableNumbers,
+        listing: &mut PageBuf,
+        buf: &mut PageBuf,
+    ) -> Result<(), Halt>
+        requires fits { Fits self.now.config.now (F.state flash.old) }
+        requires listing { length listing.old.bytes ≡ self.now.config.now.geometry.page }
+        requires room { length buf.old.bytes ≡ self.now.config.now.geometry.page }
+        requires index { LiesWithin self.now.config.now self.now.config.now.index t.index }
+        requires rows { AreWithin (rows_shape self.now.config.now) t.rows.marks }
+        ensures looks { OnlyLooks (F.state flash.old) (F.state flash.new) }
+        ensures listing { length listing.new.bytes ≡ self.now.config.now.geometry.page }
+        ensures room { length buf.new.bytes ≡ self.now.config.now.geometry.page }
+        ensures sound { OnOk result (IsTrue (F.state flash.old).media.tells → AreEntriesSound self.now.config.now (page_at (F.state flash.old)) t) }
+        ensures broken { IfErr result (IfFound (λ fault. IsTrue (F.state flash.old).media.tells → AreRingsSound self.now.config.now (page_at (F.state flash.old)) t
+            → IsFirstFault self.now.config.now (page_at (F.state flash.old)) fault.ring fault.page fault.rule)) }
+        ensures fails { IfErr result (IfFailed (λ e. ReadFails (F.state flash.old) e (F.state flash.new))) }
+    {
+        let Some(place) = self.config.index else {
+            return Ok(());
+        };
+        let Some(n) = t.index else { unreachable!() };
+        let Some(buckets) = self.config.buckets else {
+            unreachable!()
+        };
+        let index = Ring::unnumbered(flash, place);
+        let rows = Ring::unnumbered(flash, self.config.rows);
+        let l = Indexing {
+            width: buckets.bits / 8,
+            index: n.marks,
+            rows: t.rows,
+        };
+        let broken = check_entries(&index, &rows, flash, l, listing, buf)?;
+        found(RingName::Index, Rule::Entry, broken)
+    }
+
+    /// Checks the rule on the references of the rows, where the table has variable data.
+    fn check_blobs<F: Flash>(
+        &self,
+        flash: &mut F,
+        t: TableNumbers,
+        listing: &mut PageBuf,
+        buf: &mut PageBuf,
+    ) -> Result<(), Halt>
+        requires fits { Fits self.now.config.now (F.state flash.old) }
+        requires listing { length listing.old.bytes ≡ self.now.config.now.geometry.page }
+        requires room { length buf.old.bytes ≡ self.now.config.now.geometry.page }
+        requires rows { AreWithin (rows_shape self.now.config.now) t.rows.marks }
+        requires var { LiesWithin self.now.config.now self.now.config.now.var t.var }
+        ensures looks { OnlyLooks (F.state flash.old) (F.state flash.new) }
+        ensures sound { OnOk result (IsTrue (F.state flash.old).media.tells → AreRingsSound self.now.config.now (page_at (F.state flash.old)) t → AreReferencesSound self.now.config.now (page_at (F.state flash.old)) t) }
+        ensures broken { IfErr result (IfFound (λ fault. IsTrue (F.state flash.old).media.tells → AreRingsSound self.now.config.now (page_at (F.state flash.old)) t
+            → AreEntriesSound self.now.config.now (page_at (F.state flash.old)) t → IsFirstFault self.now.config.now (page_at (F.state flash.old)) fault.ring fault.page fault.rule)) }
+        ensures fails { IfErr result (IfFailed (λ e. ReadFails (F.state flash.old) e (F.state flash.new))) }
+    {
+        let Some(place) = self.config.var else {
+            return Ok(());
+        };
+        let Some(n) = t.var else { unreachable!() };
+        let rows = Ring::unnumbered(flash, self.config.rows);
+        let var = Ring::unnumbered(flash, place);
+        let blobs = BlobPages {
+            ring: &var,
+            numbering: n,
+        };
+        let broken = find_misleading(
+            &rows,
+            flash,
+            t.rows.marks,
+            &self.schema,
+            blobs,
+            listing,
+            buf,
+        )?;
+        found(RingName::Data, Rule::Blob, broken)
+    }
+
+    /// Checks all rules.
+    fn check<F: Flash>(
+        &self,
+        flash: &mut F,
+        listing: &mut PageBuf,
+        buf: &mut PageBuf,
+    ) -> Result<Rings, Halt>
+        requires fits { Fits self.now.config.now (F.state flash.old) }
+        requires listing { length listing.old.bytes ≡ self.now.config.now.geometry.page }
+        requires room { length buf.old.bytes ≡ self.now.config.now.geometry.page }
+        ensures looks { OnlyLooks (F.state flash.old) (F.state flash.new) }
+        ensures sound { IfOk result (λ rings. IsTrue (F.state flash.old).media.tells → IsSound self.now.config.now (page_at (F.state flash.old)) rings.numbers) }
+        ensures tally { IfOk result (λ rings. IsTrue (F.state flash.old).media.tells → rings.tally ≡ tally_in self.now.config.now (page_at (F.state flash.old)) rings.numbers.rows) }
+        ensures broken { IfErr result (IfFound (λ fault. IsTrue (F.state flash.old).media.tells → IsFirstFault self.now.config.now (page_at (F.state flash.old)) fault.ring fault.page fault.rule)) }
+        ensures fails { IfErr result (IfFailed (λ e. ReadFails (F.state flash.old) e (F.state flash.new))) }
+    {
+        let rings = self.check_rings(flash, buf)?;
+        self.check_index_entries(flash, rings.numbers, listing, buf)?;
+        self.check_blobs(flash, rings.numbers, listing, buf)?;
+        Ok(rings)
+    }
+}
+
+/// The fault of a rule that this page breaks, if there is one.
+fn found(ring: RingName, rule: Rule, broken: Option<u32>) -> Result<(), Halt>
+    ensures ok { OnOk result (broken ≡ None) }
+    ensures failed { IfErr result (IfFailed (λ e. ⊥)) }
+    ensures found { IfErr result (IfFound (λ fault. (broken ≡ Some fault.page) × (fault.ring ≡ ring) × (fault.rule ≡ rule))) }
+{
+    match broken {
+        None => Ok(()),
+        Some(page) => Err(Halt::Found(Fault { ring, page, rule })),
+    }
+}
+
+/// The schema of a configuration that isn't refused.
+fn schema_of(config: &TableConfig) -> Schema<8>
+    requires fits { config_fault config.now ≡ None }
+    requires limits { IsWithinLimits config.now }
+    ensures layout { layout_of result ≡ layout_in config.now }
+    ensures types { types_of result ≡ config.now.columns.items }
+{
+    let room = config.geometry.page - 24;
+    let blobs = config.var_blocks() > 0;
+    let Ok(schema) = Schema::new(config.key, config.columns.as_slice(), blobs, room) else {
+        unreachable!()
+    };
+    schema
+}
+
+/// Checks the rings of a table: their pages are read, and nothing is repaired. Finds the first rule that doesn't hold, with
+/// the first page that breaks it: ring by ring in the order of index, data and variable data those on the ring's own pages,
+/// and then those on the index and on the references.
+pub fn check_table<F: Flash>(
+    alloc: Global,
+    flash: &mut F,
+    config: &TableConfig,
+) -> Result<Finding, CheckFault>
+    requires fits { Fits config.now (F.state flash.old) }
+    ensures looks { OnlyLooks (F.state flash.old) (F.state flash.new) }
+    ensures finding { IfOk result (λ finding. IsTrue (F.state flash.old).media.tells → IsFinding config.now (page_at (F.state flash.old)) finding) }
+    ensures fails { IfErr result (λ fault. CheckFails (F.state flash.old) fault (F.state flash.new)) }
+{
+    let mut listing = PageBuf::new(alloc, config.geometry.page)?;
+    let mut buf = PageBuf::new(alloc, config.geometry.page)?;
+    let schema = schema_of(config);
+    let checked = Checked { config, schema };
+    match checked.check(flash, &mut listing, &mut buf) {
+        Ok(rings) => Ok(Finding::Sound {
+            rows: rings.tally.rows,
+            pages: rings.numbers.rows.marks.kept,
+            voids: rings.tally.voids,
+        }),
+        Err(Halt::Failed(fault)) => Err(CheckFault::Flash(fault)),
+        Err(Halt::Found(fault)) => Ok(Finding::Fault {
+            ring: fault.ring,
+            page: fault.page,
+            rule: fault.rule.number(),
+        }),
+    }
+}

@@ -1,0 +1,82 @@
+-- How the check of an image ends.
+use Rattle.std.proofs.Common.{◌≡◌, ◌⊎◌, ℕ, ◌+◌, ◌*◌, ◌^◌, ◌<◌, ◌≤◌, Bool, true, false, ◌||◌, nat_lt, IsTrue, Option, Some, None, IfSome, inl, inr, List, [], ◌∷◌, length, refl, sym, ◌∙◌, ap, subst, arith, rules}
+use Rattle.std.specs.Prelude.{sum_by}
+use Rattle.std.proofs.lemmas.Bool.{ltb-false}
+use base.Fml.{GName}
+use Rattle.fl_base.specs.declared.types.Geometry.{Geometry}
+use Rattle.fl_flash.specs.declared.flash.Work.{Work}
+use Rattle.fl_flash.specs.Flash.{FlashState}
+use Rattle.fl_flash.specs.Media.{MediaState}
+use Rattle.fl_flash.specs.Sim.{on_medium}
+use Rattle.fl_model.specs.Image.{medium_len}
+use Rattle.fl_model.specs.Record.{Plan, Config, blocks_of}
+use Rattle.fl_words.specs.Config.{Lines, too_large}
+use Rattle.fl_config.specs.Whole.{is_whole, is_whole_of, Makes}
+use Rattle.fl_plan.specs.declared.table_config.TableConfig.{TableConfig}
+use Rattle.fl_jobs.specs.Header.{IsAccepted}
+use Rattle.fl_jobs.specs.Image.{IsImageOf}
+use Rattle.fl_jobs.specs.Checking.{IsOver, TablesEnd, ImageEnds, CheckEnds}
+use Rattle.fl_check.specs.declared.finding.Finding.{Finding}
+use Rattle.fl_jobs.specs.declared.status.ToolStatus.{ToolStatus}
+use Rattle.fl_jobs.specs.declared.status.ToolStatus.TheVariants.{Done, OutWrite, NoMemory, NotImage, Device, Unsound}
+use Rattle.fl_jobs.proofs.Telling.{told-none}
+
+-- the pages of the device lie on the medium
+pub reach : (lines : Lines) (geometry : Geometry) (blocks : ℕ) (old new : List ℕ) → IsTrue (is_whole lines) → lines.device ≡ Some geometry → blocks ≡ sum_by blocks_of lines.plans
+    → ((config : Config) → Makes lines config → length old ≡ medium_len config) → new ≡ old → 1024 + blocks * geometry.block * geometry.page ≤ length new
+reach lines geometry blocks old new whole device all size same = by lines.device lines.plans refl refl whole
+  where
+    by : (d : Option Geometry) (plans : List Plan) → lines.device ≡ d → lines.plans ≡ plans → IsTrue (is_whole_of d plans) → 1024 + blocks * geometry.block * geometry.page ≤ length new
+    by None plans e p w = absurd (search (rules, w))
+    by (Some g) [] e p w = absurd (search (rules, w))
+    by (Some g) (plan ∷ plans) e p w =
+        let makes : Makes lines (record { geometry = g; plans = plan ∷ plans; knots = 0 }) = rw (e, p) refl in
+        let is : g ≡ geometry = cc (e, device) in
+        let total : length old ≡ 1024 + sum_by blocks_of (plan ∷ plans) * g.block * g.page = size (record { geometry = g; plans = plan ∷ plans; knots = 0 }) makes in
+        let count : sum_by blocks_of (plan ∷ plans) ≡ blocks = ap (λ (l : List Plan). sum_by blocks_of l) (sym p) ∙ sym all in
+        let exact : length old ≡ 1024 + blocks * geometry.block * geometry.page =
+        total ∙ ap (λ (n : ℕ). 1024 + n * g.block * g.page) count ∙ ap (λ (h : Geometry). 1024 + blocks * h.block * h.page) is in
+        omega (arith, exact, ap (λ (l : List ℕ). length l) same)
+
+or-left : (a b : Bool) → (a || b) ≡ false → a ≡ false
+or-left true b e = e
+or-left false b e = refl
+
+-- the flash on the medium has the device of the lines
+pub over-of : (lines : Lines) (geometry : Geometry) (blocks : ℕ) (origin : GName) (work : Work) (medium : MediaState) (f : FlashState) → f ≡ on_medium geometry blocks 1024 origin true None 0 work medium
+    → lines.device ≡ Some geometry → blocks ≡ sum_by blocks_of lines.plans → IfSome lines.device (λ g. too_large g lines.plans ≡ false) → IsOver lines f
+over-of lines geometry blocks origin work medium f is device all fits =
+    let few : too_large geometry lines.plans ≡ false = subst (λ (o : Option Geometry). IfSome o (λ g. too_large g lines.plans ≡ false)) device fits in
+    let pages = ltb-false 65536 (sum_by blocks_of lines.plans * geometry.block)
+    (or-left (nat_lt 65536 (sum_by blocks_of lines.plans * geometry.block)) (nat_lt 67108864 (sum_by blocks_of lines.plans * geometry.block * geometry.page)) few) in
+    subst (λ (g : FlashState). IsOver lines g) (sym is)
+    (record {
+      device = device;
+      blocks = all;
+      few = subst (λ (n : ℕ). n * geometry.block < 2 ^ 32) (sym all) (omega (arith, pages));
+      start = refl;
+      on = refl;
+    })
+
+-- what was found over that flash was found in the bytes of the medium
+pub ends-over : (Finds : TableConfig → FlashState → Finding → Type 0) (lines : Lines) (bytes : List ℕ) (told told_now : Option (List ℕ)) (status : ToolStatus) (tells : Bool)
+    (geometry : Geometry) (blocks : ℕ) (origin : GName) (work : Work) (medium : MediaState) (f : FlashState) → f ≡ on_medium geometry blocks 1024 origin true None 0 work medium
+    → medium.content ≡ bytes → medium.tells ≡ tells → IsTrue tells → (IsTrue f.media.tells → TablesEnd Finds lines f.media.content told told_now status) → TablesEnd Finds lines bytes told told_now status
+ends-over Finds lines bytes told told_now status tells geometry blocks origin work medium f is same telling t ends =
+    let over : IsTrue medium.tells → TablesEnd Finds lines medium.content told told_now status = subst (λ (g : FlashState). IsTrue g.media.tells → TablesEnd Finds lines g.media.content told told_now status) is ends in
+    subst (λ (l : List ℕ). TablesEnd Finds lines l told told_now status) same (over (subst IsTrue (sym telling) t))
+
+-- the check ended in its tables
+pub image-ends : (Finds : TableConfig → FlashState → Finding → Type 0) (bytes : List ℕ) (told told_now : Option (List ℕ)) (status : ToolStatus) → ImageEnds Finds bytes told told_now status → CheckEnds Finds bytes told told_now status
+image-ends Finds bytes told told_now Done h = h
+image-ends Finds bytes told told_now Unsound h = h
+image-ends Finds bytes told told_now OutWrite h = h
+image-ends Finds bytes told told_now NoMemory h = inr h
+image-ends Finds bytes told told_now Device h = inr h
+image-ends Finds bytes told told_now NotImage h = absurd h.ends
+
+-- .. or before the first
+pub early-ends : (Finds : TableConfig → FlashState → Finding → Type 0) (bytes : List ℕ) (told : Option (List ℕ)) (status : ToolStatus) → (status ≡ NotImage) ⊎ (status ≡ Device)
+    → (status ≡ NotImage → (lines : Lines) → IsAccepted lines → IsImageOf bytes lines → ⊥) → CheckEnds Finds bytes told told status
+early-ends Finds bytes told status (inl is) none = subst (λ (s : ToolStatus). CheckEnds Finds bytes told told s) (sym is) (none is, told-none told)
+early-ends Finds bytes told status (inr is) none = subst (λ (s : ToolStatus). CheckEnds Finds bytes told told s) (sym is) (inl (told-none told))

@@ -1,0 +1,30 @@
+use Rattle.std.proofs.Common.{refl}
+use Rattle.fl_jobs.proofs.Telling.{plan-there, config-there, lies-at}
+use Rattle.fl_jobs.proofs.tables.check_at.Goals as goal
+
+pub check_table-requires : goal.check_table-requires
+check_table-requires g c =
+    let lines = c.args.config.now in
+    let p = plan-there lines.plans c.args.i c.requires.table in
+    let is = config-there lines.plans c.args.i p.0 c.table.result.now p.1 c.table.ensures.plan in
+    record {
+      lies = lies-at lines (g.F.Flash.state c.args.flash.now) c.args.i p.0 c.table.result.now c.requires.over p.1 is c.table.ensures.first c.table.ensures.device c.table.ensures.limits c.table.ensures.passes;
+    }
+
+pub returns-in-Ok-clause-finding : goal.returns-in-Ok-clause-finding
+returns-in-Ok-clause-finding g c told =
+    let lines = c.args.config.now in
+    let p = plan-there lines.plans c.args.i c.requires.table in
+    let is = config-there lines.plans c.args.i p.0 c.table.result.now p.1 c.table.ensures.plan in
+    record {
+      plan = p.0;
+      plan_is = p.1;
+      config = c.table.result.now;
+      config_is = is;
+      first = c.table.ensures.first;
+      flash = g.F.Flash.state c.args.flash.now;
+      over = c.requires.over;
+      lies = lies-at lines (g.F.Flash.state c.args.flash.now) c.args.i p.0 c.table.result.now c.requires.over p.1 is c.table.ensures.first c.table.ensures.device c.table.ensures.limits c.table.ensures.passes;
+      content = refl;
+      finds = c.in-Ok.ensures.finding told;
+    }

@@ -1,0 +1,10 @@
+use Rattle.std.proofs.Common.{◌≤◌, IsTrue}
+use Rattle.fl_jobs.specs.Checking.{OnlyLooks, TellsSound}
+use Rattle.fl_jobs.proofs.tables.check_tables.Given as goal
+
+abbrev pub invariant-loop-i : goal.invariant-loop-i
+invariant-loop-i g l = record {
+  looks : OnlyLooks (g.F.Flash.state l.fn.flash) (g.F.Flash.state l.flash);
+  told : IsTrue (g.F.Flash.state l.fn.flash).media.tells → TellsSound g.C.CheckTable.finds l.config (g.F.Flash.state l.fn.flash).media.content (g.K.Sink.written l.fn.out) (g.K.Sink.written l.out) l.i;
+  later : g.K.Sink.faults l.fn.out ≤ g.K.Sink.faults l.out;
+}

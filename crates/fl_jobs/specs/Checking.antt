@@ -1,0 +1,124 @@
+-- A check of the tables of an image.
+use Rattle.std.specs.Prelude.{◌≡◌, ◌⊎◌, ℕ, ◌+◌, ◌^◌, ◌<◌, ◌≤◌, true, false, Option, Some, None, IfSome, List, [], ◌∷◌, ◌++◌, length, take, sum_by, slice_get}
+use Rattle.std.specs.List.{list_all}
+use Rattle.fl_base.specs.Causes.{Rose, Appends, AppendsFront}
+use Rattle.fl_flash.specs.Flash.{FlashState, Goes, pages}
+use Rattle.fl_flash.specs.declared.flash.FlashFault.TheVariants.{PowerLost, Media}
+use Rattle.fl_model.specs.Record.{Plan, blocks_of}
+use Rattle.fl_words.specs.Config.{Lines}
+use Rattle.fl_plan.specs.declared.table_config.TableConfig.{TableConfig}
+use Rattle.fl_plan.specs.Limits.{IsWithinLimits}
+use Rattle.fl_plan.specs.Plan.{IsConfigOf, blocks_in}
+use Rattle.fl_plan.specs.Refusal.{config_fault}
+use Rattle.fl_jobs.specs.Header.{IsAccepted}
+use Rattle.fl_jobs.specs.Image.{IsImageOf}
+use Rattle.fl_jobs.specs.Report.{is_sound, report_text}
+use Rattle.fl_check.specs.declared.finding.Finding.{Finding}
+use Rattle.fl_check.specs.declared.finding.CheckFault.{CheckFault}
+use Rattle.fl_check.specs.declared.finding.CheckFault.TheVariants.{Flash, NoMemory as NoRoom}
+use Rattle.fl_jobs.specs.declared.status.ToolStatus.{ToolStatus}
+use Rattle.fl_jobs.specs.declared.status.ToolStatus.TheVariants.{Done, OutWrite, NoMemory, NotImage, Device, Unsound}
+
+-- the rings of a table that isn't refused lie on the flash, one behind another
+pub record LiesOn (config : TableConfig) (f : FlashState) : Type 0 where
+  pub geometry : config.geometry ≡ f.geometry
+  pub limits : IsWithinLimits config
+  pub passes : config_fault config ≡ None
+  pub index : IfSome config.index (λ place. place.first_block ≡ config.rows.first_block + config.rows.blocks)
+  pub var : IfSome config.var (λ place. place.first_block ≡ config.rows.first_block + config.rows.blocks + blocks_in config.index)
+  pub within : config.rows.first_block + config.rows.blocks + blocks_in config.index + blocks_in config.var ≤ f.blocks
+  pub few : pages f < 2 ^ 32
+
+-- nothing of the flash changes but the counts of reads and faults
+pub record OnlyLooks (old new : FlashState) : Type 0 where
+  pub goes : Goes old new
+  pub content : new.media.content ≡ old.media.content
+  pub armed : new.armed ≡ old.armed
+  pub power : new.is_on ≡ old.is_on
+  pub cuts : new.cuts ≡ old.cuts
+  pub programs : new.work.programs ≡ old.work.programs
+  pub erases : new.work.erases ≡ old.work.erases
+
+-- why nothing is found
+abbrev pub FailsBy : FlashState → CheckFault → FlashState → Type 0
+FailsBy old (Flash PowerLost) new = old.is_on ≡ false
+FailsBy old (Flash Media) new = Rose old.media.faults new.media.faults
+FailsBy old NoRoom new = Unit {0}
+
+-- a flash with the device of these lines, on a medium behind its header
+pub record IsOver (lines : Lines) (f : FlashState) : Type 0 where
+  pub device : lines.device ≡ Some f.geometry
+  pub blocks : f.blocks ≡ sum_by blocks_of lines.plans
+  pub few : pages f < 2 ^ 32
+  pub start : f.start ≡ 1024
+  pub on : f.is_on ≡ true
+
+-- `Finds` says what is found rightly of a table over a flash. This was found of the i-th table in these bytes.
+pub record IsFound (Finds : TableConfig → FlashState → Finding → Type 0) (lines : Lines) (bytes : List ℕ) (i : ℕ) (finding : Finding) : Type 0 where
+  pub plan : Plan
+  pub plan_is : slice_get lines.plans i ≡ Some plan
+  pub config : TableConfig
+  pub config_is : IsConfigOf config plan
+  pub first : config.rows.first_block ≡ sum_by blocks_of (take i lines.plans)
+  pub flash : FlashState
+  pub over : IsOver lines flash
+  pub lies : LiesOn config flash
+  pub content : flash.media.content ≡ bytes
+  pub finds : Finds config flash finding
+
+-- .. and these of the tables from the i-th on
+abbrev pub AreFound : (TableConfig → FlashState → Finding → Type 0) → Lines → List ℕ → ℕ → List Finding → Type 0
+AreFound Finds lines bytes i [] = Unit {0}
+AreFound Finds lines bytes i (finding ∷ findings) = IsFound Finds lines bytes i finding × AreFound Finds lines bytes (i + 1) findings
+
+-- the first n tables are sound, and each has its line
+pub record TellsSound (Finds : TableConfig → FlashState → Finding → Type 0) (lines : Lines) (bytes : List ℕ) (told told_now : Option (List ℕ)) (n : ℕ) : Type 0 where
+  pub findings : List Finding
+  pub count : length findings ≡ n
+  pub are : AreFound Finds lines bytes 0 findings
+  pub sound : list_all is_sound findings ≡ true
+  pub text : Appends told told_now (report_text lines.plans findings)
+
+-- .. and then one isn't, which has its line too
+pub record TellsFault (Finds : TableConfig → FlashState → Finding → Type 0) (lines : Lines) (bytes : List ℕ) (told told_now : Option (List ℕ)) : Type 0 where
+  pub findings : List Finding
+  pub fault : Finding
+  pub are : AreFound Finds lines bytes 0 (findings ++ fault ∷ [])
+  pub sound : list_all is_sound findings ≡ true
+  pub unsound : is_sound fault ≡ false
+  pub text : Appends told told_now (report_text lines.plans (findings ++ fault ∷ []))
+
+-- .. or the line of the next wasn't written whole
+pub record TellsPart (Finds : TableConfig → FlashState → Finding → Type 0) (lines : Lines) (bytes : List ℕ) (told told_now : Option (List ℕ)) : Type 0 where
+  pub findings : List Finding
+  pub next : Finding
+  pub are : AreFound Finds lines bytes 0 (findings ++ next ∷ [])
+  pub sound : list_all is_sound findings ≡ true
+  pub text : AppendsFront told told_now (report_text lines.plans (findings ++ next ∷ []))
+
+-- .. or nothing was found of the next
+abbrev pub TellsFew : (TableConfig → FlashState → Finding → Type 0) → Lines → List ℕ → Option (List ℕ) → Option (List ℕ) → Type 0
+TellsFew Finds lines bytes told told_now = (n : ℕ) × (n < length lines.plans) × TellsSound Finds lines bytes told told_now n
+
+-- how a check of the tables ends
+abbrev pub TablesEnd : (TableConfig → FlashState → Finding → Type 0) → Lines → List ℕ → Option (List ℕ) → Option (List ℕ) → ToolStatus → Type 0
+TablesEnd Finds lines bytes told told_now Done = TellsSound Finds lines bytes told told_now (length lines.plans)
+TablesEnd Finds lines bytes told told_now Unsound = TellsFault Finds lines bytes told told_now
+TablesEnd Finds lines bytes told told_now OutWrite = TellsPart Finds lines bytes told told_now
+TablesEnd Finds lines bytes told told_now NoMemory = TellsFew Finds lines bytes told told_now
+TablesEnd Finds lines bytes told told_now Device = TellsFew Finds lines bytes told told_now
+TablesEnd Finds lines bytes told told_now NotImage = ⊥
+
+-- the bytes are an image, whose tables were checked so far
+pub record ImageEnds (Finds : TableConfig → FlashState → Finding → Type 0) (bytes : List ℕ) (told told_now : Option (List ℕ)) (status : ToolStatus) : Type 0 where
+  pub lines : Lines
+  pub accepted : IsAccepted lines
+  pub image : IsImageOf bytes lines
+  pub ends : TablesEnd Finds lines bytes told told_now status
+
+-- how a check of an image ends; where it ends before the first table nothing is written
+abbrev pub CheckEnds : (TableConfig → FlashState → Finding → Type 0) → List ℕ → Option (List ℕ) → Option (List ℕ) → ToolStatus → Type 0
+CheckEnds Finds bytes told told_now NotImage = ((lines : Lines) → IsAccepted lines → IsImageOf bytes lines → ⊥) × Appends told told_now []
+CheckEnds Finds bytes told told_now NoMemory = Appends told told_now [] ⊎ ImageEnds Finds bytes told told_now NoMemory
+CheckEnds Finds bytes told told_now Device = Appends told told_now [] ⊎ ImageEnds Finds bytes told told_now Device
+CheckEnds Finds bytes told told_now status = ImageEnds Finds bytes told told_now status

@@ -1,0 +1,12 @@
+-- The number of a status.
+use Rattle.std.specs.Prelude.{ℕ}
+use Rattle.fl_jobs.specs.declared.status.ToolStatus.{ToolStatus}
+use Rattle.fl_jobs.specs.declared.status.ToolStatus.TheVariants.{Done, OutWrite, NoMemory, NotImage, Device, Unsound}
+
+abbrev pub number_of : ToolStatus → ℕ
+number_of Done = 0
+number_of OutWrite = 4
+number_of NoMemory = 9
+number_of NotImage = 11
+number_of Device = 12
+number_of Unsound = 16

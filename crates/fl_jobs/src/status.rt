@@ -1,0 +1,36 @@
+// How a job ends.
+ghost use Rattle.std.specs.Prelude.{◌≡◌};
+ghost use Rattle.fl_jobs.specs.Number.{number_of};
+
+/// How a job over an image ends.
+#[derive(Clone, Copy, Debug, PartialEq, Eq)]
+pub enum ToolStatus {
+    /// The job was done, and nothing was wrong.
+    Done,
+    /// The sink failed.
+    OutWrite,
+    /// There is no memory.
+    NoMemory,
+    /// The medium is no image: its first bytes are not the header of a configuration, or its length is not that one's.
+    NotImage,
+    /// The medium failed.
+    Device,
+    /// A check found a fault, and has told it.
+    Unsound,
+}
+
+impl ToolStatus {
+    /// The number with which the program ends.
+    pub fn number(self) -> u8
+        ensures { result ≡ number_of self }
+    {
+        match self {
+            ToolStatus::Done => 0,
+            ToolStatus::OutWrite => 4,
+            ToolStatus::NoMemory => 9,
+            ToolStatus::NotImage => 11,
+            ToolStatus::Device => 12,
+            ToolStatus::Unsound => 16,
+        }
+    }
+}
