@@ -1,8 +1,11 @@
 -- Pages of variable data, by their bytes.
-use Rattle.std.proofs.Common.{◌≡◌, ℕ, ◌-◌, ◌^◌, ◌<◌, ◌≤◌, true, List, ◌++◌, length, take, drop, slice_range, refl, sym, ap, ◌∙◌, arith}
+use Rattle.std.proofs.Common.{◌≡◌, ℕ, ◌+◌, ◌-◌, ◌^◌, ◌<◌, ◌≤◌, true, List, ◌++◌, length, take, drop, slice_range, refl, sym, ap, ◌∙◌, arith}
 use Rattle.std.proofs.Math.Seq.{take-add}
 use Rattle.std.proofs.lemmas.List.{drop-drop, take-take, drop-take}
 use Rattle.fl_mark.specs.Mark.{all_are}
+use Rattle.fl_model.specs.Image.{HoldsContent}
+use Rattle.fl_model.specs.Record.{Plan}
+use Rattle.fl_model.specs.Ring.{Ring, oldest}
 use Rattle.fl_model.specs.Row.{le, number_of}
 use Rattle.fl_page.specs.Header.{page_number, page_count}
 use Rattle.fl_schema.proofs.Numbers.{number_of-le}
@@ -37,3 +40,13 @@ module _ (page : List ℕ) (number : ℕ) (least : 24 ≤ length page) where
 
     pub content_zero : all_are 0 (slice_range page 6 8) ≡ true
     content_zero = is_zero page 6 2 8 refl (sym (drop-take 6 2 page) ∙ ap (λ (l : List ℕ). drop 6 l) is.head)
+
+module _ (page : List ℕ) (number : ℕ) (plan : Plan) (ring : Ring) (i count : ℕ) (size : plan.geometry.page ≡ length page) (at : oldest ring + i ≡ number) (is : HoldsContent plan ring i count page) where
+  abbrev pub content_of_page : IsContentPage number page
+  content_of_page = record {
+    used = is.used;
+    some = is.some;
+    most = rw (sym size) is.most;
+    head = rw (sym at) is.head;
+    marks = is.marks;
+  }

@@ -39,12 +39,12 @@ module _ (f : FlashState) (r : Shape) (at_least : ℕ) (s : RingState) (shape : 
       ap (λ (a : ℕ). next_by r a m.kept at_least newest) at ∙ ap (λ (k : ℕ). next_by r (next_place f r m.pages.front) k at_least newest) marks.kept
       ∙ next_is f r s at_least shape good.on m.pages.front head good.numbered newest (newest_there newest is)
 
-  good_place : (newest : Option Newest) → NewestOf (page_at f) r m newest → FitsPlace r m newest
+  pub good_place : (newest : Option Newest) → NewestOf (page_at f) r m newest → FitsPlace r m newest
   good_place None is = tt
   good_place (Some x) is =
       (fits f r s at_least shape good.on m.pages.front head good.numbered (Some x) (newest_there (Some x) is) good.fits).0 ∙ ap (λ (a : ℕ). back_from r a x.back) (sym at)
 
-  good_each : (newest : Option Newest) → NewestOf (page_at f) r m newest → AllBelow (HasItsNumber (page_at f) r m (next_of r m at_least newest)) m.kept
+  pub good_each : (newest : Option Newest) → NewestOf (page_at f) r m newest → AllBelow (HasItsNumber (page_at f) r m (next_of r m at_least newest)) m.kept
   good_each None is = none_numbered (page_at f) r m (next_of r m at_least None) is (least_is r m at_least)
   good_each (Some x) is = λ i lt.
       let next = number_is f r s at_least shape good.on m.pages.front head good.numbered x (newest_there (Some x) is) in
@@ -58,7 +58,7 @@ module _ (f : FlashState) (r : Shape) (at_least : ℕ) (s : RingState) (shape : 
             omega (arith, number, next, kept, lt, good.on.ring.not_negative);
       }
 
-  good_left : (newest : Option Newest) → NewestOf (page_at f) r m newest → IsLeft m (next_of r m at_least newest)
+  pub good_left : (newest : Option Newest) → NewestOf (page_at f) r m newest → IsLeft m (next_of r m at_least newest)
   good_left newest is = omega (arith, good_next newest is, ap one (torn_is r s shape (page_at f) good.on m marks), good.fits)
 
   pub numbers_hold : (p : ℕ) → NumbersBreak (page_at f) r m at_least p → ⊥

@@ -1,5 +1,5 @@
 -- What a table's rings are known to be, while its check goes from ring to ring.
-use Rattle.std.proofs.Common.{◌≡◌, ℕ, ◌<◌, nat_lt, IsTrue, Option, Some, length, ◌∙◌, ap, subst, arith}
+use Rattle.std.proofs.Common.{◌≡◌, ℕ, ◌<◌, nat_lt, IsTrue, Option, Some, length, ap, subst, arith}
 use Rattle.fl_base.specs.declared.types.Geometry.{Geometry}
 use Rattle.fl_flash.specs.Flash.{FlashState, page_at}
 use Rattle.fl_plan.specs.Plan.{blocks_in}
@@ -7,7 +7,6 @@ use Rattle.fl_plan.specs.declared.table_config.TableConfig.{TableConfig}
 use Rattle.fl_check.specs.Looks.{OnlyLooks}
 use Rattle.fl_check.specs.Rising.{HaveRows}
 use Rattle.fl_check.specs.RingRules.{IsRingSound}
-use Rattle.fl_check.specs.Tally.{least_of}
 use Rattle.fl_check.specs.Whole.{Fits, rows_shape, layout_in, index_end, tally_in, IsRowsForm, AreRowsSound}
 use Rattle.fl_check.specs.declared.numbering.Numbering.{Numbering}
 use Rattle.fl_check.specs.declared.tally.Tally.{Tally}
@@ -27,14 +26,14 @@ sound_rows config f at_least n fits is = have_rows config.key config.columns.ite
         omega (arith, few, high, same)
 
 -- the numbers of the data ring begin after those that the index lists
-pub rows_known : (config : TableConfig) (a b c : FlashState) (index : Option Numbering) (end at_least : ℕ) (rows : Numbering) → OnlyLooks a b → OnlyLooks b c
-    → (IsTrue b.media.tells → end ≡ index_end config (page_at b) index) → at_least ≡ least_of end
-    → (IsTrue c.media.tells → IsRingSound (IsRowsForm config) (Some (layout_in config)) (page_at c) (rows_shape config) at_least rows)
+pub rows_known : (config : TableConfig) (a b c : FlashState) (index : Option Numbering) (end : ℕ) (rows : Numbering) → OnlyLooks a b → OnlyLooks b c
+    → (IsTrue b.media.tells → end ≡ index_end config (page_at b) index)
+    → (IsTrue c.media.tells → IsRingSound (IsRowsForm config) (Some (layout_in config)) (page_at c) (rows_shape config) end rows)
     → IsTrue a.media.tells → AreRowsSound config (page_at a) index rows
-rows_known config a b c index end at_least rows x y end_is least sound told =
+rows_known config a b c index end rows x y end_is sound told =
     let here = seen a b (λ page. end ≡ index_end config page index) x end_is told in
-    subst (λ (k : ℕ). IsRingSound (IsRowsForm config) (Some (layout_in config)) (page_at a) (rows_shape config) k rows) (least ∙ ap (λ (k : ℕ). least_of k) here)
-    (seen a c (λ page. IsRingSound (IsRowsForm config) (Some (layout_in config)) page (rows_shape config) at_least rows) (looks_more a b c x y) sound told)
+    subst (λ (k : ℕ). IsRingSound (IsRowsForm config) (Some (layout_in config)) (page_at a) (rows_shape config) k rows) here
+    (seen a c (λ page. IsRingSound (IsRowsForm config) (Some (layout_in config)) page (rows_shape config) end rows) (looks_more a b c x y) sound told)
 
 -- .. and what its pages tell
 pub tally_known : (config : TableConfig) (a b : FlashState) (index : Option Numbering) (rows : Numbering) (tally : Tally) → Fits config a → OnlyLooks a b
@@ -42,4 +41,4 @@ pub tally_known : (config : TableConfig) (a b : FlashState) (index : Option Numb
     → AreRowsSound config (page_at a) index rows → IsTrue a.media.tells → tally ≡ tally_in config (page_at a) rows
 tally_known config a b index rows tally fits x is sound told =
     seen a b (λ page. HaveRows (layout_in config) page (rows_shape config) rows.marks → tally ≡ tally_in config page rows) x is told
-    (sound_rows config a (least_of (index_end config (page_at a) index)) rows fits sound)
+    (sound_rows config a (index_end config (page_at a) index) rows fits sound)

@@ -5,7 +5,6 @@ use Rattle.fl_plan.specs.declared.table_config.TableConfig.{TableConfig}
 use Rattle.fl_check.specs.Entries.{EntriesBreak}
 use Rattle.fl_check.specs.References.{ReferencesBreak}
 use Rattle.fl_check.specs.RingRules.{BreaksRing}
-use Rattle.fl_check.specs.Tally.{least_of}
 use Rattle.fl_check.specs.Whole.{OfRing, shape_in, rows_shape, layout_in, indexing, index_end, tally_in, IsRowsForm, IsIndexSound, AreRowsSound, AreRingsSound, AreEntriesSound, BreaksIndex, BreaksRows, BreaksVarBy, BreaksVar, IsFirstFault}
 use Rattle.fl_check.specs.declared.finding.RingName.{RingName}
 use Rattle.fl_check.specs.declared.finding.RingName.TheVariants.{Index, Data, Var}
@@ -36,7 +35,7 @@ module _ (config : TableConfig) (page : ℕ → List ℕ) where
   pub index_fault : (fault : Fault) → (fault.ring ≡ Index) × BreaksIndex config page fault.page fault.rule → IsFirstFault config page fault.ring fault.page fault.rule
   index_fault fault x = subst (λ (name : RingName). IsFirstFault config page name fault.page fault.rule) (sym x.0) (inl x.1)
 
-  pub rows_fault : (index : Option Numbering) (at_least : ℕ) (fault : Fault) → IsIndexSound config page index → at_least ≡ least_of (index_end config page index)
+  pub rows_fault : (index : Option Numbering) (at_least : ℕ) (fault : Fault) → IsIndexSound config page index → at_least ≡ index_end config page index
       → (fault.ring ≡ Data) × BreaksRing (IsRowsForm config) (Some (layout_in config)) page (rows_shape config) at_least fault.rule fault.page → IsFirstFault config page fault.ring fault.page fault.rule
   rows_fault index at_least fault sound e x = subst (λ (name : RingName). IsFirstFault config page name fault.page fault.rule) (sym x.0) (inl here)
     where
@@ -48,7 +47,7 @@ module _ (config : TableConfig) (page : ℕ → List ℕ) where
       }
 
   pub var_fault : (index : Option Numbering) (rows : Numbering) (at_least : ℕ) (fault : Fault) → IsIndexSound config page index → AreRowsSound config page index rows
-      → at_least ≡ least_of (tally_in config page rows).blob_end → (fault.ring ≡ Var) × BreaksVarBy config page at_least fault.page fault.rule → IsFirstFault config page fault.ring fault.page fault.rule
+      → at_least ≡ (tally_in config page rows).blob_end → (fault.ring ≡ Var) × BreaksVarBy config page at_least fault.page fault.rule → IsFirstFault config page fault.ring fault.page fault.rule
   var_fault index rows at_least fault index_sound rows_sound e x = subst (λ (name : RingName). IsFirstFault config page name fault.page fault.rule) (sym x.0) here
     where
       here : BreaksVar config page fault.page fault.rule

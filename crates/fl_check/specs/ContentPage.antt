@@ -1,7 +1,6 @@
 -- Pages of variable data that are whole, by their bytes.
-use Rattle.std.specs.Prelude.{◌≡◌, ℕ, ◌+◌, ◌-◌, ◌<◌, ◌≤◌, List, ◌++◌, length, take, drop}
+use Rattle.std.specs.Prelude.{◌≡◌, ℕ, ◌-◌, ◌<◌, ◌≤◌, List, ◌++◌, length, take}
 use Rattle.fl_model.specs.Row.{le}
-use Rattle.fl_page.specs.Header.{page_count}
 use Rattle.fl_check.specs.Endings.{IsEnded}
 
 -- a committed page with this number, which says to have some bytes of content, as many as it has room for at most
@@ -11,7 +10,3 @@ pub record IsContentPage (number : ℕ) (page : List ℕ) : Type 0 where
   pub most : used ≤ length page - 16
   pub head : take 8 page ≡ le 4 number ++ le 2 used ++ le 2 0
   pub marks : IsEnded page
-
--- the bytes behind its content
-abbrev pub unused_content : List ℕ → List ℕ
-unused_content page = take (length page - 16 - page_count page) (drop (8 + page_count page) page)

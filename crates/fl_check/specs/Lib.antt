@@ -5,9 +5,11 @@ pub mod DataPage
 pub mod Endings
 pub mod Entries
 pub mod IndexPage
+pub mod KeptPages
 pub mod Laws
 pub mod Looks
 pub mod Marks
+pub mod MountLaw
 pub mod Numbering
 pub mod Numbers
 pub mod References

@@ -1,7 +1,8 @@
 -- What a check leaves, and why it finds nothing.
-use Rattle.std.specs.Prelude.{◌≡◌}
+use Rattle.std.specs.Prelude.{◌≡◌, ◌⊎◌, false, Result, Err}
 use Rattle.fl_flash.specs.Flash.{FlashState, Goes}
 use Rattle.fl_flash.specs.declared.flash.FlashFault.{FlashFault}
+use Rattle.fl_flash.specs.declared.flash.FlashFault.TheVariants.{PowerLost}
 use Rattle.fl_ring.specs.Looking.{ReadFails}
 use Rattle.fl_check.specs.declared.finding.CheckFault.{CheckFault}
 use Rattle.fl_check.specs.declared.finding.CheckFault.TheVariants.{Flash, NoMemory}
@@ -19,10 +20,18 @@ pub record OnlyLooks (old new : FlashState) : Type 0 where
   pub programs : new.work.programs ≡ old.work.programs
   pub erases : new.work.erases ≡ old.work.erases
 
--- a fault of the flash has its cause; want of memory proves nothing
+-- a fault of the flash has its cause; where memory is wanting the flash wasn't looked at
 abbrev pub CheckFails : FlashState → CheckFault → FlashState → Type 0
 CheckFails old (Flash fault) new = ReadFails old fault new
-CheckFails old NoMemory new = Unit {0}
+CheckFails old NoMemory new = new ≡ old
+
+-- with the power off it fails so, and nothing changes
+abbrev pub OffFails : {A E : Type 0} → E → FlashState → Result A E → FlashState → Type 0
+OffFails fault old result new = old.is_on ≡ false → (result ≡ Err fault) × (new ≡ old)
+
+-- .. unless memory is wanted before
+abbrev pub OffChecksNothing : {A : Type 0} → FlashState → Result A CheckFault → FlashState → Type 0
+OffChecksNothing old result new = old.is_on ≡ false → ((result ≡ Err (Flash PowerLost)) ⊎ (result ≡ Err NoMemory)) × (new ≡ old)
 
 -- a fault of the flash has this cause
 abbrev pub IfFailed : (FlashFault → Type 0) → Halt → Type 0

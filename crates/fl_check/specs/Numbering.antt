@@ -14,6 +14,11 @@ pub record IsNumbered (page : ℕ → List ℕ) (r : Shape) (at_least : ℕ) (m 
   pub states : HaveStates page r m
   pub numbers : HaveNumbers page r m at_least next
 
+pub record HasNumbering (page : ℕ → List ℕ) (r : Shape) (at_least : ℕ) : Type 0 where
+  pub m : Marks
+  pub next : ℕ
+  pub is : IsNumbered page r at_least m next
+
 -- the first that doesn't hold is that on the states
 pub record BreaksStates (page : ℕ → List ℕ) (r : Shape) (p : ℕ) : Type 0 where
   pub m : Marks

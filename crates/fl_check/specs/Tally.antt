@@ -1,5 +1,5 @@
 -- What the kept pages of a table tell: the rows, the void pages, and where its blobs and the entries of its index end.
-use Rattle.std.specs.Prelude.{ℕ, zero, suc, ◌+◌, ◌^◌, ◌-◌, min, max, ◌==◌, if◌then◌else◌, Option, Some, None, List, length, map}
+use Rattle.std.specs.Prelude.{ℕ, zero, suc, ◌+◌, max, ◌==◌, if◌then◌else◌, Option, Some, None, List, length, map}
 use Rattle.std.specs.List.{fold}
 use Rattle.fl_base.specs.declared.types.BlobRef.{BlobRef}
 use Rattle.fl_index.specs.Page.{page_first}
@@ -44,7 +44,3 @@ no_pages = record { rows = 0; voids = 0; blob_end = 0 }
 abbrev pub tally_of : RowLayout → (ℕ → List ℕ) → Shape → Marks → ℕ → Tally
 tally_of layout page r m zero = no_pages
 tally_of layout page r m (suc i) = with_page layout (page (kept_page r m i)) (tally_of layout page r m i)
-
--- the numbers of a ring whose pages tell none begin here, or at the greatest of them
-abbrev pub least_of : ℕ → ℕ
-least_of end = min end (2 ^ 32 - 1)

@@ -19,7 +19,7 @@ use Rattle.fl_check.specs.IndexPage.{IsIndexPage}
 use Rattle.fl_check.specs.Marks.{AreWithin}
 use Rattle.fl_check.specs.References.{PageLeads, ReferencesBreak}
 use Rattle.fl_check.specs.RingRules.{IsRingSound, BreaksRing}
-use Rattle.fl_check.specs.Tally.{listed_to, tally_of, least_of}
+use Rattle.fl_check.specs.Tally.{listed_to, tally_of}
 use Rattle.fl_check.specs.declared.entries.Indexing.{Indexing}
 use Rattle.fl_check.specs.declared.finding.Finding.{Finding}
 use Rattle.fl_check.specs.declared.finding.Finding.TheVariants.{Sound, Fault}
@@ -95,14 +95,14 @@ index_end config page index = end_in config page config.index index
 
 -- the numbers of data pages that tell none begin there
 abbrev pub AreRowsSound : TableConfig → (ℕ → List ℕ) → Option Numbering → Numbering → Type 0
-AreRowsSound config page index rows = IsRingSound (IsRowsForm config) (Some (layout_in config)) page (rows_shape config) (least_of (index_end config page index)) rows
+AreRowsSound config page index rows = IsRingSound (IsRowsForm config) (Some (layout_in config)) page (rows_shape config) (index_end config page index) rows
 
 abbrev pub tally_in : TableConfig → (ℕ → List ℕ) → Numbering → Tally
 tally_in config page rows = tally_of (layout_in config) page (rows_shape config) rows.marks rows.marks.kept
 
 -- the numbers of pages of variable data that tell none begin behind the pages that blobs name
 abbrev pub IsVarSound : TableConfig → (ℕ → List ℕ) → Numbering → Option Numbering → Type 0
-IsVarSound config page rows var = OfRing (λ place n. IsRingSound IsVarForm None page (shape_in config place) (least_of (tally_in config page rows).blob_end) n) config.var var
+IsVarSound config page rows var = OfRing (λ place n. IsRingSound IsVarForm None page (shape_in config place) (tally_in config page rows).blob_end n) config.var var
 
 pub record AreRingsSound (config : TableConfig) (page : ℕ → List ℕ) (t : TableNumbers) : Type 0 where
   pub index : IsIndexSound config page t.index
@@ -139,7 +139,7 @@ pub record BreaksIndex (config : TableConfig) (page : ℕ → List ℕ) (p : ℕ
 pub record BreaksRows (config : TableConfig) (page : ℕ → List ℕ) (p : ℕ) (rule : Rule) : Type 0 where
   pub index : Option Numbering
   pub index_sound : IsIndexSound config page index
-  pub breaks : BreaksRing (IsRowsForm config) (Some (layout_in config)) page (rows_shape config) (least_of (index_end config page index)) rule p
+  pub breaks : BreaksRing (IsRowsForm config) (Some (layout_in config)) page (rows_shape config) (index_end config page index) rule p
 
 -- .. or one of the ring of variable data, whose numbers begin here where no page tells its own
 pub record BreaksVarBy (config : TableConfig) (page : ℕ → List ℕ) (at_least p : ℕ) (rule : Rule) : Type 0 where
@@ -152,7 +152,7 @@ pub record BreaksVar (config : TableConfig) (page : ℕ → List ℕ) (p : ℕ) 
   pub rows : Numbering
   pub index_sound : IsIndexSound config page index
   pub rows_sound : AreRowsSound config page index rows
-  pub breaks : BreaksVarBy config page (least_of (tally_in config page rows).blob_end) p rule
+  pub breaks : BreaksVarBy config page (tally_in config page rows).blob_end p rule
 
 -- .. or that on the entries of the index
 pub record BreaksEntries (config : TableConfig) (page : ℕ → List ℕ) (p : ℕ) : Type 0 where

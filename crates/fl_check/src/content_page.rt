@@ -1,8 +1,7 @@
 // A committed page of variable data: its number in four bytes, the count of its bytes of content in two, two zeros, the
 // content, and FF behind it.
-ghost use Rattle.std.specs.Prelude.{◌≡◌, ◌+◌, ◌↔◌, ◌<◌, ◌≤◌, IsTrue, true, length};
-ghost use Rattle.fl_model.specs.Layout.{is_blank};
-ghost use Rattle.fl_check.specs.ContentPage.{IsContentPage, unused_content};
+ghost use Rattle.std.specs.Prelude.{◌↔◌, ◌<◌, ◌≤◌, IsTrue, length};
+ghost use Rattle.fl_check.specs.ContentPage.{IsContentPage};
 
 use crate::bytes::{each_is, ends_committed};
 use fl_base::{get_u16, get_u32};
@@ -18,14 +17,4 @@ pub fn content_page_is_good(page: &[u8], number: u32) -> bool
         return false;
     }
     each_is(&page[6..8], 0) && ends_committed(page)
-}
-
-/// Whether the bytes behind its content are FF.
-pub fn content_rest_is_blank(page: &[u8]) -> bool
-    requires least { 24 ≤ length page.now }
-    ensures { result ≡ is_blank (unused_content page.now) }
-{
-    let end = page.len() - 8;
-    let used = 8 + get_u16(page, 4) as usize;
-    used >= end || each_is(&page[used..end], 255)
 }

@@ -1,7 +1,7 @@
 // The rule on the entries of index pages.
 ghost use Rattle.std.specs.Prelude.{◌≡◌, ℕ, ◌+◌, ◌-◌, ◌*◌, ◌<◌, ◌≤◌, length, true, false, IsTrue, IfOk, IfErr, IfSome, IfNone};
 ghost use Rattle.fl_flash.specs.Flash.{page_at};
-ghost use Rattle.fl_index.specs.Page.{page_first, entry_at};
+ghost use Rattle.fl_index.specs.Page.{page_first};
 ghost use Rattle.fl_ring.specs.Looking.{OnlyReads, ReadFails};
 ghost use Rattle.fl_ring.specs.Newest.{page_back};
 ghost use Rattle.fl_ring.specs.Place.{shape_of, LiesOn};
@@ -12,9 +12,9 @@ ghost use Rattle.fl_check.specs.Marks.{AreWithin};
 
 use crate::marks::Marks;
 use crate::numbering::Numbering;
-use byteorder::{ByteOrder, LittleEndian};
-use fl_base::{get_u32, get_u64};
+use fl_base::get_u64;
 use fl_flash::{Flash, FlashFault, PageBuf};
+use fl_index::{entry_in, first_in};
 use fl_ring::{Ring, is_committed, look};
 
 /// An index over data pages: the bytes of its entries, the kept pages of its ring, and those of the data ring with the
@@ -24,26 +24,6 @@ pub struct Indexing {
     pub width: u32,
     pub index: Marks,
     pub rows: Numbering,
-}
-
-/// The first data page that an index page lists.
-fn first_in(page: &[u8]) -> u32
-    requires { 8 ≤ length page.now }
-    ensures { result ≡ page_first page.now }
-{
-    get_u32(page, 4)
-}
-
-/// One of its entries, of so many bytes each.
-fn entry_in(page: &[u8], width: u32, entry: u32) -> u64
-    requires some { 1 ≤ width }
-    requires few { width ≤ 8 }
-    requires room { 16 + (entry + 1) * width ≤ length page.now }
-    requires short { length page.now ≤ 4096 }
-    ensures { result ≡ entry_at width page.now entry }
-{
-    let at = (16 + entry * width) as usize;
-    LittleEndian::read_uint(&page[at..at + width as usize], width as usize)
 }
 
 /// The bitmap in the header of a data page.
@@ -128,7 +108,7 @@ fn is_entry<F: Flash>(
     match found {
         None => Ok(true),
         Some(back) => {
-            let bitmap = entry_in(listing, l.width, j);
+            let bitmap = entry_in(listing, l.width as usize, j as usize);
             has_bitmap(rows, flash, l.rows.marks, back, bitmap, buf)
         }
     }

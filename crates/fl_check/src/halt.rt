@@ -40,6 +40,7 @@ pub(crate) fn in_ring(ring: RingName, checked: Result<Numbering, Stop>) -> Resul
     ensures ok { IfOk result (λ n. checked ≡ Ok n) }
     ensures failed { IfErr result (IfFailed (λ fault. checked ≡ Err (Stop.Flash fault))) }
     ensures found { IfErr result (IfFound (λ fault. (fault.ring ≡ ring) × (checked ≡ Err (Stop.Broken (record { rule = fault.rule; page = fault.page }))))) }
+    ensures lost { (fault : FlashFault) → checked ≡ Err (Stop.Flash fault) → result ≡ Err (Halt.Failed fault) }
 {
     match checked {
         Ok(n) => Ok(n),

@@ -1,11 +1,34 @@
-// Laws on the rules of a ring.
-ghost use Rattle.std.specs.Prelude.{ℕ};
-ghost use Rattle.fl_flash.specs.Flash.{FlashState};
+// Laws on the rules of a table's rings.
+ghost use Rattle.std.specs.Prelude.{◌≡◌, ℕ, List};
+ghost use Rattle.fl_flash.specs.Flash.{FlashState, page_at};
+ghost use Rattle.fl_plan.specs.declared.table_config.TableConfig.{TableConfig};
 ghost use Rattle.fl_ring.specs.Mounting.{IsGood};
 ghost use Rattle.fl_ring.specs.Ring.{Shape, RingState, IsShape};
+ghost use Rattle.fl_check.specs.KeptPages.{KeptPagesAreGood};
 ghost use Rattle.fl_check.specs.Laws.{KeepsRules};
+ghost use Rattle.fl_check.specs.MountLaw.{FindsNumbers};
+ghost use Rattle.fl_check.specs.Numbering.{IsNumbered};
+ghost use Rattle.fl_check.specs.Whole.{IsFinding};
+ghost use Rattle.fl_check.specs.declared.finding.Finding.{Finding};
+ghost use Rattle.fl_check.specs.declared.marks.Marks.{Marks};
 
 /// A flash that stands for a ring keeps the rules on the ring's pages, torn and waiting for an erase or not.
 pub fn rings_keep_rules()
     ensures { (f : FlashState) → (r : Shape) → (at_least : ℕ) → (s : RingState) → IsShape r → IsGood f r at_least s → KeepsRules f r at_least s }
+{}
+
+/// Where the rules on the head, the states and the numbers of a ring hold, a mount finds the numbers that they tell.
+pub fn mounts_find_numbers()
+    ensures { (f : FlashState) → (r : Shape) → (at_least : ℕ) → (m : Marks) → (next : ℕ) → IsNumbered (page_at f) r at_least m next → FindsNumbers f r at_least m next }
+{}
+
+/// Each page that a table of the store keeps, and that isn't void, is good, and the keys of its records ascend.
+pub fn kept_pages_are_good()
+    ensures { KeptPagesAreGood }
+{}
+
+/// No two findings of a table on some pages differ: it is sound, with these counts, or one rule is the first that doesn't
+/// hold, and one page the first that breaks it.
+pub fn findings_are_one()
+    ensures { (config : TableConfig) → (page : ℕ → List ℕ) → (a b : Finding) → IsFinding config page a → IsFinding config page b → a ≡ b }
 {}

@@ -26,14 +26,14 @@ mod tally;
 mod whole;
 
 pub use bodies::{Form, check_bodies};
-pub use content_page::{content_page_is_good, content_rest_is_blank};
+pub use content_page::content_page_is_good;
 pub use data_page::data_page_is_good;
 pub use entries::{Indexing, check_entries};
 pub use finding::{CheckFault, Finding, RingName};
 pub use forms::{ContentForm, DataForm};
 pub use index_page::index_page_is_good;
 pub use keys::keys_ascend;
-pub use laws::rings_keep_rules;
+pub use laws::{findings_are_one, kept_pages_are_good, mounts_find_numbers, rings_keep_rules};
 pub use marks::{HeadPages, Marks};
 pub use numbering::{Numbering, check_numbering};
 pub use references::{BlobPages, find_misleading};

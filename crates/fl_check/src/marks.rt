@@ -1,11 +1,14 @@
 // The marks of a ring's pages, which tell its head and the pages that are kept.
 ghost use Rattle.std.specs.Prelude.{◌≡◌, ◌+◌, ◌<◌, ◌≤◌, length, IsTrue, IfOk, IfErr};
 ghost use Rattle.fl_flash.specs.Flash.{page_at};
+ghost use Rattle.fl_flash.specs.declared.flash.FlashFault.{FlashFault};
 ghost use Rattle.fl_ring.specs.Looking.{OnlyReads, ReadFails};
 ghost use Rattle.fl_ring.specs.Place.{shape_of, LiesOn};
+ghost use Rattle.fl_check.specs.Looks.{OffFails};
 ghost use Rattle.fl_check.specs.Marks.{HasOneHead, IsOrdered, AreMarks, AreWithin};
 ghost use Rattle.fl_check.specs.Stop.{IfFlash, IfBroken, breach};
 ghost use Rattle.fl_check.specs.declared.rule.Rule.{Rule};
+ghost use Rattle.fl_check.specs.declared.rule.Stop.{Stop};
 
 use crate::rule::{Rule, Stop, broken};
 use fl_flash::{Flash, FlashFault, PageBuf};
@@ -74,6 +77,7 @@ pub(crate) fn read_marks<F: Flash>(
     ensures broken { IfErr result (IfBroken (λ b. IsTrue (F.state flash.old).media.tells →
         (HasOneHead (page_at (F.state flash.old)) (shape_of ring.now) → ⊥) × (b ≡ breach Rule.Head (shape_of ring.now).first))) }
     ensures fails { IfErr result (IfFlash (λ e. ReadFails (F.state flash.old) e (F.state flash.new))) }
+    ensures off { OffFails (Stop.Flash FlashFault.PowerLost) (F.state flash.old) result (F.state flash.new) }
 {
     let scan = ring.scan_blocks(flash, buf)?;
     if scan.heads() != 1 {

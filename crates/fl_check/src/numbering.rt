@@ -1,11 +1,14 @@
 // The rules on the head, the states and the numbers of a ring, in this order.
 ghost use Rattle.std.specs.Prelude.{◌≡◌, length, IsTrue, IfOk, IfErr};
 ghost use Rattle.fl_flash.specs.Flash.{page_at};
+ghost use Rattle.fl_flash.specs.declared.flash.FlashFault.{FlashFault};
 ghost use Rattle.fl_ring.specs.Looking.{OnlyReads, ReadFails};
 ghost use Rattle.fl_ring.specs.Place.{shape_of, LiesOn};
+ghost use Rattle.fl_check.specs.Looks.{OffFails};
 ghost use Rattle.fl_check.specs.Marks.{AreWithin};
 ghost use Rattle.fl_check.specs.Numbering.{IsNumbered, BreaksFirst, numbering_reads};
 ghost use Rattle.fl_check.specs.Stop.{IfFlash, IfBroken};
+ghost use Rattle.fl_check.specs.declared.rule.Stop.{Stop};
 
 use crate::marks::{Marks, read_marks};
 use crate::numbers::check_numbers;
@@ -26,7 +29,7 @@ pub struct Numbering {
 pub fn check_numbering<F: Flash>(
     ring: &Ring,
     flash: &mut F,
-    at_least: u32,
+    at_least: u64,
     buf: &mut PageBuf,
 ) -> Result<Numbering, Stop>
     requires lies { LiesOn ring.now (F.state flash.old) }
@@ -37,6 +40,7 @@ pub fn check_numbering<F: Flash>(
     ensures within { IfOk result (λ n. AreWithin (shape_of ring.now) n.marks) }
     ensures broken { IfErr result (IfBroken (λ b. IsTrue (F.state flash.old).media.tells → BreaksFirst (page_at (F.state flash.old)) (shape_of ring.now) at_least b.rule b.page)) }
     ensures fails { IfErr result (IfFlash (λ e. ReadFails (F.state flash.old) e (F.state flash.new))) }
+    ensures off { OffFails (Stop.Flash FlashFault.PowerLost) (F.state flash.old) result (F.state flash.new) }
 {
     let marks = read_marks(ring, flash, buf)?;
     check_states(ring, flash, marks, buf)?;

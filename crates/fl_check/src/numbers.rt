@@ -58,7 +58,7 @@ fn check_by<F: Flash>(
     ring: &Ring,
     flash: &mut F,
     m: Marks,
-    at_least: u32,
+    at_least: u64,
     newest: Newest,
     buf: &mut PageBuf,
 ) -> Result<u32, Stop>
@@ -99,11 +99,14 @@ fn number_left(ring: &Ring, m: Marks, next: u64) -> Result<u32, Stop>
 }
 
 /// The next number where no kept page is committed: the least one from `at_least` on that fits.
-fn check_from(ring: &Ring, m: Marks, at_least: u32) -> Result<u32, Stop>
+fn check_from(ring: &Ring, m: Marks, at_least: u64) -> Result<u32, Stop>
     requires within { AreWithin (shape_of ring.now) m }
     ensures next { IfOk result (λ next. (next ≡ next_of (shape_of ring.now) m at_least None) × IsLeft m next) }
     ensures broken { IfErr result (λ e. (e ≡ Stop.Broken (record { rule = Rule.Number; page = (shape_of ring.now).first })) × (IsLeft m (next_of (shape_of ring.now) m at_least None) → ⊥)) }
 {
+    let Ok(at_least) = u32::try_from(at_least) else {
+        return Err(broken(Rule::Number, ring.first_page()));
+    };
     match ring.next_by(m.at, m.kept, at_least, None, m.pages.front.torn) {
         Ok(next) => Ok(next),
         Err(_) => Err(broken(Rule::Number, ring.first_page())),
@@ -116,7 +119,7 @@ pub(crate) fn check_numbers<F: Flash>(
     ring: &Ring,
     flash: &mut F,
     m: Marks,
-    at_least: u32,
+    at_least: u64,
     buf: &mut PageBuf,
 ) -> Result<u32, Stop>
     requires lies { LiesOn ring.now (F.state flash.old) }

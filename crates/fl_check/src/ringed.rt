@@ -2,15 +2,17 @@
 ghost use Rattle.std.specs.Prelude.{◌≡◌, Option, None, Some, length, IsTrue, IfOk, IfErr};
 ghost use Rattle.fl_bitmap.specs.declared.buckets.Buckets.{Buckets};
 ghost use Rattle.fl_flash.specs.Flash.{page_at};
+ghost use Rattle.fl_flash.specs.declared.flash.FlashFault.{FlashFault};
 ghost use Rattle.fl_model.specs.Record.{RowLayout};
 ghost use Rattle.fl_ring.specs.Looking.{ReadFails};
 ghost use Rattle.fl_ring.specs.Place.{shape_of, LiesOn};
 ghost use Rattle.fl_schema.specs.Schema.{layout_of};
 ghost use Rattle.fl_check.specs.DataPage.{IsDataPage};
-ghost use Rattle.fl_check.specs.Looks.{OnlyLooks};
+ghost use Rattle.fl_check.specs.Looks.{OnlyLooks, OffFails};
 ghost use Rattle.fl_check.specs.Marks.{AreWithin};
 ghost use Rattle.fl_check.specs.RingRules.{IsFormed, IsRingSound, BreaksRing};
 ghost use Rattle.fl_check.specs.Stop.{IfFlash, IfBroken};
+ghost use Rattle.fl_check.specs.declared.rule.Stop.{Stop};
 
 use crate::bodies::{Form, check_bodies};
 use crate::forms::DataForm;
@@ -25,7 +27,7 @@ use fl_ring::Ring;
 fn check_formed<F: Flash, B: Form>(
     ring: &Ring,
     flash: &mut F,
-    at_least: u32,
+    at_least: u64,
     form: &B,
     buf: &mut PageBuf,
 ) -> Result<Numbering, Stop>
@@ -38,6 +40,7 @@ fn check_formed<F: Flash, B: Form>(
     ensures broken { IfErr result (IfBroken (λ b. IsTrue (F.state flash.old).media.tells → (rows : Option RowLayout)
         → BreaksRing (B.holds form.now) rows (page_at (F.state flash.old)) (shape_of ring.now) at_least b.rule b.page)) }
     ensures fails { IfErr result (IfFlash (λ e. ReadFails (F.state flash.old) e (F.state flash.new))) }
+    ensures off { OffFails (Stop.Flash FlashFault.PowerLost) (F.state flash.old) result (F.state flash.new) }
 {
     let n = check_numbering(ring, flash, at_least, buf)?;
     check_bodies(ring, flash, n, form, buf)?;
@@ -48,7 +51,7 @@ fn check_formed<F: Flash, B: Form>(
 pub(crate) fn check_ring<F: Flash, B: Form>(
     ring: &Ring,
     flash: &mut F,
-    at_least: u32,
+    at_least: u64,
     form: &B,
     buf: &mut PageBuf,
 ) -> Result<Numbering, Stop>
@@ -61,6 +64,7 @@ pub(crate) fn check_ring<F: Flash, B: Form>(
     ensures broken { IfErr result (IfBroken (λ b. IsTrue (F.state flash.old).media.tells
         → BreaksRing (B.holds form.now) None (page_at (F.state flash.old)) (shape_of ring.now) at_least b.rule b.page)) }
     ensures fails { IfErr result (IfFlash (λ e. ReadFails (F.state flash.old) e (F.state flash.new))) }
+    ensures off { OffFails (Stop.Flash FlashFault.PowerLost) (F.state flash.old) result (F.state flash.new) }
 {
     let n = check_formed(ring, flash, at_least, form, buf)?;
     check_rest(ring, flash, n.marks, buf)?;
@@ -71,7 +75,7 @@ pub(crate) fn check_ring<F: Flash, B: Form>(
 pub(crate) fn check_rows<F: Flash>(
     ring: &Ring,
     flash: &mut F,
-    at_least: u32,
+    at_least: u64,
     form: &DataForm<'_, 8>,
     buf: &mut PageBuf,
 ) -> Result<Numbering, Stop>
@@ -85,6 +89,7 @@ pub(crate) fn check_rows<F: Flash>(
     ensures broken { IfErr result (IfBroken (λ b. IsTrue (F.state flash.old).media.tells
         → BreaksRing (IsDataPage (layout_of form.now.schema.now) form.now.buckets) (Some (layout_of form.now.schema.now)) (page_at (F.state flash.old)) (shape_of ring.now) at_least b.rule b.page)) }
     ensures fails { IfErr result (IfFlash (λ e. ReadFails (F.state flash.old) e (F.state flash.new))) }
+    ensures off { OffFails (Stop.Flash FlashFault.PowerLost) (F.state flash.old) result (F.state flash.new) }
 {
     let n = check_formed(ring, flash, at_least, form, buf)?;
     check_keys(ring, flash, n.marks, form.schema, buf)?;

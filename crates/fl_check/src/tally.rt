@@ -10,7 +10,7 @@ ghost use Rattle.fl_ring.specs.Place.{shape_of, LiesOn};
 ghost use Rattle.fl_schema.specs.Schema.{layout_of};
 ghost use Rattle.fl_check.specs.Rising.{HasRows, HaveRows};
 ghost use Rattle.fl_check.specs.Marks.{AreWithin};
-ghost use Rattle.fl_check.specs.Tally.{listed_after, listed_to, reference_end, blobs_end, with_page, tally_of, least_of};
+ghost use Rattle.fl_check.specs.Tally.{listed_after, listed_to, reference_end, blobs_end, with_page, tally_of};
 
 use crate::marks::Marks;
 use fl_base::{BlobRef, get_u32};
@@ -26,13 +26,6 @@ pub(crate) struct Tally {
     pub(crate) rows: u64,
     pub(crate) voids: u32,
     pub(crate) blob_end: u64,
-}
-
-/// The number at which those of a ring begin whose pages tell none.
-pub(crate) fn least_of(end: u64) -> u32
-    ensures { result ≡ least_of end }
-{
-    end.min(u64::from(u32::MAX)) as u32
 }
 
 /// The number after the data pages that the newest committed index page lists; 0 where no page is committed.

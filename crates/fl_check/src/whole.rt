@@ -1,18 +1,19 @@
 // The check of a table: the rules of its rings, one ring after another, and then those on its index and its references.
 ghost use Rattle.std.specs.Prelude.{◌≡◌, ◌≤◌, ◌+◌, ℕ, List, None, Some, is_some, length, IsTrue, IfOk, IfErr, OnOk};
 ghost use Rattle.fl_flash.specs.Flash.{page_at};
+ghost use Rattle.fl_flash.specs.declared.flash.FlashFault.{FlashFault};
 ghost use Rattle.fl_model.specs.Record.{layout_len};
 ghost use Rattle.fl_plan.specs.Limits.{IsWithinLimits};
 ghost use Rattle.fl_plan.specs.Refusal.{config_fault};
 ghost use Rattle.fl_ring.specs.Looking.{ReadFails};
 ghost use Rattle.fl_schema.specs.Schema.{layout_of, types_of};
-ghost use Rattle.fl_check.specs.Looks.{OnlyLooks, CheckFails, IfFailed, IfFound};
+ghost use Rattle.fl_check.specs.Looks.{OnlyLooks, CheckFails, OffFails, OffChecksNothing, IfFailed, IfFound};
 ghost use Rattle.fl_check.specs.Marks.{AreWithin};
 ghost use Rattle.fl_check.specs.Rising.{HaveRows};
 ghost use Rattle.fl_check.specs.RingRules.{IsRingSound, BreaksRing};
-ghost use Rattle.fl_check.specs.Tally.{least_of};
 ghost use Rattle.fl_check.specs.Whole.{Fits, LiesWithin, OfRing, shape_in, rows_shape, layout_in, IsRowsForm, IsVarForm, IsIndexSound, AreRowsSound, AreRingsSound, AreEntriesSound, AreReferencesSound, IsSound, BreaksIndex, BreaksVarBy, BreaksEntries, BreaksReferences, IsFirstFault, index_end, tally_in, IsFinding};
 ghost use Rattle.fl_check.specs.declared.finding.RingName.{RingName};
+ghost use Rattle.fl_check.specs.declared.halt.Halt.{Halt};
 ghost use Rattle.fl_check.specs.declared.rule.Rule.{Rule};
 
 use crate::entries::{Indexing, check_entries};
@@ -24,7 +25,7 @@ use crate::numbering::Numbering;
 use crate::references::{BlobPages, find_misleading};
 use crate::ringed::{check_ring, check_rows};
 use crate::rule::Rule;
-use crate::tally::{Tally, find_end, least_of, tally_pages};
+use crate::tally::{Tally, find_end, tally_pages};
 use fl_flash::{Flash, FlashFault, PageBuf};
 use fl_plan::TableConfig;
 use fl_ring::Ring;
@@ -70,6 +71,8 @@ impl Checked<'_> {
         ensures sound { IfOk result (λ index. IsTrue (F.state flash.old).media.tells → IsIndexSound self.now.config.now (page_at (F.state flash.old)) index) }
         ensures broken { IfErr result (IfFound (λ fault. IsTrue (F.state flash.old).media.tells → (fault.ring ≡ RingName.Index) × BreaksIndex self.now.config.now (page_at (F.state flash.old)) fault.page fault.rule)) }
         ensures fails { IfErr result (IfFailed (λ e. ReadFails (F.state flash.old) e (F.state flash.new))) }
+        ensures off { IsTrue (is_some self.now.config.now.index) → OffFails (Halt.Failed FlashFault.PowerLost) (F.state flash.old) result (F.state flash.new) }
+        ensures none { self.now.config.now.index ≡ None → (result ≡ Ok None) × (F.state flash.new ≡ F.state flash.old) }
     {
         let Some(place) = self.config.index else {
             return Ok(None);
@@ -100,6 +103,7 @@ impl Checked<'_> {
         ensures room { length buf.new.bytes ≡ self.now.config.now.geometry.page }
         ensures end { IfOk result (λ end. IsTrue (F.state flash.old).media.tells → end ≡ index_end self.now.config.now (page_at (F.state flash.old)) index) }
         ensures fails { IfErr result (λ e. ReadFails (F.state flash.old) e (F.state flash.new)) }
+        ensures none { self.now.config.now.index ≡ None → (result ≡ Ok 0) × (F.state flash.new ≡ F.state flash.old) }
     {
         let Some(place) = self.config.index else {
             return Ok(0);
@@ -117,7 +121,7 @@ impl Checked<'_> {
     fn check_data<F: Flash>(
         &self,
         flash: &mut F,
-        at_least: u32,
+        at_least: u64,
         buf: &mut PageBuf,
     ) -> Result<Numbering, Halt>
         requires fits { Fits self.now.config.now (F.state flash.old) }
@@ -130,6 +134,7 @@ impl Checked<'_> {
         ensures broken { IfErr result (IfFound (λ fault. IsTrue (F.state flash.old).media.tells
             → (fault.ring ≡ RingName.Data) × BreaksRing (IsRowsForm self.now.config.now) (Some (layout_in self.now.config.now)) (page_at (F.state flash.old)) (rows_shape self.now.config.now) at_least fault.rule fault.page)) }
         ensures fails { IfErr result (IfFailed (λ e. ReadFails (F.state flash.old) e (F.state flash.new))) }
+        ensures off { OffFails (Halt.Failed FlashFault.PowerLost) (F.state flash.old) result (F.state flash.new) }
     {
         let ring = Ring::unnumbered(flash, self.config.rows);
         let form = DataForm {
@@ -146,7 +151,7 @@ impl Checked<'_> {
     fn check_var<F: Flash>(
         &self,
         flash: &mut F,
-        at_least: u32,
+        at_least: u64,
         buf: &mut PageBuf,
     ) -> Result<Option<Numbering>, Halt>
         requires fits { Fits self.now.config.now (F.state flash.old) }
@@ -184,12 +189,13 @@ impl Checked<'_> {
         ensures tally { IfOk result (λ rings. IsTrue (F.state flash.old).media.tells → rings.tally ≡ tally_in self.now.config.now (page_at (F.state flash.old)) rings.numbers.rows) }
         ensures broken { IfErr result (IfFound (λ fault. IsTrue (F.state flash.old).media.tells → IsFirstFault self.now.config.now (page_at (F.state flash.old)) fault.ring fault.page fault.rule)) }
         ensures fails { IfErr result (IfFailed (λ e. ReadFails (F.state flash.old) e (F.state flash.new))) }
+        ensures off { OffFails (Halt.Failed FlashFault.PowerLost) (F.state flash.old) result (F.state flash.new) }
     {
         let index = self.check_index(flash, buf)?;
         let end = self.find_index_end(flash, index, buf)?;
-        let rows = self.check_data(flash, least_of(end), buf)?;
+        let rows = self.check_data(flash, end, buf)?;
         let tally = self.tally_rows(flash, rows, buf)?;
-        let var = self.check_var(flash, least_of(tally.blob_end), buf)?;
+        let var = self.check_var(flash, tally.blob_end, buf)?;
         Ok(Rings {
             numbers: TableNumbers { index, rows, var },
             tally,
@@ -311,6 +317,7 @@ impl Checked<'_> {
         ensures tally { IfOk result (λ rings. IsTrue (F.state flash.old).media.tells → rings.tally ≡ tally_in self.now.config.now (page_at (F.state flash.old)) rings.numbers.rows) }
         ensures broken { IfErr result (IfFound (λ fault. IsTrue (F.state flash.old).media.tells → IsFirstFault self.now.config.now (page_at (F.state flash.old)) fault.ring fault.page fault.rule)) }
         ensures fails { IfErr result (IfFailed (λ e. ReadFails (F.state flash.old) e (F.state flash.new))) }
+        ensures off { OffFails (Halt.Failed FlashFault.PowerLost) (F.state flash.old) result (F.state flash.new) }
     {
         let rings = self.check_rings(flash, buf)?;
         self.check_index_entries(flash, rings.numbers, listing, buf)?;
@@ -348,7 +355,7 @@ fn schema_of(config: &TableConfig) -> Schema<8>
 
 /// Checks the rings of a table: their pages are read, and nothing is repaired. Finds the first rule that doesn't hold, with
 /// the first page that breaks it: ring by ring in the order of index, data and variable data those on the ring's own pages,
-/// and then those on the index and on the references.
+/// and then those on the index and on the references. Its memory is taken before the flash is read.
 pub fn check_table<F: Flash>(
     alloc: Global,
     flash: &mut F,
@@ -358,6 +365,7 @@ pub fn check_table<F: Flash>(
     ensures looks { OnlyLooks (F.state flash.old) (F.state flash.new) }
     ensures finding { IfOk result (λ finding. IsTrue (F.state flash.old).media.tells → IsFinding config.now (page_at (F.state flash.old)) finding) }
     ensures fails { IfErr result (λ fault. CheckFails (F.state flash.old) fault (F.state flash.new)) }
+    ensures off { OffChecksNothing (F.state flash.old) result (F.state flash.new) }
 {
     let mut listing = PageBuf::new(alloc, config.geometry.page)?;
     let mut buf = PageBuf::new(alloc, config.geometry.page)?;

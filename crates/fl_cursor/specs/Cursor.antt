@@ -26,7 +26,7 @@ use Rattle.fl_page.specs.declared.fault.ReadFault.{ReadFault}
 use Rattle.fl_page.specs.declared.fault.ReadFault.TheVariants as fault
 use Rattle.fl_table.specs.Look.{layout_in, oldest_in, buffered_rows}
 use Rattle.fl_table.specs.Memory.{is_running, next_in, pending_in, LiesOn}
-use Rattle.fl_table.specs.Skipping.{AreScanning, HoldGood}
+use Rattle.fl_table.specs.Skipping.{index_in, AreScanning, HoldGood}
 use Rattle.fl_table.specs.Standing.{Stands}
 use Rattle.fl_table.specs.declared.table.Table.{Table}
 use Rattle.fl_cursor.specs.Asked.{asked_by, is_left}
@@ -163,8 +163,8 @@ pub record IsTold {KNOTS SLOTS : ℕ} (cursor : Cursor KNOTS SLOTS) (contents : 
   pub standing : IsStanding (table_of cursor) contents
   pub ascends : Ascends None (rows_of (table_of cursor) contents)
   pub passes : Passes (asked_of cursor) (rows_of (table_of cursor) contents) (ahead_of cursor contents)
-  pub fresh : AreFreshIn (table_of cursor).bitmaps contents (index_page cursor)
-  pub looking : IsLooking (table_of cursor).bitmaps cursor.place (index_page cursor)
+  pub fresh : AreFreshIn (index_in (table_of cursor)) contents (index_page cursor)
+  pub looking : IsLooking (index_in (table_of cursor)) cursor.place (index_page cursor)
 
 -- ---- going over a flash
 
@@ -186,7 +186,7 @@ pub record IsReady {KNOTS SLOTS : ℕ} (cursor : Cursor KNOTS SLOTS) (contents :
   pub index_room : length cursor.index_buf.now.bytes ≡ contents.geometry.page
   pub placed : IsPlaced (table_of cursor) (buffer_of cursor) cursor.place
   -- an index page that is held isn't a bad one
-  pub index_good : HoldGood (table_of cursor).bitmaps (index_page cursor)
+  pub index_good : HoldGood (index_in (table_of cursor)) (index_page cursor)
 
 -- Where the flash tells its bytes, the page at the place of the kept number that was wanted is committed, and has
 -- another number or a count that no page has.
@@ -213,7 +213,7 @@ AreBadIn None contents bad = ⊥
 AreBadIn (Some index) contents bad = IsBadIndexPage index contents bad
 
 abbrev pub MayBeBad : {KNOTS SLOTS : ℕ} → Table KNOTS SLOTS → Contents → BadPage → Type 0
-MayBeBad t contents bad = IsTrue contents.tells → IsBadPage t contents bad ⊎ AreBadIn t.bitmaps contents bad
+MayBeBad t contents bad = IsTrue contents.tells → IsBadPage t contents bad ⊎ AreBadIn (index_in t) contents bad
 
 -- a fault that is about a page says this
 abbrev pub IfBad : (BadPage → Type 0) → ReadFault → Type 0

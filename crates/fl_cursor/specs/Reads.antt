@@ -14,9 +14,9 @@ use Rattle.fl_page.specs.Contents.{Contents}
 use Rattle.fl_page.specs.Page.{rows_in}
 use Rattle.fl_find.specs.Index.{most_reads}
 use Rattle.fl_find.specs.Pages.{first_key}
-use Rattle.fl_table.specs.Look.{layout_in, oldest_in, rows_noted, buffered_rows}
+use Rattle.fl_table.specs.Look.{layout_in, oldest_in, rows_noted, buffered_rows, voids_noted, learned_in, buckets_in}
 use Rattle.fl_table.specs.Memory.{next_in}
-use Rattle.fl_table.specs.Skipping.{unread_of, due_of}
+use Rattle.fl_table.specs.Skipping.{index_in, unread_of, due_of}
 use Rattle.fl_table.specs.declared.table.Table.{Table}
 use Rattle.fl_cursor.specs.Asked.{is_asked, is_last, lowest_of}
 use Rattle.fl_cursor.specs.Cursor.{table_of, asked_of, buffer_of, index_page}
@@ -47,7 +47,7 @@ is_indexed_in (Some index) number = is_waiting index number || is_some (listing_
 -- the bitmap of an indexed page with these rows tells that none has a value in the span
 abbrev pub is_missed : {KNOTS SLOTS : ℕ} → Table KNOTS SLOTS → Option Span → ℕ → List Row → Bool
 is_missed t None number rows = false
-is_missed t (Some span) number rows = is_indexed_in t.bitmaps number && (bit_and (bitmap_in t.buckets rows) (mask_for t.buckets span) == 0)
+is_missed t (Some span) number rows = is_indexed_in (index_in t) number && (bit_and (bitmap_in (buckets_in t) rows) (mask_for (buckets_in t) span) == 0)
 
 -- it isn't read, because it has no rows or because its bitmap tells so
 abbrev pub is_skipped : {KNOTS SLOTS : ℕ} → Table KNOTS SLOTS → Contents → Option Span → ℕ → Bool
@@ -69,10 +69,10 @@ pages_looked_up t contents top number (suc n) =
 
 -- so many index pages may still be read from this page on, and so many have to be
 abbrev pub index_most : {KNOTS SLOTS : ℕ} → Table KNOTS SLOTS → model.Cursor → BufferState → ℕ → ℕ
-index_most t asked index number = unread_of asked.span t.bitmaps number index
+index_most t asked index number = unread_of asked.span (index_in t) number index
 
 abbrev pub index_least : {KNOTS SLOTS : ℕ} → Table KNOTS SLOTS → Contents → model.Cursor → BufferState → ℕ → ℕ
-index_least t contents asked index number = due_of asked.span t.bitmaps (pages_looked_up t contents asked.top number (next_in t - number)) index
+index_least t contents asked index number = due_of asked.span (index_in t) (pages_looked_up t contents asked.top number (next_in t - number)) index
 
 -- the pages from this one on with a row that is asked for
 abbrev pub pages_asked : {KNOTS SLOTS : ℕ} → Table KNOTS SLOTS → Contents → model.Cursor → ℕ → ℕ → ℕ
@@ -96,7 +96,7 @@ start_of t contents key = start_among t contents key (next_in t - oldest_in t)
 -- at most so many reads look its page up
 abbrev pub most_to_find : {KNOTS SLOTS : ℕ} → Table KNOTS SLOTS → ℕ → ℕ
 most_to_find t key =
-    if begins_by key (buffered_rows t) then next_in t - oldest_in t + 1 else most_reads t.index (next_in t - oldest_in t) t.voids key
+    if begins_by key (buffered_rows t) then next_in t - oldest_in t + 1 else most_reads (learned_in t) (next_in t - oldest_in t) (voids_noted t) key
 
 -- what is asked for from the lowest key on that may still be given
 abbrev pub raised : model.Cursor → model.Cursor

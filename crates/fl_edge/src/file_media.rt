@@ -1,13 +1,14 @@
 // A file as a medium.
-ghost use Rattle.std.specs.Prelude.{◌≡◌, false};
+ghost use Rattle.std.specs.Prelude.{◌≡◌, ◌≤◌, ◌<◌, ◌+◌, ◌^◌, false, max, length, OnOk, OnErr};
+ghost use Rattle.fl_base.specs.Causes.{HasCause};
 
-use fl_flash::{Media, MediaFailed};
+use fl_flash::{Media, MediaFailed, PairFailed};
 use std::fs::{OpenFile, OpenOptions};
 use std::os::unix::fs::FileExt;
 use std::rt::Files;
 
 /// A file as a medium. It keeps its own length and counts, and does not tell its bytes. Each call is one positioned read
-/// or write of the file, unless the system takes a part of it.
+/// or write of the file, a pair of writes too, unless the system takes a part of it.
 #[derive(Drop)]
 pub struct FileMedia<F> {
     // None where the file can't be opened: then the length is 0 and each call fails.
@@ -47,6 +48,59 @@ impl<F: FileExt + OpenFile + Drop> FileMedia<F> {
     }
 }
 
+impl<F: FileExt> FileMedia<F> {
+    // A medium over an empty file.
+    #[cfg(test)]
+    pub(crate) fn over(file: F) -> FileMedia<F> {
+        FileMedia {
+            file: Some(file),
+            len: 0,
+            faults: 0,
+            reads: 0,
+        }
+    }
+
+    // Writes a front of the bytes by one call of the system, and answers how many these are.
+    fn write_front(&mut self, at: u64, bytes: &[u8]) -> usize
+        requires { at ≤ self.old.len }
+        ensures count { result ≤ length bytes.now }
+        ensures end { at + result < 2 ^ 64 }
+        ensures len { self.new ≡ record self.old { len = max self.old.len (at + result) } }
+    {
+        let Some(file) = &self.file else {
+            return 0;
+        };
+        if at.checked_add(bytes.len() as u64).is_none() {
+            return 0;
+        }
+        let count = file.write_at(bytes, at).unwrap_or(0);
+        self.len = self.len.max(at + count as u64);
+        count
+    }
+
+    // Writes the bytes from this count on up to `split`, where there are any.
+    fn write_up_to(
+        &mut self,
+        at: u64,
+        bytes: &[u8],
+        count: usize,
+        split: usize,
+    ) -> Result<(), MediaFailed>
+        requires at { at + count ≤ self.old.len }
+        requires split { split ≤ length bytes.now }
+        ensures reads { self.new.reads ≡ self.old.reads }
+        ensures done { OnOk result (self.new.len ≡ max self.old.len (at + split)) }
+        ensures no_shorter { self.old.len ≤ self.new.len }
+        ensures no_longer { OnErr result ((count < split) × (self.new.len ≤ max self.old.len (at + split))) }
+        ensures cause { HasCause self.old.faults self.new.faults result }
+    {
+        if count >= split {
+            return Ok(());
+        }
+        self.write_at(at + count as u64, &bytes[count..split])
+    }
+}
+
 impl<F: FileExt> Media for FileMedia<F> {
     ghost use Rattle.std.specs.Prelude.{false, replicate};
 
@@ -78,5 +132,20 @@ impl<F: FileExt> Media for FileMedia<F> {
         }
         self.faults = self.faults.saturating_add(1);
         Err(MediaFailed)
+    }
+
+    // Where the system takes a front of both by one call, the rest is written as two writes are.
+    fn write_pair(&mut self, at: u64, bytes: &[u8], split: usize) -> Result<(), PairFailed> {
+        let count = self.write_front(at, bytes);
+        if self.write_up_to(at, bytes, count, split).is_err() {
+            return Err(PairFailed::First);
+        }
+        let begun = count.max(split);
+        // What is written ends within this length, which is a u64.
+        let _len = self.len();
+        match self.write_at(at + begun as u64, &bytes[begun..]) {
+            Ok(()) => Ok(()),
+            Err(_) => Err(PairFailed::Second),
+        }
     }
 }

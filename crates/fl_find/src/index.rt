@@ -91,6 +91,7 @@ impl<const KNOTS: usize, const SLOTS: usize> LearnedIndex<KNOTS, SLOTS> {
     pub fn add_further(&mut self, first_key: u64, number: u32)
         ensures error { error_in self.new ≡ error_in self.old }
         ensures points { (error : ℕ) (points : List (ℕ × ℕ)) → IndexOf error points self.old → IsFurther points (first_key, number) → IndexOf error (points ++ (first_key, number) ∷ []) self.new }
+        ensures last { last_of (knots_in self.new) ≡ (if is_further (knots_in self.old) (first_key, number) then Some (first_key, number) else last_of (knots_in self.old)) }
         ensures left_out { is_further (knots_in self.old) (first_key, number) ≡ false → self.new ≡ self.old }
     {
         if !self.is_further(first_key, number) {

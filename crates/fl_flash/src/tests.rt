@@ -75,10 +75,49 @@ fn a_sealed_page_costs_two_writes(rt: HostRuntime) -> Result<(), Fail> {
     let mut media = medium(alloc, 255)?;
     let mut flash = SimFlash::new(alloc, &mut media, GEOMETRY, 3, 16)?;
     assert_eq!(rt; flash.erase(0), Ok(()));
-    assert_eq!(rt; flash.program(1, 0, &[1; 56]), Ok(()));
-    assert_eq!(rt; flash.program(1, 56, &[0; 4]), Ok(()));
+    assert_eq!(rt; flash.program_pair(1, &[1; 56], &[0; 4]), Ok(()));
     let _media = flash.into_media();
     assert_eq!(rt; media.calls(), 3);
+    Ok(())
+}
+
+#[test]
+fn a_pair_of_programs_is_two_operations(rt: HostRuntime) -> Result<(), Fail> {
+    let alloc = rt.alloc();
+    // The operation that is cut, and what is left of the first one's bytes and of the second one's.
+    let cases = [(1, 255, 255), (2, 1, 255), (3, 1, 0)];
+    for (cut, first, second) in cases {
+        let mut media = medium(alloc, 255)?;
+        let mut flash = SimFlash::new(alloc, &mut media, GEOMETRY, 3, 16)?;
+        let mut page = PageBuf::new(alloc, 64)?;
+        assert_eq!(rt; flash.erase(0), Ok(()));
+        flash.arm(cut, CutKind::Before);
+        let done = flash.program_pair(1, &[1; 56], &[0; 4]);
+        assert_eq!(rt; done.is_ok(), cut == 3);
+        assert_eq!(rt; flash.work().programs, cut.min(2));
+        flash.power_on();
+        assert_eq!(rt; flash.read(1, &mut page), Ok(()));
+        assert_eq!(rt; page.bytes().first(), Some(&first));
+        assert_eq!(rt; page.bytes().get(56), Some(&second));
+    }
+    Ok(())
+}
+
+#[test]
+fn a_medium_that_fails_in_a_pair_is_told(rt: HostRuntime) -> Result<(), Fail> {
+    let alloc = rt.alloc();
+    // The call that fails, and the programs that were begun.
+    for (call, programs) in [(2, 1), (3, 2)] {
+        let mut media = medium(alloc, 255)?;
+        media.fail_call(call);
+        let mut flash = SimFlash::new(alloc, &mut media, GEOMETRY, 3, 16)?;
+        assert_eq!(rt; flash.erase(0), Ok(()));
+        assert_eq!(rt;
+            flash.program_pair(1, &[1; 56], &[0; 4]),
+            Err(FlashFault::Media)
+        );
+        assert_eq!(rt; flash.work().programs, programs);
+    }
     Ok(())
 }
 

@@ -9,3 +9,4 @@ mod seal;
 mod waiting;
 
 pub use index::Index;
+pub use page::{entry_in, first_in};

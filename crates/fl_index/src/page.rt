@@ -19,8 +19,8 @@ pub(crate) fn number_in(page: &[u8]) -> u32
     get_u32(page, 0)
 }
 
-/// The first data page that it lists.
-pub(crate) fn first_in(page: &[u8]) -> u32
+/// The first data page that an index page lists.
+pub fn first_in(page: &[u8]) -> u32
     requires { 16 ≤ length page.now }
     ensures { result ≡ page_first page.now }
 {
@@ -46,8 +46,8 @@ pub(crate) fn write_header(body: &mut [u8], number: u32, first: u32, count: u16)
     body[10..16].fill(0);
 }
 
-/// One of its bitmaps, of so many bytes each.
-pub(crate) fn entry_in(page: &[u8], width: usize, entry: usize) -> u64
+/// One of the bitmaps of an index page, of so many bytes each.
+pub fn entry_in(page: &[u8], width: usize, entry: usize) -> u64
     requires some { 1 ≤ width }
     requires few { width ≤ 8 }
     requires room { 16 + (entry + 1) * width ≤ length page.now }

@@ -42,4 +42,4 @@ looks old new h = record {
 pub fails : (old new : FlashState) (fault : CheckFault) → rings.CheckFails old fault new → FailsBy old fault new
 fails old new (Flash PowerLost) h = h
 fails old new (Flash Media) h = h
-fails old new NoMemory h = tt
+fails old new NoMemory h = h

@@ -39,11 +39,11 @@ pub record OnlyLooks (old new : FlashState) : Type 0 where
   pub programs : new.work.programs ≡ old.work.programs
   pub erases : new.work.erases ≡ old.work.erases
 
--- why nothing is found
+-- why nothing is found; where memory is wanting the flash wasn't looked at
 abbrev pub FailsBy : FlashState → CheckFault → FlashState → Type 0
 FailsBy old (Flash PowerLost) new = old.is_on ≡ false
 FailsBy old (Flash Media) new = Rose old.media.faults new.media.faults
-FailsBy old NoRoom new = Unit {0}
+FailsBy old NoRoom new = new ≡ old
 
 -- a flash with the device of these lines, on a medium behind its header
 pub record IsOver (lines : Lines) (f : FlashState) : Type 0 where

@@ -7,7 +7,6 @@ mod finding;
 mod header;
 mod image;
 mod report;
-mod report_line;
 mod rings;
 mod status;
 mod tables;

@@ -1,24 +1,65 @@
 // The lines of a check, written to a sink.
-ghost use Rattle.std.specs.Prelude.{◌≡◌};
+ghost use Rattle.std.specs.Prelude.{◌≡◌, ◌+◌, ◌≤◌, ◌∷◌, ◌++◌, [], length};
 ghost use Rattle.fl_base.specs.Causes.{HasCause};
 ghost use Rattle.fl_script.specs.Written.{Written};
-ghost use Rattle.fl_jobs.specs.Report.{finding_text};
+ghost use Rattle.fl_jobs.specs.Report.{ring_name, finding_text};
+ghost use Rattle.fl_check.specs.declared.finding.Finding.{Finding};
 
-use crate::report_line::ReportLine;
 use fl_base::{Name, Sink, SinkFailed};
-use fl_check::Finding;
+use fl_check::{Finding, RingName};
+use fl_script::{LINE_BYTES, TextLine, write_all};
 
-/// Writes the bytes until the sink has taken them all.
-fn write_all<K: Sink>(bytes: &[u8], out: &mut K) -> Result<(), SinkFailed>
-    ensures text { Written (K.written out.old) (K.written out.new) result bytes.now }
-    ensures cause { HasCause (K.faults out.old) (K.faults out.new) result }
+fn ring_word(ring: RingName) -> &'static [u8]
+    ensures text { result.now ≡ ring_name ring }
+    ensures short { length result.now ≤ 5 }
 {
-    let mut left = bytes;
-    while !left.is_empty() {
-        let taken = out.write(left)?;
-        left = &left[taken..];
+    match ring {
+        RingName::Index => b"index",
+        RingName::Data => b"data",
+        RingName::Var => b"var",
+        RingName::Log => b"log",
     }
-    Ok(())
+}
+
+/// A word behind a space.
+fn add_word(line: &mut TextLine, word: &[u8])
+    requires { length line.old + length word.now + 1 ≤ LINE_BYTES }
+    ensures { line.new ≡ line.old ++ 32 ∷ word.now }
+{
+    line.add(b" ");
+    line.add(word);
+}
+
+fn add_sound(line: &mut TextLine, name: &Name, rows: u64, pages: u32, voids: u32)
+    requires { line.old ≡ [] }
+    ensures { line.new ≡ finding_text name.now (Finding.Sound rows pages voids) }
+{
+    line.add(b"sound ");
+    line.add(name.bytes());
+    line.add_number(b" rows ", rows);
+    line.add_number(b" pages ", pages);
+    line.end_with_number(b" voids ", voids);
+}
+
+fn add_fault(line: &mut TextLine, name: &Name, ring: RingName, page: u32, rule: u8)
+    requires { line.old ≡ [] }
+    ensures { line.new ≡ finding_text name.now (Finding.Fault ring page rule) }
+{
+    line.add(b"fault ");
+    line.add(name.bytes());
+    add_word(line, ring_word(ring));
+    line.add_number(b" ", page);
+    line.end_with_number(b" ", rule);
+}
+
+fn add_finding(line: &mut TextLine, name: &Name, finding: &Finding)
+    requires { line.old ≡ [] }
+    ensures { line.new ≡ finding_text name.now finding.now }
+{
+    match finding {
+        Finding::Sound { rows, pages, voids } => add_sound(line, name, *rows, *pages, *voids),
+        Finding::Fault { ring, page, rule } => add_fault(line, name, *ring, *page, *rule),
+    }
 }
 
 /// Appends the line of what was found of a table. Where the sink fails a front of it was written.
@@ -26,7 +67,7 @@ pub fn write_finding<K: Sink>(name: &Name, finding: &Finding, out: &mut K) -> Re
     ensures text { Written (K.written out.old) (K.written out.new) result (finding_text name.now finding.now) }
     ensures cause { HasCause (K.faults out.old) (K.faults out.new) result }
 {
-    let mut line = ReportLine::new();
-    line.add_finding(name, finding);
+    let mut line = TextLine::new();
+    add_finding(&mut line, name, finding);
     write_all(line.bytes(), out)
 }

@@ -1,5 +1,5 @@
 -- What `cost` replies: the cost of the last get or scan, which no other command changes.
-use Rattle.std.proofs.Common.{◌≡◌, ℕ, zero, suc, ◌+◌, ◌-◌, ◌^◌, ◌<◌, ◌≤◌, Bool, true, false, cond, Option, Some, None, IfSome, List, [], ◌∷◌, ◌++◌, length, take, refl, ap, subst, ◌∙◌, ◌⊎◌, MatchOption, MatchBool, slice_set, nat_eq, IsTrue, arith}
+use Rattle.std.proofs.Common.{◌≡◌, ℕ, zero, suc, ◌+◌, ◌<◌, ◌≤◌, Bool, true, false, cond, Option, Some, None, IfSome, List, [], ◌∷◌, ◌++◌, length, take, refl, ap, subst, ◌∙◌, ◌⊎◌, MatchOption, MatchBool, slice_set, nat_eq, IsTrue}
 use Rattle.std.specs.List.{slice_get}
 use Rattle.std.specs.Option.{is_some}
 use Rattle.fl_base.specs.declared.types.KeyRange.{KeyRange}
@@ -18,7 +18,7 @@ use Rattle.fl_words.specs.Reply.{Reply}
 use Rattle.fl_machine.specs.Machine.{Machine, OpenCursor, Cost, OfGet}
 use Rattle.fl_machine.specs.Step.{Moment, Step, StepOf, Says, EndsAs, EndsMount, WithTable, Located, located, LoadsFrom, LoadsOn, GetStep, NextStep, cursor_at, no_column, load_record, next_random, rows_of, cost_reply, refused}
 use Rattle.fl_machine.specs.Run.{Run}
-use Rattle.fl_machine.specs.Reads.{has_reads, is_unread, none_read, blob_limit, OnTable, OnColumns, OnCursor, FaultHasRead, GetExact, ScanExact, ExactOf, RunExact, reads_in}
+use Rattle.fl_machine.specs.Reads.{has_reads, is_unread, none_read, blob_limit, OnTable, OnColumns, OnCursor, FaultHasRead, GetExact, ScanExact, ExactOf, RunExact}
 use Rattle.fl_machine.specs.AllReads.{Within, GetReads, ScanReads, NextReads, ReadsOf, RunReads}
 use Rattle.fl_machine.specs.Costs.{executed_on, cost_of_get, cost_after, TellsCosts, CostsAreTold, PromisedCostsAreTold}
 
@@ -205,15 +205,15 @@ cost-known config old m (Some c) k step e =
     let h : StepOf config old m command.Cost = subst (λ (x : Command). StepOf config old m x) e step in
     h.replies_are ∙ ap (λ (cost : Cost). cost_reply cost ∷ []) k
 
-run-known : (config : Config) (before : ℕ) (old : Machine) (moments : List Moment) (known : Option Cost) → IsKnown known old.cost → Run config old moments → RunExact config before old moments → before + reads_in moments < 2 ^ 64 - 1 → TellsCosts config known old moments
-run-known config before old [] known k run reads below = tt
-run-known config before old (m ∷ ms) known k (step, run) (read, reads) below = (
+run-known : (config : Config) (old : Machine) (moments : List Moment) (known : Option Cost) → IsKnown known old.cost → Run config old moments → RunExact config old moments → TellsCosts config known old moments
+run-known config old [] known k run reads = tt
+run-known config old (m ∷ ms) known k (step, run) (read, reads) = (
   cost-known config old m known k step,
-  run-known config (before + m.reads) m.after ms (cost_after config old m known m.command) (step-known config old m known m.command k step (read (omega (arith, below)))) run reads (omega (arith, below)),
+  run-known config m.after ms (cost_after config old m known m.command) (step-known config old m known m.command k step read) run reads,
 )
 
 pub promised-costs-told : PromisedCostsAreTold
-promised-costs-told config old moments run reads below = run-known config 0 old moments (Some old.cost) refl run reads (omega (arith, below))
+promised-costs-told config old moments run reads = run-known config old moments (Some old.cost) refl run reads
 
 -- what is said of the located table may be weakened
 on-read : (config : Config) (old : Machine) (m : Moment) (name : List ℕ) (P Q : Located → Type 0) → ((at : Located) → P at → Q at) → OnTable config old m name P → OnTable config old m name Q

@@ -1,5 +1,5 @@
 -- What `cost` replies, where the reads of each command are those that it may make.
-use Rattle.std.specs.Prelude.{◌≡◌, ℕ, ◌-◌, ◌^◌, ◌<◌, Option, Some, None, IfSome, is_some, List, [], ◌∷◌, if◌then◌else◌}
+use Rattle.std.specs.Prelude.{◌≡◌, ℕ, Option, Some, None, IfSome, is_some, List, [], ◌∷◌, if◌then◌else◌}
 use Rattle.fl_model.specs.Record.{Config}
 use Rattle.fl_model.specs.Spline.{lookup_limit, lookup_reads}
 use Rattle.fl_words.specs.Command as command
@@ -7,7 +7,7 @@ use Rattle.fl_words.specs.Command.{Command}
 use Rattle.fl_machine.specs.Machine.{Machine, Cost, OfGet}
 use Rattle.fl_machine.specs.Step.{Moment, Located, located, cost_reply}
 use Rattle.fl_machine.specs.Run.{Run}
-use Rattle.fl_machine.specs.Reads.{has_reads, is_unread, RunExact, reads_in}
+use Rattle.fl_machine.specs.Reads.{has_reads, is_unread, RunExact}
 use Rattle.fl_machine.specs.AllReads.{RunReads}
 
 -- the table on which a command is executed
@@ -40,8 +40,7 @@ TellsCosts config known old (moment ∷ moments) =
 abbrev pub CostsAreTold : Type 0
 CostsAreTold = (config : Config) (old : Machine) (moments : List Moment) → Run config old moments → RunReads config old moments → TellsCosts config (Some old.cost) old moments
 
--- In each run in which the gets read as many pages as is promised, and all of it fewer than a count of 64 bits tells.
+-- In each run in which the gets read as many pages as is promised.
 abbrev pub PromisedCostsAreTold : Type 0
 PromisedCostsAreTold =
-    (config : Config) (old : Machine) (moments : List Moment) → Run config old moments → RunExact config 0 old moments → reads_in moments < 2 ^ 64 - 1 →
-    TellsCosts config (Some old.cost) old moments
+    (config : Config) (old : Machine) (moments : List Moment) → Run config old moments → RunExact config old moments → TellsCosts config (Some old.cost) old moments

@@ -1,5 +1,5 @@
 -- How many pages a moment reads.
-use Rattle.std.specs.Prelude.{◌≡◌, ℕ, ◌+◌, ◌-◌, ◌*◌, ◌/◌, ◌^◌, ◌<◌, ◌≤◌, min, Bool, true, false, not, ◌&&◌, Option, None, is_some, option_map, unwrap_or, List, [], ◌∷◌, sum_by, IsTrue, MatchBool, MatchOption, slice_get}
+use Rattle.std.specs.Prelude.{◌≡◌, ℕ, ◌+◌, ◌-◌, ◌*◌, ◌/◌, ◌^◌, ◌≤◌, min, Bool, true, false, not, ◌&&◌, Option, None, is_some, option_map, unwrap_or, List, [], ◌∷◌, sum_by, IsTrue, MatchBool, MatchOption, slice_get}
 use Rattle.std.specs.List.{last_or}
 use Rattle.fl_base.specs.declared.types.KeyRange.{KeyRange}
 use Rattle.fl_base.specs.declared.types.Span.{Span}
@@ -120,13 +120,7 @@ ExactOf config old moment (command.Agg name range column width) = OnTable config
 ExactOf config old moment (command.Join left right range) = OnTable config old moment left (λ a. OnTable config old moment right (λ b. FaultHasRead moment))
 ExactOf config old moment _ = Unit {0}
 
--- the reads of some moments
-abbrev pub reads_in : List Moment → ℕ
-reads_in [] = 0
-reads_in (moment ∷ moments) = moment.reads + reads_in moments
-
--- .. in each moment of a run, behind so many reads, up to the end of a count of 64 bits
-abbrev pub RunExact : Config → ℕ → Machine → List Moment → Type 0
-RunExact config before old [] = Unit {0}
-RunExact config before old (moment ∷ moments) =
-    (before + moment.reads < 2 ^ 64 - 1 → ExactOf config old moment moment.command) × RunExact config (before + moment.reads) moment.after moments
+-- .. in each moment of a run
+abbrev pub RunExact : Config → Machine → List Moment → Type 0
+RunExact config old [] = Unit {0}
+RunExact config old (moment ∷ moments) = ExactOf config old moment moment.command × RunExact config moment.after moments

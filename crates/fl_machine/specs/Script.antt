@@ -1,5 +1,6 @@
 -- A whole script: its configuration, the commands that it runs, and how a run over a medium ends.
 use Rattle.std.specs.Prelude.{◌≡◌, ℕ, ◌+◌, ◌-◌, ◌^◌, ◌≤◌, ◌⊎◌, Option, Some, None, IfSome, Result, Ok, Err, List, [], ◌∷◌, ◌++◌, map}
+use Rattle.std.specs.List.{AllByRecursion}
 use Rattle.fl_model.specs.Table.{Table, lose}
 use Rattle.fl_words.specs.Command as command
 use Rattle.fl_words.specs.Command.{Command}
@@ -8,6 +9,7 @@ use Rattle.fl_machine.specs.Step.{Moment}
 use Rattle.fl_machine.specs.Run.{Run, end_of, commands_of, written_by, risen_in}
 use Rattle.fl_machine.specs.Found.{Finds, stop_at}
 use Rattle.fl_machine.specs.Reads.{RunLimits, RunExact}
+use Rattle.fl_machine.specs.Small.{most_of_a_command}
 use Rattle.fl_machine.specs.Stays.{StaysEach}
 use Rattle.fl_words.specs.Grammar.{LineFault, command_of}
 use Rattle.fl_words.specs.Config.{Lines, no_lines, configured, whole, ConfigFault}
@@ -100,11 +102,12 @@ StandsAfter config content machine = IfSome content (λ bytes. IsImage config by
 abbrev pub RoseBy : ℕ → ℕ → ℕ → Type 0
 RoseBy n before now = (before + n ≤ now) ⊎ (2 ^ 64 - 1 ≤ now)
 
--- The moments of a run, each of which reads as many pages as it may: no command reads more than its limit, a get, a scan and
--- an operator over one range as many as are promised, and one that answers a read fault at least one.
+-- The moments of a run, each of which reads as many pages as it may: no command reads more than its limit, which is never a
+-- great one, a get, a scan and an operator over one range as many as are promised, and one that answers a read fault at least one.
 pub record KeepsReads (config : Config) (old : Machine) (moments : List Moment) : Type 0 where
   pub limits : RunLimits config old moments
-  pub exact : RunExact config 0 old moments
+  pub few : AllByRecursion (λ moment. moment.reads ≤ most_of_a_command) moments
+  pub exact : RunExact config old moments
 
 -- A run of these commands, each of them done whole. `stands` says for which states the session stands then; `content` is the
 -- medium's before and after.
@@ -130,6 +133,7 @@ pub record RanInto (config : Config) (old : Machine) (commands : List Command) (
   pub stands_after : stands (end_of old moments)
   -- the last one may have stopped before its reads were done
   pub limits : RunLimits config old moments
+  pub few : AllByRecursion (λ moment. moment.reads ≤ most_of_a_command) moments
   pub stays : StaysEach config old moments content content_now
   pub rose : RoseBy (risen_in moments) faults faults_now
   pub found : (place : ℕ) → Finds place (stop_at place old.tables) old moments
@@ -137,7 +141,7 @@ pub record RanInto (config : Config) (old : Machine) (commands : List Command) (
   pub before : List Moment
   pub last : Moment
   pub split : moments ≡ before ++ last ∷ []
-  pub exact : RunExact config 0 old before
+  pub exact : RunExact config old before
   pub front : List ℕ
   pub is_front : IsFront front (texts last.replies)
   pub told_front : Appends told told_now (written_by before ++ front)

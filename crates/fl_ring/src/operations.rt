@@ -6,40 +6,22 @@ ghost use Rattle.fl_model.specs.Work.{Device, Body, Mark, VoidMark, Erase};
 ghost use Rattle.fl_ring.specs.Newest.{number_of};
 ghost use Rattle.fl_ring.specs.Place.{shape_of, StandsFor, LiesOn};
 ghost use Rattle.fl_ring.specs.Ring.{RingState, OnRing, place, blank_end, begun, sealed, voided, erased};
-ghost use Rattle.fl_ring.specs.Sealing.{IsReady};
+ghost use Rattle.fl_ring.specs.Sealing.{SealsPage};
 ghost use Rattle.fl_ring.specs.Step.{IsWatched, Operates, StepEnds};
 
 use crate::ring::Ring;
 use fl_flash::{Flash, FlashFault};
-use fl_mark::{commit_at, mark, void_at};
+use fl_mark::{mark, void_at};
 
 impl Ring {
-    /// Programs the body of the next page, which is blank.
-    pub(crate) fn begin_page<F: Flash>(&self, flash: &mut F, body: &[u8]) -> Result<(), FlashFault>
+    /// Programs the body of the next page, which is blank, and then its commit mark.
+    pub(crate) fn seal_page<F: Flash>(&self, flash: &mut F, body: &[u8]) -> Result<(), FlashFault>
         requires lies { LiesOn self.now (F.state flash.old) }
         requires body { length body.now + 8 ≡ self.now.size }
         requires numbered { number_of body.now + 1 < 2 ^ 32 }
-        ensures operates { Operates (shape_of self.now) Body (F.state flash.old) result (F.state flash.new) }
-        ensures programs { ProgramsPage (F.state flash.old) (place (shape_of self.now) self.now.next) 0 body.now result (F.state flash.new) }
-        ensures step { (s : RingState) → (rose : Bool) → (device : Device) → IsReady self.now (F.state flash.old) s → IsWatched (F.state flash.old) (F.state flash.new) rose device
-            → StepEnds (shape_of self.now) Body s (begun s) rose device result (F.state flash.new) }
-        ensures page { OnOk result ((s : RingState) → IsTrue (F.state flash.old).media.tells → IsReady self.now (F.state flash.old) s
-            → page_at (F.state flash.new) (place (shape_of self.now) s.next) ≡ body.now ++ blank_end) }
+        ensures { SealsPage self.now body.now (F.state flash.old) result (F.state flash.new) }
     {
-        flash.program(self.place_of(self.next), 0, body)
-    }
-
-    /// Programs the commit mark of the next page, of which the body is programmed.
-    pub(crate) fn commit_page<F: Flash>(&self, flash: &mut F) -> Result<(), FlashFault>
-        requires lies { LiesOn self.now (F.state flash.old) }
-        ensures operates { Operates (shape_of self.now) Mark (F.state flash.old) result (F.state flash.new) }
-        ensures programs { ProgramsPage (F.state flash.old) (place (shape_of self.now) self.now.next) (self.now.size - 8) (replicate 4 0) result (F.state flash.new) }
-        ensures step { (s : RingState) → (body : List ℕ) → (rose : Bool) → (device : Device) → StandsFor self.now s → OnRing (shape_of self.now) (page_at (F.state flash.old)) s → s.torn ≡ true
-            → page_at (F.state flash.old) (place (shape_of self.now) s.next) ≡ body ++ blank_end → length body + 8 ≡ self.now.size → all_are 255 body ≡ false
-            → IsWatched (F.state flash.old) (F.state flash.new) rose device
-            → StepEnds (shape_of self.now) Mark s (sealed (shape_of self.now) s body) rose device result (F.state flash.new) }
-    {
-        flash.program(self.place_of(self.next), commit_at(self.size), &mark())
+        flash.program_pair(self.place_of(self.next), body, &mark())
     }
 
     /// Programs the void mark of the next page, which is torn.

@@ -37,8 +37,7 @@ impl Ring {
         ensures media_reads { (F.state flash.new).media.reads ≤ (F.state flash.old).media.reads + 1 }
         ensures work { OnOk result (SealWork (F.state flash.old).work (is_due_at (shape_of self.old) (next_of self.old + 1) (next_of self.old + 1 - oldest_of self.old)) (F.state flash.new).work) }
     {
-        self.begin_page(flash, body)?;
-        self.commit_page(flash)?;
+        self.seal_page(flash, body)?;
         if !self.advance() {
             return Ok(());
         }

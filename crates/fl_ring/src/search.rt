@@ -2,7 +2,7 @@
 ghost use Rattle.std.specs.Prelude.{◌≡◌, ◌<◌, ◌≤◌, ◌+◌, ◌*◌, ◌^◌};
 ghost use Rattle.fl_flash.specs.Flash.{pages};
 ghost use Rattle.fl_ring.specs.Mounting.{shape_at};
-ghost use Rattle.fl_ring.specs.Place.{shape_of, LiesOn};
+ghost use Rattle.fl_ring.specs.Place.{shape_of, next_of, oldest_of, LiesOn};
 ghost use Rattle.fl_ring.specs.Ring.{room};
 
 use crate::ring::Ring;
@@ -17,6 +17,7 @@ impl Ring {
         requires few { pages (F.state flash.now) < 2 ^ 32 }
         ensures shape { shape_of result ≡ shape_at place (F.state flash.now).geometry }
         ensures lies { LiesOn result (F.state flash.now) }
+        ensures numbers { (oldest_of result ≡ 0) × (next_of result ≡ 0) }
     {
         let geometry = flash.geometry();
         Ring {

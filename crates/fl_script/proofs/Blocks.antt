@@ -1,6 +1,6 @@
 -- The bytes of pairs of hexadecimal digits, many pairs at a time.
-use Rattle.std.proofs.Common.{◌≡◌, ℕ, zero, suc, ◌+◌, ◌*◌, ◌%◌, ◌≤◌, eqb, Bool, true, false, not, ◌&&◌, Option, Some, None, List, [], ◌∷◌, ◌++◌, map, length, take, drop, refl, sym, ap, ◌∙◌, arith}
-use Rattle.std.specs.Prelude.{unwrap_or, MatchBool}
+use Rattle.std.proofs.Common.{◌≡◌, ℕ, zero, suc, ◌+◌, ◌*◌, ◌%◌, ◌<◌, ◌≤◌, eqb, Bool, true, false, not, ◌&&◌, Option, Some, None, List, [], ◌∷◌, ◌++◌, map, length, take, drop, refl, sym, ap, ◌∙◌, arith}
+use Rattle.std.specs.Prelude.{unwrap_or, MatchOption, MatchBool}
 use Rattle.std.specs.List.{list_all}
 use Rattle.std.proofs.lemmas.List.{append_assoc, append-nil, drop_all, take_all}
 use Rattle.std.proofs.lemmas.Option.{none-some}
@@ -10,7 +10,17 @@ use Rattle.std.proofs.lemmas.Simd.{chunk-drop, length-chunk, take_more_put_chunk
 use Rattle.std.specs.Simd.Lanes.{chunk, put_chunk}
 use Rattle.fl_words.specs.Grammar.{hex_bytes, hex_value, onto_bytes}
 use Rattle.fl_script.specs.Pairs.{pairs_of}
-use Rattle.fl_script.proofs.DigitPairs.{behind, start, IsRead}
+
+-- the bytes with a front before them, where all that the front is made of were digits
+abbrev pub behind : Bool → List ℕ → Option (List ℕ) → Option (List ℕ)
+behind true front (Some bytes) = Some (front ++ bytes)
+behind true front None = None
+behind false front rest = None
+
+-- before the first pair
+pub start : (rest : Option (List ℕ)) → rest ≡ behind true [] rest
+start (Some bytes) = refl
+start None = refl
 
 abbrev pub value_of : ℕ → ℕ
 value_of byte = unwrap_or (hex_value byte) 16
@@ -18,6 +28,10 @@ value_of byte = unwrap_or (hex_value byte) 16
 -- it is a value
 abbrev pub is_value : ℕ → Bool
 is_value value = not (eqb value 16)
+
+-- what reading a digit answers
+abbrev IsRead : Option ℕ → ℕ → Type 0
+IsRead digit value = MatchOption digit (value ≡ 16) (λ v. (value ≡ v) × (v < 16))
 
 is_read : (byte : ℕ) → IsRead (hex_value byte) (value_of byte)
 is_read byte = grind (arith, nat_tests)
@@ -121,3 +135,38 @@ both n xs ys front rest all others long h k =
     cases true others false pairs first whole h k = absurd (none-some front (sym first ∙ h))
     cases false others false pairs first whole h k = whole
     cases false others true pairs first whole h k = absurd (none-some (pairs ++ []) (sym h ∙ first))
+
+-- so many pairs with other digits behind them
+front_pairs : (n : ℕ) (xs pad : List ℕ) → length xs ≡ 2 * n → take n (pairs_of (map value_of (xs ++ pad))) ≡ pairs_of (map value_of xs)
+front_pairs zero [] pad long = refl
+front_pairs zero (x ∷ xs) pad long = absurd (omega (arith, long))
+front_pairs (suc n) [] pad long = absurd (omega (arith, long))
+front_pairs (suc n) (x ∷ []) pad long = absurd (omega (arith, long))
+front_pairs (suc n) (x ∷ y ∷ xs) pad long = ap (λ rest. (value_of x * 16 % 256 + value_of y) % 256 ∷ rest) (front_pairs n xs pad (omega (arith, long)))
+
+-- whether all are digits, with other digits behind them
+all_values : (xs pad : List ℕ) → list_all is_value (map value_of pad) ≡ true → list_all is_value (map value_of (xs ++ pad)) ≡ list_all is_value (map value_of xs)
+all_values [] pad digits = digits
+all_values (x ∷ xs) pad digits = ap (λ rest. is_value (value_of x) && rest) (all_values xs pad digits)
+
+-- pairs that were read with other digits behind them
+pub padded : (n : ℕ) (xs pad : List ℕ) → length xs ≡ 2 * n → list_all is_value (map value_of pad) ≡ true →
+    MatchBool (list_all is_value (map value_of (xs ++ pad))) (hex_bytes xs ≡ Some (take n (pairs_of (map value_of (xs ++ pad))))) (hex_bytes xs ≡ None)
+padded n xs pad long digits =
+    let first : hex_bytes xs ≡ behind (list_all is_value (map value_of xs)) (pairs_of (map value_of xs)) (Some []) =
+    ap hex_bytes (sym (append-nil xs)) ∙ start (hex_bytes (xs ++ [])) ∙ block n true xs [] [] long in
+    rw (all_values xs pad digits, front_pairs n xs pad long) (cases (list_all is_value (map value_of xs)) (pairs_of (map value_of xs)) first)
+  where
+    cases : (among : Bool) (pairs : List ℕ) → hex_bytes xs ≡ behind among pairs (Some []) → MatchBool among (hex_bytes xs ≡ Some pairs) (hex_bytes xs ≡ None)
+    cases true pairs first = first ∙ ap Some (append-nil pairs)
+    cases false pairs first = first
+
+-- what is left of digits is digits
+pub still_values : (k : ℕ) (xs : List ℕ) → list_all is_value (map value_of xs) ≡ true → list_all is_value (map value_of (drop k xs)) ≡ true
+still_values zero xs h = h
+still_values (suc k) [] h = refl
+still_values (suc k) (x ∷ xs) h = still_values k xs (others (is_value (value_of x)) _ h)
+  where
+    others : (a b : Bool) → a && b ≡ true → b ≡ true
+    others true b h = h
+    others false b h = cc h

@@ -5,7 +5,6 @@ pub mod Blocks
 pub mod Digits
 pub mod Lanes
 pub mod Few
-pub mod DigitPairs
 pub mod Lists
 pub mod Long
 pub mod Puts

@@ -15,27 +15,14 @@ const BLOCK: usize = 16;
 /// The difference between a letter and its capital.
 const CASE: u8 = b'a' - b'A';
 
-/// The value of a digit in either case, or `NO_DIGIT`.
-fn digit_value(byte: u8) -> u8
-    ensures { MatchOption (hex_value byte) (result ≡ NO_DIGIT) (λ value. (result ≡ value) × (value < NO_DIGIT)) }
-{
-    match byte {
-        b'0'..=b'9' => byte - b'0',
-        b'a'..=b'f' => byte - b'a' + 10,
-        b'A'..=b'F' => byte - b'A' + 10,
-        _ => NO_DIGIT,
-    }
-}
-
 /// The value of each digit in either case, or `NO_DIGIT`.
 fn digit_values(digits: u8x32) -> u8x32
     ensures { result ≡ map (λ byte. unwrap_or (hex_value byte) NO_DIGIT) digits }
 {
     let numbers = digits - u8x32::splat(b'0');
     let letters = (digits | u8x32::splat(CASE)) - u8x32::splat(b'a');
-    let others = letters
-        .simd_lt(u8x32::splat(6))
-        .select(letters + u8x32::splat(10), u8x32::splat(NO_DIGIT));
+    // What lies six or more behind `a` is no digit.
+    let others = letters.simd_min(u8x32::splat(6)) + u8x32::splat(10);
     numbers.simd_lt(u8x32::splat(10)).select(numbers, others)
 }
 
@@ -76,26 +63,24 @@ fn decode_blocks(digits: &[u8], bytes: &mut [u8]) -> bool
     all
 }
 
-/// Writes the byte that each two digits are, one at a time, and tells whether all of them are digits.
-fn decode_each(digits: &[u8], bytes: &mut [u8]) -> bool
-    requires { length digits.now ≡ 2 * length bytes.old }
+/// Writes the byte that each two digits of less than a block are, and tells whether all of them are digits. Zeros fill the
+/// block up, since they are digits.
+fn decode_rest(digits: &[u8], bytes: &mut [u8]) -> bool
+    requires pairs { length digits.now ≡ 2 * length bytes.old }
+    requires less { length bytes.old < BLOCK }
     ensures { MatchBool result (hex_bytes digits.now ≡ Some bytes.new) (hex_bytes digits.now ≡ None) }
 {
-    let mut greatest: u8 = 0;
-    'pairs: for i in 0..bytes.len() {
-        let high = digit_value(digits[2 * i]);
-        let low = digit_value(digits[2 * i + 1]);
-        greatest = greatest.max(high).max(low);
-        bytes[i] = high % 16 * 16 + low % 16;
-    }
-    greatest < NO_DIGIT
+    let mut padded = [b'0'; 2 * BLOCK];
+    padded[..digits.len()].copy_from_slice(digits);
+    let values = digit_values(u8x32::from_array(padded));
+    let block = joined(values).to_array();
+    bytes.copy_from_slice(&block[..bytes.len()]);
+    are_digits(values)
 }
 
 /// Writes the byte that each two digits are, and tells whether all of them are digits.
 ///
-/// The loops run to their end whatever they meet: with an exit at the first byte that is no digit each digit of a blob
-/// would take a branch, which a processor guesses wrong for every other one. Vectors read a word three times as fast
-/// as a loop over its digits.
+/// No branch depends on a digit: a processor would guess it wrong for every other digit of a blob.
 pub(crate) fn decode_pairs(digits: &[u8], bytes: &mut [u8]) -> bool
     requires { length digits.now ≡ 2 * length bytes.old }
     ensures { MatchBool result (hex_bytes digits.now ≡ Some bytes.new) (hex_bytes digits.now ≡ None) }
@@ -103,6 +88,6 @@ pub(crate) fn decode_pairs(digits: &[u8], bytes: &mut [u8]) -> bool
     let whole = bytes.len() - bytes.len() % BLOCK;
     let (blocks, rest) = bytes.split_at_mut(whole);
     let front = decode_blocks(&digits[..2 * whole], blocks);
-    let back = decode_each(&digits[2 * whole..], rest);
+    let back = decode_rest(&digits[2 * whole..], rest);
     front & back
 }

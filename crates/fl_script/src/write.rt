@@ -5,8 +5,8 @@ ghost use Rattle.fl_words.specs.Reply.{hex_text};
 ghost use Rattle.fl_script.specs.ReplyView.{reply_text};
 ghost use Rattle.fl_script.specs.Written.{Written};
 
-use crate::Reply;
-use crate::reply_line::ReplyLine;
+use crate::reply_line::add_reply;
+use crate::{Reply, TextLine};
 use fl_base::{Sink, SinkFailed};
 
 /// How many bytes of a blob become digits at a time.
@@ -19,8 +19,8 @@ pub fn write_reply<K: Sink>(reply: &Reply, out: &mut K) -> Result<(), SinkFailed
     ensures text { Written (K.written out.old) (K.written out.new) result (reply_text reply.now) }
     ensures cause { HasCause (K.faults out.old) (K.faults out.new) result }
 {
-    let mut line = ReplyLine::new();
-    line.add_reply(reply);
+    let mut line = TextLine::new();
+    add_reply(&mut line, reply);
     write_all(line.bytes(), out)
 }
 
@@ -50,8 +50,8 @@ fn write_piece<K: Sink>(piece: &[u8], out: &mut K) -> Result<(), SinkFailed>
     write_all(digits, out)
 }
 
-/// Writes the bytes until the sink has taken them all.
-fn write_all<K: Sink>(bytes: &[u8], out: &mut K) -> Result<(), SinkFailed>
+/// Appends all the bytes. Where the sink fails a front of them was written.
+pub fn write_all<K: Sink>(bytes: &[u8], out: &mut K) -> Result<(), SinkFailed>
     ensures text { Written (K.written out.old) (K.written out.new) result bytes.now }
     ensures cause { HasCause (K.faults out.old) (K.faults out.new) result }
 {

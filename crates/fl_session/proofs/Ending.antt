@@ -111,6 +111,7 @@ ran_into-earlier config old commands stands content content_now before mid now t
   run = h.run;
   stands_after = h.stands_after;
   limits = h.limits;
+  few = h.few;
   stays = h.stays;
   rose = rose-earlier _ before mid now e h.rose;
   found = h.found;

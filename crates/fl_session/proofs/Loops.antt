@@ -1,5 +1,5 @@
 -- The loop over the commands of a script, step by step.
-use Rattle.std.proofs.Common.{◌≡◌, ℕ, ◌+◌, ◌<◌, ◌≤◌, Bool, true, false, inl, inr, Option, Some, None, Result, Ok, Err, List, [], ◌∷◌, ◌++◌, length, take, drop, refl, sym, ◌∙◌, ap, subst, append_assoc, length-append, arith}
+use Rattle.std.proofs.Common.{◌≡◌, ℕ, ◌+◌, ◌^◌, ◌<◌, ◌≤◌, Bool, true, false, inl, inr, Option, Some, None, Result, Ok, Err, List, [], ◌∷◌, ◌++◌, length, take, drop, refl, sym, ◌∙◌, ap, subst, append_assoc, length-append, arith}
 use Rattle.std.proofs.lemmas.Bool.{ltb-false}
 use Rattle.fl_flash.specs.Flash.{FlashState}
 use Rattle.fl_model.specs.Record.{Config}
@@ -7,6 +7,7 @@ use Rattle.fl_words.specs.Command.{Command}
 use Rattle.fl_words.specs.Grammar as grammar
 use Rattle.fl_words.specs.Grammar.{command_of}
 use Rattle.fl_machine.specs.Machine.{Machine}
+use Rattle.fl_machine.specs.Small.{AreTables}
 use Rattle.fl_machine.specs.Script.{Ran, runs, runs_read, accepted, first_refused}
 use Rattle.fl_session.specs.Texts.{whole_lines, lines_within}
 use Rattle.fl_session.specs.Execute.{Executes, Around, IsReady}
@@ -72,10 +73,10 @@ pub record AllDone (tail : Tail) (config : Config) (stands stands_now : Machine 
   pub was_open : tail.closed ≡ true → state.closed ≡ true
 
 pub all_done-next : {E : Type 0} (tail : Tail) (config : Config) (stands stands_mid stands_now : Machine → Type 0) (content : List ℕ) (faults : ℕ) (mid now : FlashState) (told told_mid told_now : Option (List ℕ)) (number : ℕ) (state : LinesState) (left : Option (List ℕ)) (c : Command) →
-    InHand tail config stands stands_mid content mid.media.content faults mid.media.faults mid.work.reads told told_mid number state left → runs state.line ≡ Some c → mid.media.faults ≤ now.media.faults →
+    InHand tail config stands stands_mid content mid.media.content faults mid.media.faults mid.work.reads told told_mid number state left → runs state.line ≡ Some c → number < 2 ^ 32 → ((m : Machine) → stands_mid m → AreTables config.plans m.tables) → mid.media.faults ≤ now.media.faults →
     ((m : Machine) → stands_mid m → Executes {E = E} config m c stands_now mid now told_mid told_now (Ok tt)) →
     (left_is : List ℕ) × (left ≡ Some left_is) × AllDone tail config stands stands_now content now.media.content faults now.media.faults now.work.reads told told_now (number + 1) state left_is
-all_done-next tail config stands stands_mid stands_now content faults mid now told told_mid told_now number state left c h e later executes = (
+all_done-next tail config stands stands_mid stands_now content faults mid now told told_mid told_now number state left c h e lines hold later executes = (
   h.left_is,
   h.left_told,
   record {
@@ -86,16 +87,16 @@ all_done-next tail config stands stands_mid stands_now content faults mid now to
     runs = λ old s ready.
         subst (λ cs. RanSoFar config old cs stands_now content now.media.content faults now.media.faults now.work.reads told told_now)
         (sym (accepted-more h.ran state.line c h.all_run e) ∙ ap accepted h.order)
-        (ran-more config old (accepted h.ran) c stands_mid stands_now content faults mid now told told_mid told_now ready (h.runs old s ready) later executes);
+        (ran-more config old (accepted h.ran) c stands_mid stands_now content faults mid now told told_mid told_now ready (omega (arith, lines, h.numbered, h.all_run.count)) hold (h.runs old s ready) later executes);
     was_open = h.was_open;
   },
 )
 
 pub ends-in_reply : {E : Type 0} (tail : Tail) (config : Config) (stands stands_mid stands_now : Machine → Type 0) (content : List ℕ) (faults : ℕ) (mid now : FlashState) (told told_mid told_now : Option (List ℕ)) (number : ℕ) (state : LinesState) (left : Option (List ℕ)) (c : Command) (error : E) →
-    InHand tail config stands stands_mid content mid.media.content faults mid.media.faults mid.work.reads told told_mid number state left → runs state.line ≡ Some c → mid.media.faults ≤ now.media.faults →
+    InHand tail config stands stands_mid content mid.media.content faults mid.media.faults mid.work.reads told told_mid number state left → runs state.line ≡ Some c → ((m : Machine) → stands_mid m → AreTables config.plans m.tables) → mid.media.faults ≤ now.media.faults →
     ((m : Machine) → stands_mid m → Executes {E = E} config m c stands_now mid now told_mid told_now (Err error)) →
     EndsInReply tail left (around_to config content now.media.content faults now.media.faults told told_now) stands stands_now
-ends-in_reply tail config stands stands_mid stands_now content faults mid now told told_mid told_now number state left c error h e later executes =
+ends-in_reply tail config stands stands_mid stands_now content faults mid now told told_mid told_now number state left c error h e hold later executes =
     let more = all_run-more h.ran state.line c h.all_run e in
     let others = lines_within state.most (state.ahead ++ h.left_is) in
     let lines : lines_in tail ≡ (h.ran ++ state.line ∷ []) ++ others = ap (λ ls. tail.first ∷ ls) h.reading.lines ∙ ap (λ ls. ls ++ others) (sym h.order) in
@@ -106,7 +107,7 @@ ends-in_reply tail config stands stands_mid stands_now content faults mid now to
       number = number;
       number_is = omega (arith, h.numbered, h.all_run.count, length-append (accepted h.ran) (c ∷ []));
       takes = record { before = h.ran; others = state.line ∷ others; split = lines ∙ append_assoc h.ran (state.line ∷ []) others; number_is = h.numbered; few = h.few };
-      runs = λ old s ready. ran-into config old (accepted h.ran) c stands_mid stands_now content faults mid now told told_mid told_now error ready (h.runs old s ready) later executes;
+      runs = λ old s ready. ran-into config old (accepted h.ran) c stands_mid stands_now content faults mid now told told_mid told_now error ready hold (h.runs old s ready) later executes;
     }
 
 -- what a line that is given is: the next one, or the front of one that is too long

@@ -16,7 +16,7 @@ use Rattle.fl_model.specs.Record.{Config, Plan, blocks_of}
 use Rattle.fl_words.specs.Config.{Lines, whole, whole_of, too_large}
 use Rattle.fl_machine.specs.Machine.{Machine}
 use Rattle.fl_machine.specs.Script.{StandsAfter, start_of, ended}
-use Rattle.fl_machine.proofs.Accepted.{StartHasRoom, accepted-room, accepted-room-ended}
+use Rattle.fl_machine.proofs.Accepted.{StartIsAccepted, accepted-room, accepted-room-ended}
 use Rattle.fl_script.specs.declared.command.Command as code
 use Rattle.fl_session.specs.declared.status.Status.{Status}
 use Rattle.fl_session.specs.Stream.{LinesState}
@@ -41,7 +41,7 @@ use Rattle.fl_config.specs.Opening as opening
 use Rattle.fl_config.specs.Opening.{Opens}
 use Rattle.fl_config.specs.Whole.{is_whole, is_whole_of, Makes}
 use Rattle.fl_session.proofs.Running.{nothing-added}
-use Rattle.fl_session.proofs.Ready.{ready-room, stands-ready}
+use Rattle.fl_session.proofs.Ready.{ready-accepted, stands-ready}
 use Rattle.fl_session.proofs.Ending.{runs-seen, ends-of_run, begins-ready, begins-takes}
 use Rattle.fl_session.proofs.Apart.{blocks-apart}
 use Rattle.fl_session.proofs.TablesChanged.{some-is}
@@ -144,10 +144,10 @@ reach-of knots lines config len geometry parts e size =
     let all : 1024 + extent geometry (sum_by blocks_of lines.plans) ≡ medium_len config = rw (same, parts.plans) refl in
     omega (arith, all, size)
 
-start-room : (knots : ℕ) (text : List ℕ) → StartHasRoom (start_in knots text)
-start-room knots text = by_test (is_long text)
+start-accepted : (knots : ℕ) (text : List ℕ) → StartIsAccepted (start_in knots text)
+start-accepted knots text = by_test (is_long text)
   where
-    by_test : (b : Bool) → StartHasRoom (if b then start_of knots (lines_read text) else ended (start_of knots (lines_read text)))
+    by_test : (b : Bool) → StartIsAccepted (if b then start_of knots (lines_read text) else ended (start_of knots (lines_read text)))
     by_test true = accepted-room knots (lines_read text)
     by_test false = accepted-room-ended knots (lines_read text)
 
@@ -168,7 +168,7 @@ pub ends-opened : (knots : ℕ) (text : List ℕ) (lines : Lines) (first : Optio
     Ends knots text (told_of old new left_now told told_now) status
 ends-opened knots text lines first number state left left_now told told_now config old mid new origin status begins w tells opened kept same_tells later later' h =
     let ready = begins-ready knots text lines first number state left config begins w in
-    let room = ready-room config ready.0 ready.1 (start_in knots text) (start-room knots text) ready.2 in
+    let accepted = ready-accepted config ready.0 ready.1 (start_in knots text) (start-accepted knots text) ready.2 in
     let f : FlashState = record { geometry = config.geometry; blocks = 0; start = 1024; origin = origin; media = mid; is_on = true; armed = None; cuts = 0; work = record { reads = 0; programs = 0; erases = 0 } } in
     ends-of_run knots text lines first number state left config (told_of old new left_now told told_now) (around_of config mid new told told_now) (RestsOn config mid.content) (StandsAfter config (Some new.content)) status begins w
     (record {
@@ -181,7 +181,7 @@ ends-opened knots text lines first number state left left_now told told_now conf
       written_now = refl;
       own = opened.own tells;
       formed = kept-formed config mid new (opened-formed config old mid tells opened) (subst IsTrue (sym same_tells) tells) kept;
-      begins = λ m s. (opened-rests config old mid f m refl refl refl room tells opened s, stands-ready config old.content m room s);
+      begins = λ m s. (opened-rests config old mid f m refl refl refl accepted.room tells opened s, stands-ready config old.content m accepted s);
       ends = λ m s. s;
     })
     (le_trans later later') h

@@ -76,6 +76,9 @@ ran_into-plainly config old commands content content_now faults faults_now told 
       before = h.before;
       last = h.last;
       split = h.split;
+      limits = h.limits;
+      few = h.few;
+      exact = h.exact;
       front = h.front;
       is_front = h.is_front;
       told_front = h.told_front;

@@ -8,11 +8,11 @@ use Rattle.fl_model.specs.Facts.{IsSettled}
 use Rattle.fl_model.specs.Image.{AreTableImages}
 use Rattle.fl_words.specs.Medium.{IsImage}
 use Rattle.fl_machine.specs.Machine.{Machine, begins, fresh_tables}
-use Rattle.fl_machine.specs.Found.{HasRoom, IsAtRest}
+use Rattle.fl_machine.specs.Found.{IsAtRest}
 use Rattle.fl_machine.specs.OpenCursors.{AreWithin}
 use Rattle.fl_machine.proofs.OpenCursors.{none-within}
 use Rattle.fl_machine.specs.Script.{Start, Ready, StandsFor, StandsAfter}
-use Rattle.fl_machine.proofs.Accepted.{StartHasRoom}
+use Rattle.fl_machine.proofs.Accepted.{IsAccepted, StartIsAccepted}
 use Rattle.fl_session.specs.Execute.{IsReady, StandsAlike}
 
 fresh-rest : (plans : List Plan) → AllByRecursion IsAtRest (map fresh_table plans)
@@ -28,21 +28,22 @@ images-rest config bytes place [] (table ∷ tables) h = absurd h
 images-rest config bytes place (plan ∷ plans) [] h = absurd h
 images-rest config bytes place (plan ∷ plans) (table ∷ tables) h = (settled-rest plan table h.0.settled, images-rest config bytes (place + 1) plans tables h.1)
 
-begins-ready : (config : Config) (tables : List Table) (machine : Machine) → AllByRecursion HasRoom config.plans → AllByRecursion IsAtRest tables → machine ≡ begins tables → IsReady config machine
-begins-ready config tables machine room rest e = record {
+begins-ready : (config : Config) (tables : List Table) (machine : Machine) → IsAccepted config → AllByRecursion IsAtRest tables → machine ≡ begins tables → IsReady config machine
+begins-ready config tables machine accepted rest e = record {
   cursors = subst (λ (m : Machine). AreWithin m.cursors) (sym e) none-within;
-  room = room;
+  room = accepted.room;
+  small = accepted.small;
   off = ap (λ (m : Machine). m.mounted) e;
   rest = subst (λ (m : Machine). AllByRecursion IsAtRest m.tables) (sym e) rest;
 }
 
-pub stands-ready : (config : Config) (bytes : List ℕ) (machine : Machine) → AllByRecursion HasRoom config.plans → StandsFor config bytes machine → IsReady config machine
-stands-ready config bytes machine room (inl h) = begins-ready config (fresh_tables config) machine room (fresh-rest config.plans) h.1
-stands-ready config bytes machine room (inr h) = begins-ready config h.0 machine room (images-rest config bytes 0 config.plans h.0 h.1.tables_are) h.2
+pub stands-ready : (config : Config) (bytes : List ℕ) (machine : Machine) → IsAccepted config → StandsFor config bytes machine → IsReady config machine
+stands-ready config bytes machine accepted (inl h) = begins-ready config (fresh_tables config) machine accepted (fresh-rest config.plans) h.1
+stands-ready config bytes machine accepted (inr h) = begins-ready config h.0 machine accepted (images-rest config bytes 0 config.plans h.0 h.1.tables_are) h.2
 
 -- a configuration that is accepted
-pub ready-room : (config : Config) (n : ℕ) (lines : List (List ℕ)) (start : Start) → StartHasRoom start → start ≡ Ready config n lines → AllByRecursion HasRoom config.plans
-ready-room config n lines start h e = subst StartHasRoom e h
+pub ready-accepted : (config : Config) (n : ℕ) (lines : List (List ℕ)) (start : Start) → StartIsAccepted start → start ≡ Ready config n lines → IsAccepted config
+ready-accepted config n lines start h e = subst StartIsAccepted e h
 
 -- the medium stands for a state whatever its cursors and its cost
 pub after-alike : (config : Config) (content : Option (List ℕ)) (stands : Machine → Type 0) → ((m : Machine) → stands m → StandsAfter config content m) → (m : Machine) → StandsAlike stands m → StandsAfter config content m

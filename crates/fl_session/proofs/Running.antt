@@ -1,7 +1,8 @@
 -- A run goes on by one command.
-use Rattle.std.proofs.Common.{◌≡◌, ℕ, ◌+◌, ◌-◌, ◌^◌, ◌<◌, ◌≤◌, Bool, true, false, inl, inr, IsTrue, Option, Some, None, Result, Ok, Err, List, [], ◌∷◌, ◌++◌, cond, refl, sym, ◌∙◌, ap, subst, append-nil, append_assoc, add-zero, arith}
+use Rattle.std.proofs.Common.{◌≡◌, ℕ, ◌+◌, ◌-◌, ◌*◌, ◌^◌, ◌<◌, ◌≤◌, Bool, true, false, inl, inr, IsTrue, Option, Some, None, Result, Ok, Err, List, [], ◌∷◌, ◌++◌, cond, refl, sym, ◌∙◌, ap, subst, length, append-nil, append_assoc, add-zero, arith}
 use Rattle.std.specs.Prelude.{MatchBool, MatchOption}
-use Rattle.std.proofs.lemmas.List.{map-append}
+use Rattle.std.proofs.lemmas.List.{length-map, map-append}
+use Rattle.std.specs.List.{AllByRecursion}
 use Rattle.std.proofs.lemmas.Grind.{flat_map-append}
 use Rattle.std.proofs.lemmas.Bool.{cases_lt}
 use Rattle.fl_base.specs.Causes.{Rose, Appends}
@@ -14,9 +15,11 @@ use Rattle.fl_words.specs.Reply.{texts}
 use Rattle.fl_machine.specs.Machine.{Machine}
 use Rattle.fl_machine.specs.OpenCursors.{AreWithin}
 use Rattle.fl_machine.proofs.OpenCursors.{run-within}
-use Rattle.fl_machine.specs.Reads.{none_read, OnTable, OnColumns, WithinScan, GetExact, ScanExact, LimitOf, RunLimits, ExactOf, RunExact, reads_in}
+use Rattle.fl_machine.specs.Reads.{none_read, OnTable, OnColumns, WithinScan, GetExact, ScanExact, LimitOf, RunLimits, ExactOf, RunExact}
+use Rattle.fl_machine.specs.Small.{AreTables, most_of_a_command}
+use Rattle.fl_machine.proofs.FewReads.{limit-few}
 use Rattle.fl_machine.specs.Step.{Moment, Step, Located, located, no_column}
-use Rattle.fl_machine.specs.Run.{Run, end_of, written_by, risen_in}
+use Rattle.fl_machine.specs.Run.{Run, end_of, commands_of, written_by, risen_in}
 use Rattle.fl_machine.specs.Script.{Ran, RanInto, RoseBy}
 use Rattle.fl_machine.proofs.Stays.{stays-more}
 use Rattle.fl_machine.proofs.Steps.{finds}
@@ -140,13 +143,36 @@ counted-by before moment now (command.Agg name range column width) h = omega (ar
 counted-by before moment now (command.Join left right range) h = omega (arith, h.flash)
 counted-by before moment now c h = omega (arith, h.1)
 
+-- the reads of some moments
+abbrev reads_in : List Moment → ℕ
+reads_in [] = 0
+reads_in (moment ∷ moments) = moment.reads + reads_in moments
+
 reads-more : (moments : List Moment) (moment : Moment) → reads_in (moments ++ moment ∷ []) ≡ reads_in moments + moment.reads
 reads-more [] moment = omega arith
 reads-more (m ∷ moments) moment = omega (arith, reads-more moments moment)
 
-exact-more : (config : Config) (before : ℕ) (old : Machine) (moments : List Moment) (moment : Moment) → RunExact config before old moments → (before + reads_in moments + moment.reads < 2 ^ 64 - 1 → ExactOf config (end_of old moments) moment moment.command) → RunExact config before old (moments ++ moment ∷ [])
-exact-more config before old [] moment run exact = (λ below. exact (omega (arith, below)), tt)
-exact-more config before old (m ∷ moments) moment run exact = (run.0, exact-more config (before + m.reads) m.after moments moment run.1 (λ below. exact (omega (arith, below))))
+exact-more : (config : Config) (old : Machine) (moments : List Moment) (moment : Moment) → RunExact config old moments → ExactOf config (end_of old moments) moment moment.command → RunExact config old (moments ++ moment ∷ [])
+exact-more config old [] moment run exact = (exact, tt)
+exact-more config old (m ∷ moments) moment run exact = (run.0, exact-more config m.after moments moment run.1 exact)
+
+-- ---- no command reads many pages, and so the count doesn't reach its end
+
+abbrev IsFew : Moment → Type 0
+IsFew moment = moment.reads ≤ most_of_a_command
+
+few-more : (moments : List Moment) (moment : Moment) → AllByRecursion IsFew moments → IsFew moment → AllByRecursion IsFew (moments ++ moment ∷ [])
+few-more [] moment few more = (more, tt)
+few-more (m ∷ moments) moment few more = (few.0, few-more moments moment few.1 more)
+
+few-in : (moments : List Moment) → AllByRecursion IsFew moments → reads_in moments ≤ length moments * 2 ^ 19
+few-in [] few = omega arith
+few-in (m ∷ moments) few = omega (arith, few.0, few-in moments few.1)
+
+counted-below : (moments : List Moment) (commands : List Command) (reads : ℕ) → commands_of moments ≡ commands → length commands < 2 ^ 32 → AllByRecursion IsFew moments → reads ≤ reads_in moments + 2 ^ 19 → reads < 2 ^ 64 - 1
+counted-below moments commands reads are lines few counted =
+    let as_many : length moments ≡ length commands = sym (length-map moments (λ (m : Moment). m.command)) ∙ ap length are in
+    omega (arith, as_many, lines, few-in moments few, counted)
 
 -- a run, and the flash counts no more reads than it made
 abbrev pub RanSoFar : Config → Machine → List Command → (Machine → Type 0) → List ℕ → List ℕ → ℕ → ℕ → ℕ → Option (List ℕ) → Option (List ℕ) → Type 0
@@ -160,7 +186,7 @@ ran-none config old stands content faults told h = record {
   commands_are = refl;
   run = tt;
   stands_after = h;
-  reads = record { limits = tt; exact = tt };
+  reads = record { limits = tt; few = tt; exact = tt };
   stays = refl;
   rose = inl (omega arith);
   found = λ place. tt;
@@ -171,25 +197,36 @@ ran-none config old stands content faults told h = record {
 pub none-counted : (config : Config) (old : Machine) (stands : Machine → Type 0) (content : List ℕ) (faults reads : ℕ) (told : Option (List ℕ)) → reads ≡ 0 → stands old → RanSoFar config old [] stands content content faults faults reads told told
 none-counted config old stands content faults reads told unread h = (ran-none config old stands content faults told h, omega (arith, unread))
 
+-- the next command keeps its limit, which is never a great one
+next-limit : {E : Type 0} (config : Config) (old : Machine) (moments : List Moment) (command : Command) (stands : Machine → Type 0) (mid now : FlashState) (result : Result (Unit {0}) E) (moment : Moment) →
+    IsReady config old → Run config old moments → stands (end_of old moments) → ((m : Machine) → stands m → AreTables config.plans m.tables) → moment.command ≡ command →
+    CountsReads mid moment now command → ReadsAsStated config (end_of old moments) moment now result command → LimitOf config (end_of old moments) moment moment.command × (moment.reads ≤ most_of_a_command)
+next-limit config old moments command stands mid now result moment ready run here hold is reads stated =
+    let within = limit config (end_of old moments) moment mid now result command is (run-within config old moments ready.cursors run) reads stated in
+    (within, limit-few config (end_of old moments) moment ready.small ready.room (hold (end_of old moments) here) moment.command within)
+
 -- the commands before, and one more
 pub ran-more : {E : Type 0} (config : Config) (old : Machine) (commands : List Command) (command : Command) (stands stands_now : Machine → Type 0) (content : List ℕ) (faults : ℕ) (mid now : FlashState) (told told_mid told_now : Option (List ℕ)) →
-    IsReady config old → RanSoFar config old commands stands content mid.media.content faults mid.media.faults mid.work.reads told told_mid → mid.media.faults ≤ now.media.faults →
+    IsReady config old → length commands < 2 ^ 32 → ((m : Machine) → stands m → AreTables config.plans m.tables) →
+    RanSoFar config old commands stands content mid.media.content faults mid.media.faults mid.work.reads told told_mid → mid.media.faults ≤ now.media.faults →
     ((m : Machine) → stands m → Executes {E = E} config m command stands_now mid now told_mid told_now (Ok tt)) →
     RanSoFar config old (commands ++ command ∷ []) stands_now content now.media.content faults now.media.faults now.work.reads told told_now
-ran-more {E} config old commands command stands stands_now content faults mid now told told_mid told_now ready (h, counted) later executes =
+ran-more {E} config old commands command stands stands_now content faults mid now told told_mid told_now ready lines hold (h, counted) later executes =
     let e = executes (end_of old h.moments) h.stands_after in
     let run = run-more config old h.moments e.moment h.run e.step in
     let more = counted-by mid e.moment now command e.reads in
-    let exact : 0 + reads_in h.moments + e.moment.reads < 2 ^ 64 - 1 → ExactOf config (end_of old h.moments) e.moment e.moment.command = λ below.
-    subst (λ x. ExactOf config (end_of old h.moments) e.moment x) (sym e.command_is) (exact-by E config (end_of old h.moments) e.moment now command (omega (arith, below, counted, more)) e.stated) in (
+    let limited = next-limit config old h.moments command stands mid now (Ok tt) e.moment ready h.run h.stands_after hold e.command_is e.reads e.stated in
+    let below = counted-below h.moments commands now.work.reads h.commands_are lines h.reads.few (omega (arith, counted, more, limited.1)) in (
       record {
         moments = h.moments ++ e.moment ∷ [];
         commands_are = map-append (λ (m : Moment). m.command) h.moments (e.moment ∷ []) ∙ (ap (λ cs. cs ++ e.moment.command ∷ []) h.commands_are ∙ ap (λ c. commands ++ c ∷ []) e.command_is);
         run = run;
         stands_after = subst stands_now (e.same ∙ sym (end_of-more old h.moments e.moment)) e.stands_after;
         reads = record {
-          limits = limits-more config old h.moments e.moment h.reads.limits (limit config (end_of old h.moments) e.moment mid now (Ok tt) command e.command_is (run-within config old h.moments ready.cursors h.run) e.reads e.stated);
-          exact = exact-more config 0 old h.moments e.moment h.reads.exact exact;
+          limits = limits-more config old h.moments e.moment h.reads.limits limited.0;
+          few = few-more h.moments e.moment h.reads.few limited.1;
+          exact = exact-more config old h.moments e.moment h.reads.exact
+              (subst (λ x. ExactOf config (end_of old h.moments) e.moment x) (sym e.command_is) (exact-by E config (end_of old h.moments) e.moment now command below e.stated));
         };
         stays = stays-more config old h.moments e.moment content mid.media.content now.media.content h.stays e.stays;
         rose = rw risen-more (rose-more (risen_in h.moments) faults mid.media.faults now.media.faults e.moment.rose h.rose later e.rose);
@@ -201,18 +238,21 @@ ran-more {E} config old commands command stands stands_now content faults mid no
 
 -- .. and into the reply of one more
 pub ran-into : {E : Type 0} (config : Config) (old : Machine) (commands : List Command) (command : Command) (stands stands_now : Machine → Type 0) (content : List ℕ) (faults : ℕ) (mid now : FlashState) (told told_mid told_now : Option (List ℕ)) (error : E) →
-    IsReady config old → RanSoFar config old commands stands content mid.media.content faults mid.media.faults mid.work.reads told told_mid → mid.media.faults ≤ now.media.faults →
+    IsReady config old → ((m : Machine) → stands m → AreTables config.plans m.tables) →
+    RanSoFar config old commands stands content mid.media.content faults mid.media.faults mid.work.reads told told_mid → mid.media.faults ≤ now.media.faults →
     ((m : Machine) → stands m → Executes {E = E} config m command stands_now mid now told_mid told_now (Err error)) →
     RanInto config old (commands ++ command ∷ []) (StandsAlike stands_now) content now.media.content faults now.media.faults told told_now
-ran-into config old commands command stands stands_now content faults mid now told told_mid told_now error ready (h, counted) later executes =
+ran-into config old commands command stands stands_now content faults mid now told told_mid told_now error ready hold (h, counted) later executes =
     let e = executes (end_of old h.moments) h.stands_after in
     let run = run-more config old h.moments e.moment h.run e.step in
+    let limited = next-limit config old h.moments command stands mid now (Err error) e.moment ready h.run h.stands_after hold e.command_is e.reads e.stated in
     record {
       moments = h.moments ++ e.moment ∷ [];
       commands_are = map-append (λ (m : Moment). m.command) h.moments (e.moment ∷ []) ∙ (ap (λ cs. cs ++ e.moment.command ∷ []) h.commands_are ∙ ap (λ c. commands ++ c ∷ []) e.command_is);
       run = run;
       stands_after = (e.after, e.stands_after, subst (λ m. IsAlike m e.after) (sym (end_of-more old h.moments e.moment)) e.alike);
-      limits = limits-more config old h.moments e.moment h.reads.limits (limit config (end_of old h.moments) e.moment mid now (Err error) command e.command_is (run-within config old h.moments ready.cursors h.run) e.reads e.stated);
+      limits = limits-more config old h.moments e.moment h.reads.limits limited.0;
+      few = few-more h.moments e.moment h.reads.few limited.1;
       stays = stays-more config old h.moments e.moment content mid.media.content now.media.content h.stays e.stays;
       rose = rw risen-more (rose-more (risen_in h.moments) faults mid.media.faults now.media.faults e.moment.rose h.rose later e.rose);
       found = λ place. finds config old (h.moments ++ e.moment ∷ []) place ready.room ready.off ready.rest run;
@@ -248,6 +288,7 @@ ran_into-seen config old commands stands stands_now content content_now faults n
   run = h.run;
   stands_after = f (end_of old h.moments) h.stands_after;
   limits = h.limits;
+  few = h.few;
   stays = h.stays;
   rose = h.rose;
   found = h.found;

@@ -1,5 +1,5 @@
 -- What was run where no cut falls into an operation and the medium doesn't fail: what one plain program does.
-use Rattle.std.specs.Prelude.{◌≡◌, ℕ, Option, Some, List, [], ◌∷◌, ◌++◌}
+use Rattle.std.specs.Prelude.{◌≡◌, ◌≤◌, ℕ, Option, Some, List, [], ◌∷◌, ◌++◌}
 use Rattle.std.specs.List.{AllByRecursion}
 use Rattle.fl_base.specs.Causes.{Appends, IsFront}
 use Rattle.fl_model.specs.Record.{Config}
@@ -11,7 +11,9 @@ use Rattle.fl_machine.specs.Machine.{Machine}
 use Rattle.fl_machine.specs.Operations.{DoesEach}
 use Rattle.fl_machine.specs.Plain.{plain_run}
 use Rattle.fl_machine.specs.Run.{Run, end_of, commands_of, written_by}
+use Rattle.fl_machine.specs.Reads.{RunLimits, RunExact}
 use Rattle.fl_machine.specs.Script.{KeepsReads, StandsAfter}
+use Rattle.fl_machine.specs.Small.{most_of_a_command}
 use Rattle.fl_machine.specs.Stays.{StaysEach}
 use Rattle.fl_machine.specs.Step.{Moment}
 
@@ -50,6 +52,10 @@ pub record RanPlainlyInto (config : Config) (old : Machine) (commands : List Com
   pub before : List Moment
   pub last : Moment
   pub split : moments ≡ before ++ last ∷ []
+  -- the numbers of reads are as is promised, but that the last command may have stopped before its reads were done
+  pub limits : RunLimits config old moments
+  pub few : AllByRecursion (λ moment. moment.reads ≤ most_of_a_command) moments
+  pub exact : RunExact config old before
   pub front : List ℕ
   pub is_front : IsFront front (texts last.replies)
   pub told_front : Appends told told_now (written_by before ++ front)

@@ -11,6 +11,7 @@ use Rattle.fl_machine.specs.Step.{Moment, Step}
 use Rattle.fl_machine.specs.Found.{HasRoom, IsAtRest}
 use Rattle.fl_machine.specs.OpenCursors.{AreWithin}
 use Rattle.fl_machine.specs.Script.{Ran, RanInto}
+use Rattle.fl_machine.specs.Small.{IsSmall}
 use Rattle.fl_machine.specs.Stays.{MomentStays}
 use Rattle.fl_session.specs.Cost.{CountsReads, ReadsAsStated}
 
@@ -42,6 +43,7 @@ pub record Executes {E : Type 0} (config : Config) (old : Machine) (command : Co
 pub record IsReady (config : Config) (old : Machine) : Type 0 where
   pub cursors : AreWithin old.cursors
   pub room : AllByRecursion HasRoom config.plans
+  pub small : IsSmall config
   pub off : old.mounted ≡ false
   pub rest : AllByRecursion IsAtRest old.tables
 

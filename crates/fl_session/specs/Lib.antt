@@ -22,6 +22,7 @@ pub mod Notes
 pub mod Gives
 pub mod Nexts
 pub mod Standing
+pub mod TablesHold
 pub mod Load
 pub mod Run
 pub mod Repaired

@@ -4,6 +4,7 @@ ghost use Rattle.fl_base.specs.Causes.{HasCause};
 ghost use Rattle.fl_flash.specs.Flash.{FlashState, Goes};
 ghost use Rattle.fl_model.specs.Record.{Config};
 ghost use Rattle.fl_machine.specs.Machine.{Machine};
+ghost use Rattle.fl_machine.specs.Small.{AreTables};
 ghost use Rattle.fl_script.specs.CommandView.{command_view};
 ghost use Rattle.fl_session.specs.Execute.{Executes};
 ghost use Rattle.fl_session.specs.Runnable.{IsRunnable};
@@ -37,4 +38,7 @@ pub trait Executor {
         ensures sink { HasCause (K.faults out.old) (K.faults out.new) result }
         ensures step { (config : Config) (old : Machine) → stands self.old config old →
             Executes config old (command_view command.now room.now) (stands self.new config) (flash self.old) (flash self.new) (K.written out.old) (K.written out.new) result };
+
+    /// Each table of a state for which it stands is one of its plan.
+    ghost tables_hold: { (s : Self) (config : Config) (m : Machine) → stands s config m → AreTables config.plans m.tables };
 }

@@ -44,15 +44,9 @@ pub(crate) fn next_run<S: Source>(
 ) -> Result<Option<Command>, Status>
     ensures { NextRun lines.old (S.left script.old) (S.faults script.old) number result room.new lines.new (S.left script.new) (S.faults script.new) }
 {
-    match next_command(lines, room, script, number) {
-        Ok(Some(command)) => {
-            if is_config(&command) {
-                Err(Status::Line { line: number })
-            } else {
-                Ok(Some(command))
-            }
-        }
-        Ok(None) => Ok(None),
-        Err(status) => Err(status),
+    let next = next_command(lines, room, script, number)?;
+    match &next {
+        Some(command) if is_config(command) => Err(Status::Line { line: number }),
+        _ => Ok(next),
     }
 }

@@ -394,12 +394,15 @@ fn blob_in(room: &LineRoom, blob: bool) -> Option<&[u8]>
 
 impl<'m, M: Media> Executor for Session<'m, M> {
     ghost use Rattle.fl_session.specs.Standing.{SessionStands, IsSound};
+    ghost use Rattle.fl_session.specs.TablesHold.{tables-hold};
 
     ghost stands = { λ s config. SessionStands config s.tables.entries.items (⟦<SimFlash<'m, M> as Flash>⟧.state s.flash) s.mounted s.notes };
 
     ghost sound = { λ s. IsSound s.tables.entries.items (⟦<SimFlash<'m, M> as Flash>⟧.state s.flash) s.buf s.mounted s.notes };
 
     ghost flash = { λ s. ⟦<SimFlash<'m, M> as Flash>⟧.state s.flash };
+
+    ghost tables_hold = { λ s config m h. tables-hold config s.tables.entries.items _ s.mounted s.notes m h };
 
     fn execute<K: Sink>(
         &mut self,

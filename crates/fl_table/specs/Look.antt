@@ -1,6 +1,8 @@
 -- What a table in memory tells of itself, and the same in the model.
 use Rattle.std.specs.Prelude.{ℕ, ◌+◌, ◌-◌, ◌%◌, ◌==◌, Option, option_map, unwrap_or, List, length, drop, map, sum, count_by, slice_index, vec_len}
 use Rattle.std.specs.List.{range_with_len}
+use Rattle.fl_bitmap.specs.declared.buckets.Buckets.{Buckets}
+use Rattle.fl_find.specs.declared.index.LearnedIndex.{LearnedIndex}
 use Rattle.fl_model.specs.Record.{RowLayout}
 use Rattle.fl_model.specs.Row.{Row}
 use Rattle.fl_model.specs.Spline.{voids_of}
@@ -31,6 +33,18 @@ buffered_rows t = rows_from (pending_in t) (layout_in t) (drop 16 t.writer.body)
 -- how many rows the kept page with this number has
 abbrev pub rows_noted : {KNOTS SLOTS : ℕ} → Table KNOTS SLOTS → ℕ → ℕ
 rows_noted t number = slice_index t.counts.items (number % vec_len t.counts)
+
+-- how many of its kept pages are void
+abbrev pub voids_noted : {KNOTS SLOTS : ℕ} → Table KNOTS SLOTS → ℕ
+voids_noted t = t.voids
+
+-- where the pages of keys are
+abbrev pub learned_in : {KNOTS SLOTS : ℕ} → Table KNOTS SLOTS → LearnedIndex KNOTS SLOTS
+learned_in t = t.index
+
+-- the buckets of its bitmaps, where its pages have any
+abbrev pub buckets_in : {KNOTS SLOTS : ℕ} → Table KNOTS SLOTS → Option Buckets
+buckets_in t = t.buckets
 
 -- how many rows each kept page has, the oldest first
 abbrev pub kept_counts : {KNOTS SLOTS : ℕ} → Table KNOTS SLOTS → List ℕ

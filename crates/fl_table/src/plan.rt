@@ -85,7 +85,7 @@ impl<const KNOTS: usize, const SLOTS: usize> Table<KNOTS, SLOTS> {
         ensures lies { IfOk result (λ t. (f : FlashState) → f.geometry ≡ config.now.geometry → config.now.rows.first_block + config.now.rows.blocks ≤ f.blocks
             → IfSome config.now.index (λ place. place.first_block + place.blocks ≤ f.blocks) → IfSome config.now.var (λ place. place.first_block + place.blocks ≤ f.blocks) → pages f < 2 ^ 32 → LiesOn t f) }
         ensures fresh { IfOk result (λ t. (is_running t ≡ false) × (is_stopped t ≡ false)) }
-        ensures refused { IfErr result (λ refusal. (refusal ≡ NoMemory) ⊎ Tells {A = Table KNOTS SLOTS} (Err refusal) (config_fault config.now)) }
+        ensures refused { IfErr result (λ refusal. ((refusal ≡ NoMemory) × (config_fault config.now ≡ None)) ⊎ Tells {A = Table KNOTS SLOTS} (Err refusal) (config_fault config.now)) }
     {
         config.check()?;
         let pages = config.rows.blocks as usize * config.geometry.block as usize;

@@ -1,7 +1,9 @@
-//! Tests of rings, lookups, indexes, variable data, tables, cursors, sessions and whole runs, through public calls. They
-//! stand above all that they call, so that each crate below is proved once.
+//! Tests of rings, lookups, indexes, variable data, tables and cursors, through public calls. They stand above all that they
+//! call, so that each crate below is proved once.
 #![tactic(auto)]
 
+#[cfg(test)]
+mod checks;
 #[cfg(test)]
 mod cursors;
 #[cfg(test)]
@@ -11,13 +13,9 @@ mod lookups;
 #[cfg(test)]
 mod rings;
 #[cfg(test)]
-mod sessions;
-#[cfg(test)]
 mod tables;
 #[cfg(test)]
 mod var_data;
-#[cfg(test)]
-mod whole_runs;
 
 /// A table with the sizes of the tests.
 #[cfg(test)]

@@ -2,11 +2,13 @@
 use Rattle.std.proofs.Common.{◌≡◌, ℕ, ◌+◌, ◌-◌, ◌*◌, ◌/◌, ◌<◌, ◌≤◌, min, Bool, true, Option, unwrap_or, ◌⊎◌, inl, inr, false, Result, Ok, Err, List, [], ◌∷◌, ◌++◌, length, replicate, refl, sym, ◌∙◌, ap, subst, arith, IsTrue, IsErr}
 use Rattle.std.proofs.Math.Nat.{mul-add-div_right, div-eq_of_lt}
 use Rattle.std.proofs.lemmas.Nat.{le-div}
-use Rattle.std.specs.Prelude.{option_map, is_some, IfErr}
+use Rattle.std.specs.Prelude.{option_map, is_some, IfErr, IfSome, IfNone, IsErrOf, Some, None}
 use Rattle.std.specs.Option.{ForSome}
 use Rattle.fl_base.specs.declared.types.Geometry.{Geometry}
 use Rattle.fl_base.specs.declared.types.RingPlace.{RingPlace}
-use Rattle.fl_flash.specs.Flash.{FlashState, Goes, OffChangesNothing, page_at}
+use Rattle.fl_flash.specs.Flash.{FlashState, Goes, OffChangesNothing, Cuts, Tears, page_at}
+use Rattle.fl_flash.specs.Tear.{torn_now, torn_front}
+use Rattle.fl_flash.specs.declared.tear.Tear.{Tear}
 use Rattle.fl_flash.specs.declared.flash.FlashFault.{FlashFault}
 use Rattle.fl_flash.specs.declared.flash.FlashFault.TheVariants.{PowerLost, Media}
 use Rattle.fl_model.specs.Record.{Plan}
@@ -225,6 +227,34 @@ seal-power r next due body old new u (inr (inr b)) = absurd (not_err b.fails)
   where
     not_err : IsErr {T = Unit {0}} {E = FlashFault} (Ok u) → ⊥
     not_err e = cc
+
+-- .. and after an operation that lost it
+operation-lost : (old : FlashState) (at : ℕ) (whole : List ℕ) (result : Result (Unit {0}) FlashFault) (new : FlashState) → OffChangesNothing old result new → (old.is_on ≡ true → Cuts old at whole result new) → IsErrOf result PowerLost → new.is_on ≡ false
+operation-lost old at whole result new off cut lost = by_power old.is_on refl
+  where
+    by_tear : (tear : Option Tear) → IfSome tear (λ t. Tears old at (torn_front t whole) result new) → IfNone tear (IsErrOf result PowerLost → ⊥) → new.is_on ≡ false
+    by_tear None torn none = absurd (none lost)
+    by_tear (Some t) torn none = torn.off
+
+    by_power : (b : Bool) → old.is_on ≡ b → new.is_on ≡ false
+    by_power false e = ap (λ (f : FlashState). f.is_on) (off e).1 ∙ e
+    by_power true e = by_tear (torn_now old.armed) (cut e).torn (cut e).whole_op
+
+pub seal-lost : (r : Shape) (next : ℕ) (due : Bool) (body : List ℕ) (old new : FlashState) (result : Result (Unit {0}) FlashFault) → SealCalls r next due body old result new → IsErrOf result PowerLost → new.is_on ≡ false
+seal-lost r next true body old new result (inl s) lost = operation-lost s.marked _ _ result new s.erase_last.erases.off s.erase_last.erases.cut lost
+seal-lost r next false body old new result (inl s) lost = absurd (not_ok (sym s.erase_last.0 ∙ lost))
+  where
+    not_ok : ◌≡◌ {A = Result (Unit {0}) FlashFault} (Ok tt) (Err PowerLost) → ⊥
+    not_ok e = cc
+seal-lost r next due body old new result (inr (inl m)) lost = operation-lost m.begun _ _ result new m.mark_then.off m.mark_then.cut lost
+seal-lost r next due body old new result (inr (inr b)) lost = operation-lost old _ _ result new b.body_first.off b.body_first.cut lost
+
+-- a fault that is passed on
+pub lost-on : {T U : Type 0} (x : Result T FlashFault) (y : Result U FlashFault) (e : FlashFault) → x ≡ Err e → y ≡ Err e → IsErrOf y PowerLost → IsErrOf x PowerLost
+lost-on {T} {U} x y e x_is y_is lost = x_is ∙ ap (λ k. Err k) (same (sym y_is ∙ lost))
+  where
+    same : ◌≡◌ {A = Result U FlashFault} (Err e) (Err PowerLost) → e ≡ PowerLost
+    same q = cc
 
 -- nothing is sealed where the power is off
 pub ok-on : (f g : FlashState) (u : Unit {0}) → OffChangesNothing f (Ok u) g → f.is_on ≡ false → ⊥

@@ -1,5 +1,5 @@
 // Blobs are placed in the buffer, which is sealed page by page.
-ghost use Rattle.std.specs.Prelude.{◌≡◌, ◌+◌, ◌-◌, ◌<◌, ◌≤◌, true, false, length, is_ok, IsTrue, IfOk, IfErr, OnOk};
+ghost use Rattle.std.specs.Prelude.{◌≡◌, ◌+◌, ◌-◌, ◌<◌, ◌≤◌, true, false, length, is_ok, IsTrue, IfOk, IfErr, OnOk, IsErrOf};
 ghost use Rattle.fl_flash.specs.Flash.{Goes, OffChangesNothing, page_at};
 ghost use Rattle.fl_ring.specs.Causes.{CausedBy};
 
@@ -39,6 +39,7 @@ impl VarData {
         ensures reads { (F.state flash.new).work.reads ≡ (F.state flash.old).work.reads }
         ensures media_reads { (F.state flash.new).media.reads ≤ (F.state flash.old).media.reads + 1 }
         ensures off { OffChangesNothing (F.state flash.old) result (F.state flash.new) }
+        ensures lost { IsErrOf result FlashFault.PowerLost → (F.state flash.new).is_on ≡ false }
         ensures cause { IfErr result (λ e. CausedBy (F.state flash.old) e (F.state flash.new)) }
     {
         let Some(mut ring) = self.ring.take() else {
@@ -72,6 +73,7 @@ impl VarData {
         ensures reads { (F.state flash.new).work.reads ≡ (F.state flash.old).work.reads }
         ensures media_reads { (F.state flash.new).media.reads ≤ (F.state flash.old).media.reads + 1 }
         ensures off { is_full_in self.old ≡ true → OffChangesNothing (F.state flash.old) result (F.state flash.new) }
+        ensures lost { IsErrOf result FlashFault.PowerLost → (F.state flash.new).is_on ≡ false }
         ensures cause { IfErr result (λ e. CausedBy (F.state flash.old) e (F.state flash.new)) }
     {
         if !self.waiting.is_full() {
@@ -96,6 +98,7 @@ impl VarData {
         ensures fill { OnOk result (length (waiting_in self.old) + length bytes.now ≡ pages_filled self.old (length bytes.now) * room_in self.old + length (waiting_in self.new)) }
         ensures ends { (plan : Plan) → (table : model.Table) → (rose : Bool) → (device : Device) → IsWatched (F.state flash.old) (F.state flash.new) rose device
             → HasRing self.old (F.state flash.old) plan table → EndsWith plan (replicate (pages_filled self.old (length bytes.now)) VarRing) table rose device self.old (F.state flash.old) result self.new (F.state flash.new) }
+        ensures power { OnOk result ((F.state flash.new ≡ F.state flash.old) ⊎ ((F.state flash.new).is_on ≡ true)) }
         ensures quiet { pages_filled self.old (length bytes.now) ≡ 0 → (result ≡ Ok tt) × (F.state flash.new ≡ F.state flash.old) }
         ensures waits { OnOk result (pages_filled self.old (length bytes.now) ≡ 0 → waiting_in self.new ≡ waiting_in self.old ++ bytes.now) }
         ensures goes_on { OnOk result (GoesOn bytes.now (replicate (pages_filled self.old (length bytes.now)) VarRing) (next_in self.old) self.old (F.state flash.old) self.new (F.state flash.new)) }
@@ -103,6 +106,7 @@ impl VarData {
         ensures reads { (F.state flash.new).work.reads ≡ (F.state flash.old).work.reads }
         ensures media_reads { (F.state flash.new).media.reads ≤ (F.state flash.old).media.reads + pages_filled self.old (length bytes.now) }
         ensures off { 1 ≤ pages_filled self.old (length bytes.now) → OffChangesNothing (F.state flash.old) result (F.state flash.new) }
+        ensures lost { IsErrOf result FlashFault.PowerLost → (F.state flash.new).is_on ≡ false }
         ensures cause { IfErr result (λ e. CausedBy (F.state flash.old) e (F.state flash.new)) }
     {
         let mut done = self.waiting.put(bytes);
@@ -124,6 +128,7 @@ impl VarData {
         ensures same { IsSamePlan self.old self.new }
         ensures lies { LiesOn self.new (F.state flash.new) }
         ensures mounted { is_mounted self.new ≡ is_ok result }
+        ensures power { OnOk result ((F.state flash.new ≡ F.state flash.old) ⊎ ((F.state flash.new).is_on ≡ true)) }
         ensures reference { IfOk result (λ at. at ≡ reference_in self.old (length bytes.now)) }
         ensures ends { (plan : Plan) → (table : model.Table) → (rose : Bool) → (device : Device) → IsWatched (F.state flash.old) (F.state flash.new) rose device
             → Stands self.old (F.state flash.old) plan table → PlaceEnds plan (length bytes.now) table rose device self.old (F.state flash.old) result self.new (F.state flash.new) }
@@ -135,6 +140,7 @@ impl VarData {
         ensures outside { IsTrue (F.state flash.old).media.tells → OutsideStands (var_shape self.old) (page_at (F.state flash.old)) (page_at (F.state flash.new)) }
         ensures reads { (F.state flash.new).work.reads ≡ (F.state flash.old).work.reads }
         ensures off { 1 ≤ pages_placed self.old (length bytes.now) → OffChangesNothing (F.state flash.old) result (F.state flash.new) }
+        ensures lost { IsErrOf result FlashFault.PowerLost → (F.state flash.new).is_on ≡ false }
         ensures cause { IfErr result (λ e. CausedBy (F.state flash.old) e (F.state flash.new)) }
     {
         if bytes.is_empty() {
@@ -173,6 +179,7 @@ impl VarData {
         ensures reads { (F.state flash.new).work.reads ≡ (F.state flash.old).work.reads }
         ensures media_reads { (F.state flash.new).media.reads ≤ (F.state flash.old).media.reads + 1 }
         ensures off { 1 ≤ length (waiting_in self.old) → OffChangesNothing (F.state flash.old) result (F.state flash.new) }
+        ensures lost { IsErrOf result FlashFault.PowerLost → (F.state flash.new).is_on ≡ false }
         ensures cause { IfErr result (λ e. CausedBy (F.state flash.old) e (F.state flash.new)) }
     {
         if self.waiting.content().is_empty() {

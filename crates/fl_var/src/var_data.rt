@@ -30,10 +30,10 @@ pub struct VarData {
 }
 
 impl VarData {
-    ghost use Rattle.std.specs.Prelude.{◌^◌, ◌<◌, false, IfOk};
+    ghost use Rattle.std.specs.Prelude.{◌^◌, ◌<◌, false, [], IfOk};
     ghost use Rattle.fl_flash.specs.Flash.{FlashState, pages};
     ghost use Rattle.fl_model.specs.Record.{Plan};
-    ghost use Rattle.fl_var.specs.Memory.{is_mounted, next_in, oldest_in, var_shape, IsPlanned, LiesOn};
+    ghost use Rattle.fl_var.specs.Memory.{is_mounted, next_in, oldest_in, waiting_in, var_shape, IsPlanned, LiesOn};
 
     /// Variable data in a ring at this place of a flash of this shape. It isn't mounted.
     pub fn plan(alloc: Global, geometry: Geometry, place: RingPlace) -> Result<VarData, NoMemory>
@@ -43,6 +43,7 @@ impl VarData {
         ensures lies { IfOk result (λ v. (f : FlashState) → f.geometry ≡ geometry → place.first_block + place.blocks ≤ f.blocks → pages f < 2 ^ 32 → LiesOn v f) }
         ensures shape { IfOk result (λ v. var_shape v ≡ shape_at place geometry) }
         ensures fresh { IfOk result (λ v. is_mounted v ≡ false) }
+        ensures waits { IfOk result (λ v. waiting_in v ≡ []) }
     {
         Ok(VarData {
             geometry,

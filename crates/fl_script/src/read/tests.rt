@@ -78,8 +78,16 @@ fn the_first_fault_is_told(rt: HostRuntime) -> Result<(), Fail> {
 #[test]
 fn a_put_leaves_its_blob_and_a_table_its_columns(rt: HostRuntime) -> Result<(), Fail> {
     let mut room = LineRoom::new(rt.alloc())?;
-    let lines: [(&str, &[u8]); 6] = [
+    let lines: [(&str, &[u8]); 9] = [
         ("put t 7 1 blob aF09", &[0xaf, 0x09]),
+        (
+            "put t 7 blob 000102030405060708090a0B0c0D0e0fF1f2f3",
+            &[
+                0, 1, 2, 3, 4, 5, 6, 7, 8, 9, 10, 11, 12, 13, 14, 15, 0xf1, 0xf2, 0xf3,
+            ],
+        ),
+        ("put t 7 blob 000102030405060708090a0b0c0d0e0gf1f2f3", &[]),
+        ("put t 7 blob 000102030405060708090a0b0c0d0e0ff1f2f:", &[]),
         ("put t x 1 blob aF09", &[]),
         ("table t 8 u8,i32 3 0 0 0 -5 1 255 0", b"u8,i32"),
         ("put t 7 1 blob -", &[]),

@@ -1,7 +1,6 @@
 use Rattle.std.proofs.Common.{◌*◌, ◌%◌, arith, ◌∙◌, ap}
 use Rattle.std.proofs.lemmas.Simd.{length-put_chunk}
-use Rattle.fl_script.proofs.Blocks.{step, done}
-use Rattle.fl_script.proofs.DigitPairs.{start}
+use Rattle.fl_script.proofs.Blocks.{start, step, done}
 use Rattle.fl_script.proofs.hexadecimal.decode_blocks.Goals as goal
 
 pub parts-init : goal.parts-init

@@ -1,6 +1,6 @@
 use Rattle.std.proofs.Common.{◌≡◌, ◌*◌, ◌%◌, length, take, drop}
 use Rattle.fl_words.specs.Grammar.{hex_bytes}
-use Rattle.fl_script.proofs.DigitPairs.{behind}
+use Rattle.fl_script.proofs.Blocks.{behind}
 use Rattle.fl_script.proofs.hexadecimal.decode_blocks.Given as goal
 
 abbrev pub invariant-parts : goal.invariant-parts

@@ -12,6 +12,6 @@ returns c =
     let others = take (length digits - 2 * whole) (drop (2 * whole) digits) in
     let all : take (2 * whole) digits ++ others ≡ digits =
     ap (λ l. take (2 * whole) digits ++ l) (take_all (length digits - 2 * whole) (drop (2 * whole) digits) (omega (arith, length-drop (2 * whole) digits))) ∙ take-append-drop (2 * whole) digits in
-    subst (λ l. MatchBool (c.decode_blocks-front.result && c.decode_each-back.result) (hex_bytes l ≡ Some (c.decode_blocks-front.new.bytes ++ c.decode_each-back.new.bytes)) (hex_bytes l ≡ None)) all
-    (both whole (take (2 * whole) digits) others c.decode_blocks-front.new.bytes c.decode_each-back.new.bytes c.decode_blocks-front.result c.decode_each-back.result
-    (omega (arith, length-take (2 * whole) digits, c.requires)) c.decode_blocks-front.ensures c.decode_each-back.ensures)
+    subst (λ l. MatchBool (c.decode_blocks-front.result && c.decode_rest-back.result) (hex_bytes l ≡ Some (c.decode_blocks-front.new.bytes ++ c.decode_rest-back.new.bytes)) (hex_bytes l ≡ None)) all
+    (both whole (take (2 * whole) digits) others c.decode_blocks-front.new.bytes c.decode_rest-back.new.bytes c.decode_blocks-front.result c.decode_rest-back.result
+    (omega (arith, length-take (2 * whole) digits, c.requires)) c.decode_blocks-front.ensures c.decode_rest-back.ensures)

@@ -17,7 +17,7 @@ lines-init g c = record {
 
 pub returns-in-Err-clause-runs : goal.returns-in-Err-clause-runs
 returns-in-Err-clause-runs g c = λ config left e ended.
-    ends-in_reply _ _ _ _ _ _ _ _ _ _ _ _ _ _ _ _ c.in-Err.field-0 (c.lines.invariant.runs config left e ended) (runs-runnable _ _ c.lines.invariant.reads) c.execute.ensures.goes.faults
+    ends-in_reply _ _ _ _ _ _ _ _ _ _ _ _ _ _ _ _ c.in-Err.field-0 (c.lines.invariant.runs config left e ended) (runs-runnable _ _ c.lines.invariant.reads) (g.met.T.Executor.tables_hold _ config) c.execute.ensures.goes.faults
     (step-result config _ _ _ _ _ _ _ _ _ c.in-Err.is (c.execute.ensures.step config))
 
 pub overflow_add-line : goal.overflow_add-line
@@ -36,7 +36,7 @@ lines-preserved g c =
       goes = goes-on _ _ _ c.lines.invariant.goes c.execute.ensures.goes;
       runs = λ config left e ended.
           then-in_hand _ _ _ _ _ _ _ _ _ _ _ _ _ _ _ _ _ _ _ _
-          (all_done-next _ _ _ _ _ _ _ _ _ _ _ _ _ _ _ _ (c.lines.invariant.runs config left e ended) (runs-runnable _ _ c.lines.invariant.reads) c.execute.ensures.goes.faults
+          (all_done-next _ _ _ _ _ _ _ _ _ _ _ _ _ _ _ _ (c.lines.invariant.runs config left e ended) (runs-runnable _ _ c.lines.invariant.reads) (omega (arith, c.lines.invariant.numbered)) (g.met.T.Executor.tables_hold _ config) c.execute.ensures.goes.faults
           (step-result config _ _ _ _ _ _ _ _ _ c.in-Ok.is (c.execute.ensures.step config)))
           n;
     }
@@ -44,13 +44,13 @@ lines-preserved g c =
 pub returns-in-Ok-None-clause-runs : goal.returns-in-Ok-None-clause-runs
 returns-in-Ok-None-clause-runs g c = λ config left e ended.
     then-done _ _ _ _ _ _ _ _ _ _ _ _ _ _ _ _ _ _ _
-    (all_done-next _ _ _ _ _ _ _ _ _ _ _ _ _ _ _ _ (c.lines.invariant.runs config left e ended) (runs-runnable _ _ c.lines.invariant.reads) c.execute.ensures.goes.faults
+    (all_done-next _ _ _ _ _ _ _ _ _ _ _ _ _ _ _ _ (c.lines.invariant.runs config left e ended) (runs-runnable _ _ c.lines.invariant.reads) (omega (arith, c.lines.invariant.numbered)) (g.met.T.Executor.tables_hold _ config) c.execute.ensures.goes.faults
     (step-result config _ _ _ _ _ _ _ _ _ c.in-Ok.is (c.execute.ensures.step config)))
     (rw c.in-Ok-None.field-0-is at c.in-Ok-None.ensures)
 
 pub returns-in-Err-next_run-clause-runs : goal.returns-in-Err-next_run-clause-runs
 returns-in-Err-next_run-clause-runs g c = λ config left e ended.
     then-ends _ _ _ _ _ _ _ _ _ _ _ _ _ _ _ _ _ _ _ c.in-Err-next_run.status
-    (all_done-next _ _ _ _ _ _ _ _ _ _ _ _ _ _ _ _ (c.lines.invariant.runs config left e ended) (runs-runnable _ _ c.lines.invariant.reads) c.execute.ensures.goes.faults
+    (all_done-next _ _ _ _ _ _ _ _ _ _ _ _ _ _ _ _ (c.lines.invariant.runs config left e ended) (runs-runnable _ _ c.lines.invariant.reads) (omega (arith, c.lines.invariant.numbered)) (g.met.T.Executor.tables_hold _ config) c.execute.ensures.goes.faults
     (step-result config _ _ _ _ _ _ _ _ _ c.in-Ok.is (c.execute.ensures.step config)))
     c.in-Err-next_run.ensures

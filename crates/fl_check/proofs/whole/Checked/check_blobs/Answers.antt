@@ -8,7 +8,6 @@ use Rattle.fl_ring.specs.Ring.{Shape}
 use Rattle.fl_schema.specs.Schema.{layout_of}
 use Rattle.fl_check.specs.Claims.{AllBelow}
 use Rattle.fl_check.specs.References.{HasRows, PageLeads, ReferencesBreak}
-use Rattle.fl_check.specs.Tally.{least_of}
 use Rattle.fl_check.specs.Whole.{shape_in, rows_shape, layout_in, index_end, AreRingsSound}
 use Rattle.fl_check.proofs.Halts.{if_found, on_ok, none_of, some_of}
 use Rattle.fl_check.proofs.RingsKnown.{sound_rows}
@@ -28,7 +27,7 @@ returns-clause-sound g c =
     let before : shape_of c.unnumbered-rows.result ≡ rows_shape config = c.unnumbered-rows.ensures.shape ∙ ap (λ (x : Geometry). shape_at config.rows x) (sym c.requires.fits.geometry) in
     let have : AreRingsSound config page c.args.t → AllBelow (HasRows layout page (shape_of c.unnumbered-rows.result) m) m.kept =
     λ rings. subst (λ (r : Shape). AllBelow (HasRows layout page r m) m.kept) (sym before) (subst (λ (l : RowLayout). AllBelow (HasRows l page (rows_shape config) m) m.kept) (sym c.args.self.now.layout)
-    (sound_rows config f (least_of (index_end config page c.args.t.index)) c.args.t.rows c.requires.fits rings.rows)) in
+    (sound_rows config f (index_end config page c.args.t.index) c.args.t.rows c.requires.fits rings.rows)) in
     on_ok _ _ c.found.result
     (λ is told rings. of_ring (λ place n. AllBelow (PageLeads (layout_in config) page (rows_shape config) m (shape_in config place) n) m.kept) config.var c.args.t.var place n c.in-Some.is c.in-Some-var.is
     (subst (λ (l : RowLayout). AllBelow (PageLeads l page (rows_shape config) m (shape_in config place) n) m.kept) c.args.self.now.layout
@@ -50,7 +49,7 @@ returns-clause-broken g c =
     let before : shape_of c.unnumbered-rows.result ≡ rows_shape config = c.unnumbered-rows.ensures.shape ∙ ap (λ (x : Geometry). shape_at config.rows x) (sym c.requires.fits.geometry) in
     let have : AreRingsSound config page c.args.t → AllBelow (HasRows layout page (shape_of c.unnumbered-rows.result) m) m.kept =
     λ rings. subst (λ (r : Shape). AllBelow (HasRows layout page r m) m.kept) (sym before) (subst (λ (l : RowLayout). AllBelow (HasRows l page (rows_shape config) m) m.kept) (sym c.args.self.now.layout)
-    (sound_rows config f (least_of (index_end config page c.args.t.index)) c.args.t.rows c.requires.fits rings.rows)) in
+    (sound_rows config f (index_end config page c.args.t.index) c.args.t.rows c.requires.fits rings.rows)) in
     if_found _ _ c.found.result
     (λ fault is told rings entries. references_fault config page c.args.t rings place n fault entries c.in-Some.is c.in-Some-var.is is.1 is.2
     (subst (λ (l : RowLayout). ReferencesBreak l page (rows_shape config) m (shape_in config place) n fault.page) c.args.self.now.layout

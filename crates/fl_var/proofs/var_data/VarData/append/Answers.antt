@@ -1,4 +1,4 @@
-use Rattle.std.proofs.Common.{rules, ◌≡◌, ◌≤◌, inl, inr, Ok, Err, Result, ◌++◌, length, refl, ◌∙◌, ap, subst, arith}
+use Rattle.std.proofs.Common.{rules, ◌≡◌, ◌≤◌, inl, inr, true, ◌⊎◌, sym, Ok, Err, Result, ◌++◌, length, refl, ◌∙◌, ap, subst, arith}
 use Rattle.std.proofs.lemmas.Result.{err_from_is_err_and}
 use Rattle.fl_flash.specs.declared.flash.FlashFault.{FlashFault}
 use Rattle.fl_var.specs.Memory.{next_in, waiting_in}
@@ -9,7 +9,7 @@ use Rattle.fl_var.proofs.Joins.{watched-first}
 use Rattle.std.proofs.lemmas.Bool.{cases_Bool}
 use Rattle.fl_flash.specs.Flash.{FlashState, OffChangesNothing}
 use Rattle.fl_var.proofs.Placed.{placed-filled, place-none, place-err, place-breaks_room, place-breaks, place-ends, watched-second, room-for}
-use Rattle.fl_var.proofs.Writing.{cause-err, off-err, ok-on}
+use Rattle.fl_var.proofs.Writing.{cause-err, off-err, ok-on, lost-on}
 use Rattle.fl_var.proofs.var_data.VarData.append.Goals as goal
 
 pub returns-then-is_empty-clause-ends : goal.returns-then-is_empty-clause-ends
@@ -69,6 +69,12 @@ returns-clause-ends g c = λ plan table rose device watched stands.
     let offset : length c.content.result.now ≡ length (waiting_in c.make_room.new.self) = ap length c.content.ensures.content in
     let at = ap (λ n. record { page = n; offset = length c.content.result.now; length = length c.args.bytes.now }) page ∙ ap (λ n. record { page = next_in c.make_room.new.self; offset = n; length = length c.args.bytes.now }) offset in
     place-ends v mid f plan table len stands some e.same e.next e.fill mid_f h rose device watched e.goes w.goes a c.write.new.self _ at w.fill b
+
+pub returns-clause-power : goal.returns-clause-power
+returns-clause-power g c = elim c.in_ok-write.ensures.power [
+  | inl same ↦ subst (λ (x : FlashState). (x ≡ g.F.Flash.state c.args.flash.now) ⊎ (x.is_on ≡ true)) (sym same) c.in_ok-make_room.ensures.power
+  | inr on ↦ inr on
+]
 
 pub returns-clause-quiet : goal.returns-clause-quiet
 returns-clause-quiet g c = λ room.
@@ -166,3 +172,13 @@ returns-clause-off g c = λ some down.
           omega (arith, some, placed-filled v (length c.args.bytes.now) more not_full, ap (λ (x : VarData). pages_filled x (length c.args.bytes.now)) still.1) in
           absurd (ok-on _ _ _ (c.in_ok-write.ensures.off pages) (ap (λ (x : FlashState). x.is_on) still.2 ∙ down))
     ]
+
+pub returns-in_err-make_room-clause-lost : goal.returns-in_err-make_room-clause-lost
+returns-in_err-make_room-clause-lost g c = λ lost.
+    let p = err_from_is_err_and c.from_residual.result c.from_residual.ensures.1 in
+    c.in_err-make_room.ensures.lost (lost-on (Err c.in_err-make_room.field-0.0) c.from_residual.result c.in_err-make_room.field-0.0 refl (p.1 ∙ ap (λ (e : FlashFault). Err e) p.2) lost)
+
+pub returns-in_err-write-clause-lost : goal.returns-in_err-write-clause-lost
+returns-in_err-write-clause-lost g c = λ lost.
+    let p = err_from_is_err_and c.from_residual-in_err-write.result c.from_residual-in_err-write.ensures.1 in
+    c.in_err-write.ensures.lost (lost-on (Err c.in_err-write.field-0.0) c.from_residual-in_err-write.result c.in_err-write.field-0.0 refl (p.1 ∙ ap (λ (e : FlashFault). Err e) p.2) lost)

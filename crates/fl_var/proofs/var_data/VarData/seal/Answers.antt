@@ -10,7 +10,7 @@ use Rattle.fl_var.specs.Content.{content_body}
 use Rattle.fl_var.specs.Memory.{next_in, waiting_in, page_in}
 use Rattle.fl_var.proofs.Sealings.{seal-breaks, seal-finishes, seal-err, ready, pages-size, next-is}
 use Rattle.fl_var.proofs.States.{state_from}
-use Rattle.fl_var.proofs.Writing.{seal-power}
+use Rattle.fl_var.proofs.Writing.{seal-power, seal-lost, lost-on}
 use Rattle.fl_var.proofs.var_data.VarData.seal.Goals as goal
 
 pub returns-in_err-seal-clause-ends : goal.returns-in_err-seal-clause-ends
@@ -72,3 +72,8 @@ returns-clause-ends g c = λ plan table rose device watched has.
 
 pub returns-clause-power : goal.returns-clause-power
 returns-clause-power g c = seal-power (shape_of c.in-Some.ring) _ _ c.body.result.now (g.F.Flash.state c.args.flash.now) (g.F.Flash.state c.seal.new.flash) _ c.in_ok-seal.ensures.calls
+
+pub returns-in_err-seal-clause-lost : goal.returns-in_err-seal-clause-lost
+returns-in_err-seal-clause-lost g c = λ lost.
+    let p = err_from_is_err_and c.from_residual.result c.from_residual.ensures.1 in
+    seal-lost _ _ _ _ _ _ (Err c.in_err-seal.field-0.0) c.in_err-seal.ensures.calls (lost-on (Err c.in_err-seal.field-0.0) c.from_residual.result c.in_err-seal.field-0.0 refl (p.1 ∙ ap (λ (e : FlashFault). Err e) p.2) lost)

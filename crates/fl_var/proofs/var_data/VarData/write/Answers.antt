@@ -4,7 +4,7 @@ use Rattle.std.proofs.lemmas.Result.{err_from_is_err_and}
 use Rattle.fl_flash.specs.declared.flash.FlashFault.{FlashFault}
 use Rattle.fl_var.specs.Memory.{room_in}
 use Rattle.fl_var.proofs.Growing.{wrote-first, wrote-more, wrote-still, wrote-all}
-use Rattle.fl_var.proofs.Writing.{writes-first, writes-next, writes-fail, writes-fill, writes-quiet, writes-end, writes-off, wrote-on, ok-on, cause-err}
+use Rattle.fl_var.proofs.Writing.{writes-first, writes-next, writes-fail, writes-fill, writes-quiet, writes-end, writes-off, wrote-on, ok-on, cause-err, lost-on}
 use Rattle.fl_var.proofs.var_data.VarData.write.Goals as goal
 
 pub loop-done-init : goal.loop-done-init
@@ -58,6 +58,9 @@ returns-clause-ends g c =
     let all : length c.args.bytes.now ≤ c.loop-done.done = search rules in
     writes-end c.args.self.now c.loop-done.self (g.F.Flash.state c.args.flash.now) (g.F.Flash.state c.loop-done.flash) (length c.args.bytes.now) c.loop-done.done c.loop-done.invariant.0 all
 
+pub returns-clause-power : goal.returns-clause-power
+returns-clause-power g c = c.loop-done.invariant.0.power
+
 pub returns-clause-quiet : goal.returns-clause-quiet
 returns-clause-quiet g c = λ none.
     let all : length c.args.bytes.now ≤ c.loop-done.done = search rules in
@@ -83,3 +86,8 @@ pub returns-clause-off : goal.returns-clause-off
 returns-clause-off g c = λ some down.
     let all : length c.args.bytes.now ≤ c.loop-done.done = search rules in
     absurd (wrote-on c.args.self.now c.loop-done.self (g.F.Flash.state c.args.flash.now) (g.F.Flash.state c.loop-done.flash) (length c.args.bytes.now) c.loop-done.done c.loop-done.invariant.0 all some down)
+
+pub returns-in_err-seal-clause-lost : goal.returns-in_err-seal-clause-lost
+returns-in_err-seal-clause-lost g c = λ lost.
+    let p = err_from_is_err_and c.from_residual.result c.from_residual.ensures.1 in
+    c.in_err-seal.ensures.lost (lost-on (Err c.in_err-seal.field-0.0) c.from_residual.result c.in_err-seal.field-0.0 refl (p.1 ∙ ap (λ (e : FlashFault). Err e) p.2) lost)

@@ -1,0 +1,185 @@
+-- The pages that a table keeps.
+use Rattle.std.proofs.Common.{◌≡◌, ℕ, zero, suc, ◌+◌, ◌-◌, ◌^◌, ◌<◌, ◌≤◌, ◌⊎◌, inl, inr, Bool, true, ◌&&◌, ◌||◌, ◌==◌, cond, nat_lt, Option, Some, None, IfSome, option_map, unwrap_or, slice_get, List, [], ◌∷◌, length, map, take, drop, refl, sym, subst, ap, ◌∙◌, arith, length-drop}
+use Rattle.std.specs.List.{last_or, sum, AllByRecursion}
+use Rattle.std.proofs.lemmas.Bool.{eq-eqb, lt-ltb, cases_lt}
+use Rattle.std.proofs.lemmas.List.{length-take-le}
+use Rattle.std.proofs.lemmas.List.Sums.{sum_by-cons}
+use Rattle.fl_model.specs.Facts.{IsTable, FitsPlan, BlobFits, is_some_ring}
+use Rattle.fl_model.specs.Image.{HoldsRows, HoldsBitmaps, rows_at}
+use Rattle.fl_model.specs.Mount.{index_end}
+use Rattle.fl_model.specs.Query.{is_above}
+use Rattle.fl_model.specs.Record.{Plan, row_layout, has_var, entries_per_page}
+use Rattle.fl_model.specs.Ring.{Ring, IsRing, oldest}
+use Rattle.fl_model.specs.Row.{Row, IsStorable, stored_row}
+use Rattle.fl_model.specs.Table.{Table, Entry, DataRing, VarRing, shape_of, written, full_pages}
+use Rattle.fl_model.proofs.Lists.{slice_get-some, slice_get-short, slice_get-take, slice_get-drop, slice_get-front, each-drop, each-take, each-at, last_or-get}
+use Rattle.fl_page.specs.Steps.{Ascends}
+use Rattle.fl_check.specs.DataPage.{HoldsEntries, is_plain, are_plain}
+use Rattle.fl_check.specs.IndexPage.{IsIndexPage}
+use Rattle.fl_check.specs.KeptPages.{IsWithin, KeptPagesAreGood}
+use Rattle.fl_check.proofs.ContentPages.{content_of_page}
+
+-- ---- one entry
+
+abbrev row_of_blob : Entry → Option (List ℕ) → Row
+row_of_blob entry o = record { key = entry.kept.key; values = entry.kept.values; blob = option_map (λ bytes. record { page = entry.page; offset = entry.offset; length = length bytes }) o }
+
+module _ (plan : Plan) (entry : Entry) (fits : FitsPlan plan entry) where
+  row-storable : IsWithin plan → ((blob : List ℕ) → entry.kept.blob ≡ Some blob → 0 < length blob → entry.page < 2 ^ 32) → IsStorable (row_layout plan) (stored_row entry)
+  row-storable within numbered = by_blob entry.kept.blob refl fits.blob
+    where
+      by_length : (xs : List ℕ) → entry.kept.blob ≡ Some xs → (length xs ≡ 0 → (entry.page ≡ 0) × (entry.offset ≡ 0)) → entry.page < 2 ^ 32
+      by_length [] e none = omega (arith, (none refl).0)
+      by_length (x ∷ xs) e none = numbered (x ∷ xs) e (omega arith)
+
+      by_blob : (o : Option (List ℕ)) → entry.kept.blob ≡ o → BlobFits plan entry o → IsStorable (row_layout plan) (stored_row entry)
+      by_blob None e b =
+          subst (λ (o : Option (List ℕ)). IsStorable (row_layout plan) (row_of_blob entry o)) (sym e)
+          (record { fits = record { key = fits.key; as_many = fits.as_many; values = fits.values; blob = tt }; bytes = tt })
+      by_blob (Some bytes) e b =
+          let page : entry.page < 2 ^ 32 = by_length bytes e b.3 in
+          subst (λ (o : Option (List ℕ)). IsStorable (row_layout plan) (row_of_blob entry o)) (sym e)
+          (record {
+            fits = record { key = fits.key; as_many = fits.as_many; values = fits.values; blob = (b.0, λ at offset len. omega (arith, len, b.1, within.blob)) };
+            bytes = (page, omega (arith, b.2, within.page), omega (arith, b.1, within.blob));
+          })
+
+  row-plain : is_plain (stored_row entry).blob ≡ true
+  row-plain = by_blob entry.kept.blob refl fits.blob
+    where
+      by_length : (xs : List ℕ) → (length xs ≡ 0 → (entry.page ≡ 0) × (entry.offset ≡ 0)) → (nat_lt 0 (length xs) || ((entry.page == 0) && (entry.offset == 0))) ≡ true
+      by_length [] none = let both = none refl in ap (λ (b : Bool). b && (entry.offset == 0)) (eq-eqb entry.page 0 both.0) ∙ eq-eqb entry.offset 0 both.1
+      by_length (x ∷ xs) none = ap (λ (b : Bool). b || ((entry.page == 0) && (entry.offset == 0))) (lt-ltb 0 (length (x ∷ xs)) (omega arith))
+
+      by_blob : (o : Option (List ℕ)) → entry.kept.blob ≡ o → BlobFits plan entry o → is_plain (stored_row entry).blob ≡ true
+      by_blob None e b = ap (λ (o : Option (List ℕ)). is_plain (row_of_blob entry o).blob) e
+      by_blob (Some bytes) e b = ap (λ (o : Option (List ℕ)). is_plain (row_of_blob entry o).blob) e ∙ by_length bytes b.3
+
+-- ---- entries
+
+-- the blobs of these entries begin on pages whose numbers fit
+abbrev AreNumbered : List Entry → Type 0
+AreNumbered entries = (i : ℕ) (entry : Entry) (blob : List ℕ) → slice_get entries i ≡ Some entry → entry.kept.blob ≡ Some blob → 0 < length blob → entry.page < 2 ^ 32
+
+rows-storable : (plan : Plan) (entries : List Entry) → IsWithin plan → AreNumbered entries → AllByRecursion (FitsPlan plan) entries → AllByRecursion (IsStorable (row_layout plan)) (map stored_row entries)
+rows-storable plan [] within numbered fit = tt
+rows-storable plan (entry ∷ entries) within numbered fit =
+    (row-storable plan entry fit.0 within (λ blob is some. numbered 0 entry blob refl is some), rows-storable plan entries within (λ i. numbered (suc i)) fit.1)
+
+rows-plain : (plan : Plan) (entries : List Entry) → AllByRecursion (FitsPlan plan) entries → are_plain (map stored_row entries) ≡ true
+rows-plain plan [] fit = refl
+rows-plain plan (entry ∷ entries) fit = rw (row-plain plan entry fit.0) (rows-plain plan entries fit.1)
+
+-- ---- a table
+
+module _ (plan : Plan) (table : Table) (facts : IsTable plan table) where
+  written-numbered : AreNumbered (written table)
+  written-numbered i entry blob e is some =
+      by_ring table.var facts.has_rings.1 facts.var (facts.numbers VarRing) (facts.blobs i entry blob e is some)
+    where
+      fit : BlobFits plan entry (Some blob)
+      fit = subst (BlobFits plan entry) is (each-at (FitsPlan plan) table.entries i entry facts.fit (slice_get-front (length table.entries - table.pending) table.entries i entry e)).blob
+
+      by_ring : (o : Option Ring) → is_some_ring o ≡ has_var plan → IfSome o (IsRing (shape_of plan VarRing)) → IfSome o (λ ring. ring.next + (cond ring.torn 1 0) ≤ 4294967292)
+          → IfSome o (λ ring. (entry.page < oldest ring) ⊎ ((oldest ring ≤ entry.page) × (slice_get ring.counts (entry.page - oldest ring) ≡ Some 1))) → entry.page < 2 ^ 32
+      by_ring None has ring small at = absurd (cc (has ∙ fit.0))
+      by_ring (Some ring) has is_ring small (inl before) = omega (arith, before, small)
+      by_ring (Some ring) has is_ring small (inr within) =
+          let short = slice_get-short ring.counts (entry.page - oldest ring) 1 within.1 in
+          omega (arith, short, within.0, small)
+
+-- the pages before a page, and it, have no more records than all
+sum-within : (counts : List ℕ) (i count : ℕ) → slice_get counts i ≡ Some count → sum (take i counts) + count ≤ sum counts
+sum-within [] i count e = absurd (none e)
+  where
+    none : None ≡ Some count → ⊥
+    none e = cc
+sum-within (x ∷ xs) zero count e = let same : x ≡ count = cc in let all = sum_by-cons (λ (n : ℕ). n) x xs in omega (arith, same, all)
+sum-within (x ∷ xs) (suc i) count e =
+    let rest = sum-within xs i count e in
+    omega (arith, rest, sum_by-cons (λ (n : ℕ). n) x xs, sum_by-cons (λ (n : ℕ). n) x (take i xs))
+
+module _ (plan : Plan) (table : Table) (facts : IsTable plan table) (i count : ℕ) (at : slice_get table.rows.counts i ≡ Some count) where
+  abbrev start : ℕ
+  start = sum (take i table.rows.counts)
+
+  ends : sum (take i table.rows.counts) + count ≤ length table.entries - table.pending
+  ends = let part = sum-within table.rows.counts i count at in omega (arith, part, facts.counted)
+
+  row-count : length (rows_at table i count) ≡ count
+  row-count = length-take-le count (drop start table.entries) (omega (arith, ends, length-drop start table.entries))
+
+  rows-numbered : AreNumbered (rows_at table i count)
+  rows-numbered j entry blob e =
+      let short = slice_get-short (rows_at table i count) j entry e in
+      let there : slice_get (written table) (start + j) ≡ Some entry =
+      slice_get-take (length table.entries - table.pending) table.entries (start + j) (omega (arith, short, row-count, ends))
+      ∙ sym (slice_get-drop start table.entries j) ∙ slice_get-front count (drop start table.entries) j entry e in
+      written-numbered plan table facts (start + j) entry blob there
+
+  rows-fit : AllByRecursion (FitsPlan plan) (rows_at table i count)
+  rows-fit = each-take (FitsPlan plan) count (drop start table.entries) (each-drop (FitsPlan plan) start table.entries facts.fit)
+
+  rows-good : (page : List ℕ) → IsWithin plan → 0 < count → HoldsRows plan table i count page → HoldsEntries plan (oldest table.rows + i) page
+  rows-good page within some is = record {
+    entries = rows_at table i count;
+    some = omega (arith, some, row-count);
+    few = rw row-count (each-at _ table.rows.counts i count facts.few_rows at);
+    storable = rows-storable plan (rows_at table i count) within rows-numbered rows-fit;
+    plain = rows-plain plan (rows_at table i count) rows-fit;
+    bytes = is;
+  }
+
+-- ---- keys
+
+entries-ascend : (above : Option ℕ) (entries : List Entry) → ((entry : Entry) → slice_get entries 0 ≡ Some entry → is_above above entry.kept.key ≡ true)
+    → ((i j : ℕ) (a b : Entry) → i < j → slice_get entries i ≡ Some a → slice_get entries j ≡ Some b → a.kept.key < b.kept.key) → Ascends above (map stored_row entries)
+entries-ascend above [] first ascending = tt
+entries-ascend above (entry ∷ entries) first ascending = (
+  first entry refl,
+  entries-ascend (Some entry.kept.key) entries (λ next is. lt-ltb entry.kept.key next.kept.key (ascending 0 1 entry next (omega arith) refl is))
+      (λ i j a b less. ascending (suc i) (suc j) a b (omega (arith, less))),
+)
+
+-- ---- index pages
+
+first-below : (room first k : ℕ) (firsts : List ℕ) → slice_get firsts k ≡ Some first → ((i j a b : ℕ) → i < j → slice_get firsts i ≡ Some a → slice_get firsts j ≡ Some b → a + room ≤ b)
+    → first ≤ unwrap_or (option_map (λ page. page + room) (last_or None firsts)) 0
+first-below room first k [] at ascending = absurd (none at)
+  where
+    none : None ≡ Some first → ⊥
+    none e = cc
+first-below room first k (x ∷ xs) at ascending =
+    let last = slice_get-some (x ∷ xs) (length xs) (omega arith) in
+    let end : unwrap_or (option_map (λ page. page + room) (last_or None (x ∷ xs))) 0 ≡ last.0 + room =
+    ap (λ (o : Option ℕ). unwrap_or (option_map (λ page. page + room) o) 0) (last_or-get None x xs ∙ last.1) in
+    let short = slice_get-short (x ∷ xs) k first at in
+    elim (cases_lt k (length xs)) [
+      | inl before ↦ let step = ascending k (length xs) first last.0 before at last.1 in omega (arith, step, end)
+      | inr past ↦
+          let k_is : k ≡ length xs = omega (arith, past, short) in
+          let same : first ≡ last.0 = same-some (sym at ∙ ap (slice_get (x ∷ xs)) k_is ∙ last.1) in
+          omega (arith, same, end)
+    ]
+  where
+    same-some : {a b : ℕ} → Some a ≡ Some b → a ≡ b
+    same-some e = cc
+
+bitmaps-good : (plan : Plan) (table : Table) (ring : Ring) (i count : ℕ) (page : List ℕ) → IsTable plan table → HoldsBitmaps plan table ring i count page → IsIndexPage plan (oldest ring + i) page
+bitmaps-good plan table ring i count page facts is =
+    let low : is.first ≤ index_end plan table = first-below (entries_per_page plan) is.first (full_pages (take i ring.counts)) table.firsts is.listed facts.firsts in
+    record {
+      first = is.first;
+      bitmaps = is.bitmaps;
+      small = omega (arith, low, facts.listed, facts.numbers DataRing);
+      full = is.length;
+      bytes = is.bytes;
+    }
+
+pub good : KeptPagesAreGood
+good = record {
+  rows = λ plan table i count page within facts at some is. rows-good plan table facts i count at page within some is;
+  keys = λ plan table facts. entries-ascend None table.entries (λ entry is. refl) facts.ascending;
+  bitmaps = bitmaps-good;
+  content = λ plan ring i count page size is. content_of_page page (oldest ring + i) plan ring i count (sym size) refl is;
+}

@@ -1,0 +1,27 @@
+-- Each table of a state for which a session stands is one of its plan.
+use Rattle.std.proofs.Common.{◌≡◌, ◌<◌, ℕ, Bool, true, false, MatchBool, Some, List, subst, sym}
+use Rattle.std.specs.List.{slice_get}
+use Rattle.std.proofs.lemmas.Option.{slice_get_within}
+use Rattle.fl_flash.specs.Flash.{FlashState}
+use Rattle.fl_machine.specs.Machine.{Machine}
+use Rattle.fl_machine.specs.Small.{AreTables}
+use Rattle.fl_model.proofs.Lists.{slice_get-some}
+use Rattle.fl_model.specs.Facts.{IsTable}
+use Rattle.fl_model.specs.Record.{Config, Plan}
+use Rattle.fl_model.specs.Table.{Table}
+use Rattle.fl_table.specs.Pages.{Rests}
+use Rattle.fl_table.specs.Standing.{Stands}
+use Rattle.fl_session.specs.Standing.{SessionStands}
+use Rattle.fl_session.specs.Tables.{first_of}
+use Rattle.fl_session.specs.declared.notes.Notes.{Notes}
+use Rattle.fl_session.specs.declared.tables.Entry.{Entry}
+
+-- whether it is mounted or not
+table-holds : (mounted : Bool) (entry : Entry) (f : FlashState) (first : ℕ) (plan : Plan) (table : Table) → MatchBool mounted (Stands entry.table f first plan table) (Rests f first plan table) → IsTable plan table
+table-holds true entry f first plan table h = h.facts
+table-holds false entry f first plan table h = h.settled.facts
+
+pub tables-hold : (config : Config) (entries : List Entry) (f : FlashState) (mounted : Bool) (notes : Notes) (m : Machine) → SessionStands config entries f mounted notes m → AreTables config.plans m.tables
+tables-hold config entries f mounted notes m h place plan table p t =
+    let entry = slice_get-some entries place (subst (λ n. place < n) (sym h.tables.as_many) (slice_get_within config.plans place plan p)) in
+    table-holds mounted entry.0 f (first_of config.plans place) plan table (h.tables.each place plan entry.0 table p entry.1 t).on_flash

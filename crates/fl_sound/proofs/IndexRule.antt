@@ -1,0 +1,137 @@
+-- The rule on the entries of an index holds where its pages are those of a table's index.
+use Rattle.std.proofs.Common.{◌≡◌, ◌⊎◌, inl, inr, ℕ, zero, suc, ◌+◌, ◌%◌, ◌^◌, ◌<◌, ◌≤◌, Bool, true, cond, nat_lt, Option, Some, None, IfSome, List, [], ◌∷◌, length, take, sym, ◌∙◌, ap, subst, arith}
+use Rattle.std.specs.List.{slice_get, last_or}
+use Rattle.std.specs.Option.{option_map, unwrap_or}
+use Rattle.std.proofs.lemmas.Bool.{cases_lt, lt-ltb, ltb-true}
+use Rattle.std.proofs.lemmas.List.{take_all}
+use Rattle.fl_index.specs.Page.{page_first, entry_at}
+use Rattle.fl_index.specs.Standing.{HasIndex}
+use Rattle.fl_index.proofs.Firsts.{full-append, full-one, full-void, full-below}
+use Rattle.fl_index.proofs.Lists.{below-end}
+use Rattle.fl_mark.specs.Mark.{state_of_page}
+use Rattle.fl_model.specs.Image.{rows_at}
+use Rattle.fl_model.specs.Layout.{bitmap_of}
+use Rattle.fl_model.specs.Mount.{index_end}
+use Rattle.fl_model.specs.Record.{Plan, entries_per_page}
+use Rattle.fl_model.specs.Ring as model
+use Rattle.fl_model.specs.Table.{Table, Entry, full_pages}
+use Rattle.fl_model.proofs.Lists.{slice_get-some, last_or-push}
+use Rattle.fl_ring.specs.Newest.{commits}
+use Rattle.fl_ring.specs.Ring.{Shape}
+use Rattle.fl_check.specs.Entries.{entries_in, header_bitmap, IsEntry, Lists, first_listed, HaveEntries}
+use Rattle.fl_check.specs.Marks.{kept_page}
+use Rattle.fl_check.specs.Tally.{listed_to}
+use Rattle.fl_check.specs.declared.numbering.Numbering.{Numbering}
+use Rattle.fl_sound.proofs.Lists.{take-none, take-next}
+use Rattle.fl_sound.proofs.RingReads.{Reads}
+
+-- an index page lists the data pages from its first one on, with their bitmaps
+pub record ListsPages (plan : Plan) (table : Table) (ring : model.Ring) (width i : ℕ) (page : List ℕ) : Type 0 where
+  pub first : ℕ
+  pub bitmaps : List ℕ
+  pub first_is : page_first page ≡ first
+  pub listed : slice_get table.firsts (full_pages (take i ring.counts)) ≡ Some first
+  pub at : (j b : ℕ) → slice_get bitmaps j ≡ Some b → entry_at width page j ≡ b % 256 ^ width
+  pub each : (j m : ℕ) → j < entries_per_page plan → first + j ≡ model.oldest table.rows + m → IfSome (slice_get table.rows.counts m) (λ rows. 0 < rows →
+      slice_get bitmaps j ≡ Some (bitmap_of plan (rows_at table m rows)))
+
+module _ (plan : Plan) (page : ℕ → List ℕ) (x d : Shape) (at_least width : ℕ) (table : Table) (ring : model.Ring) (index n : Numbering) (facts : HasIndex plan table ring)
+    (reads_x : Reads page x 0 ring index) (per : entries_in x.size width ≡ entries_per_page plan)
+    (listings : (i c : ℕ) → slice_get ring.counts i ≡ Some c → 0 < c → ListsPages plan table ring width i (page (kept_page x index.marks i))) where
+  -- ---- the end of what is listed
+
+  abbrev ended : List ℕ → ℕ
+  ended firsts = unwrap_or (option_map (λ first. first + entries_in x.size width) (last_or None firsts)) 0
+
+  full-next : (i c : ℕ) → slice_get ring.counts i ≡ Some c → full_pages (take (suc i) ring.counts) ≡ full_pages (take i ring.counts) + full_pages (c ∷ [])
+  full-next i c e = ap full_pages (take-next ring.counts i c e) ∙ full-append (take i ring.counts) (c ∷ [])
+
+  listed-at : (i : ℕ) → i ≤ length ring.counts → listed_to (entries_in x.size width) page x index.marks i ≡ ended (take (full_pages (take i ring.counts)) table.firsts)
+  listed-at zero le = sym (ap (λ (l : List ℕ). ended (take (full_pages l) table.firsts)) (take-none ring.counts) ∙ ap ended (take-none table.firsts))
+  listed-at (suc i) le =
+      let c = slice_get-some ring.counts i (omega (arith, le)) in
+      by_count (listed-at i (omega (arith, le))) c.0 c.1 (cases_lt 0 c.0)
+    where
+      bytes : List ℕ
+      bytes = page (kept_page x index.marks i)
+
+      by_count : listed_to (entries_in x.size width) page x index.marks i ≡ ended (take (full_pages (take i ring.counts)) table.firsts) → (c : ℕ) → slice_get ring.counts i ≡ Some c → (0 < c) ⊎ (c ≤ 0)
+          → listed_to (entries_in x.size width) page x index.marks (suc i) ≡ ended (take (full_pages (take (suc i) ring.counts)) table.firsts)
+      by_count before_is c e (inl some) =
+          let l = listings i c e some in
+          let k = full_pages (take i ring.counts) in
+          let more : full_pages (take (suc i) ring.counts) ≡ suc (full_pages (take i ring.counts)) = omega (arith, full-next i c e, full-one c some) in
+          ap (λ (b : Bool). cond b (page_first bytes + entries_in x.size width) (listed_to (entries_in x.size width) page x index.marks i)) (reads_x.committed i c e ∙ lt-ltb 0 c some)
+          ∙ ap (λ (m : ℕ). m + entries_in x.size width) l.first_is
+          ∙ sym (ap (λ (m : ℕ). ended (take m table.firsts)) more ∙ ap ended (take-next table.firsts k l.first l.listed)
+          ∙ ap (λ (o : Option ℕ). unwrap_or (option_map (λ first. first + entries_in x.size width) o) 0) (last_or-push None (take k table.firsts) l.first))
+      by_count before_is c e (inr none) =
+          let same : full_pages (take (suc i) ring.counts) ≡ full_pages (take i ring.counts) = omega (arith, full-next i c e, full-void c none) in
+          let z : c ≡ 0 = omega (arith, none) in
+          ap (λ (b : Bool). cond b (page_first bytes + entries_in x.size width) (listed_to (entries_in x.size width) page x index.marks i)) (reads_x.committed i c e ∙ ap (nat_lt 0) z)
+          ∙ before_is ∙ ap (λ (m : ℕ). ended (take m table.firsts)) (sym same)
+
+  pub end-is : listed_to (entries_in x.size width) page x index.marks index.marks.kept ≡ index_end plan table
+  end-is =
+      ap (listed_to (entries_in x.size width) page x index.marks) reads_x.kept ∙ listed-at (length ring.counts) (omega arith)
+      ∙ ap (λ (l : List ℕ). ended (take (full_pages l) table.firsts)) (take_all (length ring.counts) ring.counts (omega arith))
+      ∙ ap ended (take_all (full_pages ring.counts) table.firsts (omega (arith, facts.first_each)))
+      ∙ ap (λ (k : ℕ). unwrap_or (option_map (λ first. first + k) (last_or None table.firsts)) 0) per
+
+  -- ---- the entries
+
+  module _ (reads_d : Reads page d at_least table.rows n) (known : length table.rows.counts ≤ table.rows.next) (begins : at_least ≡ index_end plan table)
+      (small : (entries : List Entry) → bitmap_of plan entries % 256 ^ width ≡ bitmap_of plan entries)
+      (headers : (m c : ℕ) → slice_get table.rows.counts m ≡ Some c → 0 < c → header_bitmap (page (kept_page d n.marks m)) ≡ bitmap_of plan (rows_at table m c)) where
+    -- a committed page has a count
+    record Counted (counts : List ℕ) (i : ℕ) : Type 0 where
+      pub c : ℕ
+      pub here : slice_get counts i ≡ Some c
+      pub some : 0 < c
+
+    index-count : (i : ℕ) → i < index.marks.kept → Lists page x index.marks i → Counted ring.counts i
+    index-count i lt lists =
+        let c = slice_get-some ring.counts i (omega (arith, lt, reads_x.kept)) in
+        record { c = c.0; here = c.1; some = ltb-true 0 c.0 (sym (reads_x.committed i c.0 c.1) ∙ lists) }
+
+    rows-count : (m : ℕ) → m < n.marks.kept → commits (state_of_page (page (kept_page d n.marks m))) ≡ true → Counted table.rows.counts m
+    rows-count m lt committed =
+        let c = slice_get-some table.rows.counts m (omega (arith, lt, reads_d.kept)) in
+        record { c = c.0; here = c.1; some = ltb-true 0 c.0 (sym (reads_d.committed m c.0 c.1) ∙ committed) }
+
+    ascends : (i : ℕ) → i < index.marks.kept → Lists page x index.marks i → (k : ℕ) → k < i → Lists page x index.marks k
+        → first_listed page x index.marks k + entries_in x.size width ≤ first_listed page x index.marks i
+    ascends i lt lists k before lists_k =
+        let a = index-count k (omega (arith, lt, before)) lists_k in
+        let b = index-count i lt lists in
+        let p = listings k a.c a.here a.some in
+        let q = listings i b.c b.here b.some in
+        let up = full-below ring.counts k i a.c before a.here a.some in
+        let step = facts.firsts (full_pages (take k ring.counts)) (full_pages (take i ring.counts)) p.first q.first (omega (arith, up)) p.listed q.listed in
+        omega (arith, step, per, p.first_is, q.first_is)
+
+    entry : (i : ℕ) → i < index.marks.kept → Lists page x index.marks i → (j : ℕ) → j < entries_in x.size width → IsEntry page d n width (page (kept_page x index.marks i)) j
+    entry i lt lists j few m lt_m at committed =
+        let a = index-count i lt lists in
+        let l = listings i a.c a.here a.some in
+        let b = rows-count m lt_m committed in
+        let next = reads_d.next m b.c b.here b.some in
+        let number : l.first + j ≡ model.oldest table.rows + m = omega (arith, at, l.first_is, next, reads_d.kept, lt_m, known) in
+        let bitmap = subst (λ (o : Option ℕ). IfSome o (λ rows. 0 < rows → slice_get l.bitmaps j ≡ Some (bitmap_of plan (rows_at table m rows)))) b.here (l.each j m (omega (arith, few, per)) number) b.some in
+        l.at j (bitmap_of plan (rows_at table m b.c)) bitmap ∙ small (rows_at table m b.c) ∙ sym (headers m b.c b.here b.some)
+
+    ends : (i : ℕ) → i < index.marks.kept → Lists page x index.marks i → first_listed page x index.marks i + entries_in x.size width ≤ n.next
+    ends i lt lists =
+        let a = index-count i lt lists in
+        let l = listings i a.c a.here a.some in
+        let end = below-end (entries_per_page plan) table.firsts (full_pages (take i ring.counts)) l.first facts.firsts l.listed in
+        elim reads_d.least [
+          | inl same ↦ omega (arith, end, per, l.first_is, facts.listed, same)
+          | inr behind ↦ omega (arith, end, per, l.first_is, begins, behind)
+        ]
+
+    pub have-entries : HaveEntries page x d (record { width = width; index = index.marks; rows = n })
+    have-entries i lt = record {
+      listing = λ lists. record { ascends = ascends i lt lists; entries = entry i lt lists };
+      ends = λ lists last. ends i lt lists;
+    }

@@ -1,0 +1,13 @@
+pub mod RingReads
+pub mod Lists
+pub mod DataRing
+pub mod IndexRule
+pub mod ReferenceRule
+pub mod RingSound
+pub mod ConfigFacts
+pub mod DataPart
+pub mod IndexPart
+pub mod VarPart
+pub mod Whole
+pub mod Checks
+pub mod Scripts

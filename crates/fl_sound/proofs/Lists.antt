@@ -1,0 +1,52 @@
+-- Parts of lists, one element after another.
+use Rattle.std.proofs.Common.{◌≡◌, ℕ, zero, suc, ◌+◌, Option, Some, None, List, [], ◌∷◌, ◌++◌, map, take, drop, max, refl, ◌∙◌, ap}
+use Rattle.std.specs.List.{slice_get, fold}
+use Rattle.std.proofs.lemmas.List.{map-append}
+use Rattle.std.proofs.lemmas.List.Sums.{fold-append}
+use Rattle.std.proofs.Math.Seq.{take-add}
+use Rattle.fl_model.specs.Row.{Row, stored_row}
+use Rattle.fl_model.specs.Table.{Entry}
+use Rattle.fl_page.specs.Steps.{Ascends}
+use Rattle.fl_check.specs.Rising.{last_in}
+use Rattle.fl_check.specs.Tally.{reference_end, blobs_end}
+
+pub take-none : {X : Type 0} (xs : List X) → take 0 xs ≡ []
+take-none [] = refl
+take-none (x ∷ xs) = refl
+
+-- one more is taken
+pub take-next : {X : Type 0} (xs : List X) (i : ℕ) (x : X) → slice_get xs i ≡ Some x → take (suc i) xs ≡ take i xs ++ x ∷ []
+take-next {X} [] i x e = absurd (none e)
+  where
+    none : ◌≡◌ {A = Option X} None (Some x) → ⊥
+    none k = cc
+take-next {X} (y ∷ ys) zero x e = let same : y ≡ x = some e in ap (λ (l : List X). y ∷ l) (take-none ys) ∙ ap (λ (z : X). z ∷ []) same
+  where
+    some : ◌≡◌ {A = Option X} (Some y) (Some x) → y ≡ x
+    some k = cc
+take-next {X} (y ∷ ys) (suc i) x e = ap (λ (l : List X). y ∷ l) (take-next ys i x e)
+
+-- the rows of entries, and of those behind them
+pub rows-behind : (a c : ℕ) (entries : List Entry) → map stored_row (take (a + c) entries) ≡ map stored_row (take a entries) ++ map stored_row (take c (drop a entries))
+rows-behind a c entries = ap (map stored_row) (take-add a c entries) ∙ map-append stored_row (take a entries) (take c (drop a entries))
+
+-- ---- keys
+
+pub last-behind : (before : Option ℕ) (rows others : List Row) → last_in before (rows ++ others) ≡ last_in (last_in before rows) others
+last-behind before [] others = refl
+last-behind before (row ∷ rows) others = last-behind (Some row.key) rows others
+
+pub ascends-behind : (before : Option ℕ) (rows others : List Row) → Ascends before (rows ++ others) → Ascends (last_in before rows) others
+ascends-behind before [] others h = h
+ascends-behind before (row ∷ rows) others h = ascends-behind (Some row.key) rows others h.1
+
+pub ascends-front : (before : Option ℕ) (rows others : List Row) → Ascends before (rows ++ others) → Ascends before rows
+ascends-front before [] others h = tt
+ascends-front before (row ∷ rows) others h = (h.0, ascends-front (Some row.key) rows others h.1)
+
+-- ---- blobs
+
+pub blobs-behind : (so_far : ℕ) (rows others : List Row) → blobs_end so_far (rows ++ others) ≡ blobs_end (blobs_end so_far rows) others
+blobs-behind so_far rows others =
+    ap (fold max so_far) (map-append (λ (row : Row). reference_end row.blob) rows others)
+    ∙ fold-append max so_far (map (λ (row : Row). reference_end row.blob) rows) (map (λ (row : Row). reference_end row.blob) others)
