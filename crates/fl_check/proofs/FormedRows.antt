@@ -48,7 +48,8 @@ module _ (key : KeyWidth) (types : List ColumnType) (blobs : Bool) (buckets : Op
   have_rows page r at_least n short formed = λ i lt committed.
       let bytes = page (kept_page r n.marks i) in
       let number = n.next - (n.marks.kept - i) in
-      let is = formed.bodies i lt committed in
+      let own = (formed.numbered.numbers.each i lt).not_negative in
+      let is = formed.bodies i lt number (omega (arith, own)) committed in
       let left = formed.numbered.numbers.left in
       let good = data_good key types blobs bytes number buckets (long number bytes is) is (omega (arith, left)) (short (kept_page r n.marks i)) in
       record { number_is = refl; some = good.some; room = good.room }

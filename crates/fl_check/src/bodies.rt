@@ -26,7 +26,8 @@ pub trait Form {
         ensures exact { IsTrue result ↔ holds self.now number page.now };
 }
 
-/// Looks for the oldest kept page that is committed and hasn't the form, and answers which of the kept ones it is.
+/// Looks for the oldest kept page that is committed and hasn't the form, and answers which of the kept ones it is. A page
+/// whose number would be below 0 is passed.
 fn first_unformed<F: Flash, B: Form>(
     ring: &Ring,
     flash: &mut F,
@@ -46,10 +47,12 @@ fn first_unformed<F: Flash, B: Form>(
 {
     for i in 0..n.marks.kept {
         let back = n.marks.kept - i;
+        // By the rule on the numbers none is below 0.
+        let Some(number) = n.next.checked_sub(back) else {
+            continue;
+        };
         let page = ring.page_back(n.marks.at, back);
         let state = look(flash, page, buf)?;
-        // By the rule on the numbers none is below 0.
-        let number = n.next.saturating_sub(back);
         if is_committed(state) {
             if !form.is_of(number, buf.bytes()) {
                 return Ok(Some(i));
@@ -59,7 +62,8 @@ fn first_unformed<F: Flash, B: Form>(
     Ok(None)
 }
 
-/// Checks that the committed pages among the kept ones have the form of their ring.
+/// Checks that the committed pages among the kept ones have the form of their ring, each with its number, which follows from
+/// the next one. A page whose number would be below 0 is passed.
 pub fn check_bodies<F: Flash, B: Form>(
     ring: &Ring,
     flash: &mut F,

@@ -191,6 +191,3 @@ impl Config {
         &self.tables.as_slice()[i].config
     }
 }
-
-#[cfg(test)]
-mod tests;

@@ -149,6 +149,3 @@ impl Config {
         open(media, self.image_len(), &head)
     }
 }
-
-#[cfg(test)]
-mod tests;

@@ -18,15 +18,10 @@ pub struct FileMedia<F> {
     reads: u64,
 }
 
-// Opens the file for reading and writing, and creates it where it is missing.
-fn open_file<R: Files>(rt: &R, name: &str) -> Option<R::File> {
-    let mut how = OpenOptions::new();
-    how.read(true).write(true).create(true);
-    how.open(rt, name).ok()
-}
-
+// The length of a file; none of what is none, as a folder, which can be opened for reading.
 fn length_of<F: OpenFile>(file: &F) -> Option<u64> {
-    file.metadata().ok().map(|metadata| metadata.len())
+    let metadata = file.metadata().ok()?;
+    metadata.is_file().then_some(metadata.len())
 }
 
 impl<F: FileExt + OpenFile + Drop> FileMedia<F> {
@@ -37,7 +32,41 @@ impl<F: FileExt + OpenFile + Drop> FileMedia<F> {
         ensures no_fault { (⟦<FileMedia<F> as Media>⟧.state result).faults ≡ 0 }
         ensures no_read { (⟦<FileMedia<F> as Media>⟧.state result).reads ≡ 0 }
     {
-        let file = open_file(rt, name);
+        let mut how = OpenOptions::new();
+        how.read(true).write(true).create(true);
+        FileMedia::of(how.open(rt, name).ok())
+    }
+
+    /// The file of this name as a medium that is only read. It is opened for reading alone and never made, and the system
+    /// refuses each write to it. This never fails: a file that can't be opened so has length 0, and each of its calls fails.
+    pub fn open_read_only<R: Files<File = F>>(rt: &R, name: &str) -> FileMedia<F>
+        ensures untold { (⟦<FileMedia<F> as Media>⟧.state result).tells ≡ false }
+        ensures no_fault { (⟦<FileMedia<F> as Media>⟧.state result).faults ≡ 0 }
+        ensures no_read { (⟦<FileMedia<F> as Media>⟧.state result).reads ≡ 0 }
+    {
+        let mut how = OpenOptions::new();
+        how.read(true);
+        FileMedia::of(how.open(rt, name).ok())
+    }
+
+    /// The file of this name as a medium that is never made. This never fails: a file that is missing, or that can't be
+    /// opened for reading and writing, has length 0, and each of its calls fails.
+    pub fn open_existing<R: Files<File = F>>(rt: &R, name: &str) -> FileMedia<F>
+        ensures untold { (⟦<FileMedia<F> as Media>⟧.state result).tells ≡ false }
+        ensures no_fault { (⟦<FileMedia<F> as Media>⟧.state result).faults ≡ 0 }
+        ensures no_read { (⟦<FileMedia<F> as Media>⟧.state result).reads ≡ 0 }
+    {
+        let mut how = OpenOptions::new();
+        how.read(true).write(true);
+        FileMedia::of(how.open(rt, name).ok())
+    }
+
+    // The medium of a file, or of none where that couldn't be opened.
+    fn of(file: Option<F>) -> FileMedia<F>
+        ensures untold { (⟦<FileMedia<F> as Media>⟧.state result).tells ≡ false }
+        ensures no_fault { (⟦<FileMedia<F> as Media>⟧.state result).faults ≡ 0 }
+        ensures no_read { (⟦<FileMedia<F> as Media>⟧.state result).reads ≡ 0 }
+    {
         let len = file.as_ref().and_then(length_of).unwrap_or(0);
         FileMedia {
             file,

@@ -2,7 +2,8 @@
 use Rattle.std.proofs.Common.{◌≡◌, ◌≢◌, ◌⊎◌, inl, inr, ℕ, zero, suc, ◌+◌, ◌*◌, ◌-◌, ◌≤◌, ◌<◌, Bool, true, false, ◌||◌, ◌==◌, IsTrue, List, [], ◌∷◌, length, take, drop, replicate, slice_range, slice_set, get_or, bit_and, refl, sym, ◌∙◌, ap, subst, arith}
 use Rattle.std.proofs.lemmas.Bool.{both_ways, cases_lt, and_parts, or_cases, eqb-true}
 use Rattle.std.proofs.lemmas.Grind.{numeral_and}
-use Rattle.std.proofs.lemmas.List.{places, drop-drop, drop-replicate, take-replicate, get_or-set_other}
+use Rattle.std.proofs.lemmas.List.{places, drop-drop, drop-replicate, take-replicate, get_or-set_other, get_or_default}
+use Rattle.std.proofs.Math.Bool.{or-true}
 use Rattle.std.proofs.Math.Nat.{mod-eq_of_lt, mul_assoc}
 use Rattle.std.specs.Int.Bits.{and_zero_r}
 use Rattle.fl_base.specs.declared.types.Geometry.{Geometry}
@@ -20,7 +21,7 @@ and_ones (b ∷ bs) fits =
     ∙ ap (λ (l : List ℕ). b ∷ l) (and_ones bs (λ i. fits (suc i)))
 
 -- a program of zeros leaves zeros
-and_zeros : (xs bs : List ℕ) → length xs ≡ length bs → all_zero bs ≡ true → and_bytes xs bs ≡ bs
+pub and_zeros : (xs bs : List ℕ) → length xs ≡ length bs → all_zero bs ≡ true → and_bytes xs bs ≡ bs
 and_zeros [] [] e none = refl
 and_zeros [] (b ∷ bs) e none = absurd (omega arith)
 and_zeros (x ∷ xs) [] e none = absurd (omega arith)
@@ -29,6 +30,10 @@ and_zeros (x ∷ xs) (b ∷ bs) e none =
     let is : b ≡ 0 = eqb-true b 0 parts.0 in
     ap (λ (y : ℕ). bit_and x y ∷ and_bytes xs bs) is ∙ ap (λ (y : ℕ). y ∷ and_bytes xs bs) (and_zero_r x ∙ sym is)
     ∙ ap (λ (l : List ℕ). b ∷ l) (and_zeros xs bs (omega arith) parts.1)
+
+-- a flag that is there, read with any other value for those that aren't
+pub any_default : (flags : List Bool) (p : ℕ) (is : Bool) → p < length flags → is ≡ get_or flags p is → is ≡ true → get_or flags p false ≡ true
+any_default flags p is lt same set = get_or_default flags p false is lt ∙ sym same ∙ set
 
 -- either of the two leaves exactly its bytes
 pub exact_program : (c : List ℕ) (start size p from : ℕ) (bs : List ℕ) (flag : Bool) → from + length bs ≤ size → start + p * size + size ≤ length c

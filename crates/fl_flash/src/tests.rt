@@ -72,12 +72,28 @@ fn a_torn_erase_leaves_what_its_kind_says(rt: HostRuntime) -> Result<(), Fail> {
 #[test]
 fn a_sealed_page_costs_two_writes(rt: HostRuntime) -> Result<(), Fail> {
     let alloc = rt.alloc();
-    let mut media = medium(alloc, 255)?;
-    let mut flash = SimFlash::new(alloc, &mut media, GEOMETRY, 3, 16)?;
-    assert_eq!(rt; flash.erase(0), Ok(()));
-    assert_eq!(rt; flash.program_pair(1, &[1; 56], &[0; 4]), Ok(()));
-    let _media = flash.into_media();
-    assert_eq!(rt; media.calls(), 3);
+    // What the medium holds, whether the pages' block is erased, what is left of the first program's bytes, and the calls
+    // of the medium: two for each sealed page, one for the read of a page, and one for the erase. Where that isn't done,
+    // one reads the block, once where its pages are blank, and else for each of them.
+    for (held, is_erased, first, calls) in [
+        (15, true, 249, 6),
+        (255, false, 249, 6),
+        (15, false, 9, 7),
+    ] {
+        let mut media = medium(alloc, held)?;
+        let mut flash = SimFlash::new(alloc, &mut media, GEOMETRY, 3, 16)?;
+        let mut page = PageBuf::new(alloc, 64)?;
+        if is_erased {
+            assert_eq!(rt; flash.erase(0), Ok(()));
+        }
+        assert_eq!(rt; flash.program_pair(1, &[249; 56], &[0; 4]), Ok(()));
+        assert_eq!(rt; flash.read(1, &mut page), Ok(()));
+        assert_eq!(rt; page.bytes().first(), Some(&first));
+        assert_eq!(rt; page.bytes().get(56), Some(&0));
+        assert_eq!(rt; flash.program_pair(0, &[249; 56], &[0; 4]), Ok(()));
+        let _media = flash.into_media();
+        assert_eq!(rt; media.calls(), calls);
+    }
     Ok(())
 }
 

@@ -152,7 +152,7 @@ faults_by geometry plans line cols =
     ∷ (too_large geometry (plans ++ plan ∷ []), words.DeviceTooLarge) ∷ []
 
 -- where no fault applies, no test passes
-test-passes : (tests : List (Bool × ConfigFault)) (i : ℕ) (test : Bool × ConfigFault) → first_fault tests ≡ None → slice_get tests i ≡ Some test → test.0 ≡ false
+pub test-passes : (tests : List (Bool × ConfigFault)) (i : ℕ) (test : Bool × ConfigFault) → first_fault tests ≡ None → slice_get tests i ≡ Some test → test.0 ≡ false
 test-passes [] i test h e = absurd (none e)
   where
     none : None ≡ Some test → ⊥

@@ -27,6 +27,12 @@ after_lines lines (text ∷ texts) = option_and_then (λ next. after_lines next 
 abbrev pub IsAccepted : Lines → Type 0
 IsAccepted lines = (texts : List (List ℕ)) × (after_lines no_lines texts ≡ Some lines)
 
+-- accepted lines make a configuration
+pub record IsMade (config : Config) : Type 0 where
+  pub lines : Lines
+  pub accepted : IsAccepted lines
+  pub makes : Makes lines config
+
 -- the parts of a text between newlines
 abbrev pub parts_of : List ℕ → List (List ℕ)
 parts_of text = slice_split (λ byte. byte == 10) text

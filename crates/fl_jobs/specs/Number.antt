@@ -1,7 +1,7 @@
 -- The number of a status.
 use Rattle.std.specs.Prelude.{ℕ}
 use Rattle.fl_jobs.specs.declared.status.ToolStatus.{ToolStatus}
-use Rattle.fl_jobs.specs.declared.status.ToolStatus.TheVariants.{Done, OutWrite, NoMemory, NotImage, Device, Unsound}
+use Rattle.fl_jobs.specs.declared.status.ToolStatus.TheVariants.{Done, OutWrite, NoMemory, NotImage, Device, BadImage, NoTable, Unsound}
 
 abbrev pub number_of : ToolStatus → ℕ
 number_of Done = 0
@@ -9,4 +9,6 @@ number_of OutWrite = 4
 number_of NoMemory = 9
 number_of NotImage = 11
 number_of Device = 12
+number_of (BadImage table) = 13
+number_of NoTable = 14
 number_of Unsound = 16

@@ -10,7 +10,7 @@ use fl_config::Config;
 use fl_script::{LineRoom, read_line};
 
 /// The bytes in front of the pages of an image.
-pub(crate) const HEADER: usize = 1024;
+pub const HEADER: usize = 1024;
 
 /// Whether a line is taken. One that isn't leaves the configuration.
 fn take_line(config: &mut Config, line: &[u8], room: &mut LineRoom) -> bool

@@ -16,10 +16,7 @@ use fl_flash::Media;
 use fl_script::LineRoom;
 
 /// The configuration of which the medium is an image: its first bytes are that one's header, and its length is that one's.
-pub(crate) fn config_of_image<M: Media>(
-    media: &mut M,
-    room: &mut LineRoom,
-) -> Result<Config, ToolStatus>
+pub fn config_of_image<M: Media>(media: &mut M, room: &mut LineRoom) -> Result<Config, ToolStatus>
     ensures image { IfOk result (λ config. IsTrue (M.state media.old).tells → IsAccepted config × IsImageOf (M.state media.old).content config) }
     ensures none { result ≡ Err ToolStatus.NotImage → IsTrue (M.state media.old).tells → (config : Lines) → IsAccepted config → IsImageOf (M.state media.old).content config → ⊥ }
     ensures device { result ≡ Err ToolStatus.Device → Rose (M.state media.old).faults (M.state media.new).faults }

@@ -1,4 +1,5 @@
-//! The jobs over an image that are no run of a script: so far its check.
+//! The jobs over an image that are no run of a script: the words that name them, how they end, the configuration that an
+//! image tells, and its check.
 #![tactic(auto)]
 
 mod check;
@@ -14,7 +15,8 @@ mod words;
 
 pub use check::check_image;
 pub use checker::CheckTable;
-pub use header::config_of_header;
+pub use header::{HEADER, config_of_header};
+pub use image::config_of_image;
 pub use report::write_finding;
 pub use rings::RingChecker;
 pub use status::ToolStatus;

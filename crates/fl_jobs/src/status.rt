@@ -15,6 +15,10 @@ pub enum ToolStatus {
     NotImage,
     /// The medium failed.
     Device,
+    /// The pages of this table, counted from 0, were not left by a table.
+    BadImage { table: u32 },
+    /// No table of the image has the name.
+    NoTable,
     /// A check found a fault, and has told it.
     Unsound,
 }
@@ -30,6 +34,8 @@ impl ToolStatus {
             ToolStatus::NoMemory => 9,
             ToolStatus::NotImage => 11,
             ToolStatus::Device => 12,
+            ToolStatus::BadImage { table: _ } => 13,
+            ToolStatus::NoTable => 14,
             ToolStatus::Unsound => 16,
         }
     }

@@ -117,6 +117,3 @@ fn operator_command(first: &[u8], words: &[&[u8]]) -> Result<Command, LineFault>
         Err(LineFault::Unknown)
     }
 }
-
-#[cfg(test)]
-mod tests;

@@ -62,6 +62,3 @@ pub fn write_all<K: Sink>(bytes: &[u8], out: &mut K) -> Result<(), SinkFailed>
     }
     Ok(())
 }
-
-#[cfg(test)]
-mod tests;

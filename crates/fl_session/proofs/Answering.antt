@@ -14,12 +14,12 @@ use Rattle.fl_machine.specs.Stays.{MomentStays}
 use Rattle.fl_machine.specs.Step.{Moment, Step, StepOf, Says, Located, located, WhenMounted, WithTable}
 use Rattle.std.specs.Prelude.{MatchBool, MatchOption}
 use Rattle.fl_script.specs.Written.{Written}
+use Rattle.fl_tables.specs.declared.tables.Entry.{Entry}
 use Rattle.fl_session.specs.Answer.{Answers}
 use Rattle.fl_session.specs.Cost.{CountsReads, ReadsAsStated}
 use Rattle.fl_session.specs.Execute.{Executes}
 use Rattle.fl_session.specs.Standing.{SessionStands}
 use Rattle.fl_session.specs.declared.notes.Notes.{Notes}
-use Rattle.fl_session.specs.declared.tables.Entry.{Entry}
 use Rattle.fl_session.proofs.Executing.{executes-by, one-text}
 use Rattle.fl_session.proofs.Rested.{stays-still}
 

@@ -22,13 +22,13 @@ use Rattle.fl_table.specs.declared.counts.TableCounts.{TableCounts}
 use Rattle.fl_table.specs.declared.faults.FlushFault.{FlushFault}
 use Rattle.fl_table.specs.declared.faults.PutRefusal.{PutRefusal}
 use Rattle.fl_table.specs.declared.table.Table.{Table}
+use Rattle.fl_tables.specs.Tables.{first_of, entries_with, TablesStand, TablesMount}
+use Rattle.fl_tables.specs.declared.tables.BadMount.{BadMount}
+use Rattle.fl_tables.specs.declared.tables.Entry.{Entry}
 use Rattle.fl_session.specs.Answer.{Answers, IsReached, put_reply, flush_reply, mount_reply}
 use Rattle.fl_session.specs.Notes.{without_cursors}
 use Rattle.fl_session.specs.declared.notes.Notes.{Notes}
 use Rattle.fl_session.specs.Standing.{SessionStands}
-use Rattle.fl_session.specs.Tables.{first_of, entries_with, TablesStand, TablesMount}
-use Rattle.fl_session.specs.declared.tables.BadMount.{BadMount}
-use Rattle.fl_session.specs.declared.tables.Entry.{Entry}
 use Rattle.fl_session.proofs.Answering.{answers-media}
 use Rattle.fl_session.proofs.MountsOf.{Repairs, stands-on, mount-watched, mount-answers, answers-already}
 use Rattle.fl_session.proofs.Owning.{own-of}

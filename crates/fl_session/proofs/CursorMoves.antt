@@ -30,22 +30,22 @@ use Rattle.fl_script.specs.Written.{Written}
 use Rattle.fl_table.specs.Memory.{LiesOn}
 use Rattle.fl_table.specs.Standing.{Stands}
 use Rattle.fl_table.specs.declared.table.Table.{Table}
+use Rattle.fl_tables.specs.declared.tables.Entry.{Entry}
+use Rattle.fl_tables.specs.Tables.{first_of}
+use Rattle.fl_tables.proofs.Lying.{lies-on}
+use Rattle.fl_tables.proofs.TablesChanged.{at-place}
 use Rattle.fl_session.specs.Cost.{HasRead, ReadsAsStated}
 use Rattle.fl_session.specs.Execute.{Executes}
 use Rattle.fl_session.specs.Nexts.{Nexts, given_of}
 use Rattle.fl_session.specs.Notes.{cursor_of}
 use Rattle.fl_session.specs.declared.notes.Notes.{Notes}
 use Rattle.fl_session.specs.declared.notes.TableCursor.{TableCursor}
-use Rattle.fl_session.specs.declared.tables.Entry.{Entry}
 use Rattle.fl_session.specs.Standing.{SessionStands}
-use Rattle.fl_session.specs.Tables.{first_of}
 use Rattle.fl_session.proofs.Answering.{answers-saying, executes-answered, saying, says}
 use Rattle.fl_session.proofs.Costing.{read-none}
 use Rattle.fl_session.proofs.CursorsOf.{cursor-told}
 use Rattle.fl_session.proofs.Getting.{goes-reads, tables-looked}
 use Rattle.fl_session.proofs.Rested.{session-ends}
-use Rattle.fl_session.proofs.Sound.{lies-on}
-use Rattle.fl_session.proofs.TablesChanged.{at-place}
 use Rattle.fl_session.proofs.Working.{medium-goes}
 
 -- reads leave a table where it lies

@@ -24,20 +24,20 @@ use Rattle.fl_script.specs.Written.{Written}
 use Rattle.fl_script.specs.declared.reply.Reply as code
 use Rattle.fl_table.specs.Standing.{Stands}
 use Rattle.fl_table.specs.declared.table.Table.{Table}
+use Rattle.fl_tables.specs.declared.tables.Entry.{Entry}
+use Rattle.fl_tables.specs.Tables.{first_of, EntryStands, TablesStand}
+use Rattle.fl_tables.proofs.Apart.{stands-pages}
+use Rattle.fl_tables.proofs.TablesChanged.{tables-still}
 use Rattle.fl_session.specs.Answer.{Refusal, IsReached}
 use Rattle.fl_session.specs.Execute.{Executes}
 use Rattle.fl_session.specs.Looked.{Looks}
 use Rattle.fl_session.specs.Cost.{cost_of, HasRead, ReadsGet}
 use Rattle.fl_session.specs.declared.notes.Notes.{Notes}
-use Rattle.fl_session.specs.declared.tables.Entry.{Entry}
 use Rattle.fl_session.specs.declared.cost.Cost.{Cost}
 use Rattle.fl_session.specs.declared.cost.Cost.TheVariants as code_cost
 use Rattle.fl_session.specs.Standing.{SessionStands}
-use Rattle.fl_session.specs.Tables.{first_of, EntryStands, TablesStand}
-use Rattle.fl_session.proofs.Apart.{stands-pages}
 use Rattle.fl_session.proofs.Answering.{executes-answered, executes-read, step-is, table-step}
 use Rattle.fl_session.proofs.Owning.{own-of, own-none}
-use Rattle.fl_session.proofs.TablesChanged.{tables-still}
 use Rattle.fl_session.proofs.Costing.{read-none}
 use Rattle.fl_session.proofs.Executing.{one-text}
 use Rattle.fl_session.proofs.Refusing.{answers-refused}

@@ -18,11 +18,11 @@ use Rattle.fl_table.specs.Pages.{KeptStand, bytes_in}
 use Rattle.fl_table.specs.Standing.{Stands}
 use Rattle.fl_table.specs.declared.table.Table as code
 use Rattle.fl_table.proofs.Images.{pages-medium}
+use Rattle.fl_tables.specs.Tables.{first_of, EntryStands, TablesStand}
+use Rattle.fl_tables.specs.declared.tables.Entry.{Entry}
+use Rattle.fl_tables.proofs.Apart.{other-pages}
+use Rattle.fl_tables.proofs.TablesChanged.{some-is}
 use Rattle.fl_session.specs.Standing.{IsOnMedium}
-use Rattle.fl_session.specs.Tables.{first_of, EntryStands, TablesStand}
-use Rattle.fl_session.specs.declared.tables.Entry.{Entry}
-use Rattle.fl_session.proofs.Apart.{other-pages}
-use Rattle.fl_session.proofs.TablesChanged.{some-is}
 
 -- The numbers of a ring go on, and the pages that it keeps stand.
 pub record RingKeeps (config : Config) (bytes now : List ℕ) (place : ℕ) (plan : Plan) (ring : RingName) (before after : Ring) : Type 0 where

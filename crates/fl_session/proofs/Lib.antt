@@ -1,4 +1,3 @@
-pub mod Equality
 pub mod Pairing
 pub mod Parts
 pub mod Reading
@@ -11,10 +10,7 @@ pub mod Beginning
 pub mod Ready
 pub mod Ending
 pub mod Pieces
-pub mod Going
 pub mod Executing
-pub mod Apart
-pub mod TablesChanged
 pub mod Owning
 pub mod Answering
 pub mod Costing
@@ -22,16 +18,10 @@ pub mod Refusing
 pub mod StepsOf
 pub mod Working
 pub mod Stating
-pub mod MountedSoFar
-pub mod TablesReads
-pub mod TornPages
-pub mod RingRepairs
-pub mod TableRepairs
 pub mod MountsOf
 pub mod Calls
 pub mod Sound
 pub mod Rested
-pub mod TablesMade
 pub mod Over
 pub mod Fresh
 pub mod Completing

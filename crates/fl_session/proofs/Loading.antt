@@ -1,5 +1,5 @@
 -- The puts of a load, one after another.
-use Rattle.std.proofs.Common.{◌≡◌, ℕ, suc, ◌+◌, ◌-◌, ◌^◌, ◌≤◌, ◌<◌, min, Bool, true, false, not, IsTrue, IfErr, Option, Some, None, Result, Ok, Err, List, [], ◌∷◌, slice_get, refl, sym, ◌∙◌, ap, subst, arith, le_trans}
+use Rattle.std.proofs.Common.{◌≡◌, ℕ, suc, ◌+◌, ◌-◌, ◌^◌, ◌<◌, min, Bool, true, false, not, IsTrue, IfErr, Option, Some, None, Result, Ok, Err, List, [], ◌∷◌, slice_get, refl, sym, ◌∙◌, ap, subst, arith}
 use Rattle.std.specs.Prelude.{MatchOption, option_map, unwrap_or, is_err}
 use Rattle.std.proofs.lemmas.Bool.{le-leb}
 use Rattle.std.proofs.lemmas.List.{set-set}
@@ -30,17 +30,17 @@ use Rattle.fl_table.specs.Look.{layout_in}
 use Rattle.fl_table.specs.Memory.{IsSamePlan}
 use Rattle.fl_table.specs.Outcomes.{FaultEnds, PutEnds}
 use Rattle.fl_table.specs.Standing.{Stands}
+use Rattle.fl_tables.specs.Tables.{first_of, entries_with, IsNamed}
+use Rattle.fl_tables.specs.declared.tables.Entry.{Entry}
+use Rattle.fl_tables.proofs.TablesChanged.{set-there, set-elsewhere, set-same, some-is, at-place}
 use Rattle.fl_session.specs.Answer.{Answers, fault_reply, load_replies}
 use Rattle.fl_session.specs.Load.{load_key}
 use Rattle.fl_session.specs.declared.notes.Notes.{Notes}
 use Rattle.fl_session.specs.Standing.{SessionStands}
-use Rattle.fl_session.specs.Tables.{first_of, entries_with, IsNamed}
-use Rattle.fl_session.specs.declared.tables.Entry.{Entry}
 use Rattle.fl_session.proofs.Answering.{step-is, table-step}
 use Rattle.fl_session.proofs.Keeping.{TablesKeep, tables-keep_all, tables-on, tables-stay, mounted-stays}
 use Rattle.fl_session.proofs.Owning.{Own, own-of}
 use Rattle.fl_session.proofs.Rested.{session-ends}
-use Rattle.fl_session.proofs.TablesChanged.{set-there, set-elsewhere, set-same, some-is, at-place}
 use Rattle.fl_session.proofs.Working.{has_risen, risen-rose, performs-all, stands-done, stands-broken, keeps-done, last_of, not-whole}
 
 -- the machine in the midst of a load
@@ -126,15 +126,9 @@ made-is t f first plan table step seed i s key values last stands e k v =
     let values_are : values ≡ load_values i seed 1 plan.columns = v ∙ ap (λ l. load_values i seed 1 l.columns) (sym stands.planned.layout) in
     ap (λ n. made n values) key_is ∙ ap (λ vs. made (load_record plan table step seed i s).key vs) values_are
 
--- faults that rose in a part of a load rose in the whole
-pub rose-front : (before mid now : ℕ) → mid ≤ now → Rose before mid → Rose before now
-rose-front before mid now later r = le_trans r later
-
+-- faults that rose, as a command tells them
 pub rose-risen : (f g : FlashState) → Rose f.media.faults g.media.faults → IsTrue (has_risen f g)
 rose-risen f g r = le-leb (min (f.media.faults + 1) (2 ^ 64 - 1)) g.media.faults r
-
-pub rose-back : (before mid now : ℕ) → before ≤ mid → Rose mid now → Rose before now
-rose-back before mid now earlier r = omega arith
 
 -- a load that ended so
 ends-load : (config : Config) (entries now : List Entry) (at : ℕ) (entry : Entry) (asked : List ℕ) (notes : Notes) (old : Machine) (f g : FlashState) (count step seed : ℕ) (mounted : Bool) (plan : Plan) (moment : Moment) →

@@ -24,13 +24,13 @@ use Rattle.fl_table.specs.Bitmaps.{ArePlanned, room_of}
 use Rattle.fl_table.specs.Blobs as variable
 use Rattle.fl_table.specs.Mounting.{pages_in}
 use Rattle.fl_var.specs.declared.var_data.VarData.{VarData}
+use Rattle.fl_tables.specs.Tables.{pages_of, first_of}
+use Rattle.fl_tables.specs.declared.tables.Entry.{Entry}
 use Rattle.fl_session.specs.Answer.{Answers}
 use Rattle.fl_session.specs.Cost.{ReadsMount}
 use Rattle.fl_session.specs.Execute.{Executes}
 use Rattle.fl_session.specs.Standing.{SessionStands}
-use Rattle.fl_session.specs.Tables.{pages_of, first_of}
 use Rattle.fl_session.specs.declared.notes.Notes.{Notes}
-use Rattle.fl_session.specs.declared.tables.Entry.{Entry}
 use Rattle.fl_session.proofs.Answering.{step-is}
 use Rattle.fl_session.proofs.Executing.{executes-by}
 

@@ -19,19 +19,19 @@ use Rattle.fl_machine.specs.Machine.{Machine, stopped, no_cursors}
 use Rattle.fl_machine.specs.Step.{Moment, Step, Says, EndsAs, EndsMount, MountStep, all_ready}
 use Rattle.fl_table.specs.declared.faults.MountFault.{MountFault}
 use Rattle.fl_table.specs.declared.faults.MountFault.TheVariants as mount
+use Rattle.fl_tables.specs.Repaired.{IsRepaired}
+use Rattle.fl_tables.specs.Tables.{first_of, EntryStands, TablesStand, FaultIs, TablesMounted, TablesBroken, MountBreaks, TablesMount}
+use Rattle.fl_tables.specs.declared.tables.BadMount.{BadMount}
+use Rattle.fl_tables.specs.declared.tables.Entry.{Entry}
+use Rattle.fl_tables.proofs.TablesChanged.{entry-off, tables-still, tables-become}
 use Rattle.fl_session.specs.Answer.{Answers, fault_reply, bad_reply, mount_reply}
 use Rattle.fl_session.specs.Notes.{without_cursors}
-use Rattle.fl_session.specs.Repaired.{IsRepaired}
 use Rattle.fl_session.specs.declared.notes.Notes.{Notes}
 use Rattle.fl_session.specs.Standing.{SessionStands}
-use Rattle.fl_session.specs.Tables.{first_of, EntryStands, TablesStand, FaultIs, TablesMounted, TablesBroken, MountBreaks, TablesMount}
-use Rattle.fl_session.specs.declared.tables.BadMount.{BadMount}
-use Rattle.fl_session.specs.declared.tables.Entry.{Entry}
 use Rattle.fl_session.proofs.Answering.{answers-saying, saying, says, step-is}
 use Rattle.fl_session.proofs.Executing.{one-text}
 use Rattle.fl_session.proofs.Rested.{session-ends}
 use Rattle.fl_session.proofs.Repairing.{mount-stays, pages-repaired}
-use Rattle.fl_session.proofs.TablesChanged.{entry-off, tables-still, tables-become}
 use Rattle.fl_session.proofs.Working.{medium-goes, has_risen, risen-rose}
 
 -- the power is on

@@ -25,14 +25,14 @@ use Rattle.fl_table.specs.Look.{layout_in}
 use Rattle.fl_table.specs.Memory.{IsPlanned}
 use Rattle.fl_table.specs.Standing.{Stands}
 use Rattle.fl_table.specs.declared.table.Table.{Table}
+use Rattle.fl_tables.specs.Tables.{first_of}
+use Rattle.fl_tables.specs.declared.tables.Entry.{Entry}
 use Rattle.fl_session.specs.Answer.{Refusal, IsReached}
 use Rattle.fl_session.specs.Asked.{lacked_column}
 use Rattle.fl_session.specs.Cost.{HasRead, CountsReads, ReadsScan, ReadsAsStated}
 use Rattle.fl_session.specs.Execute.{Executes}
 use Rattle.fl_session.specs.Lines.{Counted}
 use Rattle.fl_session.specs.Standing.{SessionStands}
-use Rattle.fl_session.specs.Tables.{first_of}
-use Rattle.fl_session.specs.declared.tables.Entry.{Entry}
 use Rattle.fl_session.specs.declared.notes.Notes.{Notes}
 use Rattle.fl_session.proofs.Answering.{executes-answered, executes-read, answers-saying, saying, says, step-is, table-step}
 use Rattle.fl_session.proofs.Costing.{read-none}

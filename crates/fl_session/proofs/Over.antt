@@ -18,13 +18,15 @@ use Rattle.fl_machine.specs.Machine.{Machine}
 use Rattle.fl_machine.specs.Script.{StandsAfter, start_of, ended}
 use Rattle.fl_machine.proofs.Accepted.{StartIsAccepted, accepted-room, accepted-room-ended}
 use Rattle.fl_script.specs.declared.command.Command as code
+use Rattle.fl_tables.specs.Tables.{first_of, AreNewTables, LieOn}
+use Rattle.fl_tables.specs.declared.tables.Entry.{Entry}
+use Rattle.fl_tables.proofs.Apart.{blocks-apart}
+use Rattle.fl_tables.proofs.TablesChanged.{some-is}
 use Rattle.fl_session.specs.declared.status.Status.{Status}
 use Rattle.fl_session.specs.Stream.{LinesState}
 use Rattle.fl_session.specs.Notes.{no_notes}
 use Rattle.fl_session.specs.declared.notes.Notes.{Notes}
 use Rattle.fl_session.specs.Standing.{SessionStands, IsSound, RestsOn, HasRooms}
-use Rattle.fl_session.specs.Tables.{first_of, AreNewTables, LieOn}
-use Rattle.fl_session.specs.declared.tables.Entry.{Entry}
 use Rattle.fl_session.specs.declared.notes.TableCursor.{TableCursor}
 use Rattle.fl_session.specs.declared.buffers.Buffers.{Buffers}
 use Rattle.fl_session.specs.Run.{RunsFrom, around_of, IsOfCommands, refused_status}
@@ -43,8 +45,6 @@ use Rattle.fl_config.specs.Whole.{is_whole, is_whole_of, Makes}
 use Rattle.fl_session.proofs.Running.{nothing-added}
 use Rattle.fl_session.proofs.Ready.{ready-accepted, stands-ready}
 use Rattle.fl_session.proofs.Ending.{runs-seen, ends-of_run, begins-ready, begins-takes}
-use Rattle.fl_session.proofs.Apart.{blocks-apart}
-use Rattle.fl_session.proofs.TablesChanged.{some-is}
 use Rattle.fl_session.proofs.Rested.{session-begins, session-ends, opened-rests, opened-content, opened-formed}
 
 -- the parts of a whole configuration

@@ -1,27 +1,21 @@
 -- The table that a command names, and where it stands.
-use Rattle.std.proofs.Common.{◌≡◌, ℕ, zero, suc, ◌+◌, ◌<◌, ◌≤◌, ◌⊎◌, inl, inr, Bool, true, false, if◌then◌else◌, Option, None, Some, List, [], ◌∷◌, length, get_or, nat_eq, refl, sym, ◌∙◌, ap, subst, arith}
+use Rattle.std.proofs.Common.{◌≡◌, ℕ, zero, suc, ◌+◌, ◌<◌, Bool, true, false, if◌then◌else◌, Option, None, Some, List, [], ◌∷◌, length, get_or, refl, sym, ◌∙◌, ap, arith}
 use Rattle.std.specs.List.{slice_get}
-use lib.Pointwise.{pointwise}
-use Rattle.std.proofs.lemmas.Bool.{eq-eqb, cases_lt, false≢true}
 use Rattle.std.proofs.lemmas.Option.{slice_get_within}
-use Rattle.fl_config.proofs.Names.{bytes_equal-other, bytes_equal-same}
+use Rattle.fl_config.proofs.Names.{bytes_equal-other}
 use Rattle.fl_flash.specs.Flash.{FlashState}
 use Rattle.fl_model.specs.Record.{Config, Plan, bytes_equal}
 use Rattle.fl_model.specs.Table as model
 use Rattle.fl_model.proofs.Lists.{slice_get-some}
 use Rattle.fl_machine.specs.Machine.{Machine}
 use Rattle.fl_machine.specs.Step.{Located, located, located_from}
+use Rattle.fl_tables.specs.Tables.{first_of, IsNamed, Names, EntryStands, TablesStand}
+use Rattle.fl_tables.specs.declared.tables.Entry.{Entry}
+use Rattle.fl_tables.proofs.Naming.{bytes_equal-own}
+use Rattle.fl_tables.proofs.TablesChanged.{at-place, some-is, item-there}
 use Rattle.fl_session.specs.Answer.{IsReached}
 use Rattle.fl_session.specs.Standing.{SessionStands}
-use Rattle.fl_session.specs.Tables.{first_of, IsNamed, Names, EntryStands, TablesStand}
 use Rattle.fl_session.specs.declared.notes.Notes.{Notes}
-use Rattle.fl_session.specs.declared.tables.Entry.{Entry}
-use Rattle.fl_session.proofs.TablesChanged.{at-place, some-is, item-there}
-use Rattle.fl_session.proofs.Equality.{bytes_equal-is}
-
-pub bytes_equal-own : (a : List ℕ) → bytes_equal a a ≡ true
-bytes_equal-own [] = refl
-bytes_equal-own (a ∷ as') = ap (λ (t : Bool). if t then bytes_equal as' as' else false) (eq-eqb a a refl) ∙ bytes_equal-own as'
 
 abbrev AsLocated : ℕ → Plan → model.Table → Option Located
 AsLocated place plan table = Some (record { place = place; plan = plan; table = table })
@@ -106,24 +100,3 @@ reached-within entries n mounted asked at len r = omega (arith, slice_get_within
 
 pub reached-here : (entries : List Entry) (mounted : Bool) (asked : List ℕ) (at : ℕ) (entry : Entry) → IsReached entries mounted asked at → entry ≡ get_or entries at entry → slice_get entries at ≡ Some entry
 reached-here entries mounted asked at entry r is = item-there entries (length entries) at entry refl (slice_get_within entries at r.named.entry r.named.here) is
-
--- the names are compared one after another
-pub names-same : (a b own name : List ℕ) (test : Bool) → a ≡ own → b ≡ name → test ≡ pointwise nat_eq a b → test ≡ true → own ≡ name
-names-same a b own name test e k is true_is = sym e ∙ (bytes_equal-same a b (sym (bytes_equal-is a b) ∙ (sym is ∙ true_is)) ∙ k)
-
-pub names-differ : (a b own name : List ℕ) (test : Bool) → a ≡ own → b ≡ name → test ≡ pointwise nat_eq a b → test ≡ false → own ≡ name → ⊥
-names-differ a b own name test e k is different same =
-    let ab : a ≡ b = e ∙ (same ∙ sym k) in
-    let equal : pointwise nat_eq a b ≡ true = bytes_equal-is a b ∙ (ap (bytes_equal a) (sym ab) ∙ bytes_equal-own a) in
-    false≢true (sym different ∙ (is ∙ equal))
-
-pub others-more : (entries : List Entry) (name : List ℕ) (at : ℕ) (entry : Entry) → ((i : ℕ) (other : Entry) → i < at → slice_get entries i ≡ Some other → other.name ≡ name → ⊥) → slice_get entries at ≡ Some entry → (entry.name ≡ name → ⊥) →
-    (i : ℕ) (other : Entry) → i < at + 1 → slice_get entries i ≡ Some other → other.name ≡ name → ⊥
-others-more entries name at entry others here own i other lt e named = by-order (cases_lt i at)
-  where
-    by-order : (i < at) ⊎ (at ≤ i) → ⊥
-    by-order (inl before) = others i other before e named
-    by-order (inr ge) =
-        let same : at ≡ i = omega (arith, lt, ge) in
-        let is : entry ≡ other = some-is (slice_get entries at) entry other here (subst (λ j. slice_get entries j ≡ Some other) (sym same) e) in
-        own (ap (λ (x : Entry). x.name) is ∙ named)

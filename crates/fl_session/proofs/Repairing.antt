@@ -14,10 +14,10 @@ use Rattle.fl_model.proofs.Lists.{slice_get-some}
 use Rattle.fl_machine.specs.Stays.{IsRepaired, PagesAreRepaired}
 use Rattle.fl_ring.proofs.Lengths.{page_length}
 use Rattle.fl_table.proofs.Images.{pages-medium}
-use Rattle.fl_session.specs.Repaired as repaired
+use Rattle.fl_tables.specs.Repaired as repaired
+use Rattle.fl_tables.specs.Tables.{TablesStand}
+use Rattle.fl_tables.specs.declared.tables.Entry.{Entry}
 use Rattle.fl_session.specs.Standing.{IsOnMedium}
-use Rattle.fl_session.specs.Tables.{TablesStand}
-use Rattle.fl_session.specs.declared.tables.Entry.{Entry}
 
 -- zeros that are programmed stand then
 and-zeros : (xs : List ℕ) → and_bytes xs (replicate (length xs) 0) ≡ replicate (length xs) 0

@@ -21,17 +21,17 @@ use Rattle.fl_machine.specs.Script.{StandsFor, StandsAfter}
 use Rattle.fl_machine.specs.Stays.{MomentStays}
 use Rattle.fl_machine.specs.Step.{Moment}
 use Rattle.fl_machine.proofs.Stays.{moment-same}
+use Rattle.fl_tables.proofs.TablesChanged.{entry-off, some-is, tables-become}
+use Rattle.fl_tables.specs.Tables.{first_of, AreNewTables, EntryStands, TablesStand}
+use Rattle.fl_tables.specs.declared.tables.Entry.{Entry}
 use Rattle.fl_session.specs.Ends.{IsOwn, IsFormed, new_content, opened}
 use Rattle.fl_session.specs.Opening.{Opened}
 use Rattle.fl_table.specs.Memory.{IsPlanned}
 use Rattle.fl_table.specs.Pages.{place_in}
-use Rattle.fl_session.proofs.TablesChanged.{entry-off, some-is, tables-become}
 use Rattle.fl_session.specs.Cost.{cost_of}
 use Rattle.fl_session.specs.Notes.{no_notes}
 use Rattle.fl_session.specs.declared.notes.Notes.{Notes}
 use Rattle.fl_session.specs.Standing.{SessionStands, RestsOn}
-use Rattle.fl_session.specs.Tables.{first_of, AreNewTables, EntryStands, TablesStand}
-use Rattle.fl_session.specs.declared.tables.Entry.{Entry}
 use Rattle.fl_table.proofs.Images.{image-rests, rests-image, blank-rests}
 
 -- the images of tables, each at its place

@@ -15,15 +15,15 @@ use Rattle.fl_script.specs.ReplyView.{reply_text}
 use Rattle.fl_script.specs.Written.{Written}
 use Rattle.fl_script.specs.declared.reply.Reply as code
 use Rattle.fl_table.specs.Standing.{Stands}
+use Rattle.fl_tables.specs.declared.tables.Entry.{Entry}
+use Rattle.fl_tables.specs.Tables.{first_of}
 use Rattle.fl_session.specs.Answer.{Refusal, IsReached}
 use Rattle.fl_session.specs.Execute.{Executes}
 use Rattle.fl_session.specs.Listed.{Scans}
 use Rattle.fl_session.specs.Cost.{HasRead, ReadsScan}
 use Rattle.fl_session.specs.declared.notes.Notes.{Notes}
-use Rattle.fl_session.specs.declared.tables.Entry.{Entry}
 use Rattle.fl_session.specs.declared.cost.Cost.TheVariants as code_cost
 use Rattle.fl_session.specs.Standing.{SessionStands}
-use Rattle.fl_session.specs.Tables.{first_of}
 use Rattle.fl_session.proofs.Answering.{executes-answered, executes-read, step-is, table-step}
 use Rattle.fl_session.proofs.Owning.{own-of}
 use Rattle.fl_session.proofs.Costing.{read-none}

@@ -14,19 +14,19 @@ use Rattle.fl_machine.specs.Machine.{Machine, stopped}
 use Rattle.fl_script.specs.Written.{Written}
 use Rattle.fl_script.specs.declared.command.Command as code
 use Rattle.fl_script.specs.CommandView.{command_view}
+use Rattle.fl_tables.specs.Tables.{first_of, EntryStands}
+use Rattle.fl_tables.specs.declared.tables.Entry.{Entry}
+use Rattle.fl_tables.proofs.Apart.{stands-pages}
+use Rattle.fl_tables.proofs.TablesChanged.{entry-off, tables-still, tables-become}
 use Rattle.fl_session.specs.Answer.{Answers}
 use Rattle.fl_session.specs.Runnable.{IsRunnable}
 use Rattle.fl_session.specs.Execute.{Executes}
 use Rattle.fl_session.specs.declared.notes.Notes.{Notes}
 use Rattle.fl_session.specs.Standing.{SessionStands}
-use Rattle.fl_session.specs.Tables.{first_of, EntryStands}
-use Rattle.fl_session.specs.declared.tables.Entry.{Entry}
-use Rattle.fl_session.proofs.Apart.{stands-pages}
 use Rattle.fl_session.proofs.Answering.{answers-saying, saying, says}
 use Rattle.fl_session.proofs.Executing.{executes-by}
 use Rattle.fl_session.proofs.Rested.{stays-still}
 use Rattle.fl_session.proofs.Running.{nothing-added}
-use Rattle.fl_session.proofs.TablesChanged.{entry-off, tables-still, tables-become}
 
 -- nothing is done
 pub executes-nothing : (E : Type 0) (config : Config) (old : Machine) (c : Command) (entries : List Entry) (notes : Notes) (f : FlashState) (mounted : Bool) (told : Option (List ℕ)) → c ≡ command.Nothing → SessionStands config entries f mounted notes old →

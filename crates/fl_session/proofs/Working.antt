@@ -35,17 +35,17 @@ use Rattle.fl_table.specs.Outcomes.{Finishes, FaultEnds, Breaks, PutEnds, FlushE
 use Rattle.fl_table.specs.Pages.{KeptStand, Rests}
 use Rattle.fl_table.specs.Standing.{Stands}
 use Rattle.fl_table.proofs.SealAnswers.{planned-same}
+use Rattle.fl_tables.specs.Tables.{first_of, entries_with, EntryStands, TablesStand}
+use Rattle.fl_tables.specs.declared.tables.Entry.{Entry}
+use Rattle.fl_tables.proofs.TablesChanged.{entry-off, some-is, set-same, length-changed, tables-changed, option_map-same}
 use Rattle.fl_session.specs.Answer.{Answers, fault_reply, put_reply, flush_reply}
 use Rattle.fl_session.specs.declared.notes.Notes.{Notes}
 use Rattle.fl_session.specs.Standing.{SessionStands, IsOnMedium}
-use Rattle.fl_session.specs.Tables.{first_of, entries_with, EntryStands, TablesStand}
-use Rattle.fl_session.specs.declared.tables.Entry.{Entry}
 use Rattle.fl_session.proofs.Answering.{answers-saying, saying, says, step-is, table-step}
 use Rattle.fl_session.proofs.Executing.{one-text}
 use Rattle.fl_session.proofs.Keeping.{TablesKeep, table-keeps, tables-keep_changed, tables-stay, mounted-stays}
 use Rattle.fl_session.proofs.Owning.{Own}
 use Rattle.fl_session.proofs.Rested.{session-ends}
-use Rattle.fl_session.proofs.TablesChanged.{entry-off, some-is, set-same, length-changed, tables-changed, option_map-same}
 
 -- what the calls of a table leave as it is
 pub medium-goes : (config : Config) (f g : FlashState) → Goes f g → IsOnMedium config f → IsOnMedium config g

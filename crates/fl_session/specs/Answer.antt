@@ -19,9 +19,9 @@ use Rattle.fl_table.specs.declared.faults.MountFault.{MountFault}
 use Rattle.fl_table.specs.declared.faults.MountFault.TheVariants as mount
 use Rattle.fl_table.specs.declared.faults.FlushFault.{FlushFault}
 use Rattle.fl_table.specs.declared.faults.FlushFault.TheVariants as flush
-use Rattle.fl_session.specs.Tables.{IsNamed, Names}
-use Rattle.fl_session.specs.declared.tables.BadMount.{BadMount}
-use Rattle.fl_session.specs.declared.tables.Entry.{Entry}
+use Rattle.fl_tables.specs.Tables.{IsNamed, Names}
+use Rattle.fl_tables.specs.declared.tables.BadMount.{BadMount}
+use Rattle.fl_tables.specs.declared.tables.Entry.{Entry}
 
 -- From a state of the machine a command that reads no rows went on to another one, for which the session stands; this is
 -- the text of its replies.

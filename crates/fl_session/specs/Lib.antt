@@ -15,7 +15,6 @@ pub mod Loop
 pub mod Given
 pub mod Begin
 pub mod Opening
-pub mod Tables
 pub mod Answer
 pub mod Cost
 pub mod Notes
@@ -25,7 +24,6 @@ pub mod Standing
 pub mod TablesHold
 pub mod Load
 pub mod Run
-pub mod Repaired
 pub mod Rows
 pub mod Listed
 pub mod Looked

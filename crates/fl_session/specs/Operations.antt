@@ -10,10 +10,10 @@ use Rattle.fl_machine.specs.Operations.{operations_by, programs_in, erases_in}
 use Rattle.fl_machine.specs.Plain.{plain}
 use Rattle.fl_machine.specs.Script.{StandsAfter}
 use Rattle.fl_machine.specs.Stays.{CommandStays}
+use Rattle.fl_tables.specs.declared.tables.Entry.{Entry}
 use Rattle.fl_session.specs.Execute.{Executes}
 use Rattle.fl_session.specs.Standing.{SessionStands}
 use Rattle.fl_session.specs.declared.notes.Notes.{Notes}
-use Rattle.fl_session.specs.declared.tables.Entry.{Entry}
 
 -- The flash counts just the operations of the command, where a count isn't at its end, and its medium stands for the state
 -- that they leave, which is the plain machine's. What they don't touch there is as it was.

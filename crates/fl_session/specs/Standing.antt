@@ -7,13 +7,13 @@ use Rattle.fl_model.specs.Table as model
 use Rattle.fl_model.specs.Image.{medium_len}
 use Rattle.fl_words.specs.Medium.{header, IsImage}
 use Rattle.fl_machine.specs.Machine.{Machine, begins, no_cursors}
+use Rattle.fl_tables.specs.Tables.{TablesStand, LieOn, AreRunning}
+use Rattle.fl_tables.specs.declared.tables.Entry.{Entry}
 use Rattle.fl_session.specs.Cost.{cost_of}
 use Rattle.fl_session.specs.Notes.{cursors_of}
-use Rattle.fl_session.specs.Tables.{TablesStand, LieOn, AreRunning}
 use Rattle.fl_session.specs.declared.buffers.Buffers.{Buffers}
 use Rattle.fl_session.specs.declared.notes.Notes.{Notes}
 use Rattle.fl_session.specs.declared.notes.TableCursor.{TableCursor}
-use Rattle.fl_session.specs.declared.tables.Entry.{Entry}
 
 -- the header and the length of the medium are those of the configuration
 pub record IsOnMedium (config : Config) (f : FlashState) : Type 0 where

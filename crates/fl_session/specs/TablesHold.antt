@@ -11,10 +11,10 @@ use Rattle.fl_model.specs.Record.{Config, Plan}
 use Rattle.fl_model.specs.Table.{Table}
 use Rattle.fl_table.specs.Pages.{Rests}
 use Rattle.fl_table.specs.Standing.{Stands}
+use Rattle.fl_tables.specs.Tables.{first_of}
+use Rattle.fl_tables.specs.declared.tables.Entry.{Entry}
 use Rattle.fl_session.specs.Standing.{SessionStands}
-use Rattle.fl_session.specs.Tables.{first_of}
 use Rattle.fl_session.specs.declared.notes.Notes.{Notes}
-use Rattle.fl_session.specs.declared.tables.Entry.{Entry}
 
 -- whether it is mounted or not
 table-holds : (mounted : Bool) (entry : Entry) (f : FlashState) (first : ℕ) (plan : Plan) (table : Table) → MatchBool mounted (Stands entry.table f first plan table) (Rests f first plan table) → IsTable plan table

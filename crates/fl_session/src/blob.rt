@@ -17,12 +17,12 @@ ghost use Rattle.fl_flash.specs.Flash.{FlashState};
 ghost use Rattle.fl_session.specs.BlobShown.{found_in, IfNamed, FindsBlob, SaysBlob, ShowsBlob, WasOpened};
 
 use crate::blob_line::{read_reply, show_bytes};
-use crate::sizes::Table;
 use fl_base::{BlobRef, Sink, SinkFailed, Steps};
 use fl_flash::{Flash, PageBuf};
 use fl_page::ReadFault;
 use fl_schema::RowRef;
 use fl_script::{Reply, write_reply};
+use fl_tables::Table;
 use fl_var::BlobReader;
 
 /// What a lookup finds of a record's blob.

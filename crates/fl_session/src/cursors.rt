@@ -17,11 +17,11 @@ ghost use Rattle.fl_session.specs.Standing.{HasRooms};
 use crate::buffers::Buffers;
 use crate::listing::{give_rows, write_fault};
 use crate::rows::form_of;
-use crate::sizes::{Cursor, Table};
 use fl_base::{KeyRange, Sink, SinkFailed, Span};
 use fl_cursor::Bookmark;
 use fl_flash::Flash;
 use fl_script::{Reply, write_reply};
+use fl_tables::{Cursor, Table};
 
 /// A cursor over the rows that are asked for, before its first row.
 pub(crate) fn open_cursor(

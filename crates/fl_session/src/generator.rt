@@ -3,9 +3,9 @@ ghost use Rattle.std.specs.Prelude.{◌≡◌, ◌≤◌, ◌<◌, ◌%◌, ◌-
 ghost use Rattle.fl_machine.specs.Step as machine;
 ghost use Rattle.fl_schema.specs.Types.{column_of};
 
-use crate::sizes::Table;
 use arrayvec::ArrayVec;
 use fl_schema::ColumnType;
+use fl_tables::Table;
 
 // A pseudo-random number is the one before it times this, plus that, in 64 bits.
 const FACTOR: u64 = 6364136223846793005;

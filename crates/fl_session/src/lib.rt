@@ -28,14 +28,12 @@ mod row_lines;
 mod rows;
 mod scans;
 mod session;
-mod sizes;
 mod status;
-mod tables;
 mod whole_run;
 mod words;
 
+pub use fl_tables::{KNOTS, SLOTS};
 pub use laws::commands_are_exact;
-pub use sizes::{KNOTS, SLOTS};
 pub use status::Status;
 pub use whole_run::run;
 pub use words::image_of;

@@ -9,11 +9,11 @@ ghost use Rattle.fl_session.specs.Gives.{Gives, ReadsToGive};
 ghost use Rattle.fl_session.specs.Listed.{IfSink, IfUnread, SaysFault};
 
 use crate::rows::{RowForm, show_row};
-use crate::sizes::Cursor;
 use fl_base::{Sink, SinkFailed};
 use fl_flash::Flash;
 use fl_page::{ReadFault, RowHere};
 use fl_script::{Reply, write_reply};
+use fl_tables::Cursor;
 
 /// Why rows aren't listed to the end.
 #[derive(Clone, Copy, Debug)]

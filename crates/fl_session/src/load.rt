@@ -9,19 +9,19 @@ ghost use Rattle.fl_machine.specs.Machine.{Machine};
 ghost use Rattle.fl_script.specs.Written.{Written};
 ghost use Rattle.fl_table.specs.Causes.{put_breaks};
 ghost use Rattle.fl_table.specs.Memory.{is_running, IsSamePlan, LiesOn};
+ghost use Rattle.fl_tables.specs.Tables.{IsNamed, entries_with};
+ghost use Rattle.fl_tables.specs.declared.tables.Entry.{Entry};
 ghost use Rattle.fl_session.specs.Answer.{Answers, load_replies};
 ghost use Rattle.fl_session.specs.Standing.{SessionStands};
-ghost use Rattle.fl_session.specs.Tables.{IsNamed, entries_with};
-ghost use Rattle.fl_session.specs.declared.tables.Entry.{Entry};
 ghost use Rattle.fl_session.specs.declared.notes.Notes.{Notes};
 
 use crate::generator::Generator;
 use crate::replies::put_reply;
-use crate::sizes::Table;
 use fl_base::{Sink, SinkFailed};
 use fl_flash::Flash;
 use fl_script::{Reply, write_reply};
 use fl_table::PutRefusal;
+use fl_tables::Table;
 
 /// How a load ended.
 #[derive(Clone, Copy, Debug)]

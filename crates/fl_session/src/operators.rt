@@ -28,11 +28,11 @@ use crate::buffers::Buffers;
 use crate::pair_lines::list_pairs;
 use crate::reply_lines::{answer_lines, end_list};
 use crate::row_lines::RowLines;
-use crate::sizes::{Cursor, Table};
 use arrayvec::ArrayVec;
 use fl_base::{KeyRange, Op, Sink, SinkFailed};
 use fl_flash::Flash;
 use fl_ops::{Aggregate, Project, Select};
+use fl_tables::{Cursor, Table};
 
 /// A column that is compared with a value. Column 0 is the key.
 #[derive(Clone, Copy)]

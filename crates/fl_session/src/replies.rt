@@ -8,10 +8,10 @@ ghost use Rattle.fl_session.specs.Cost.{cost_of};
 ghost use Rattle.fl_table.specs.Causes as causes;
 
 use crate::cost::Cost;
-use crate::tables::BadMount;
 use fl_flash::FlashFault;
 use fl_script::Reply;
 use fl_table::{FlushFault, MountFault, PutRefusal};
+use fl_tables::BadMount;
 
 pub(crate) fn fault_reply(fault: FlashFault) -> Reply
     ensures { reply_text result ≡ text (said.fault_reply fault) }

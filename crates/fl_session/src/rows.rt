@@ -10,11 +10,11 @@ ghost use Rattle.fl_table.specs.Look.{layout_in};
 ghost use Rattle.fl_session.specs.Rows.{row_reply};
 
 use crate::blob_note::note_of;
-use crate::sizes::Table;
 use arrayvec::ArrayVec;
 use fl_base::{Sink, SinkFailed};
 use fl_schema::RowRef;
 use fl_script::{Reply, write_reply};
+use fl_tables::Table;
 
 /// What the lines of a table's rows say beside their keys.
 #[derive(Clone, Copy)]

@@ -12,10 +12,10 @@ ghost use Rattle.fl_session.specs.Standing.{HasRooms};
 use crate::buffers::Buffers;
 use crate::listing::{give_rows, write_fault};
 use crate::rows::form_of;
-use crate::sizes::{Cursor, Table};
 use fl_base::{KeyRange, Sink, SinkFailed, Span};
 use fl_flash::Flash;
 use fl_script::{Reply, write_reply};
+use fl_tables::{Cursor, Table};
 
 /// Writes the replies to a scan: the rows that are asked for and their number, or why a page isn't read.
 pub(crate) fn list_rows<F: Flash, K: Sink>(

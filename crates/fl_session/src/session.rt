@@ -9,12 +9,12 @@ ghost use Rattle.fl_words.specs.Reply as said;
 ghost use Rattle.fl_machine.specs.Machine.{Machine};
 ghost use Rattle.fl_script.specs.CommandView.{command_view};
 ghost use Rattle.fl_script.specs.ReplyView.{reply_text};
+ghost use Rattle.fl_tables.specs.Tables.{pages_of};
 ghost use Rattle.fl_session.specs.Answer.{Answers, Reaches};
 ghost use Rattle.fl_session.specs.Runnable.{IsRunnable};
 ghost use Rattle.fl_session.specs.Cost.{ReadsMount};
 ghost use Rattle.fl_session.specs.Execute.{Executes};
 ghost use Rattle.fl_session.specs.Notes.{no_notes};
-ghost use Rattle.fl_session.specs.Tables.{pages_of};
 
 use crate::blob::show_blob;
 use crate::buffers::Buffers;
@@ -27,10 +27,10 @@ use crate::notes::{NO_CURSORS, Notes, TableCursor};
 use crate::operators::Comparison;
 use crate::replies::{cost_reply, flush_breaks, flush_reply, mount_reply, put_breaks, put_reply};
 use crate::scans::list_rows;
-use crate::tables::Tables;
 use fl_base::{CutKind, KeyRange, Name, Sink, SinkFailed, Span};
 use fl_flash::{Flash, Media, SimFlash};
 use fl_script::{Command, LineRoom, Reply, write_reply};
+use fl_tables::Tables;
 
 mod operate;
 

@@ -9,6 +9,7 @@ ghost use Rattle.fl_model.specs.Record.{Config as Configuration, blocks_of};
 ghost use Rattle.fl_words.specs.Command.{Command as Commanded};
 ghost use Rattle.fl_words.specs.Config.{whole};
 ghost use Rattle.fl_config.specs.Whole.{is_whole};
+ghost use Rattle.fl_tables.specs.Tables.{AreNewTables};
 ghost use Rattle.fl_session.specs.Begin.{HoldsFirst};
 ghost use Rattle.fl_session.specs.Words.{image_named};
 ghost use Rattle.fl_session.specs.Complete.{IsInPlace, Completes};
@@ -16,7 +17,6 @@ ghost use Rattle.fl_session.specs.Ends.{Ends, told_of, IsEarlyBy, IsOwn};
 ghost use Rattle.fl_session.specs.Opening.{MediaGoes, KeepsForm, IsBlankBehind};
 ghost use Rattle.fl_session.specs.Run.{RunsFrom, HasRoom, around_of, IsOfCommands, refused_status};
 ghost use Rattle.fl_session.specs.Standing.{RestsOn, HasRooms};
-ghost use Rattle.fl_session.specs.Tables.{AreNewTables};
 ghost use Rattle.fl_machine.specs.Script.{StandsAfter};
 
 use crate::begin::{Begun, read_config};
@@ -25,13 +25,12 @@ use crate::commands::run_commands;
 use crate::executor::Executor;
 use crate::lines::Lines;
 use crate::session::Session;
-use crate::sizes::KNOTS;
-use crate::tables::Tables;
 use crate::{Status, image_of};
 use fl_base::{Geometry, NoMemory, Sink, Source};
 use fl_config::{Config, ImageRefusal};
 use fl_flash::{Flash, FlashRoom, Media, SimFlash};
 use fl_script::{Command, LineRoom};
+use fl_tables::{KNOTS, Tables};
 use std::alloc::Global;
 
 /// The bytes of the medium before the first page.

@@ -1,47 +1,31 @@
 -- How a check of an image ends whose tables are sound.
-use Rattle.std.proofs.Common.{◌≡◌, ℕ, suc, ◌+◌, true, false, IsTrue, Option, Some, None, List, [], ◌∷◌, ◌++◌, length, map, take, length-take, refl, sym, ◌∙◌, ap, subst, arith}
+use Rattle.std.proofs.Common.{◌≡◌, ℕ, suc, ◌+◌, inl, inr, true, false, Option, Some, List, [], ◌∷◌, ◌++◌, length, map, take, length-take, refl, sym, ◌∙◌, ap, subst, arith}
 use Rattle.std.specs.List.{slice_get}
-use Rattle.fl_base.specs.Causes.{Appends}
+use Rattle.std.proofs.lemmas.List.{length-map}
+use Rattle.fl_base.specs.Causes.{IsFront, Appends, AppendsFront}
 use Rattle.fl_base.specs.declared.types.Geometry.{Geometry}
-use Rattle.fl_config.specs.Whole.{Makes, is_whole_of}
-use Rattle.fl_jobs.specs.Checking.{IsFound, AreFound, ImageEnds, CheckEnds}
+use Rattle.fl_config.specs.Whole.{Makes}
+use Rattle.fl_jobs.specs.Checking.{IsFound, AreFound, ImageEnds, CheckEnds, TellsSound as Tells}
 use Rattle.fl_jobs.specs.Header.{IsAccepted}
 use Rattle.fl_jobs.specs.Image.{IsImageOf}
 use Rattle.fl_jobs.specs.Report.{is_sound, report_text}
 use Rattle.fl_jobs.specs.declared.status.ToolStatus.{ToolStatus}
-use Rattle.fl_jobs.specs.declared.status.ToolStatus.TheVariants.{Done, Unsound}
+use Rattle.fl_jobs.specs.declared.status.ToolStatus.TheVariants.{Done, OutWrite, NoMemory, NotImage, Device, BadImage, NoTable, Unsound}
 use Rattle.fl_jobs.proofs.ReadBack.{one-header}
 use Rattle.fl_model.specs.Image.{AreTableImages, medium_len}
 use Rattle.fl_model.specs.Record.{Plan, Config}
 use Rattle.fl_model.specs.Table.{Table}
 use Rattle.fl_model.proofs.Lists.{slice_get-some, slice_get-short}
-use Rattle.fl_words.specs.Config.{Lines, whole_of}
+use Rattle.fl_words.specs.Config.{Lines}
 use Rattle.fl_words.specs.Medium.{IsImage, header}
 use Rattle.fl_check.specs.declared.finding.Finding.{Finding}
-use Rattle.fl_sound.specs.Sound.{sound_table, Finds, TablesAreSound}
+use Rattle.fl_sound.specs.Sound.{sound_table, sound_text, Finds, TablesAreSound}
 use Rattle.fl_sound.specs.Sound as law
+use Rattle.fl_sound.proofs.Fronts.{all-of, report-front, front-nothing, front-all, front-longer}
+use Rattle.fl_sound.proofs.Making.{made-by}
+use Rattle.fl_sound.proofs.NewImages.{new-image}
 use Rattle.fl_sound.proofs.Scripts.{made}
 use Rattle.fl_sound.proofs.Whole.{table-sound, image-sound, run-sound, check-sound}
-
--- ---- the configuration that lines make
-
-record HasMade (device : Option Geometry) (plans : List Plan) (config : Config) : Type 0 where
-  pub geometry_is : device ≡ Some config.geometry
-  pub plans_are : plans ≡ config.plans
-  pub whole : IsTrue (is_whole_of device plans)
-
-is-made : (knots : ℕ) (device : Option Geometry) (plans : List Plan) (config : Config) → whole_of knots device plans ≡ Some config → HasMade device plans config
-is-made knots None l config e = cc
-is-made knots (Some g) [] config e = cc
-is-made knots (Some g) (plan ∷ l) config e =
-    let same = some e in
-    record { geometry_is = ap (λ (c : Config). Some c.geometry) same; plans_are = ap (λ (c : Config). c.plans) same; whole = refl }
-  where
-    some : ◌≡◌ {A = Option Config} (Some (record { geometry = g; plans = plan ∷ l; knots = knots })) (Some config) → record { geometry = g; plans = plan ∷ l; knots = knots } ≡ config
-    some q = cc
-
-made-by : (lines : Lines) (config : Config) → Makes lines config → HasMade lines.device lines.plans config
-made-by lines config e = is-made config.knots lines.device lines.plans config e
 
 same-geometry : {a b : Geometry} → ◌≡◌ {A = Option Geometry} (Some a) (Some b) → a ≡ b
 same-geometry q = cc
@@ -104,16 +88,22 @@ module _ (lines : Lines) (config : Config) (bytes : List ℕ) (tables : List Tab
       let there = slice_get-some tables i (omega (arith, lt, count, ap (λ (l : List Plan). length l) (made-by lines config makes).plans_are)) in
       ap is_sound (finds i there.0 finding there.1 found)
 
-  findings-are : (i : ℕ) (findings : List Finding) (rest : List Table) → ((j : ℕ) (table : Table) → slice_get rest j ≡ Some table → slice_get tables (i + j) ≡ Some table) → length findings ≡ length rest
-      → AreFound Finds lines bytes i findings → findings ≡ map sound_table rest
-  findings-are i [] [] at len h = refl
-  findings-are i [] (x ∷ rest) at len h = absurd (omega (arith, len))
-  findings-are i (f ∷ findings) [] at len h = absurd (omega (arith, len))
-  findings-are i (f ∷ findings) (x ∷ rest) at len h =
+  -- what was found is a front of what is found of all tables
+  findings-front : (i : ℕ) (findings : List Finding) (rest : List Table) → ((j : ℕ) (table : Table) → slice_get rest j ≡ Some table → slice_get tables (i + j) ≡ Some table) → i + length rest ≡ length tables
+      → AreFound Finds lines bytes i findings → (others : List Finding) × (findings ++ others ≡ map sound_table rest)
+  findings-front i [] rest at len h = (map sound_table rest, refl)
+  findings-front i (f ∷ findings) [] at len h =
+      let lt = slice_get-short lines.plans i h.0.plan h.0.plan_is in
+      let count = as-many config bytes 0 config.plans tables image.tables_are in
+      absurd (omega (arith, len, lt, count, ap (λ (l : List Plan). length l) (made-by lines config makes).plans_are))
+  findings-front i (f ∷ findings) (x ∷ rest) at len h =
       let here : slice_get tables i ≡ Some x = ap (slice_get tables) (let q : i ≡ i + 0 = omega arith in q) ∙ at 0 x refl in
-      let later = findings-are (i + 1) findings rest
+      let later = findings-front (i + 1) findings rest
       (λ j table e. ap (slice_get tables) (let q : i + 1 + j ≡ i + suc j = omega arith in q) ∙ at (suc j) table e) (omega (arith, len)) h.1 in
-      ap (λ (y : Finding). y ∷ findings) (finds i x f here h.0) ∙ ap (λ (l : List Finding). sound_table x ∷ l) later
+      (later.0, ap (λ (y : Finding). y ∷ (findings ++ later.0)) (finds i x f here h.0) ∙ ap (λ (l : List Finding). sound_table x ∷ l) later.1)
+
+  all-front : (findings : List Finding) → AreFound Finds lines bytes 0 findings → (others : List Finding) × (findings ++ others ≡ map sound_table tables)
+  all-front findings h = findings-front 0 findings tables (λ j table k. ap (slice_get tables) (let q : 0 + j ≡ j = omega arith in q) ∙ k) (omega arith) h
 
   module _ (told told_now : Option (List ℕ)) where
     unsound : ImageEnds Finds bytes told told_now Unsound → ⊥
@@ -125,20 +115,45 @@ module _ (lines : Lines) (config : Config) (bytes : List ℕ) (tables : List Tab
         no : true ≡ false → ⊥
         no q = cc
 
-    done : ImageEnds Finds bytes told told_now Done → Appends told told_now (report_text config.plans (map sound_table tables))
+    done : ImageEnds Finds bytes told told_now Done → Appends told told_now (sound_text config tables)
     done e =
         let same = one e.lines e.accepted e.image in
         let all = e.ends in
-        let found = subst (λ (l : Lines). AreFound Finds l bytes 0 all.findings) same all.are in
+        let front = all-front all.findings (subst (λ (l : Lines). AreFound Finds l bytes 0 all.findings) same all.are) in
         let plans_are : e.lines.plans ≡ config.plans = ap (λ (l : Lines). l.plans) same ∙ (made-by lines config makes).plans_are in
         let len : length all.findings ≡ length tables = all.count ∙ ap (λ (l : List Plan). length l) plans_are ∙ as-many config bytes 0 config.plans tables image.tables_are in
-        let findings_are = findings-are 0 all.findings tables (λ j table k. ap (slice_get tables) (let q : 0 + j ≡ j = omega arith in q) ∙ k) len found in
+        let findings_are = all-of all.findings front.0 (map sound_table tables) front.1 (len ∙ sym (length-map tables sound_table)) in
         subst (λ (l : List Finding). Appends told told_now (report_text config.plans l)) findings_are (subst (λ (l : List Plan). Appends told told_now (report_text l all.findings)) plans_are all.text)
+
+    -- the lines of what was found, or a front of them
+    part : (found : Lines) → found ≡ lines → (findings : List Finding) → AreFound Finds found bytes 0 findings → AppendsFront told told_now (report_text found.plans findings) → AppendsFront told told_now (sound_text config tables)
+    part found same findings are text =
+        let front = all-front findings (subst (λ (l : Lines). AreFound Finds l bytes 0 findings) same are) in
+        let plans_are : found.plans ≡ config.plans = ap (λ (l : Lines). l.plans) same ∙ (made-by lines config makes).plans_are in
+        front-longer told told_now (report_text config.plans findings) (sound_text config tables)
+        (subst (λ (l : List Finding). IsFront (report_text config.plans findings) (report_text config.plans l)) front.1 (report-front config.plans findings front.0))
+        (subst (λ (l : List Plan). AppendsFront told told_now (report_text l findings)) plans_are text)
+
+    some : (found : Lines) → found ≡ lines → (n : ℕ) → Tells Finds found bytes told told_now n → AppendsFront told told_now (sound_text config tables)
+    some found same n h = part found same h.findings h.are (front-all told told_now (report_text found.plans h.findings) h.text)
+
+    front-told : (status : ToolStatus) → CheckEnds Finds bytes told told_now status → AppendsFront told told_now (sound_text config tables)
+    front-told Done h = front-all told told_now (sound_text config tables) (done h)
+    front-told OutWrite h = part h.lines (one h.lines h.accepted h.image) (h.ends.findings ++ h.ends.next ∷ []) h.ends.are h.ends.text
+    front-told NoMemory (inl h) = front-nothing told told_now (sound_text config tables) h
+    front-told NoMemory (inr h) = some h.lines (one h.lines h.accepted h.image) h.ends.0 h.ends.2
+    front-told NotImage h = absurd (h.0 lines accepted is-image)
+    front-told Device (inl h) = front-nothing told told_now (sound_text config tables) h
+    front-told Device (inr h) = some h.lines (one h.lines h.accepted h.image) h.ends.0 h.ends.2
+    front-told Unsound h = absurd (unsound h)
+    front-told (BadImage table) h = absurd h.ends
+    front-told NoTable h = absurd h.ends
 
     ends-sound : (status : ToolStatus) → CheckEnds Finds bytes told told_now status → law.TellsSound config tables told told_now status
     ends-sound status h = record {
       image = λ e. (subst (CheckEnds Finds bytes told told_now) e h).0 lines accepted is-image;
       sound = λ e. unsound (subst (CheckEnds Finds bytes told told_now) e h);
+      front = front-told status h;
       lines = λ e. done (subst (CheckEnds Finds bytes told told_now) e h);
     }
 
@@ -149,5 +164,6 @@ all-sound = record {
   runs = run-sound;
   checks = check-sound;
   ends = λ config bytes tables told told_now status is_made image h. ends-sound is_made.lines config bytes tables is_made.accepted is_made.makes image told told_now status h;
+  made = new-image;
   scripts = made;
 }

@@ -9,5 +9,9 @@ pub mod DataPart
 pub mod IndexPart
 pub mod VarPart
 pub mod Whole
+pub mod Fronts
+pub mod Making
+pub mod HeaderLength
+pub mod NewImages
 pub mod Checks
 pub mod Scripts

@@ -1,20 +1,19 @@
 -- All rules of a ring hold where a flash stands for it, its pages have the form of its bodies, and its keys ascend.
-use Rattle.std.proofs.Common.{◌≡◌, ℕ, zero, suc, ◌+◌, ◌-◌, ◌*◌, ◌%◌, ◌<◌, ◌≤◌, true, nat_lt, Option, Some, None, is_some, List, [], ◌∷◌, length, map, get_or, sym, ◌∙◌, ap, subst, arith}
+use Rattle.std.proofs.Common.{◌≡◌, ℕ, zero, suc, ◌+◌, ◌*◌, ◌%◌, ◌<◌, ◌≤◌, nat_lt, Option, Some, None, is_some, List, [], ◌∷◌, length, map, get_or, sym, ◌∙◌, ap, subst, arith}
 use Rattle.std.specs.List.{slice_get}
 use Rattle.std.proofs.lemmas.Bool.{ltb-true, lt-ltb}
 use Rattle.std.proofs.Math.Nat.{mod-lt, mul-le-mul_right, add-mul}
 use Rattle.fl_base.specs.declared.types.Geometry.{Geometry}
 use Rattle.fl_flash.specs.Flash.{FlashState, page_at, pages}
 use Rattle.fl_flash.specs.Places.{extent}
-use Rattle.fl_mark.specs.Mark.{state_of_page}
 use Rattle.fl_model.specs.Record.{RowLayout}
 use Rattle.fl_model.specs.Ring as model
 use Rattle.fl_model.proofs.Lists.{slice_get-some}
 use Rattle.fl_ring.specs.Counts.{page_count}
 use Rattle.fl_ring.specs.Mounting.{IsGood}
-use Rattle.fl_ring.specs.Newest.{commits}
 use Rattle.fl_ring.specs.Ring.{Shape, RingState, IsShape, place}
 use Rattle.fl_ring.proofs.Lengths.{page_length}
+use Rattle.fl_check.specs.Bodies.{HaveBodies}
 use Rattle.fl_check.specs.Marks.{kept_page}
 use Rattle.fl_check.specs.Numbering.{IsNumbered}
 use Rattle.fl_check.specs.RingRules.{HaveKeys, IsRingSound}
@@ -77,13 +76,13 @@ module _ (Form : ℕ → List ℕ → Type 0) (rows : Option RowLayout) (f : Fla
       told : Reads (page_at f) r at_least ring n
       told = reads f r at_least s shape good ring same n numbered
 
-      bodies : (i : ℕ) → i < n.marks.kept → commits (state_of_page (page_at f (kept_page r n.marks i))) ≡ true → Form (n.next - (n.marks.kept - i)) (page_at f (kept_page r n.marks i))
-      bodies i lt committed =
+      bodies : HaveBodies Form (page_at f) r n
+      bodies i lt number counted committed =
           let c = slice_get-some ring.counts i (omega (arith, lt, told.kept)) in
           let some = ltb-true 0 c.0 (sym (told.committed i c.0 c.1) ∙ committed) in
           let next = told.next i c.0 c.1 some in
-          let number : model.oldest ring + i ≡ n.next - (n.marks.kept - i) = omega (arith, lt, told.kept, next, same.next, same.count, good.on.ring.not_negative) in
-          subst (λ (k : ℕ). Form k (page_at f (kept_page r n.marks i))) number
+          let own : model.oldest ring + i ≡ number = omega (arith, lt, told.kept, next, same.next, same.count, good.on.ring.not_negative, counted) in
+          subst (λ (k : ℕ). Form k (page_at f (kept_page r n.marks i))) own
           (subst (Form (model.oldest ring + i)) (sym (told.at i (omega (arith, lt, told.kept)))) (forms i c.0 c.1 some))
 
   pub sound-ring : SoundRing Form rows (page_at f) r at_least ring

@@ -3,14 +3,13 @@ use Rattle.std.proofs.Common.{◌≡◌, ℕ, ◌+◌, Option, Some, None, Resul
 use Rattle.std.specs.Option.{option_and_then}
 use Rattle.fl_base.specs.declared.types.Geometry.{Geometry}
 use Rattle.fl_config.specs.Whole.{Makes}
-use Rattle.fl_jobs.specs.Header.{unless_refused, after_command, after_lines}
+use Rattle.fl_jobs.specs.Header.{unless_refused, after_command, after_lines, IsMade}
 use Rattle.fl_machine.specs.Script.{Ready, start_with, start_config, start_line, start_from, start_of, ended}
 use Rattle.fl_model.specs.Record.{Plan, Config}
 use Rattle.fl_words.specs.Command as command
 use Rattle.fl_words.specs.Command.{Command}
 use Rattle.fl_words.specs.Config.{ConfigFault, Lines, configured, no_lines, whole, whole_of}
 use Rattle.fl_words.specs.Grammar.{LineFault, command_of}
-use Rattle.fl_sound.specs.Sound.{IsMade}
 
 -- one line more
 after-next : (text : List ℕ) (before now : Lines) → after_command before (command_of text) ≡ Some now → (texts : List (List ℕ)) (start : Lines) → after_lines start texts ≡ Some before

@@ -1,23 +1,23 @@
 -- Tables that a flash stands for are sound, and with which counts.
-use Rattle.std.specs.Prelude.{◌≡◌, ℕ, ◌+◌, ◌≤◌, ◌==◌, Option, Some, List, length, map, take, sum, sum_by, count_by, slice_get}
-use Rattle.fl_base.specs.Causes.{Appends}
-use Rattle.fl_config.specs.Whole.{Makes}
+use Rattle.std.specs.Prelude.{◌≡◌, ℕ, ◌+◌, ◌-◌, ◌≤◌, ◌==◌, Option, Some, List, ◌++◌, length, map, take, replicate, sum, sum_by, count_by, slice_get}
+use Rattle.fl_base.specs.Causes.{Appends, AppendsFront}
 use Rattle.fl_flash.specs.Flash.{FlashState, page_at}
 use Rattle.fl_flash.specs.Places.{extent}
 use Rattle.fl_jobs.specs.Checking.{IsFound, CheckEnds}
-use Rattle.fl_jobs.specs.Header.{IsAccepted}
+use Rattle.fl_jobs.specs.Header.{IsMade}
 use Rattle.fl_jobs.specs.Report.{report_text}
 use Rattle.fl_jobs.specs.declared.status.ToolStatus.{ToolStatus}
 use Rattle.fl_jobs.specs.declared.status.ToolStatus.TheVariants.{Done, NotImage, Unsound}
-use Rattle.fl_machine.specs.Machine.{Machine}
+use Rattle.fl_machine.specs.Machine.{Machine, fresh_tables}
 use Rattle.fl_machine.specs.Script.{Ready, start_of, ended, StandsAfter}
+use Rattle.fl_model.specs.Image.{medium_len}
 use Rattle.fl_model.specs.Record.{Plan, Config, blocks_of}
 use Rattle.fl_model.specs.Table.{Table}
 use Rattle.fl_plan.specs.Plan.{IsConfigOf}
 use Rattle.fl_plan.specs.declared.table_config.TableConfig.{TableConfig}
 use Rattle.fl_table.specs.Pages.{Rests}
 use Rattle.fl_words.specs.Config.{Lines}
-use Rattle.fl_words.specs.Medium.{IsImage}
+use Rattle.fl_words.specs.Medium.{IsImage, header}
 use Rattle.fl_check.specs.Whole.{Fits, IsFinding}
 use Rattle.fl_check.specs.declared.finding.Finding.{Finding}
 use Rattle.fl_check.specs.declared.finding.Finding.TheVariants.{Sound}
@@ -53,21 +53,25 @@ pub record FindsAlone (config : TableConfig) (f : FlashState) (finding : Finding
   pub found : IsFinding config (page_at f) finding
   pub alone : (other : Finding) → IsFinding config (page_at f) other → other ≡ finding
 
--- accepted lines make a configuration
-pub record IsMade (config : Config) : Type 0 where
-  pub lines : Lines
-  pub accepted : IsAccepted lines
-  pub makes : Makes lines config
-
 -- what is found rightly of a table over a flash
 abbrev pub Finds : TableConfig → FlashState → Finding → Type 0
 Finds config f finding = IsFinding config (page_at f) finding
 
--- how a check of the image of these tables ends: never with a fault, and where it is done with the line of each
+-- the bytes of an image that was just made: its header, and blank pages
+abbrev pub new_image : Config → List ℕ
+new_image config = header config ++ replicate (medium_len config - 1024) 255
+
+-- the lines of sound tables
+abbrev pub sound_text : Config → List Table → List ℕ
+sound_text config tables = report_text config.plans (map sound_table tables)
+
+-- How a check of the image of these tables ends: never with a fault. Whatever its status is, what it has written is a front of
+-- their lines, and all of them where it is done.
 pub record TellsSound (config : Config) (tables : List Table) (told told_now : Option (List ℕ)) (status : ToolStatus) : Type 0 where
   pub image : status ≡ NotImage → ⊥
   pub sound : status ≡ Unsound → ⊥
-  pub lines : status ≡ Done → Appends told told_now (report_text config.plans (map sound_table tables))
+  pub front : AppendsFront told told_now (sound_text config tables)
+  pub lines : status ≡ Done → Appends told told_now (sound_text config tables)
 
 pub record TablesAreSound : Type 0 where
   -- a table for which a flash stands
@@ -84,5 +88,7 @@ pub record TablesAreSound : Type 0 where
   -- .. and how it ends, where accepted lines made the configuration
   pub ends : (config : Config) (bytes : List ℕ) (tables : List Table) (told told_now : Option (List ℕ)) (status : ToolStatus) →
       IsMade config → IsImage config bytes tables → CheckEnds Finds bytes told told_now status → TellsSound config tables told told_now status
+  -- an image that was just made stands for empty tables
+  pub made : (config : Config) → IsMade config → IsImage config (new_image config) (fresh_tables config)
   -- the configuration of each script is made so
   pub scripts : (knots : ℕ) (lines : List (List ℕ)) (config : Config) (line : ℕ) (rest : List (List ℕ)) → ended (start_of knots lines) ≡ Ready config line rest → IsMade config

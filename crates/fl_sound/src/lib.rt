@@ -4,7 +4,8 @@
 ghost use Rattle.fl_sound.specs.Sound.{TablesAreSound};
 
 /// Of a table for which a flash stands, and so of each table of an image, a check finds that it is sound, and nothing else:
-/// with the rows that the table keeps, their pages, and those of them that are void.
+/// with the rows that the table keeps, their pages, and those of them that are void. An image that was just made stands for
+/// empty tables.
 pub fn tables_are_sound()
     ensures { TablesAreSound }
 {}

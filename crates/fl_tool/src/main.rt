@@ -1,15 +1,16 @@
 //! `flashts run IMAGE` runs the script on standard input over the image, and writes its replies on standard output.
-//! `flashts check IMAGE` tells there whether each table of the image is sound.
+//! `flashts check IMAGE` tells there whether each table of the image is sound, and `flashts export IMAGE NAME LOW HIGH` writes
+//! the records of a table there whose keys are in the range.
 #![tactic(auto)]
 
 ghost use Rattle.std.specs.Prelude.{◌≡◌, OnOk, OnErr};
 
-mod checked;
+mod jobs;
 mod told;
 
 use fl_base::SinkFailed;
 use fl_edge::{FileMedia, ReplyBuffer, StandardInput, StandardOutput};
-use fl_jobs::{ToolJob, tool_of};
+use fl_jobs::tool_of;
 use fl_session::{Status, image_of, run};
 use std::alloc::Global;
 use std::cell::RefCell;
@@ -24,8 +25,8 @@ fn main(rt: HostRuntime) -> ExitCode {
         return end_run(&rt, Status::NoMemory);
     };
     match tool_of(&words) {
-        Some(ToolJob::Check) => {
-            let status = checked::check_words(&rt, &words);
+        Some(job) => {
+            let status = jobs::do_job(&rt, job, &words);
             told::tell_job(&rt, status);
             ExitCode::from(status.number())
         }

@@ -25,7 +25,11 @@ pub(crate) fn tell_job<R: Eprint>(rt: &R, status: ToolStatus) {
         ToolStatus::Done => Ok(()),
         ToolStatus::OutWrite => eprintln!(rt; "flashts: the replies cannot be written"),
         ToolStatus::NoMemory => eprintln!(rt; "flashts: no memory"),
-        ToolStatus::NotImage | ToolStatus::Device | ToolStatus::Unsound => {
+        ToolStatus::NotImage
+        | ToolStatus::Device
+        | ToolStatus::BadImage { .. }
+        | ToolStatus::NoTable
+        | ToolStatus::Unsound => {
             let number = status.number();
             eprintln!(rt; "flashts: status {number}")
         }

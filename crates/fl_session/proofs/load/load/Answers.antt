@@ -1,9 +1,9 @@
 use Rattle.std.proofs.Common.{◌≡◌, ◌+◌, not, ◌&&◌, refl, ap, sym, ◌∙◌, subst, arith}
 use Rattle.std.specs.Prelude.{unwrap_or}
 use Rattle.fl_model.specs.Record.{RowLayout}
+use Rattle.fl_tables.proofs.Going.{goes-same, goes-on, rose-front, rose-back, same-plan, same-on}
 use Rattle.fl_session.specs.Load.{StandsBefore, load_key, random_of}
-use Rattle.fl_session.proofs.Going.{goes-same, goes-on, same-plan, same-on}
-use Rattle.fl_session.proofs.Loading.{LoadedSoFar, loaded-none, loaded-more, ends-next, ends-done, load-finished, load-stopped, rose-front, rose-back, rose-risen}
+use Rattle.fl_session.proofs.Loading.{LoadedSoFar, loaded-none, loaded-more, ends-next, ends-done, load-finished, load-stopped, rose-risen}
 use Rattle.fl_session.proofs.Working.{has_risen}
 use Rattle.fl_session.proofs.LoadLines.{unbroken}
 use Rattle.std.proofs.Math.Bool.{and-true}

@@ -1,6 +1,6 @@
 use Rattle.std.proofs.Common.{◌≡◌, rules, sym, ◌∙◌, ap, subst}
 use Rattle.fl_flash.specs.Flash.{FlashState}
-use Rattle.fl_session.specs.declared.tables.Tables.{Tables}
+use Rattle.fl_tables.specs.declared.tables.Tables.{Tables}
 use Rattle.fl_session.proofs.Over.{whole-parts, session-runs, new-sound, session-keeps}
 use Rattle.fl_session.specs.Opening.{IsBlankBehind}
 use Rattle.fl_session.proofs.whole_run.run_session.Goals as goal

@@ -1,4 +1,4 @@
-use Rattle.std.proofs.Common.{ℕ, ◌+◌, length, sym, ◌∙◌, ap, arith}
+use Rattle.std.proofs.Common.{sym, ◌∙◌, ap, arith}
 use Rattle.std.specs.Result.{is_err}
 use Rattle.fl_flash.proofs.Writes.{reaches, both_written, second_failed, each_first, each_done, each_second}
 use Rattle.fl_flash.specs.MemState.{media_state}

@@ -1,9 +1,9 @@
 use Rattle.std.proofs.Common.{◌≡◌, true, IsTrue, refl, sym, ap, subst, arith}
 use Rattle.fl_flash.specs.Flash.{FlashState}
-use Rattle.fl_session.specs.Tables.{LieOn}
+use Rattle.fl_tables.specs.Tables.{LieOn}
+use Rattle.fl_tables.proofs.Going.{goes-set}
+use Rattle.fl_tables.proofs.Lying.{lie-on}
 use Rattle.fl_session.proofs.Calls.{mount-call, already-call}
-use Rattle.fl_session.proofs.Going.{goes-set}
-use Rattle.fl_session.proofs.Sound.{lie-on}
 use Rattle.fl_session.proofs.session.Session.mount.Goals as goal
 
 pub mount-outcome-requires-clause-lie : goal.mount-outcome-requires-clause-lie

@@ -2,12 +2,12 @@ use Rattle.std.proofs.Common.{◌≡◌, ◌-◌, ◌^◌, ◌<◌, rules, Some,
 use Rattle.std.specs.Prelude.{IfSome, Option, option_map, unwrap_or, length}
 use Rattle.std.specs.List.{slice_get}
 use Rattle.fl_flash.specs.declared.flash.Work.{Work}
+use Rattle.fl_tables.proofs.TablesChanged.{item-there}
 use Rattle.fl_session.specs.declared.notes.TableCursor.{TableCursor}
 use Rattle.fl_session.proofs.Costing.{has-read}
 use Rattle.fl_session.proofs.CursorMoves.{next-executes, next-off, next-none}
 use Rattle.fl_session.proofs.Getting.{goes-reads}
 use Rattle.fl_session.proofs.Sound.{sound-read, cursors-set}
-use Rattle.fl_session.proofs.TablesChanged.{item-there}
 use Rattle.fl_session.proofs.session.Session.next.Goals as goal
 
 pub returns-then-not-self-clause-step : goal.returns-then-not-self-clause-step

@@ -1,0 +1,66 @@
+-- The fields of a record, one after another.
+use Rattle.std.proofs.Common.{◌≡◌, ℕ, ◌+◌, ◌<◌, ◌≤◌, zero, suc, ℤ, List, [], ◌∷◌, ◌++◌, Option, Some, None, Result, Ok, Err, Bor, length, take, drop, get_or, refl, sym, ◌∙◌, ap, arith, append_assoc, length-take, length-drop}
+use Rattle.std.specs.Prelude.{unwrap_or, option_map}
+use Rattle.std.proofs.lemmas.List.{append-nil, at_drop_more, at_drop_all, get_or-drop, get_or-take}
+use Rattle.csv.specs.Records.{field_at}
+use Rattle.fl_words.specs.Grammar.{Number, signed}
+use Rattle.fl_csv.specs.Lines.{◌>>=◌, values_from}
+use Rattle.fl_csv.specs.declared.record.CsvRefusal.{CsvRefusal}
+use Rattle.fl_csv.specs.declared.record.CsvRefusal.TheVariants as refusal
+
+pub field-or : (found : Option (Bor (List ℕ))) (other : Bor (List ℕ)) (fields : List (List ℕ)) (i : ℕ)
+    → option_map (λ s. s.now) found ≡ field_at fields i → other.now ≡ [] → (unwrap_or found other).now ≡ get_or fields i []
+unfolding field_at
+field-or None other [] i h e = e
+field-or (Some s) other [] i h e = cc h
+field-or None other (field ∷ fields) zero h e = cc h
+field-or (Some s) other (field ∷ fields) zero h e = cc h
+field-or found other (field ∷ fields) (suc i) h e = field-or found other fields i h e
+
+-- values, and those that are still to be read
+abbrev pub after : List ℤ → Result (List ℤ) CsvRefusal → Result (List ℤ) CsvRefusal
+after done rest = rest >>= λ values. Ok (done ++ values)
+
+pub after-none : (rest : Result (List ℤ) CsvRefusal) → rest ≡ after [] rest
+after-none (Ok values) = refl
+after-none (Err e) = refl
+
+after-one : (done : List ℤ) (value : ℤ) (rest : Result (List ℤ) CsvRefusal)
+    → after done (rest >>= λ values. Ok (value ∷ values)) ≡ after (done ++ value ∷ []) rest
+after-one done value (Ok values) = ap Ok (sym (append_assoc done (value ∷ []) values))
+after-one done value (Err e) = refl
+
+-- the values of a record
+abbrev pub behind : ℕ → List (List ℕ) → List (List ℕ)
+behind columns fields = take columns (drop 1 fields)
+
+here : (columns i : ℕ) (fields : List (List ℕ)) → i < columns → columns < length fields → (i < length (behind columns fields)) × (get_or (behind columns fields) i [] ≡ get_or fields (i + 1) [])
+here columns i fields lt all =
+    let few = length-take columns (drop 1 fields) in
+    let less = length-drop 1 fields in
+    let at : 1 + i ≡ i + 1 = omega arith in (
+      omega (arith, few, less),
+      get_or-take columns (drop 1 fields) i [] lt ∙ get_or-drop 1 fields i [] ∙ ap (λ n. get_or fields n []) at,
+    )
+
+pub value-next : (columns i : ℕ) (fields : List (List ℕ)) (done : List ℤ) (value : ℤ) → i < columns → columns < length fields
+    → signed (get_or fields (i + 1) []) ≡ Ok value
+    → after done (values_from (i + 2) (drop i (behind columns fields))) ≡ after (done ++ value ∷ []) (values_from (i + 1 + 2) (drop (i + 1) (behind columns fields)))
+value-next columns i fields done value lt all h =
+    let at = here columns i fields lt all in
+    let e : i + 2 + 1 ≡ i + 1 + 2 = omega arith in
+    at_drop_more (λ l. after done (values_from (i + 2) l)) (behind columns fields) i [] at.0
+    ∙ rw (at.1, h, e) (after-one done value (values_from (i + 1 + 2) (drop (i + 1) (behind columns fields))))
+
+pub value-bad : (columns i : ℕ) (fields : List (List ℕ)) (done : List ℤ) → i < columns → columns < length fields
+    → signed (get_or fields (i + 1) []) ≡ Err Number
+    → after done (values_from (i + 2) (drop i (behind columns fields))) ≡ Err (refusal.Number (i + 2))
+value-bad columns i fields done lt all h =
+    let at = here columns i fields lt all in
+    at_drop_more (λ l. after done (values_from (i + 2) l)) (behind columns fields) i [] at.0 ∙ rw (at.1, h) refl
+
+pub values-end : (columns i place : ℕ) (fields : List (List ℕ)) (done : List ℤ) → columns ≤ i
+    → after done (values_from place (drop i (behind columns fields))) ≡ Ok done
+values-end columns i place fields done le =
+    let few = length-take columns (drop 1 fields) in
+    at_drop_all (λ l. after done (values_from place l)) (behind columns fields) i (omega (arith, few)) ∙ ap Ok (append-nil done)

@@ -1,0 +1,9 @@
+pub mod Reading
+pub mod Blobs
+pub mod Numbers
+pub mod Fields
+pub mod Plain
+pub mod Sends
+pub mod Splitting
+pub mod ReadBack
+pub mod TextBack

@@ -1,0 +1,43 @@
+-- What is written of a record is read back as that record.
+use Rattle.std.specs.Prelude.{◌≡◌, ◌≤◌, ◌<◌, ◌^◌, ℕ, ◌-◌, ℤ, pos, negsuc, Bool, true, false, Option, Some, None, Ok, List, length, map, ⊤}
+use Rattle.std.specs.List.{AllByRecursion}
+use Rattle.fl_model.specs.Record.{Record}
+use Rattle.fl_csv.specs.Text.{Blob, Absent, Nothing, Bytes, Entry, entry_fields, joined, csv_text}
+use Rattle.fl_csv.specs.Lines.{line_put, text_puts}
+
+-- a number of 64 bits with a sign
+abbrev pub IsValue : ℤ → Type 0
+IsValue (pos n) = n ≤ 2 ^ 63 - 1
+IsValue (negsuc n) = n ≤ 2 ^ 63 - 1
+
+-- a blob of bytes, and none where there are no blobs
+abbrev pub IsBlob : Bool → Option (List ℕ) → Type 0
+IsBlob blobs None = ⊤
+IsBlob true (Some bytes) = AllByRecursion (λ byte. byte < 256) bytes
+IsBlob false (Some bytes) = ⊥
+
+-- a record with a value for each column
+pub record Fits (columns : ℕ) (blobs : Bool) (entry : Record) : Type 0 where
+  pub key : entry.key < 2 ^ 64
+  pub count : length entry.values ≡ columns
+  pub values : AllByRecursion IsValue entry.values
+  pub blob : IsBlob blobs entry.blob
+
+abbrev pub blob_told : Bool → Option (List ℕ) → Blob
+blob_told false blob = Absent
+blob_told true None = Nothing
+blob_told true (Some bytes) = Bytes bytes
+
+-- the record as it is written
+abbrev pub entry_of : Bool → Record → Entry
+entry_of blobs stored = record { key = stored.key; values = stored.values; blob = blob_told blobs stored.blob }
+
+-- the line of a record that fits, without its newline, means that record
+abbrev pub LinesReadBack : Type 0
+LinesReadBack = (columns : ℕ) (blobs : Bool) (stored : Record) → Fits columns blobs stored
+    → line_put columns blobs (joined (entry_fields (entry_of blobs stored))) ≡ Ok stored
+
+-- the text of records that fit means those records, in turn
+abbrev pub TextsReadBack : Type 0
+TextsReadBack = (columns : ℕ) (blobs : Bool) (stored : List Record) → columns ≤ 8 → AllByRecursion (Fits columns blobs) stored
+    → text_puts columns blobs (csv_text columns blobs (map (entry_of blobs) stored)) ≡ map Ok stored

@@ -1,0 +1,25 @@
+//! Records as lines of CSV, both ways: a line of the columns' names, and a line for each record.
+#![tactic(auto)]
+
+ghost use Rattle.fl_csv.specs.Laws.{LinesReadBack, TextsReadBack};
+
+mod field;
+mod read;
+mod record;
+#[cfg(test)]
+mod tests;
+mod write;
+
+pub use read::read_record;
+pub use record::{BlobBytes, CsvBlob, CsvFault, CsvPut, CsvRefusal};
+pub use write::{header_line, write_record};
+
+/// What is written of a record that fits is read back as that record.
+pub fn lines_read_back()
+    ensures { LinesReadBack }
+{}
+
+/// The text of records that fit is read back, line by line, as these records.
+pub fn texts_read_back()
+    ensures { TextsReadBack }
+{}

@@ -1,0 +1,12 @@
+mod Readers
+mod Taking
+mod Lines
+mod Records
+mod Walking
+mod Reading
+mod Risen
+mod Locating
+mod Images
+mod Exporting
+mod Ending
+mod Statuses

@@ -1,0 +1,66 @@
+-- Lines that are written one after another.
+use Rattle.std.proofs.Common.{◌≡◌, ℕ, zero, suc, ◌+◌, Bool, true, false, Option, Some, None, Result, Ok, Err, List, [], ◌∷◌, ◌++◌, map, filter, refl, sym, ◌∙◌, ap, subst, append_assoc, append-nil, arith, if◌then◌else◌}
+use Rattle.std.specs.List.{flat_map, slice_get}
+use Rattle.std.proofs.lemmas.Grind.{flat_map-append}
+use Rattle.std.proofs.lemmas.List.{map-append}
+use Rattle.fl_base.specs.Causes.{Appends, AppendsFront}
+use Rattle.fl_csv.specs.Text.{entry_text}
+use Rattle.fl_csv.specs.declared.record.CsvFault.{CsvFault}
+use Rattle.fl_csv.specs.declared.record.CsvFault.TheVariants as line
+use Rattle.fl_model.specs.Record.{Plan}
+use Rattle.fl_model.specs.Table.{Table, Entry}
+use Rattle.fl_script.proofs.Sending.{appends-append, sent-failed}
+use Rattle.fl_export.specs.Text.{said_of, AreAmong}
+use Rattle.fl_export.specs.Writing.{of_line, NoneBad, Writes}
+use Rattle.fl_export.specs.declared.fault.ExportFault.{ExportFault}
+
+pub appends-none : (o : Option (List ℕ)) → Appends o o []
+appends-none None = tt
+appends-none (Some bytes) = ap (λ (l : List ℕ). Some l) (sym (append-nil bytes))
+
+-- nothing was written
+pub front-none : (o : Option (List ℕ)) (text : List ℕ) → AppendsFront o o text
+front-none o text = ([], (text, refl), appends-none o)
+
+pub writes-none : (o : Option (List ℕ)) (text : List ℕ) (fault : ExportFault) → NoneBad fault → Writes text o o (Err fault)
+writes-none o text fault good = (good, front-none o text)
+
+-- the whole of a front was written, and then a front of the rest
+pub front-behind : (a b c : Option (List ℕ)) (before text : List ℕ) → Appends a b before → AppendsFront b c text → AppendsFront a c (before ++ text)
+front-behind a b c before text wrote front =
+    sent-failed a b c (before ++ text) text [] text (record { front = before; parts = refl; appended = wrote }) front (append-nil text)
+
+-- a front of a front is one of all
+pub front-more : (a b : Option (List ℕ)) (text others : List ℕ) → AppendsFront a b text → AppendsFront a b (text ++ others)
+front-more a b text others front = (front.0, (front.1.0 ++ others, sym (append_assoc front.0 front.1.0 others) ∙ ap (λ (l : List ℕ). l ++ others) front.1.1), front.2)
+
+-- a text behind one that was written
+pub writes-behind : (a b c : Option (List ℕ)) (before text : List ℕ) (result : Result (Unit {0}) ExportFault) → Appends a b before → Writes text b c result → Writes (before ++ text) a c result
+writes-behind a b c before text (Ok done) wrote writes = appends-append a b c before text wrote writes
+writes-behind a b c before text (Err fault) wrote writes = (writes.0, front-behind a b c before text wrote writes.1)
+
+-- why a line isn't written tells of no page
+pub line-good : (fault : CsvFault) → NoneBad (of_line fault)
+line-good (line.Sink failed) = tt
+line-good line.NoMemory = tt
+
+-- the lines of records
+abbrev pub lines : Plan → Table → List Entry → List ℕ
+lines plan table entries = flat_map entry_text (map (said_of plan table) entries)
+
+pub lines-more : (plan : Plan) (table : Table) (given : List Entry) (entry : Entry) (left : List Entry) →
+    lines plan table (given ++ entry ∷ left) ≡ lines plan table given ++ (entry_text (said_of plan table entry) ++ lines plan table left)
+lines-more plan table given entry left =
+    ap (flat_map entry_text) (map-append (said_of plan table) given (entry ∷ left)) ∙ flat_map-append entry_text (map (said_of plan table) given) (map (said_of plan table) (entry ∷ left))
+
+-- the records that a test picks are among all
+among-filter : {X : Type 0} (p : X → Bool) (all xs : List X) (offset : ℕ) → ((i : ℕ) (x : X) → slice_get xs i ≡ Some x → slice_get all (offset + i) ≡ Some x) → AreAmong all (filter p xs)
+among-filter p all [] offset at = tt
+among-filter {X} p all (x ∷ xs) offset at = by_test (p x) (among-filter p all xs (offset + 1) (λ i y e. ap (slice_get all) (let m : offset + 1 + i ≡ offset + suc i = omega arith in m) ∙ at (suc i) y e))
+  where
+    by_test : (b : Bool) → AreAmong all (filter p xs) → AreAmong all (if b then x ∷ filter p xs else filter p xs)
+    by_test true others = ((offset, ap (slice_get all) (let m : offset ≡ offset + 0 = omega arith in m) ∙ at 0 x refl), others)
+    by_test false others = others
+
+pub picked-among : {X : Type 0} (p : X → Bool) (all : List X) → AreAmong all (filter p all)
+picked-among p all = among-filter p all all 0 (λ i x e. ap (slice_get all) (let m : 0 + i ≡ i = omega arith in m) ∙ e)

@@ -1,0 +1,102 @@
+-- The table with a name, among tables and among their plans.
+use Rattle.std.proofs.Common.{◌≡◌, ℕ, zero, suc, ◌+◌, ◌<◌, Bool, true, false, ◌||◌, if◌then◌else◌, Option, None, Some, List, [], ◌∷◌, length, refl, sym, ◌∙◌, ap, subst, arith}
+use Rattle.std.specs.List.{slice_get, list_any}
+use Rattle.std.proofs.lemmas.Option.{slice_get_within}
+use Rattle.fl_config.proofs.Names.{bytes_equal-other}
+use Rattle.fl_flash.specs.Flash.{FlashState}
+use Rattle.fl_model.specs.Record.{Plan, bytes_equal}
+use Rattle.fl_model.specs.Table as model
+use Rattle.fl_model.proofs.Lists.{slice_get-some}
+use Rattle.fl_machine.specs.Step.{Located, located_from}
+use Rattle.fl_tables.specs.Tables.{first_of, IsNamed, Names, AreNewTables, TablesStand}
+use Rattle.fl_tables.specs.declared.tables.Entry.{Entry}
+use Rattle.fl_tables.proofs.Naming.{bytes_equal-own}
+use Rattle.fl_tables.proofs.TablesChanged.{some-is}
+use Rattle.fl_words.specs.Config.{Lines}
+use Rattle.fl_export.specs.Ends.{has_name}
+
+abbrev AsLocated : ℕ → Plan → model.Table → Option Located
+AsLocated place plan table = Some (record { place = place; plan = plan; table = table })
+
+-- the first plan with the name, and the table beside it
+pub located-first : (plans : List Plan) (tables : List model.Table) (place at : ℕ) (name : List ℕ) (plan : Plan) (table : model.Table) → slice_get plans at ≡ Some plan → slice_get tables at ≡ Some table → plan.name ≡ name →
+    ((i : ℕ) (other : Plan) → i < at → slice_get plans i ≡ Some other → other.name ≡ name → ⊥) → located_from place plans tables name ≡ AsLocated (place + at) plan table
+located-first [] tables place at name plan table p t named others = absurd (none p)
+  where
+    none : None ≡ Some plan → ⊥
+    none e = cc
+located-first (q ∷ plans) [] place at name plan table p t named others = absurd (none t)
+  where
+    none : None ≡ Some table → ⊥
+    none e = cc
+located-first (q ∷ plans) (x ∷ tables) place zero name plan table p t named others =
+    let plan_is : q ≡ plan = cc in
+    let table_is : x ≡ table = cc in
+    let own : bytes_equal q.name name ≡ true = ap (bytes_equal q.name) (sym named ∙ ap (λ (r : Plan). r.name) (sym plan_is)) ∙ bytes_equal-own q.name in
+    let here : place ≡ place + 0 = omega arith in
+    ap (λ (b : Bool). if b then AsLocated place q x else located_from (place + 1) plans tables name) own
+    ∙ (ap (λ r. AsLocated place r x) plan_is ∙ (ap (λ y. AsLocated place plan y) table_is ∙ ap (λ n. AsLocated n plan table) here))
+located-first (q ∷ plans) (x ∷ tables) place (suc at) name plan table p t named others =
+    let other : bytes_equal q.name name ≡ false = bytes_equal-other q.name name (λ e. others 0 q (omega arith) refl (sym e)) in
+    let there : place + 1 + at ≡ place + suc at = omega arith in
+    ap (λ (b : Bool). if b then AsLocated place q x else located_from (place + 1) plans tables name) other
+    ∙ (located-first plans tables (place + 1) at name plan table p t named (λ i r lt e k. others (suc i) r (omega (arith, lt)) e k) ∙ ap (λ n. AsLocated n plan table) there)
+
+pub located-none : (plans : List Plan) (tables : List model.Table) (place : ℕ) (name : List ℕ) → ((i : ℕ) (other : Plan) → slice_get plans i ≡ Some other → other.name ≡ name → ⊥) → located_from place plans tables name ≡ None
+located-none [] tables place name others = refl
+located-none (q ∷ plans) [] place name others = refl
+located-none (q ∷ plans) (x ∷ tables) place name others =
+    let other : bytes_equal q.name name ≡ false = bytes_equal-other q.name name (λ e. others 0 q refl (sym e)) in
+    ap (λ (b : Bool). if b then AsLocated place q x else located_from (place + 1) plans tables name) other
+    ∙ located-none plans tables (place + 1) name (λ i r e k. others (suc i) r e k)
+
+-- a name is among plans, or it isn't
+pub name-there : (plans : List Plan) (at : ℕ) (name : List ℕ) (plan : Plan) → slice_get plans at ≡ Some plan → plan.name ≡ name → has_name name plans ≡ true
+name-there [] at name plan p named = absurd (none p)
+  where
+    none : None ≡ Some plan → ⊥
+    none e = cc
+name-there (q ∷ plans) zero name plan p named =
+    let plan_is : q ≡ plan = cc in
+    let own : bytes_equal q.name name ≡ true = ap (bytes_equal q.name) (sym named ∙ ap (λ (r : Plan). r.name) (sym plan_is)) ∙ bytes_equal-own q.name in
+    rw own refl
+name-there (q ∷ plans) (suc at) name plan p named = rw (name-there plans at name plan p named) (either (bytes_equal q.name name))
+  where
+    either : (b : Bool) → (b || true) ≡ true
+    either true = refl
+    either false = refl
+
+pub name-none : (plans : List Plan) (name : List ℕ) → ((i : ℕ) (other : Plan) → slice_get plans i ≡ Some other → other.name ≡ name → ⊥) → has_name name plans ≡ false
+name-none [] name others = refl
+name-none (q ∷ plans) name others =
+    rw (bytes_equal-other q.name name (λ e. others 0 q refl (sym e))) (name-none plans name (λ i r e k. others (suc i) r e k))
+
+-- ---- entries have the names of their plans
+
+abbrev NamedAlike : List Plan → List Entry → Type 0
+NamedAlike plans entries = (i : ℕ) (plan : Plan) → slice_get plans i ≡ Some plan → (entry : Entry) × (slice_get entries i ≡ Some entry) × (plan.name ≡ entry.name)
+
+pub new-named : (entries : List Entry) (lines : Lines) → AreNewTables entries lines → NamedAlike lines.plans entries
+new-named entries lines new i plan p =
+    let entry = slice_get-some entries i (omega (arith, slice_get_within lines.plans i plan p, new.as_many)) in
+    (entry.0, entry.1, (new.each i plan entry.0 p entry.1).named)
+
+pub stand-named : (f : FlashState) (mounted : ℕ → Bool) (plans : List Plan) (entries : List Entry) (tables : List model.Table) → TablesStand f mounted plans entries tables → NamedAlike plans entries
+stand-named f mounted plans entries tables h i plan p =
+    let within = slice_get_within plans i plan p in
+    let entry = slice_get-some entries i (omega (arith, within, h.as_many)) in
+    let table = slice_get-some tables i (omega (arith, within, h.all)) in
+    (entry.0, entry.1, (h.each i plan entry.0 table.0 p entry.1 table.1).named)
+
+module _ (plans : List Plan) (entries : List Entry) (alike : NamedAlike plans entries) (name : List ℕ) where
+  -- the plan at the place of the entry with the name is the first one with the name
+  pub first-named : (at : ℕ) → IsNamed entries name at → (plan : Plan) → slice_get plans at ≡ Some plan → (plan.name ≡ name) × ((i : ℕ) (other : Plan) → i < at → slice_get plans i ≡ Some other → other.name ≡ name → ⊥)
+  first-named at named plan p =
+      let own = alike at plan p in
+      let same : named.entry ≡ own.0 = some-is (slice_get entries at) named.entry own.0 named.here own.1 in (
+        own.2 ∙ (ap (λ (e : Entry). e.name) (sym same) ∙ named.named),
+        λ i other lt e k. let there = alike i other e in named.first i there.0 lt there.1 (sym there.2 ∙ k),
+      )
+
+  pub none-named : Names entries name None → (i : ℕ) (other : Plan) → slice_get plans i ≡ Some other → other.name ≡ name → ⊥
+  none-named none i other e k = let there = alike i other e in none i there.0 there.1 (sym there.2 ∙ k)

@@ -1,0 +1,113 @@
+-- What a row tells of its blob, and a record's line.
+use Rattle.std.proofs.Common.{◌≡◌, ℕ, ℤ, ◌+◌, ◌≤◌, Bool, true, false, cond, Option, Some, None, IfSome, Result, Ok, Err, List, [], ◌∷◌, ◌++◌, length, drop, refl, sym, ◌∙◌, ap, subst, suc, rules}
+use Rattle.std.specs.Prelude.{option_map, unwrap_or, nat_lt, if◌then◌else◌}
+use Rattle.std.proofs.lemmas.Bool.{eq-eqb}
+use Rattle.fl_base.specs.declared.types.BlobRef.{BlobRef}
+use Rattle.fl_csv.specs.Text as csv
+use Rattle.fl_csv.specs.Text.{Blob, entry_text}
+use Rattle.fl_flash.specs.Flash.{FlashState}
+use Rattle.fl_model.specs.Query.{BlobState, Without, Lost, Stands as StandsWith, blob_in, blob_of, page_stands}
+use Rattle.fl_model.specs.Record.{Column, Plan, RowLayout, columns_len, has_var}
+use Rattle.fl_model.specs.Ring.{Ring}
+use Rattle.fl_model.specs.Row.{Row, stored_row, reference_in, values_in}
+use Rattle.fl_model.specs.Table as model
+use Rattle.fl_model.specs.Table.{Entry}
+use Rattle.fl_schema.specs.Schema.{row_of, layout_of_row, bytes_of}
+use Rattle.fl_schema.specs.declared.row.RowRef.{RowRef}
+use Rattle.fl_table.specs.BlobAt.{has_blobs}
+use Rattle.fl_table.specs.Look.{layout_in}
+use Rattle.fl_table.specs.Standing.{Stands}
+use Rattle.fl_table.specs.declared.table.Table.{Table}
+use Rattle.fl_export.specs.Records.{field_of}
+use Rattle.fl_export.specs.Text.{told_blob, said_of}
+
+pub length-values_in : (columns : List Column) (bytes : List ℕ) → length (values_in columns bytes) ≡ length columns
+length-values_in [] bytes = refl
+length-values_in (column ∷ columns) bytes = ap suc (length-values_in columns (drop column.width bytes))
+
+-- a table has blobs where its plan has variable data
+pub blobs-as : (t : Table 64 64) (f : FlashState) (first : ℕ) (plan : Plan) (table : model.Table) → Stands t f first plan table → has_blobs t ≡ has_var plan
+blobs-as t f first plan table h = sym t.has_blobs ∙ sym (ap (λ (l : RowLayout). l.blobs) h.planned.layout)
+
+-- a row names a blob only in a table that has blobs
+named-in : (blobs : Bool) (bytes : List ℕ) → IfSome (cond blobs (reference_in bytes) None) (λ at. blobs ≡ true)
+named-in false bytes = tt
+named-in true bytes = by_blob (reference_in bytes)
+  where
+    by_blob : (o : Option BlobRef) → IfSome o (λ at. true ≡ true)
+    by_blob None = tt
+    by_blob (Some at) = refl
+
+pub named-has : (t : Table 64 64) (row : RowRef) → layout_of_row row ≡ layout_in t → IfSome (row_of row).blob (λ at. has_blobs t ≡ true)
+named-has t row layout =
+    let same : (layout_of_row row).blobs ≡ has_blobs t = ap (λ (l : RowLayout). l.blobs) layout ∙ t.has_blobs in
+    subst (λ b. IfSome (row_of row).blob (λ at. b ≡ true)) same (named-in (layout_of_row row).blobs (drop ((layout_of_row row).key_bytes + columns_len (layout_of_row row).columns) (bytes_of row)))
+
+-- ---- the blob of an entry
+
+same-ref : {a b : BlobRef} → Some a ≡ Some b → a ≡ b
+same-ref e = cc
+
+-- an entry has none where its row names none, and else its bytes stand where the row says
+pub unnamed : (table : model.Table) (entry : Entry) → None ≡ (stored_row entry).blob → blob_of table entry ≡ Without
+unnamed table entry e = by_blob entry.kept.blob refl e
+  where
+    by_blob : (o : Option (List ℕ)) → entry.kept.blob ≡ o → ◌≡◌ {A = Option BlobRef} None (option_map (λ bytes. record { page = entry.page; offset = entry.offset; length = length bytes }) o) → blob_of table entry ≡ Without
+    by_blob None is e = ap (blob_in table entry) is
+    by_blob (Some bytes) is e = absurd (none e)
+      where
+        none : ◌≡◌ {A = Option BlobRef} None (Some (record { page = entry.page; offset = entry.offset; length = length bytes })) → ⊥
+        none k = cc
+
+pub record Named (entry : Entry) (at : BlobRef) : Type 0 where
+  pub bytes : List ℕ
+  pub blob_is : entry.kept.blob ≡ Some bytes
+  pub at_is : at ≡ record { page = entry.page; offset = entry.offset; length = length bytes }
+
+pub named-by : (entry : Entry) (at : BlobRef) → Some at ≡ (stored_row entry).blob → Named entry at
+named-by entry at e = by_blob entry.kept.blob refl e
+  where
+    by_blob : (o : Option (List ℕ)) → entry.kept.blob ≡ o → ◌≡◌ {A = Option BlobRef} (Some at) (option_map (λ bytes. record { page = entry.page; offset = entry.offset; length = length bytes }) o) → Named entry at
+    by_blob None is e = absurd (none e)
+      where
+        none : ◌≡◌ {A = Option BlobRef} (Some at) None → ⊥
+        none k = cc
+    by_blob (Some bytes) is e = record { bytes = bytes; blob_is = is; at_is = same-ref e }
+
+-- the empty blob is never gone
+pub empty-stands : (table : model.Table) (entry : Entry) (bytes : List ℕ) → entry.kept.blob ≡ Some bytes → length bytes ≡ 0 → blob_of table entry ≡ StandsWith []
+empty-stands table entry bytes blob_is none =
+    ap (blob_in table entry) blob_is
+    ∙ ap (λ (b : Bool). cond b (StandsWith []) (cond (unwrap_or (option_map (λ (ring : Ring). page_stands ring entry.page) table.var) false) (StandsWith bytes) Lost)) (eq-eqb (length bytes) 0 none)
+
+-- ---- the line
+
+pub field-is : (plan : Plan) (blobs : Bool) (state : BlobState) → blobs ≡ has_var plan → field_of blobs state ≡ (if has_var plan then told_blob state else csv.Absent)
+field-is plan true state e = subst (λ b. told_blob state ≡ (if b then told_blob state else csv.Absent)) e refl
+field-is plan false state e = subst (λ b. csv.Absent ≡ (if b then told_blob state else csv.Absent)) e refl
+
+-- the record that is written is the one that is said
+pub said-is : (plan : Plan) (table : model.Table) (entry : Entry) (row : Row) (blobs : Bool) (blob : Blob) → row ≡ stored_row entry → blobs ≡ has_var plan → blob ≡ field_of blobs (blob_of table entry) →
+    record { key = row.key; values = row.values; blob = blob } ≡ said_of plan table entry
+said-is plan table entry row blobs blob row_is noted blob_is =
+    ap (λ (r : Row). record { key = r.key; values = r.values; blob = blob }) row_is
+    ∙ ap (λ (b : Blob). record { key = entry.kept.key; values = entry.kept.values; blob = b }) (blob_is ∙ field-is plan blobs (blob_of table entry) noted)
+
+-- what is told of a blob that a row names
+pub whole-field : (blobs : Bool) (state : BlobState) (bytes : List ℕ) → blobs ≡ true → state ≡ StandsWith bytes → csv.Bytes bytes ≡ field_of blobs state
+whole-field blobs state bytes has is = sym (ap (λ (b : Bool). field_of b state) has ∙ ap told_blob is)
+
+pub gone-field : (blobs : Bool) (state : BlobState) → blobs ≡ true → state ≡ Lost → csv.Gone ≡ field_of blobs state
+gone-field blobs state has is = sym (ap (λ (b : Bool). field_of b state) has ∙ ap told_blob is)
+
+-- the line that is written is that of the record
+pub line-is : (plan : Plan) (table : model.Table) (entry : Entry) (row : Row) (blobs : Bool) (key : ℕ) (values : List ℤ) (blob : Blob) → key ≡ row.key → values ≡ row.values → row ≡ stored_row entry → blobs ≡ has_var plan → blob ≡ field_of blobs (blob_of table entry) →
+    entry_text (record { key = key; values = values; blob = blob }) ≡ entry_text (said_of plan table entry)
+line-is plan table entry row blobs key values blob key_is values_are row_is noted blob_is =
+    ap (λ (k : ℕ). entry_text (record { key = k; values = values; blob = blob })) key_is
+    ∙ (ap (λ (v : List ℤ). entry_text (record { key = row.key; values = v; blob = blob })) values_are
+    ∙ ap entry_text (said-is plan table entry row blobs blob row_is noted blob_is))
+
+-- a table has the columns of its plan
+pub columns-as : (t : Table 64 64) (f : FlashState) (first : ℕ) (plan : Plan) (table : model.Table) → Stands t f first plan table → length (layout_in t).columns ≡ length plan.columns
+columns-as t f first plan table h = sym (ap (λ (l : RowLayout). length l.columns) h.planned.layout)

@@ -1,0 +1,73 @@
+-- A mount with no cut armed fails only where the medium does.
+use Rattle.std.proofs.Common.{◌≡◌, ℕ, ◌+◌, ◌-◌, ◌^◌, ◌≤◌, ◌⊎◌, inl, inr, Bool, true, false, IsTrue, nat_le, min, Option, Some, None, List, [], ◌∷◌, refl, sym, ◌∙◌, ap, subst}
+use Rattle.std.specs.Prelude.{option_map, unwrap_or, ◌==◌, if◌then◌else◌}
+use Rattle.std.proofs.lemmas.Bool.{le-leb, leb-true}
+use Rattle.fl_base.specs.Causes.{Rose}
+use Rattle.fl_base.specs.declared.types.CutKind.{CutKind}
+use Rattle.fl_flash.specs.Flash.{FlashState}
+use Rattle.fl_ring.specs.Device.{SameDevice}
+use Rattle.fl_ring.specs.Step.{IsWatched}
+use Rattle.fl_model.specs.Mount.{Mounts, GoesOn, MountEnd, Mounted, Stopped, Unread, rings_from, renumbered_at, repairs_at}
+use Rattle.fl_model.specs.Record.{Plan}
+use Rattle.fl_model.specs.Table.{Table, RingName}
+use Rattle.fl_model.specs.Work.{Operation, Device, Progress, Outcome, Finished, CutShort, Failed, Performs, PerformsFirst, cut_now, counted, done}
+
+-- the medium's faults rose from one flash to another
+abbrev pub has_risen : FlashState → FlashState → Bool
+has_risen f g = nat_le (min (f.media.faults + 1) (2 ^ 64 - 1)) g.media.faults
+
+pub risen-rose : (f g : FlashState) → IsTrue (has_risen f g) → Rose f.media.faults g.media.faults
+risen-rose f g e = leb-true (min (f.media.faults + 1) (2 ^ 64 - 1)) g.media.faults e
+
+pub watched : (f g : FlashState) (device : Device) → IsTrue f.media.tells → f.is_on ≡ true → SameDevice f device → IsWatched f g (has_risen f g) device
+watched f g device told on counts = record { told = told; on = on; risen = λ r. le-leb (min (f.media.faults + 1) (2 ^ 64 - 1)) g.media.faults r; counts = counts }
+
+abbrev Calm : Bool → Progress → Type 0
+Calm rose end = IsTrue rose ⊎ ((end.outcome ≡ Finished) × (end.device.armed ≡ None))
+
+-- operations that are done with no cut armed are finished, or the medium failed
+performs-calm : (plans : List Plan) (rose : Bool) (operations : List Operation) (device : Device) (tables : List Table) (end : Progress) → device.armed ≡ None → Performs plans rose operations device tables end → Calm rose end
+performs-calm plans rose [] device tables end unarmed did = inr (did.0, ap (λ (d : Device). d.armed) did.1 ∙ unarmed)
+performs-calm plans rose (operation ∷ operations) device tables end unarmed did =
+    by_cut (λ others. performs-calm plans rose operations (counted operation.kind device) (done plans operation tables) end (ap (option_map (λ cut. (cut.0 - 1, cut.1))) unarmed) others)
+    (subst (λ (k : Option CutKind). PerformsBy k) (ap (λ (a : Option (ℕ × CutKind)). unwrap_or (option_map (λ cut. if cut.0 == 1 then Some cut.1 else None) a) None) unarmed) did)
+  where
+    PerformsBy : Option CutKind → Type 0
+    PerformsBy k = PerformsFirst plans rose k operation device tables end (Performs plans rose operations (counted operation.kind device) (done plans operation tables) end)
+
+    by_cut : (Performs plans rose operations (counted operation.kind device) (done plans operation tables) end → Calm rose end) → PerformsBy None → Calm rose end
+    by_cut go (inl failed) = inl failed.0
+    by_cut go (inr others) = go others
+
+abbrev Fails : Progress → MountEnd → Type 0
+Fails end how = (how ≡ Stopped end) ⊎ (how ≡ Unread end)
+
+goes-calm : (rose : Bool) (o : Outcome) (now : Progress) (how : MountEnd) (others : Type 0) → now.outcome ≡ o → Calm rose now → GoesOn o now how others → (now.device.armed ≡ None → others → IsTrue rose) → IsTrue rose
+goes-calm rose o now how others is (inl risen) goes go = risen
+goes-calm rose Finished now how others is (inr calm) goes go = go calm.1 goes
+goes-calm rose (CutShort before) now how others is (inr calm) goes go = absurd (no (sym is ∙ calm.0))
+  where
+    no : CutShort before ≡ Finished → ⊥
+    no e = cc
+goes-calm rose (Failed before) now how others is (inr calm) goes go = absurd (no (sym is ∙ calm.0))
+  where
+    no : Failed before ≡ Finished → ⊥
+    no e = cc
+
+pub fails-rose : (plans : List Plan) (rose : Bool) (rings : List (ℕ × RingName)) (device : Device) (tables : List Table) (end : Progress) (how : MountEnd) → device.armed ≡ None → Fails end how → Mounts plans rose rings device tables how → IsTrue rose
+fails-rose plans rose [] device tables end how unarmed fails did = absurd (by_end fails)
+  where
+    by_end : Fails end how → ⊥
+    by_end (inl is) = let k : Stopped end ≡ Mounted (record { outcome = Finished; device = device; tables = tables }) = sym is ∙ did in no_stop k
+      where
+        no_stop : Stopped end ≡ Mounted (record { outcome = Finished; device = device; tables = tables }) → ⊥
+        no_stop e = cc
+    by_end (inr is) = let k : Unread end ≡ Mounted (record { outcome = Finished; device = device; tables = tables }) = sym is ∙ did in no_read k
+      where
+        no_read : Unread end ≡ Mounted (record { outcome = Finished; device = device; tables = tables }) → ⊥
+        no_read e = cc
+fails-rose plans rose (at ∷ rings) device tables end how unarmed fails (inl unread) = unread.1.may_fail
+fails-rose plans rose (at ∷ rings) device tables end how unarmed fails (inr (now, did, goes)) =
+    goes-calm rose now.outcome now how (Mounts plans rose rings now.device now.tables how) refl
+    (performs-calm plans rose (repairs_at plans at (renumbered_at plans at tables)) device (renumbered_at plans at tables) now unarmed did) goes
+    (λ unarmed' others. fails-rose plans rose rings now.device now.tables end how unarmed' fails others)

@@ -1,0 +1,26 @@
+use Rattle.std.proofs.Common.{◌≡◌, true, sym, ◌∙◌}
+use Rattle.std.proofs.lemmas.Result.{err_from_is_err_and}
+use Rattle.fl_model.specs.Query.{blob_of}
+use Rattle.fl_table.specs.BlobAt.{has_blobs}
+use Rattle.fl_export.proofs.Records.{named-by, whole-field, gone-field}
+use Rattle.fl_export.proofs.record.find_blob.Goals as goal
+
+pub returns-in_err-read_blob-clause-finds : goal.returns-in_err-read_blob-clause-finds
+returns-in_err-read_blob-clause-finds g c = λ first plan t i entry tells stands here at_is.
+    let named = named-by entry c.in-Some.at (sym c.in-Some.is ∙ at_is) in
+    let p = err_from_is_err_and c.from_residual.result c.from_residual.ensures.1 in
+    rw (p.1, p.2) (c.in_err-read_blob.ensures.finds first plan t i entry named.bytes tells stands here named.blob_is named.at_is)
+
+pub returns-then-branch-clause-finds : goal.returns-then-branch-clause-finds
+returns-then-branch-clause-finds g c = λ first plan t i entry tells stands here at_is.
+    let named = named-by entry c.in-Some.at (sym c.in-Some.is ∙ at_is) in
+    let has : has_blobs c.args.table.now ≡ true = rw c.in-Some.is at c.requires.blobs in
+    let state = rw c.if-branch.true at (c.in_ok-read_blob.ensures.finds first plan t i entry named.bytes tells stands here named.blob_is named.at_is) in
+    whole-field (has_blobs c.args.table.now) (blob_of t entry) c.read_blob.new.room.bytes.items has state
+
+pub returns-clause-finds : goal.returns-clause-finds
+returns-clause-finds g c = λ first plan t i entry tells stands here at_is.
+    let named = named-by entry c.in-Some.at (sym c.in-Some.is ∙ at_is) in
+    let has : has_blobs c.args.table.now ≡ true = rw c.in-Some.is at c.requires.blobs in
+    let state = rw c.if-branch.false at (c.in_ok-read_blob.ensures.finds first plan t i entry named.bytes tells stands here named.blob_is named.at_is) in
+    gone-field (has_blobs c.args.table.now) (blob_of t entry) has state

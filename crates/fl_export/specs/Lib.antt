@@ -1,0 +1,7 @@
+pub mod Text
+pub mod Records
+pub mod Writing
+pub mod Blobs
+pub mod Rooms
+pub mod Ends
+pub mod Tables

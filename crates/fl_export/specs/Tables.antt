@@ -1,0 +1,54 @@
+-- How an export ends over a flash on which the tables of an image lie.
+use Rattle.std.specs.Prelude.{◌≡◌, ◌⊎◌, ℕ, ◌≤◌, false, Option, List, IsTrue}
+use Rattle.fl_base.specs.declared.types.KeyRange.{KeyRange}
+use Rattle.fl_flash.specs.Flash.{FlashState}
+use Rattle.fl_flash.specs.Media.{MediaState}
+use Rattle.fl_jobs.specs.declared.status.ToolStatus.{ToolStatus}
+use Rattle.fl_jobs.specs.declared.status.ToolStatus.TheVariants.{Done, OutWrite, NoMemory, NotImage, Device, BadImage, NoTable, Unsound}
+use Rattle.fl_model.specs.Record.{Plan, Config}
+use Rattle.fl_model.specs.Table.{Table}
+use Rattle.fl_page.specs.declared.fault.ReadFault.TheVariants.{Flash, BadPage}
+use Rattle.fl_tables.specs.Tables.{TablesStand}
+use Rattle.fl_tables.specs.declared.tables.Entry.{Entry}
+use Rattle.fl_words.specs.Medium.{IsImage}
+use Rattle.fl_export.specs.Ends.{Told, TablesEnd, IsUntouched}
+use Rattle.fl_export.specs.declared.fault.ExportFault.{ExportFault}
+use Rattle.fl_export.specs.declared.fault.ExportFault.TheVariants as fault
+
+-- the status of an export of a table whose lines aren't written to the end
+abbrev pub status_of : ExportFault → ℕ → ToolStatus
+status_of fault.NoMemory at = NoMemory
+status_of (fault.Sink failed) at = OutWrite
+status_of (fault.Read (Flash e)) at = Device
+status_of (fault.Read (BadPage bad)) at = BadImage at
+
+-- a status that comes once the table is found
+abbrev pub IsOfTable : ToolStatus → Type 0
+IsOfTable Done = Unit {0}
+IsOfTable OutWrite = Unit {0}
+IsOfTable NoMemory = Unit {0}
+IsOfTable Device = Unit {0}
+IsOfTable (BadImage table) = Unit {0}
+IsOfTable NotImage = ⊥
+IsOfTable NoTable = ⊥
+IsOfTable Unsound = ⊥
+
+-- .. and one of tables that aren't mounted
+abbrev pub IsOfMount : ToolStatus → Type 0
+IsOfMount Device = Unit {0}
+IsOfMount (BadImage table) = Unit {0}
+IsOfMount other = ⊥
+
+abbrev pub told_of : MediaState → MediaState → Option (List ℕ) → Option (List ℕ) → Told
+told_of old new told told_now = record { written = told; written_now = told_now; faults = old.faults; faults_now = new.faults }
+
+-- how it ends over a flash: that stands for the tables afterwards
+abbrev pub EndsOn : List Plan → List Table → List ℕ → KeyRange → FlashState → FlashState → Option (List ℕ) → Option (List ℕ) → List Entry → ToolStatus → Type 0
+EndsOn plans tables name range old new told told_now entries status =
+    TablesEnd plans tables name range (told_of old.media new.media told told_now) (TablesStand new (λ i. false) plans entries) status
+
+-- .. and over a medium; where there was no room for the flash nothing was done
+abbrev pub EndsOver : Config → List Table → List ℕ → KeyRange → MediaState → MediaState → Option (List ℕ) → Option (List ℕ) → ToolStatus → Type 0
+EndsOver config tables name range old new told told_now status =
+    ((status ≡ NoMemory) × IsUntouched old.content new.content (told_of old new told told_now))
+    ⊎ TablesEnd config.plans tables name range (told_of old new told told_now) (IsImage config new.content) status

@@ -1,0 +1,39 @@
+-- How the writing of lines ends.
+use Rattle.std.specs.Prelude.{ℕ, Option, Result, Ok, Err, List}
+use Rattle.fl_base.specs.Causes.{Appends, AppendsFront}
+use Rattle.fl_csv.specs.declared.record.CsvFault.{CsvFault}
+use Rattle.fl_csv.specs.declared.record.CsvFault.TheVariants as line
+use Rattle.fl_flash.specs.Flash.{FlashState}
+use Rattle.fl_page.specs.Contents.{IsCaused}
+use Rattle.fl_page.specs.declared.fault.ReadFault.TheVariants.{Flash, BadPage}
+use Rattle.fl_export.specs.declared.fault.ExportFault.{ExportFault}
+use Rattle.fl_export.specs.declared.fault.ExportFault.TheVariants.{NoMemory, Sink, Read}
+
+-- why a line isn't written
+abbrev pub of_line : CsvFault → ExportFault
+of_line (line.Sink failed) = Sink failed
+of_line line.NoMemory = NoMemory
+
+-- a fault of the sink has this cause
+abbrev pub IfSink : Type 0 → ExportFault → Type 0
+IfSink P (Sink failed) = P
+IfSink P (Read fault) = Unit {0}
+IfSink P NoMemory = Unit {0}
+
+-- .. and one of a read has its own
+abbrev pub IfUnread : FlashState → FlashState → ExportFault → Type 0
+IfUnread old new (Read fault) = IsCaused old fault new
+IfUnread old new (Sink failed) = Unit {0}
+IfUnread old new NoMemory = Unit {0}
+
+-- no page is bad
+abbrev pub NoneBad : ExportFault → Type 0
+NoneBad (Read (BadPage bad)) = ⊥
+NoneBad (Read (Flash fault)) = Unit {0}
+NoneBad (Sink failed) = Unit {0}
+NoneBad NoMemory = Unit {0}
+
+-- this text was appended; or a front of it, and no page was bad
+abbrev pub Writes : List ℕ → Option (List ℕ) → Option (List ℕ) → Result (Unit {0}) ExportFault → Type 0
+Writes text told told_now (Ok done) = Appends told told_now text
+Writes text told told_now (Err fault) = NoneBad fault × AppendsFront told told_now text

@@ -1,0 +1,162 @@
+// Exports of images made by hand: what is written, and how they end.
+use crate::checks::{Piece, SEAL, image};
+use fl_base::{KeyRange, MemSink, Name, NoMemory};
+use fl_export::export_image;
+use fl_flash::MemMedia;
+use fl_jobs::ToolStatus;
+use std::alloc::Global;
+use std::test::Fail;
+
+// Pages of 128 bytes, four a block, and a ring of three blocks.
+const PLAIN: &str = "device 128 4\ntable t 8 i32 3 0 0 8 0 10 1 0\n";
+
+const PLAIN_BYTES: u16 = 1536;
+
+// Data page 0 with the records (1, -25), (2, -5), (3, 0): 8 bytes of key and 4 of value each, from byte 16 on.
+const THREE_ROWS: [u8; 52] = [
+    0, 0, 0, 0, 3, 0, 0, 0, 1, 0, 0, 0, 0, 0, 0, 0, 1, 0, 0, 0, 0, 0, 0, 0, 0xe7, 0xff, 0xff, 0xff,
+    2, 0, 0, 0, 0, 0, 0, 0, 0xfb, 0xff, 0xff, 0xff, 3, 0, 0, 0, 0, 0, 0, 0, 0, 0, 0, 0,
+];
+
+const THREE: [Piece<'static>; 2] = [(0, &THREE_ROWS), (120, &SEAL)];
+
+// Pages of 64 bytes, two a block: one row a page in data pages 0 to 5, and variable data in pages 6 to 11.
+const WITH_BLOBS: &str = "device 64 2\ntable t 8 i32 3 0 3 8 0 10 1 30\n";
+
+const BLOB_BYTES: u16 = 768;
+
+// A data page with one row: its number, its key, its value in one byte, and where its blob starts.
+fn blob_page(number: u8, key: u8, value: u8, blob: [u8; 10]) -> [u8; 38] {
+    let high = if value < 128 { 0 } else { 0xff };
+    [
+        number, 0, 0, 0, 1, 0, 0, 0, 1, 0, 0, 0, 0, 0, 0, 0, key, 0, 0, 0, 0, 0, 0, 0, value, high,
+        high, high, blob[0], blob[1], blob[2], blob[3], blob[4], blob[5], blob[6], blob[7],
+        blob[8], blob[9],
+    ]
+}
+
+// A blob of so many bytes at the begin of a page.
+fn blob_at(page: u8, length: u8) -> [u8; 10] {
+    [page, 0, 0, 0, 0, 0, length, 0, 0, 0]
+}
+
+// Exports the keys from one to another of the table with a name, into a sink with so much room, and tells the status.
+fn export(
+    alloc: Global,
+    media: &mut MemMedia,
+    name: &[u8],
+    keys: (u64, u64),
+    room: usize,
+) -> Result<(ToolStatus, MemSink), NoMemory> {
+    let Some(name) = Name::of(name) else {
+        return Err(NoMemory);
+    };
+    let range = KeyRange {
+        low: keys.0,
+        high: keys.1,
+    };
+    let mut out = MemSink::new(alloc, room, Vec::new(alloc))?;
+    let status = export_image(alloc, name, range, media, &mut out);
+    Ok((status, out))
+}
+
+// A medium with these bytes.
+fn medium(alloc: Global, bytes: Vec<u8>) -> Result<MemMedia, NoMemory> {
+    let len = bytes.len();
+    MemMedia::new(alloc, bytes, len)
+}
+
+#[test]
+fn records_of_a_range(rt: HostRuntime) -> Result<(), Fail> {
+    let cases: [((u64, u64), &str); 5] = [
+        ((0, 2), "key,c1\n1,-25\n2,-5\n"),
+        ((0, u64::MAX), "key,c1\n1,-25\n2,-5\n3,0\n"),
+        ((3, 3), "key,c1\n3,0\n"),
+        ((4, 9), "key,c1\n"),
+        ((2, 1), "key,c1\n"),
+    ];
+    for (keys, wanted) in cases {
+        let mut media = medium(rt.alloc(), image(rt.alloc(), PLAIN, PLAIN_BYTES, &THREE)?)?;
+        let (status, out) = export(rt.alloc(), &mut media, b"t", keys, 100)?;
+        assert_eq!(rt; status, ToolStatus::Done);
+        assert_eq!(rt; out.bytes(), wanted.as_bytes());
+    }
+    Ok(())
+}
+
+#[test]
+fn blobs_are_told(rt: HostRuntime) -> Result<(), Fail> {
+    let pieces: [Piece<'_>; 11] = [
+        (0, &blob_page(0, 1, 0xe7, [0xff; 10])),
+        (56, &SEAL),
+        (64, &blob_page(1, 2, 0xfb, blob_at(0, 3))),
+        (120, &SEAL),
+        (128, &blob_page(2, 3, 0, blob_at(0, 0))),
+        (184, &SEAL),
+        // Page 1 of the variable data is void.
+        (192, &blob_page(3, 4, 7, blob_at(1, 5))),
+        (248, &SEAL),
+        (384, &[0, 0, 0, 0, 3, 0, 0, 0, 0x00, 0xab, 0xff]),
+        (440, &SEAL),
+        (508, &SEAL),
+    ];
+    let bytes = image(rt.alloc(), WITH_BLOBS, BLOB_BYTES, &pieces)?;
+    let mut media = medium(rt.alloc(), bytes)?;
+    let (status, out) = export(rt.alloc(), &mut media, b"t", (0, 9), 100)?;
+    assert_eq!(rt; status, ToolStatus::Done);
+    let text = "key,c1,blob\n1,-25,\n2,-5,00abff\n3,0,-\n4,7,gone\n";
+    assert_eq!(rt; out.bytes(), text.as_bytes());
+    Ok(())
+}
+
+#[test]
+fn statuses_have_their_causes(rt: HostRuntime) -> Result<(), Fail> {
+    let cases: [(&str, u16, &[Piece<'_>], &[u8], usize, ToolStatus); 6] = [
+        (PLAIN, PLAIN_BYTES, &THREE, b"t", 100, ToolStatus::Done),
+        (PLAIN, PLAIN_BYTES, &THREE, b"t", 9, ToolStatus::OutWrite),
+        (PLAIN, PLAIN_BYTES, &THREE, b"s", 100, ToolStatus::NoTable),
+        (PLAIN, 1535, &THREE, b"t", 100, ToolStatus::NotImage),
+        ("device 128 4\n", 0, &[], b"t", 100, ToolStatus::NotImage),
+        // Number 5 doesn't stand at place 0.
+        (
+            PLAIN,
+            PLAIN_BYTES,
+            &[(0, &THREE_ROWS), (0, &[5]), (120, &SEAL)],
+            b"t",
+            100,
+            ToolStatus::BadImage { table: 0 },
+        ),
+    ];
+    for (text, pages, pieces, name, room, wanted) in cases {
+        let mut media = medium(rt.alloc(), image(rt.alloc(), text, pages, pieces)?)?;
+        let (status, _out) = export(rt.alloc(), &mut media, name, (0, 9), room)?;
+        assert_eq!(rt; status, wanted);
+    }
+    Ok(())
+}
+
+#[test]
+fn a_medium_that_fails_is_told(rt: HostRuntime) -> Result<(), Fail> {
+    // The first call reads the header, and the third is one of the mount.
+    for call in [1, 3] {
+        let mut media = medium(rt.alloc(), image(rt.alloc(), PLAIN, PLAIN_BYTES, &THREE)?)?;
+        media.fail_call(call);
+        let (status, out) = export(rt.alloc(), &mut media, b"t", (0, 9), 100)?;
+        assert_eq!(rt; status, ToolStatus::Device);
+        assert_eq!(rt; out.bytes().len(), 0);
+    }
+    Ok(())
+}
+
+#[test]
+fn a_torn_page_is_repaired(rt: HostRuntime) -> Result<(), Fail> {
+    // A page was begun behind the first one, which is sealed.
+    let pieces: [Piece<'_>; 3] = [(0, &THREE_ROWS), (120, &SEAL), (128, &[1])];
+    let mut media = medium(rt.alloc(), image(rt.alloc(), PLAIN, PLAIN_BYTES, &pieces)?)?;
+    let (status, out) = export(rt.alloc(), &mut media, b"t", (3, 9), 100)?;
+    assert_eq!(rt; status, ToolStatus::Done);
+    assert_eq!(rt; out.bytes(), "key,c1\n3,0\n".as_bytes());
+    // Its void mark.
+    assert_eq!(rt; media.bytes().get(1024 + 252), Some(&0));
+    Ok(())
+}

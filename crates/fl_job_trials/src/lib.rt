@@ -1,0 +1,8 @@
+//! Tests of checks and exports, over images made by hand, through public calls. They stand above all that they call, so that
+//! each crate below is proved once.
+#![tactic(auto)]
+
+#[cfg(test)]
+mod checks;
+#[cfg(test)]
+mod exports;

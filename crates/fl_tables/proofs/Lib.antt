@@ -1,0 +1,11 @@
+pub mod Going
+pub mod Apart
+pub mod TablesChanged
+pub mod Lying
+pub mod Naming
+pub mod TablesMade
+pub mod MountedSoFar
+pub mod TablesReads
+pub mod TornPages
+pub mod RingRepairs
+pub mod TableRepairs

@@ -1,0 +1,114 @@
+use Rattle.std.proofs.Common.{rules, ◌≡◌, ◌+◌, IsTrue, Some, length, refl, sym, ◌∙◌, ap, subst, arith}
+use Rattle.std.specs.List.{slice_get}
+use Rattle.std.proofs.lemmas.List.{length-set}
+use Rattle.std.proofs.lemmas.Option.{slice_get_within}
+use Rattle.fl_base.specs.declared.types.Geometry.{Geometry}
+use Rattle.fl_ring.specs.Step.{IsWatched}
+use Rattle.fl_tables.specs.Tables.{first_of}
+use Rattle.fl_tables.proofs.Going.{goes-same, goes-on, rose-front, rose-back}
+use Rattle.fl_tables.proofs.Lying.{lie-with, running-more}
+use Rattle.fl_tables.proofs.MountedSoFar.{mounted-none, mounted-more, mounted-err, mounted-all, own, was, stood}
+use Rattle.fl_tables.proofs.TableRepairs.{repaired-none, repaired-more}
+use Rattle.fl_tables.proofs.TablesReads.{reads-more, reads-most}
+use Rattle.fl_tables.proofs.TablesChanged.{item-there, set-elsewhere}
+use Rattle.fl_tables.proofs.tables.Tables.mount.Goals as goal
+
+pub loop-i-init : goal.loop-i-init
+loop-i-init g c = record {
+  lie = c.requires.lie;
+  room = c.requires.room;
+  same_room = refl;
+  as_many = refl;
+  goes = goes-same _;
+  running = λ j entry lt e. absurd (omega (arith, lt));
+  ahead = λ j le. refl;
+  reads = λ told. omega arith;
+  repaired = λ told plans tables stand. repaired-none plans (g.F.Flash.state c.args.flash.now);
+  so_far = λ plans tables rose device told on counts stand risen. mounted-none plans tables rose device c.args.self.now.entries.items (g.F.Flash.state c.args.flash.now) counts on stand;
+}
+
+pub mount-requires : goal.mount-requires
+mount-requires g c =
+    let here : slice_get c.loop-i.self.entries.items c.loop-i.i ≡ Some c.index_mut.result.now =
+    item-there c.loop-i.self.entries.items (length c.loop-i.self.entries.items) c.loop-i.i c.index_mut.result.now refl (omega (arith, c.loop-i-test.true, c.len-i-end.ensures, c.args.self.now.entries.ok.0, c.loop-i.invariant.as_many)) c.index_mut.ensures.value in
+    (search rules, (c.loop-i.invariant.lie c.loop-i.i c.index_mut.result.now here, c.loop-i.invariant.same_room ∙ (c.requires.room ∙ ap (λ (g : Geometry). g.page) (sym c.loop-i.invariant.goes.geometry))))
+
+pub returns-in-Err-clause-lie : goal.returns-in-Err-clause-lie
+returns-in-Err-clause-lie g c =
+    let here : slice_get c.loop-i.self.entries.items c.loop-i.i ≡ Some c.index_mut.result.now =
+    item-there c.loop-i.self.entries.items (length c.loop-i.self.entries.items) c.loop-i.i c.index_mut.result.now refl (omega (arith, c.loop-i-test.true, c.len-i-end.ensures, c.args.self.now.entries.ok.0, c.loop-i.invariant.as_many)) c.index_mut.ensures.value in
+    lie-with c.loop-i.self.entries.items c.loop-i.i c.index_mut.result.now c.mount.new.self (g.F.Flash.state c.loop-i.flash) (g.F.Flash.state c.mount.new.flash) here c.mount.ensures.goes c.loop-i.invariant.lie c.mount.ensures.lies
+
+pub returns-in-Err-clause-ends : goal.returns-in-Err-clause-ends
+returns-in-Err-clause-ends g c = λ plans tables rose device watched stand.
+    let f = g.F.Flash.state c.args.flash.now in
+    let m = g.F.Flash.state c.loop-i.flash in
+    let n = g.F.Flash.state c.mount.new.flash in
+    let i = c.loop-i.invariant in
+    let p = c.mount.ensures in
+    let here : slice_get c.loop-i.self.entries.items c.loop-i.i ≡ Some c.index_mut.result.now =
+    item-there c.loop-i.self.entries.items (length c.loop-i.self.entries.items) c.loop-i.i c.index_mut.result.now refl (omega (arith, c.loop-i-test.true, c.len-i-end.ensures, c.args.self.now.entries.ok.0, c.loop-i.invariant.as_many)) c.index_mut.ensures.value in
+    let told : IsTrue m.media.tells = subst IsTrue (sym i.goes.tells) watched.told in
+    let so_far = i.so_far plans tables rose device watched.told watched.on watched.counts stand (λ r. watched.risen (rose-front f.media.faults m.media.faults n.media.faults p.goes.faults r)) in
+    let sees : IsWatched m n rose so_far.now = record { told = told; on = so_far.power; risen = λ r. watched.risen (rose-back f.media.faults m.media.faults n.media.faults i.goes.faults r); counts = so_far.counts } in
+    let at = own plans tables rose device c.loop-i.i c.loop-i.self.entries.items c.index_mut.result.now c.mount.new.self m n so_far here p.goes p.same (p.outside told) in
+    let before = was plans tables rose device c.loop-i.i c.loop-i.self.entries.items c.index_mut.result.now c.mount.new.self m n so_far here p.goes p.same (p.outside told) in
+    let stands = stood plans tables rose device c.loop-i.i c.loop-i.self.entries.items c.index_mut.result.now c.mount.new.self m n so_far here p.goes p.same (p.outside told) in
+    mounted-err plans tables rose device c.loop-i.i c.loop-i.self.entries.items c.index_mut.result.now c.mount.new.self m n so_far here p.goes p.same (p.outside told) c.in-Err.fault
+    (c.in-Err.ensures.ends (first_of plans c.loop-i.i) at.plan before rose so_far.now sees stands.planned stands.on_flash)
+
+pub loop-i-preserved : goal.loop-i-preserved
+loop-i-preserved g c =
+    let f = g.F.Flash.state c.args.flash.now in
+    let m = g.F.Flash.state c.loop-i.flash in
+    let n = g.F.Flash.state c.mount.new.flash in
+    let i = c.loop-i.invariant in
+    let p = c.mount.ensures in
+    let here : slice_get c.loop-i.self.entries.items c.loop-i.i ≡ Some c.index_mut.result.now =
+    item-there c.loop-i.self.entries.items (length c.loop-i.self.entries.items) c.loop-i.i c.index_mut.result.now refl (omega (arith, c.loop-i-test.true, c.len-i-end.ensures, c.args.self.now.entries.ok.0, c.loop-i.invariant.as_many)) c.index_mut.ensures.value in
+    record {
+      lie = lie-with c.loop-i.self.entries.items c.loop-i.i c.index_mut.result.now c.mount.new.self m n here p.goes i.lie p.lies;
+      room = p.room ∙ (i.room ∙ ap (λ (x : Geometry). x.page) (sym p.goes.geometry));
+      same_room = p.room ∙ i.same_room;
+      as_many = length-set c.loop-i.self.entries.items c.loop-i.i (record { name = c.index_mut.result.now.name; table = c.mount.new.self }) ∙ i.as_many;
+      goes = goes-on f m n i.goes p.goes;
+      running = running-more c.loop-i.self.entries.items c.loop-i.i c.index_mut.result.now c.mount.new.self here i.running c.in_default.ensures.mounted;
+      ahead = λ j le. set-elsewhere c.loop-i.self.entries.items c.loop-i.i j (record { name = c.index_mut.result.now.name; table = c.mount.new.self }) (λ is. absurd (omega (arith, le, is))) ∙ i.ahead j (omega (arith, le));
+      reads = λ told. reads-more c.args.self.now.entries.items c.loop-i.i c.index_mut.result.now f m n (sym (i.ahead c.loop-i.i (omega arith)) ∙ here) (i.reads told) (p.reads (subst IsTrue (sym i.goes.tells) told));
+      repaired = λ told plans tables stand.
+          repaired-more plans tables c.args.self.now.entries.items c.loop-i.i c.index_mut.result.now c.mount.new.self f m n c.in_default.field-0 stand (sym (i.ahead c.loop-i.i (omega arith)) ∙ here) i.goes told
+          (c.in_default.ensures.found (subst IsTrue (sym i.goes.tells) told)) (i.repaired told plans tables stand);
+      so_far = λ plans tables rose device told on counts stand risen.
+          let told' : IsTrue m.media.tells = subst IsTrue (sym i.goes.tells) told in
+          let so_far = i.so_far plans tables rose device told on counts stand (λ r. risen (rose-front f.media.faults m.media.faults n.media.faults p.goes.faults r)) in
+          let sees : IsWatched m n rose so_far.now = record { told = told'; on = so_far.power; risen = λ r. risen (rose-back f.media.faults m.media.faults n.media.faults i.goes.faults r); counts = so_far.counts } in
+          let at = own plans tables rose device c.loop-i.i c.loop-i.self.entries.items c.index_mut.result.now c.mount.new.self m n so_far here p.goes p.same (p.outside told') in
+          let before = was plans tables rose device c.loop-i.i c.loop-i.self.entries.items c.index_mut.result.now c.mount.new.self m n so_far here p.goes p.same (p.outside told') in
+          let stands = stood plans tables rose device c.loop-i.i c.loop-i.self.entries.items c.index_mut.result.now c.mount.new.self m n so_far here p.goes p.same (p.outside told') in
+          mounted-more plans tables rose device c.loop-i.i c.loop-i.self.entries.items c.index_mut.result.now c.mount.new.self m n so_far here p.goes p.same (p.outside told') c.in_default.field-0
+          (c.in_default.ensures.ends (first_of plans c.loop-i.i) at.plan before rose so_far.now sees stands.planned stands.on_flash);
+    }
+
+pub returns-clause-running : goal.returns-clause-running
+returns-clause-running g c = λ j entry e.
+    c.loop-i.invariant.running j entry (omega (arith, slice_get_within c.loop-i.self.entries.items j entry e, c.loop-i-test.false, c.len-i-end.ensures, c.args.self.now.entries.ok.0, c.loop-i.invariant.as_many)) e
+
+pub returns-clause-ends : goal.returns-clause-ends
+returns-clause-ends g c = λ plans tables rose device watched stand.
+    let all : c.loop-i.i ≡ length c.loop-i.self.entries.items = omega (arith, c.loop-i-test.false, c.loop-i.auto.i-end, c.len-i-end.ensures, c.args.self.now.entries.ok.0, c.loop-i.invariant.as_many) in
+    mounted-all plans tables rose device c.loop-i.i c.loop-i.self.entries.items (g.F.Flash.state c.loop-i.flash) all (c.loop-i.invariant.so_far plans tables rose device watched.told watched.on watched.counts stand watched.risen)
+
+pub returns-in-Err-clause-reads : goal.returns-in-Err-clause-reads
+returns-in-Err-clause-reads g c = λ told.
+    let i = c.loop-i.invariant in
+    let here : slice_get c.loop-i.self.entries.items c.loop-i.i ≡ Some c.index_mut.result.now =
+    item-there c.loop-i.self.entries.items (length c.loop-i.self.entries.items) c.loop-i.i c.index_mut.result.now refl (omega (arith, c.loop-i-test.true, c.len-i-end.ensures, c.args.self.now.entries.ok.0, c.loop-i.invariant.as_many)) c.index_mut.ensures.value in
+    let more = reads-more c.args.self.now.entries.items c.loop-i.i c.index_mut.result.now (g.F.Flash.state c.args.flash.now) (g.F.Flash.state c.loop-i.flash) (g.F.Flash.state c.mount.new.flash)
+    (sym (i.ahead c.loop-i.i (omega arith)) ∙ here) (i.reads told) (c.mount.ensures.reads (subst IsTrue (sym i.goes.tells) told)) in
+    reads-most c.args.self.now.entries.items (c.loop-i.i + 1) (g.F.Flash.state c.args.flash.now) (g.F.Flash.state c.mount.new.flash) more
+
+pub returns-clause-reads : goal.returns-clause-reads
+returns-clause-reads g c = λ told. reads-most c.args.self.now.entries.items c.loop-i.i (g.F.Flash.state c.args.flash.now) (g.F.Flash.state c.loop-i.flash) (c.loop-i.invariant.reads told)
+
+pub returns-clause-repaired : goal.returns-clause-repaired
+returns-clause-repaired g c = λ told plans tables stand page within. (c.loop-i.invariant.repaired told plans tables stand).each page

@@ -1,0 +1,8 @@
+//! The tables of an image: made for the lines of a configuration, found by their names, and mounted one after another.
+#![tactic(auto)]
+
+mod sizes;
+mod tables;
+
+pub use sizes::{Cursor, KNOTS, SLOTS, Table};
+pub use tables::{BadMount, Entry, Tables};

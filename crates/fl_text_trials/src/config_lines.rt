@@ -1,0 +1,129 @@
+// Lines as a script has them, and the answer to each.
+use fl_config::Config;
+use fl_plan::ConfigRefusal;
+use fl_plan::ConfigRefusal::{
+    Bits, BlobLimit, BlockSize, ColumnCount, ColumnType, DataBlocks, DeviceTooLarge, DeviceTwice,
+    ErrorBound, IndexBlocks, KeyWidth, NameTaken, PageSize, RowTooLong, TableFirst, TooManyTables,
+    VarBlocks, Width,
+};
+use fl_script::{LineRoom, read_line};
+use std::test::Fail;
+
+/// The answer to a line, where it is one of the language.
+fn add(config: &mut Config, room: &mut LineRoom, line: &str) -> Option<Result<(), ConfigRefusal>> {
+    match read_line(line.as_bytes(), room) {
+        Ok(command) => Some(config.add(&command, room)),
+        Err(_) => None,
+    }
+}
+
+/// Whether the line is refused so.
+fn refuses(config: &mut Config, room: &mut LineRoom, line: &str, refusal: ConfigRefusal) -> bool {
+    add(config, room, line) == Some(Err(refusal))
+}
+
+#[test]
+fn device_lines(rt: HostRuntime) -> Result<(), Fail> {
+    let mut config = Config::new();
+    let mut room = LineRoom::new(rt.alloc())?;
+    let refused = [
+        ("table t 8 i32 3 0 0 8 0 10 1 0", TableFirst),
+        ("device 56 1", PageSize),
+        ("device 4104 4", PageSize),
+        ("device 18446744073709551615 4", PageSize),
+        ("device 100 4", PageSize),
+        ("device 128 1", BlockSize),
+        ("device 128 257", BlockSize),
+    ];
+    for (line, refusal) in refused {
+        assert!(rt; refuses(&mut config, &mut room, line, refusal), "{line}");
+    }
+    assert_eq!(rt; add(&mut config, &mut room, "device 128 4"), Some(Ok(())));
+    assert!(rt; !config.is_complete(), "no table");
+    assert!(rt;
+        refuses(&mut config, &mut room, "device 0 0", DeviceTwice),
+        "a second device"
+    );
+    Ok(())
+}
+
+/// Each line has the faults of the lines below it.
+#[test]
+fn table_lines(rt: HostRuntime) -> Result<(), Fail> {
+    let mut config = Config::new();
+    let mut room = LineRoom::new(rt.alloc())?;
+    let refused = [
+        ("table t 5 f32 2 2 2 7 0 0 256 1", NameTaken),
+        ("table u 5 f32 2 2 2 7 0 0 256 1", KeyWidth),
+        (
+            "table u 4 u8,u8,u8,u8,u8,u8,u8,u8,u8, 2 2 2 7 0 0 256 1",
+            ColumnType,
+        ),
+        (
+            "table u 8 u8,u8,u8,u8,u8,u8,u8,u8,u8 2 2 2 7 0 0 256 1",
+            ColumnCount,
+        ),
+        ("table u 8 i64 2 2 2 7 0 0 256 1", DataBlocks),
+        ("table u 8 i64 16385 2 2 7 0 0 256 1", DataBlocks),
+        ("table u 8 i64 16384 2 2 7 0 0 256 1", IndexBlocks),
+        ("table u 8 i64 16384 3 1 7 0 0 256 1", VarBlocks),
+        ("table u 8 i64 16384 3 0 7 0 0 256 1", Bits),
+        ("table u 8 i64 16384 3 0 0 0 0 256 1", Bits),
+        ("table u 8 i64 16384 3 0 8 0 0 256 1", Width),
+        (
+            "table u 8 i64 16384 0 0 0 0 9223372036854775808 256 1",
+            Width,
+        ),
+        ("table u 8 i64 16384 3 0 8 0 1 256 1", ErrorBound),
+        ("table u 8 i64 16384 3 0 8 0 1 255 1", BlobLimit),
+        ("table u 8 i64,i64,i64 16384 3 3 8 0 1 255 289", BlobLimit),
+        ("table u 8 i64,i64,i64 16384 3 3 8 0 1 255 288", RowTooLong),
+        ("table u 8 i64 16384 3 3 8 0 1 255 288", DeviceTooLarge),
+    ];
+    assert_eq!(rt; add(&mut config, &mut room, "device 64 4"), Some(Ok(())));
+    let first = "table t 8 i32 3 0 0 8 0 10 1 0";
+    assert_eq!(rt; add(&mut config, &mut room, first), Some(Ok(())));
+    for (line, refusal) in refused {
+        assert!(rt; refuses(&mut config, &mut room, line, refusal), "{line}");
+    }
+    Ok(())
+}
+
+/// The first blocks of a table's rings; 0 where there is none.
+fn firsts(config: &Config, i: usize) -> Option<(u32, u32, u32)> {
+    if i >= config.tables() {
+        return None;
+    }
+    let table = config.table(i);
+    let index = table.index.map_or(0, |place| place.first_block);
+    let var = table.var.map_or(0, |place| place.first_block);
+    Some((table.rows.first_block, index, var))
+}
+
+#[test]
+fn places(rt: HostRuntime) -> Result<(), Fail> {
+    let mut config = Config::new();
+    let mut room = LineRoom::new(rt.alloc())?;
+    let lines = [
+        "device 128 4",
+        "table s 4 i16 40 3 4 64 0 100 1 300",
+        "table t 8 i32,u8 3 0 5 0 0 1 1 10",
+        "table u 8 i32 3 0 0 8 0 10 1 0",
+        "table v 8 i32 3 0 0 8 0 10 1 0",
+    ];
+    for line in lines {
+        assert_eq!(rt; add(&mut config, &mut room, line), Some(Ok(())), "{line}");
+    }
+    let fifth = "table w 8 i32 3 0 0 8 0 10 1 0";
+    assert!(rt;
+        refuses(&mut config, &mut room, fifth, TooManyTables),
+        "a fifth table"
+    );
+    assert!(rt; config.is_complete(), "a device and a table");
+    assert_eq!(rt; config.blocks(), 61);
+    let wanted = [(0, 40, 43), (47, 0, 50), (55, 0, 0), (58, 0, 0)];
+    for (i, places) in wanted.into_iter().enumerate() {
+        assert_eq!(rt; firsts(&config, i), Some(places));
+    }
+    Ok(())
+}
