@@ -1,35 +1,36 @@
 -- How an export of an image ends, from how one over its flash does.
-use Rattle.std.proofs.Common.{◌≡◌, ℕ, ◌+◌, ◌*◌, ◌≤◌, ◌⊎◌, inl, inr, Bool, true, false, IsTrue, Option, Some, None, List, [], length, take, refl, sym, ◌∙◌, ap, subst, arith}
+use Rattle.std.proofs.Common.{◌≡◌, ℕ, ◌*◌, ◌≤◌, inl, inr, true, false, IsTrue, Option, Some, None, List, length, take, refl, sym, ◌∙◌, ap, subst, arith}
 use Rattle.std.proofs.Common.{length-take}
-use Rattle.std.specs.List.{slice_get}
 use base.Fml.{GName}
-use Rattle.fl_base.specs.Causes.{Rose, Appends, AppendsFront}
+use Rattle.fl_base.specs.Causes.{Rose}
 use Rattle.fl_base.specs.declared.types.Geometry.{Geometry}
 use Rattle.fl_base.specs.declared.types.KeyRange.{KeyRange}
 use Rattle.fl_config.specs.Whole.{Makes}
 use Rattle.fl_flash.specs.Flash.{FlashState, Goes}
 use Rattle.fl_flash.specs.Media.{MediaState}
 use Rattle.fl_flash.specs.Sim.{on_medium}
-use Rattle.fl_flash.specs.declared.flash.Work.{Work}
 use Rattle.fl_jobs.specs.Header.{IsAccepted, IsMade}
 use Rattle.fl_jobs.specs.Image.{IsImageOf, OnlyLooksAt}
 use Rattle.fl_jobs.specs.declared.status.ToolStatus.{ToolStatus}
-use Rattle.fl_jobs.specs.declared.status.ToolStatus.TheVariants.{Done, OutWrite, NoMemory, NotImage, Device, BadImage, NoTable, Unsound}
+use Rattle.fl_jobs.specs.declared.status.ToolStatus.TheVariants.{Done, InputRead, OutWrite, InputLong, NoMemory, NotImage, Device, BadImage, NoTable, BadInput, Unsound}
 use Rattle.fl_jobs.proofs.ReadBack.{one-header}
-use Rattle.fl_machine.specs.Step.{located_from}
 use Rattle.fl_model.specs.Image.{medium_len}
 use Rattle.fl_model.specs.Record.{Plan, Config, blocks_of}
 use Rattle.fl_model.specs.Table.{Table}
-use Rattle.fl_ring.specs.Device.{SameDevice, ArmsAs}
-use Rattle.fl_tables.specs.Tables.{AreNewTables, IsNamed, Names, TablesStand}
+use Rattle.fl_ring.specs.Device.{SameDevice}
+use Rattle.fl_tables.specs.Tables.{AreNewTables, IsNamed, TablesStand}
 use Rattle.fl_tables.specs.declared.tables.Entry.{Entry}
 use Rattle.fl_words.specs.Config.{Lines}
 use Rattle.fl_words.specs.Medium.{IsImage, header}
-use Rattle.fl_export.specs.Ends.{Told, at_rest, MountFails, Exports, TablesEnd, IsUntouched, ExportEnds, IsImageWith, StatusFits, Keeps, has_name}
-use Rattle.fl_export.specs.Tables.{told_of, EndsOn, EndsOver, IsOfTable}
+use Rattle.fl_export.specs.Ends.{Told, at_rest, AreRepaired, MountFails, Exports, TablesEnd, IsUntouched, ExportEnds, Keeps}
+use Rattle.fl_export.specs.Tables.{told_of, EndsOn, EndsOver}
 use Rattle.fl_export.proofs.Images.{made-by, image-tables, tables-image}
 use Rattle.fl_export.proofs.Lines.{appends-none}
-use Rattle.fl_export.proofs.Locating.{new-named, first-named, none-named, name-there, name-none, located-none}
+use Rattle.fl_export.proofs.Repairing.{medium-repaired}
+use Rattle.fl_tables.specs.Repaired.{IsRepaired}
+use Rattle.fl_flash.specs.Flash.{page_at}
+use Rattle.fl_model.specs.Record.{blocks_of}
+use Rattle.std.specs.Prelude.{◌*◌, ◌<◌, sum_by}
 
 -- ---- what stands at the end, in other words
 
@@ -37,8 +38,8 @@ module _ (plans : List Plan) (tables : List Table) (name : List ℕ) (range : Ke
   exports-seen : (Wrote : List ℕ → Type 0) → Exports plans tables name range told Holds Wrote → Exports plans tables name range told Stands Wrote
   exports-seen Wrote h = record { rose = h.rose; risen = h.risen; end = h.end; did = h.did; holds = seen _ h.holds; at = h.at; found = h.found; wrote = h.wrote }
 
-  fails-seen : MountFails plans tables told Holds → MountFails plans tables told Stands
-  fails-seen h = record { rose = h.rose; risen = h.risen; end = h.end; did = h.did; holds = seen _ h.holds; nothing = h.nothing }
+  fails-seen : MountFails plans tables name told Holds → MountFails plans tables name told Stands
+  fails-seen h = record { named = h.named; rose = h.rose; risen = h.risen; end = h.end; did = h.did; holds = seen _ h.holds; nothing = h.nothing }
 
   pub ends-seen : (status : ToolStatus) → TablesEnd plans tables name range told Holds status → TablesEnd plans tables name range told Stands status
   ends-seen Done h = exports-seen _ h
@@ -50,6 +51,9 @@ module _ (plans : List Plan) (tables : List Table) (name : List ℕ) (range : Ke
   ends-seen NotImage h = absurd h
   ends-seen NoTable h = absurd h
   ends-seen Unsound h = absurd h
+  ends-seen InputRead h = absurd h
+  ends-seen InputLong h = absurd h
+  ends-seen (BadInput number) h = absurd h
 
 -- .. and where the faults are counted from an earlier moment on
 module _ (plans : List Plan) (tables : List Table) (name : List ℕ) (range : KeyRange) (written written_now : Option (List ℕ)) (before mid now : ℕ) (Holds : List Table → Type 0) (le : before ≤ mid) where
@@ -62,8 +66,8 @@ module _ (plans : List Plan) (tables : List Table) (name : List ℕ) (range : Ke
   exports-since : (Wrote : List ℕ → Type 0) → Exports plans tables name range (since mid) Holds Wrote → Exports plans tables name range (since before) Holds Wrote
   exports-since Wrote h = record { rose = h.rose; risen = λ r. earlier (h.risen r); end = h.end; did = h.did; holds = h.holds; at = h.at; found = h.found; wrote = h.wrote }
 
-  fails-since : MountFails plans tables (since mid) Holds → MountFails plans tables (since before) Holds
-  fails-since h = record { rose = h.rose; risen = λ r. earlier (h.risen r); end = h.end; did = h.did; holds = h.holds; nothing = h.nothing }
+  fails-since : MountFails plans tables name (since mid) Holds → MountFails plans tables name (since before) Holds
+  fails-since h = record { named = h.named; rose = h.rose; risen = λ r. earlier (h.risen r); end = h.end; did = h.did; holds = h.holds; nothing = h.nothing }
 
   pub ends-since : (status : ToolStatus) → TablesEnd plans tables name range (since mid) Holds status → TablesEnd plans tables name range (since before) Holds status
   ends-since Done h = exports-since _ h
@@ -75,6 +79,9 @@ module _ (plans : List Plan) (tables : List Table) (name : List ℕ) (range : Ke
   ends-since NotImage h = absurd h
   ends-since NoTable h = absurd h
   ends-since Unsound h = absurd h
+  ends-since InputRead h = absurd h
+  ends-since InputLong h = absurd h
+  ends-since (BadInput number) h = absurd h
 
 -- ---- over a flash that was made on the medium
 
@@ -106,6 +113,20 @@ flash-ends config lines tables name range f g old new geometry blocks origin tol
     subst (λ (x : MediaState). EndsOver config tables name range old x told told_now status) (sym media)
     (inr (ends-seen config.plans tables name range (told_of old g.media told told_now) (TablesStand g (λ i. false) config.plans now) (IsImage config g.media.content) seen status here))
 
+-- .. and repairs the same pages
+pub flash-repairs : (config : Config) (lines : Lines) (tables : List Table) (name : List ℕ) (f g : FlashState) (old new : MediaState) (geometry : Geometry) (blocks : ℕ) (origin : GName) (entries : List Entry) (at : ℕ) (status : ToolStatus) →
+    f ≡ on_medium geometry blocks 1024 origin true None 0 (record { reads = 0; programs = 0; erases = 0 }) old → new ≡ g.media → Goes f g → lines.device ≡ Some geometry → IsTrue old.tells → Makes lines config → IsImage config old.content tables → AreNewTables entries lines → IsNamed entries name at → (status ≡ Device → ⊥) →
+    ((plans : List Plan) (ts : List Table) (asked : List ℕ) → IsTrue f.media.tells → f.is_on ≡ true → SameDevice f at_rest → TablesStand f (λ i. false) plans entries ts → IsNamed entries asked at → (status ≡ Device → ⊥) →
+    (page : ℕ) → page < sum_by blocks_of plans * f.geometry.block → IsRepaired f.geometry.page (page_at f page) (page_at g page)) →
+    AreRepaired config old.content new.content
+flash-repairs config lines tables name f g old new geometry blocks origin entries at status is media goes device tells makes image made named well repairs =
+    let f' : FlashState = on_medium geometry blocks 1024 origin true None 0 (record { reads = 0; programs = 0; erases = 0 }) old in
+    let same : geometry ≡ config.geometry = let k : ◌≡◌ {A = Option Geometry} (Some geometry) (Some config.geometry) = sym device ∙ (made-by lines config makes).device_is in cc in
+    let stand : TablesStand f (λ i. false) config.plans entries tables = subst (λ x. TablesStand x (λ i. false) config.plans entries tables) (sym is) (image-tables config lines entries f' tables refl same makes made image) in
+    let told_is : IsTrue f.media.tells = subst (λ (x : FlashState). IsTrue x.media.tells) (sym is) tells in
+    let on : f.is_on ≡ true = ap (λ (x : FlashState). x.is_on) is in
+    medium-repaired config f g old new geometry blocks origin is media goes same (repairs config.plans tables name told_is on (at-rest f geometry blocks origin old is) stand named well)
+
 -- there was no room for it
 pub no-room : (config : Config) (tables : List Table) (name : List ℕ) (range : KeyRange) (medium : MediaState) (told : Option (List ℕ)) → EndsOver config tables name range medium medium told told NoMemory
 no-room config tables name range medium told = inl (refl, record { same = refl; nothing = appends-none told })
@@ -122,6 +143,9 @@ table-ends config tables name range told content content_now (BadImage table) h 
 table-ends config tables name range told content content_now NotImage h = absurd h
 table-ends config tables name range told content content_now NoTable h = absurd h
 table-ends config tables name range told content content_now Unsound h = absurd h
+table-ends config tables name range told content content_now InputRead h = absurd h
+table-ends config tables name range told content content_now InputLong h = absurd h
+table-ends config tables name range told content content_now (BadInput number) h = absurd h
 
 pub over-ends : (config : Config) (tables : List Table) (name : List ℕ) (range : KeyRange) (old mid new : MediaState) (told told_now : Option (List ℕ)) (status : ToolStatus) → OnlyLooksAt old mid → EndsOver config tables name range mid new told told_now status →
     ExportEnds config tables name range (told_of old new told told_now) old.content new.content status

@@ -1,5 +1,5 @@
 -- The tables of an image, over a flash on its medium.
-use Rattle.std.proofs.Common.{◌≡◌, ℕ, zero, suc, ◌+◌, ◌*◌, ◌^◌, ◌<◌, ◌≤◌, Bool, true, false, ◌||◌, nat_lt, IsTrue, Option, Some, None, IfSome, List, [], ◌∷◌, map, length, take, refl, sym, ◌∙◌, ap, subst, le_trans, arith}
+use Rattle.std.proofs.Common.{◌≡◌, ℕ, zero, suc, ◌+◌, ◌*◌, ◌^◌, ◌<◌, ◌≤◌, Bool, true, false, ◌||◌, nat_lt, IsTrue, Option, Some, None, IfSome, List, [], ◌∷◌, length, take, refl, sym, ◌∙◌, ap, subst, le_trans, arith}
 use Rattle.std.specs.Prelude.{sum_by}
 use Rattle.std.specs.List.{slice_get}
 use Rattle.std.proofs.lemmas.Bool.{ltb-false}
@@ -96,9 +96,9 @@ image-tables config lines entries f tables start geometry makes new h = record {
     each i plan entry table p q r =
         let one = new.each i plan entry (ap (λ (ps : List Plan). slice_get ps i) made.plans_are ∙ p) q in
         let planned : IsPlanned entry.table (first_of config.plans i) plan = subst (λ (ps : List Plan). IsPlanned entry.table (first_of ps i) plan) made.plans_are one.planned in
-        let own : entry.table.geometry ≡ config.geometry = some-is lines.device entry.table.geometry config.geometry one.device made.device_is in
+        let own : plan.geometry ≡ config.geometry = some-is lines.device plan.geometry config.geometry one.device made.device_is in
         let image = subst (λ n. IsTableImage config f.media.content n plan table) (let m : 0 + i ≡ i = omega arith in m) (images-at config f.media.content 0 config.plans tables h.tables_are i plan table p r) in
-        record { named = one.named; geometry = planned.geometry ∙ (own ∙ sym geometry); planned = planned; on_flash = image-rests config i plan table f start geometry image }
+        record { named = one.named; geometry = own ∙ sym geometry; planned = planned; on_flash = image-rests config i plan table f start geometry image }
 
 -- .. and the medium of a flash on which tables rest
 pub tables-image : (config : Config) (entries : List Entry) (f : FlashState) (tables : List Table) → length f.media.content ≡ medium_len config → take 1024 f.media.content ≡ header config → f.start ≡ 1024 → f.geometry ≡ config.geometry →
@@ -133,7 +133,7 @@ new-lie entries lines f new device blocks small i entry e =
     let fits : too_large f.geometry lines.plans ≡ false = subst (λ d. IfSome d (λ geometry. too_large geometry lines.plans ≡ false)) device small in
     let plan = slice_get-some lines.plans i (omega (arith, slice_get_within entries i entry e, new.as_many)) in
     let made = new.each i plan.0 entry plan.1 e in
-    made.lies f (some-is lines.device f.geometry entry.table.geometry device made.device ∙ sym made.planned.geometry) (omega (arith, blocks, blocks-within lines.plans i plan.0 plan.1)) (few-pages f lines.plans blocks fits)
+    made.lies f (some-is lines.device f.geometry plan.0.geometry device made.device) (omega (arith, blocks, blocks-within lines.plans i plan.0 plan.1)) (few-pages f lines.plans blocks fits)
 
 pub lie-medium : (entries : List Entry) (lines : Lines) (f : FlashState) (geometry : Geometry) (blocks : ℕ) (origin : GName) (work : Work) (medium : MediaState) → f ≡ on_medium geometry blocks 1024 origin true None 0 work medium → AreNewTables entries lines → lines.device ≡ Some geometry →
     blocks ≡ sum_by blocks_of lines.plans → IfSome lines.device (λ g. too_large g lines.plans ≡ false) → LieOn entries f

@@ -1,12 +1,14 @@
 mod Readers
 mod Taking
-mod Lines
+pub mod Lines
 mod Records
 mod Walking
 mod Reading
-mod Risen
-mod Locating
-mod Images
+pub mod Risen
+pub mod Locating
+pub mod Images
 mod Exporting
-mod Ending
-mod Statuses
+pub mod Ending
+pub mod Statuses
+pub mod ReadBack
+pub mod Repairing

@@ -1,6 +1,6 @@
 -- The table with a name, among tables and among their plans.
-use Rattle.std.proofs.Common.{◌≡◌, ℕ, zero, suc, ◌+◌, ◌<◌, Bool, true, false, ◌||◌, if◌then◌else◌, Option, None, Some, List, [], ◌∷◌, length, refl, sym, ◌∙◌, ap, subst, arith}
-use Rattle.std.specs.List.{slice_get, list_any}
+use Rattle.std.proofs.Common.{◌≡◌, ℕ, zero, suc, ◌+◌, ◌<◌, Bool, true, false, ◌||◌, if◌then◌else◌, Option, None, Some, List, [], ◌∷◌, refl, sym, ◌∙◌, ap, arith}
+use Rattle.std.specs.List.{slice_get}
 use Rattle.std.proofs.lemmas.Option.{slice_get_within}
 use Rattle.fl_config.proofs.Names.{bytes_equal-other}
 use Rattle.fl_flash.specs.Flash.{FlashState}
@@ -8,7 +8,7 @@ use Rattle.fl_model.specs.Record.{Plan, bytes_equal}
 use Rattle.fl_model.specs.Table as model
 use Rattle.fl_model.proofs.Lists.{slice_get-some}
 use Rattle.fl_machine.specs.Step.{Located, located_from}
-use Rattle.fl_tables.specs.Tables.{first_of, IsNamed, Names, AreNewTables, TablesStand}
+use Rattle.fl_tables.specs.Tables.{IsNamed, Names, AreNewTables, TablesStand}
 use Rattle.fl_tables.specs.declared.tables.Entry.{Entry}
 use Rattle.fl_tables.proofs.Naming.{bytes_equal-own}
 use Rattle.fl_tables.proofs.TablesChanged.{some-is}
@@ -100,3 +100,9 @@ module _ (plans : List Plan) (entries : List Entry) (alike : NamedAlike plans en
 
   pub none-named : Names entries name None → (i : ℕ) (other : Plan) → slice_get plans i ≡ Some other → other.name ≡ name → ⊥
   none-named none i other e k = let there = alike i other e in none i there.0 there.1 (sym there.2 ∙ k)
+
+-- a table of those that stand has the name of the one at a place
+pub stands-there : (f : FlashState) (mounted : ℕ → Bool) (plans : List Plan) (entries : List Entry) (tables : List model.Table) (name : List ℕ) (at : ℕ) → TablesStand f mounted plans entries tables → IsNamed entries name at → has_name name plans ≡ true
+stands-there f mounted plans entries tables name at stood named =
+    let plan = slice_get-some plans at (omega (arith, slice_get_within entries at named.entry named.here, stood.as_many)) in
+    name-there plans at name plan.0 plan.1 (first-named plans entries (stand-named f mounted plans entries tables stood) name at named plan.0 plan.1).0

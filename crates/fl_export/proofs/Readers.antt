@@ -1,5 +1,5 @@
 -- Readers of a table's variable data, over a flash on which the table lies.
-use Rattle.std.proofs.Common.{◌≡◌, ℕ, ◌+◌, ◌-◌, Bool, true, false, IsTrue, Option, Some, None, Result, Ok, Err, List, length, take, drop, refl, sym, ◌∙◌, ap, subst}
+use Rattle.std.proofs.Common.{◌≡◌, ℕ, ◌+◌, ◌-◌, Bool, true, false, IsTrue, Option, Some, None, Result, Ok, List, length, take, drop, sym, ◌∙◌, ap, subst}
 use Rattle.std.specs.Prelude.{is_some, option_map, unwrap_or}
 use Rattle.fl_base.specs.declared.types.BlobRef.{BlobRef}
 use Rattle.fl_base.specs.declared.types.Geometry.{Geometry}

@@ -1,14 +1,10 @@
 -- Tables over a flash that is only read.
-use Rattle.std.proofs.Common.{◌≡◌, ℕ, true, false, IsTrue, Option, Result, Ok, Err, List, refl, sym, ◌∙◌, ap, subst}
-use Rattle.fl_base.specs.Causes.{Rose}
+use Rattle.std.proofs.Common.{◌≡◌, ℕ, true, IsTrue, List, refl, sym, ◌∙◌, ap, subst}
 use Rattle.fl_flash.specs.Flash.{FlashState, page_at}
 use Rattle.fl_flash.specs.Places.{extent, page_of}
-use Rattle.fl_flash.specs.declared.flash.FlashFault.{FlashFault}
-use Rattle.fl_flash.specs.declared.flash.FlashFault.TheVariants.{PowerLost, Media}
 use Rattle.fl_model.specs.Record.{Plan}
 use Rattle.fl_model.specs.Table as model
-use Rattle.fl_page.specs.Contents.{Contents, contents_of, OnlyReads, IsCaused}
-use Rattle.fl_page.specs.declared.fault.ReadFault.TheVariants.{Flash, BadPage}
+use Rattle.fl_page.specs.Contents.{Contents, contents_of, OnlyReads}
 use Rattle.fl_page.proofs.Reading.{OnlyReads-goes, IsCaused-later}
 use Rattle.fl_cursor.specs.Cursor.{IsStanding}
 use Rattle.fl_table.specs.Memory.{LiesOn}
@@ -61,11 +57,3 @@ unread-later a b c (Read fault) only h = IsCaused-later a b c fault only h
 module _ (t : Table 64 64) (f : FlashState) (first : ℕ) (plan : Plan) (table : model.Table) (tells : IsTrue f.media.tells) (reaches : f.start + extent f.geometry f.blocks ≤ length f.media.content) (lies : LiesOn t f) (stands : Stands t f first plan table) where
   abbrev pub is-standing : IsStanding t (contents_of f)
   is-standing = record { flash = f; same = refl; tells = tells; reaches = reaches; lies = lies; first = first; plan = plan; table = table; stands = stands }
-
--- a read failed with the power on, so the medium did
-pub rose-read : (f g : FlashState) (e : FlashFault) → f.is_on ≡ true → IsCaused f (Flash e) g → Rose f.media.faults g.media.faults
-rose-read f g PowerLost on off = absurd (no (sym on ∙ off))
-  where
-    no : true ≡ false → ⊥
-    no e = cc
-rose-read f g Media on cause = cause.0

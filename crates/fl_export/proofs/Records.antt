@@ -1,6 +1,6 @@
 -- What a row tells of its blob, and a record's line.
-use Rattle.std.proofs.Common.{◌≡◌, ℕ, ℤ, ◌+◌, ◌≤◌, Bool, true, false, cond, Option, Some, None, IfSome, Result, Ok, Err, List, [], ◌∷◌, ◌++◌, length, drop, refl, sym, ◌∙◌, ap, subst, suc, rules}
-use Rattle.std.specs.Prelude.{option_map, unwrap_or, nat_lt, if◌then◌else◌}
+use Rattle.std.proofs.Common.{◌≡◌, ℕ, ℤ, ◌+◌, Bool, true, false, cond, Option, Some, None, IfSome, List, [], ◌∷◌, length, drop, refl, sym, ◌∙◌, ap, subst, suc}
+use Rattle.std.specs.Prelude.{option_map, unwrap_or, if◌then◌else◌}
 use Rattle.std.proofs.lemmas.Bool.{eq-eqb}
 use Rattle.fl_base.specs.declared.types.BlobRef.{BlobRef}
 use Rattle.fl_csv.specs.Text as csv

@@ -1,5 +1,5 @@
 -- A mount with no cut armed fails only where the medium does.
-use Rattle.std.proofs.Common.{◌≡◌, ℕ, ◌+◌, ◌-◌, ◌^◌, ◌≤◌, ◌⊎◌, inl, inr, Bool, true, false, IsTrue, nat_le, min, Option, Some, None, List, [], ◌∷◌, refl, sym, ◌∙◌, ap, subst}
+use Rattle.std.proofs.Common.{◌≡◌, ℕ, ◌+◌, ◌-◌, ◌^◌, ◌⊎◌, inl, inr, Bool, true, IsTrue, nat_le, min, Option, Some, None, List, [], ◌∷◌, refl, sym, ◌∙◌, ap, subst}
 use Rattle.std.specs.Prelude.{option_map, unwrap_or, ◌==◌, if◌then◌else◌}
 use Rattle.std.proofs.lemmas.Bool.{le-leb, leb-true}
 use Rattle.fl_base.specs.Causes.{Rose}
@@ -7,10 +7,10 @@ use Rattle.fl_base.specs.declared.types.CutKind.{CutKind}
 use Rattle.fl_flash.specs.Flash.{FlashState}
 use Rattle.fl_ring.specs.Device.{SameDevice}
 use Rattle.fl_ring.specs.Step.{IsWatched}
-use Rattle.fl_model.specs.Mount.{Mounts, GoesOn, MountEnd, Mounted, Stopped, Unread, rings_from, renumbered_at, repairs_at}
+use Rattle.fl_model.specs.Mount.{Mounts, GoesOn, MountEnd, Mounted, Stopped, Unread, renumbered_at, repairs_at}
 use Rattle.fl_model.specs.Record.{Plan}
 use Rattle.fl_model.specs.Table.{Table, RingName}
-use Rattle.fl_model.specs.Work.{Operation, Device, Progress, Outcome, Finished, CutShort, Failed, Performs, PerformsFirst, cut_now, counted, done}
+use Rattle.fl_model.specs.Work.{Operation, Device, Progress, Outcome, Finished, CutShort, Failed, Performs, PerformsFirst, counted, done}
 
 -- the medium's faults rose from one flash to another
 abbrev pub has_risen : FlashState → FlashState → Bool
@@ -71,3 +71,46 @@ fails-rose plans rose (at ∷ rings) device tables end how unarmed fails (inr (n
     goes-calm rose now.outcome now how (Mounts plans rose rings now.device now.tables how) refl
     (performs-calm plans rose (repairs_at plans at (renumbered_at plans at tables)) device (renumbered_at plans at tables) now unarmed did) goes
     (λ unarmed' others. fails-rose plans rose rings now.device now.tables end how unarmed' fails others)
+
+-- .. and no operation of it is cut short
+abbrev pub IsSafe : Outcome → Type 0
+IsSafe (CutShort before) = ⊥
+IsSafe other = Unit {0}
+
+-- operations that are done with no cut armed are finished, and none is armed then; or one failed
+abbrev Settled : Progress → Type 0
+Settled end = ((end.outcome ≡ Finished) × (end.device.armed ≡ None)) ⊎ ((before : List Table) × (end.outcome ≡ Failed before))
+
+performs-settled : (plans : List Plan) (rose : Bool) (operations : List Operation) (device : Device) (tables : List Table) (end : Progress) → device.armed ≡ None → Performs plans rose operations device tables end → Settled end
+performs-settled plans rose [] device tables end unarmed did = inl (did.0, ap (λ (d : Device). d.armed) did.1 ∙ unarmed)
+performs-settled plans rose (operation ∷ operations) device tables end unarmed did =
+    by_cut (λ others. performs-settled plans rose operations (counted operation.kind device) (done plans operation tables) end (ap (option_map (λ cut. (cut.0 - 1, cut.1))) unarmed) others)
+    (subst (λ (k : Option CutKind). PerformsBy k) (ap (λ (a : Option (ℕ × CutKind)). unwrap_or (option_map (λ cut. if cut.0 == 1 then Some cut.1 else None) a) None) unarmed) did)
+  where
+    PerformsBy : Option CutKind → Type 0
+    PerformsBy k = PerformsFirst plans rose k operation device tables end (Performs plans rose operations (counted operation.kind device) (done plans operation tables) end)
+
+    by_cut : (Performs plans rose operations (counted operation.kind device) (done plans operation tables) end → Settled end) → PerformsBy None → Settled end
+    by_cut go (inl failed) = inr (tables, failed.1)
+    by_cut go (inr others) = go others
+
+goes-safe : (now end : Progress) (others : Type 0) → Settled now → GoesOn now.outcome now (Stopped end) others → (now.device.armed ≡ None → others → IsSafe end.outcome) → IsSafe end.outcome
+goes-safe now end others (inl done) goes go = go done.1 (subst (λ (o : Outcome). GoesOn o now (Stopped end) others) done.0 goes)
+goes-safe now end others (inr failed) goes go =
+    let stopped : Stopped end ≡ Stopped now = subst (λ (o : Outcome). GoesOn o now (Stopped end) others) failed.1 goes in
+    let same : end ≡ now = cc stopped in
+    subst IsSafe (sym (ap (λ (p : Progress). p.outcome) same ∙ failed.1)) tt
+
+pub stopped-safe : (plans : List Plan) (rose : Bool) (rings : List (ℕ × RingName)) (device : Device) (tables : List Table) (end : Progress) → device.armed ≡ None → Mounts plans rose rings device tables (Stopped end) → IsSafe end.outcome
+stopped-safe plans rose [] device tables end unarmed did = absurd (no did)
+  where
+    no : Stopped end ≡ Mounted (record { outcome = Finished; device = device; tables = tables }) → ⊥
+    no e = cc
+stopped-safe plans rose (at ∷ rings) device tables end unarmed (inl unread) = absurd (no unread.2)
+  where
+    no : Stopped end ≡ Unread unread.0 → ⊥
+    no e = cc
+stopped-safe plans rose (at ∷ rings) device tables end unarmed (inr (now, did, goes)) =
+    goes-safe now end (Mounts plans rose rings now.device now.tables (Stopped end))
+    (performs-settled plans rose (repairs_at plans at (renumbered_at plans at tables)) device (renumbered_at plans at tables) now unarmed did) goes
+    (λ unarmed' others. stopped-safe plans rose rings now.device now.tables end unarmed' others)

@@ -1,6 +1,5 @@
 -- Bytes that are taken from a reader, chunk by chunk.
-use Rattle.std.proofs.Common.{◌≡◌, ℕ, Bool, true, false, Result, Ok, Err, List, [], ◌∷◌, ◌++◌, refl, sym, ◌∙◌, ap, append_assoc, append-nil}
-use Rattle.std.specs.Prelude.{◌≤◌, length}
+use Rattle.std.proofs.Common.{◌≡◌, ℕ, Err, List, [], ◌++◌, refl, sym, ◌∙◌, ap, append_assoc, append-nil}
 use Rattle.fl_flash.specs.Flash.{FlashState}
 use Rattle.fl_model.specs.Table as model
 use Rattle.fl_page.specs.declared.fault.ReadFault.{ReadFault}

@@ -1,15 +1,14 @@
 -- The records of a table that a cursor gives, written one after another.
-use Rattle.std.proofs.Common.{◌≡◌, ℕ, zero, suc, ◌+◌, ◌-◌, ◌^◌, ◌<◌, ◌≤◌, Bool, true, false, ◌&&◌, nat_lt, Option, Some, None, Result, Ok, Err, List, [], ◌∷◌, ◌++◌, map, refl, sym, ◌∙◌, ap, subst, append_assoc, append-nil, arith}
-use Rattle.std.specs.List.{slice_get, flat_map}
+use Rattle.std.proofs.Common.{◌≡◌, ℕ, ◌-◌, ◌^◌, ◌<◌, true, ◌&&◌, Option, Some, None, Err, List, [], ◌∷◌, ◌++◌, map, refl, sym, ◌∙◌, ap, subst, append_assoc, append-nil, arith}
+use Rattle.std.specs.List.{slice_get}
 use Rattle.std.proofs.lemmas.Bool.{and_parts, ltb-true}
 use Rattle.fl_base.specs.Causes.{Appends, AppendsFront}
 use Rattle.fl_csv.specs.Text.{entry_text}
-use Rattle.fl_cursor.specs.Asked.{is_left, row_matches}
+use Rattle.fl_cursor.specs.Asked.{row_matches}
 use Rattle.fl_cursor.specs.Cursor.{asked_of, mark_of, present_of, left_of, IsTold}
 use Rattle.fl_cursor.specs.Going.{Notes}
 use Rattle.fl_cursor.specs.declared.bookmark.Bookmark.{Bookmark}
 use Rattle.fl_cursor.specs.declared.cursor.Cursor.{Cursor}
-use Rattle.fl_model.specs.Query as query
 use Rattle.fl_model.specs.Query.{is_above, is_up_to}
 use Rattle.fl_model.specs.Record.{Plan}
 use Rattle.fl_model.specs.Row.{Row, stored_row}

@@ -1,5 +1,5 @@
 -- The bytes of a blob, read whole.
-use Rattle.std.specs.Prelude.{◌≡◌, ℕ, ◌≤◌, Bool, true, false, IfErr, Result, Ok, Err, List, ◌++◌, length}
+use Rattle.std.specs.Prelude.{◌≡◌, ℕ, ◌≤◌, Bool, true, false, Result, Ok, Err, List, ◌++◌, length}
 use Rattle.fl_flash.specs.Flash.{FlashState}
 use Rattle.fl_model.specs.Query.{BlobState, Lost, Stands}
 use Rattle.fl_model.specs.Table as model

@@ -1,5 +1,5 @@
 -- How an export ends, by its status.
-use Rattle.std.specs.Prelude.{◌≡◌, ◌⊎◌, ℕ, ◌≤◌, IsTrue, Bool, true, false, Option, None, Some, List, [], length, take, map}
+use Rattle.std.specs.Prelude.{◌≡◌, ◌⊎◌, ℕ, ◌*◌, ◌≤◌, ◌<◌, IsTrue, Bool, true, false, Option, None, Some, List, [], length, take, map, sum_by}
 use Rattle.std.specs.List.{list_any}
 use Rattle.fl_base.specs.Causes.{Rose, Appends, AppendsFront}
 use Rattle.fl_base.specs.declared.types.KeyRange.{KeyRange}
@@ -7,13 +7,15 @@ use Rattle.fl_flash.specs.Media.{MediaState}
 use Rattle.fl_jobs.specs.Header.{IsAccepted}
 use Rattle.fl_jobs.specs.Image.{IsImageOf}
 use Rattle.fl_jobs.specs.declared.status.ToolStatus.{ToolStatus}
-use Rattle.fl_jobs.specs.declared.status.ToolStatus.TheVariants.{Done, OutWrite, NoMemory, NotImage, Device, BadImage, NoTable, Unsound}
+use Rattle.fl_jobs.specs.declared.status.ToolStatus.TheVariants.{Done, InputRead, OutWrite, InputLong, NoMemory, NotImage, Device, BadImage, NoTable, BadInput, Unsound}
 use Rattle.fl_machine.specs.Step.{Located, located_from, all_ready}
+use Rattle.fl_model.specs.Image.{page_bytes}
 use Rattle.fl_model.specs.Mount.{Mounts, Mounted, Stopped, Unread, rings_from}
-use Rattle.fl_model.specs.Record.{Plan, Config, bytes_equal}
+use Rattle.fl_model.specs.Record.{Plan, Config, blocks_of, bytes_equal}
 use Rattle.fl_model.specs.Table.{Table, lose}
 use Rattle.fl_model.specs.Work as work
 use Rattle.fl_model.specs.Work.{Progress}
+use Rattle.fl_tables.specs.Repaired.{IsRepaired}
 use Rattle.fl_words.specs.Config.{Lines}
 use Rattle.fl_words.specs.Medium.{IsImage}
 use Rattle.fl_export.specs.Text.{table_text}
@@ -31,16 +33,24 @@ pub record IsImageWith (bytes : List ℕ) (name : List ℕ) (has : Bool) : Type 
   pub image : IsImageOf bytes lines
   pub named : has_name name lines.plans ≡ has
 
+-- .. which has more tables than this number
+abbrev pub IsImageOver : List ℕ → List ℕ → ℕ → Type 0
+IsImageOver bytes name table = (found : IsImageWith bytes name true) × (table < length found.lines.plans)
+
 -- There is no image, or it has no such table; any other status but those of memory and of the device comes where it has.
+-- A bad table is one of the image.
 abbrev pub StatusFits : List ℕ → List ℕ → ToolStatus → Type 0
 StatusFits bytes name NotImage = (lines : Lines) → IsAccepted lines → IsImageOf bytes lines → ⊥
 StatusFits bytes name NoTable = IsImageWith bytes name false
 StatusFits bytes name Done = IsImageWith bytes name true
 StatusFits bytes name OutWrite = IsImageWith bytes name true
-StatusFits bytes name (BadImage table) = IsImageWith bytes name true
+StatusFits bytes name (BadImage table) = IsImageOver bytes name table
 StatusFits bytes name NoMemory = Unit {0}
 StatusFits bytes name Device = Unit {0}
 StatusFits bytes name Unsound = ⊥
+StatusFits bytes name InputRead = ⊥
+StatusFits bytes name InputLong = ⊥
+StatusFits bytes name (BadInput number) = ⊥
 
 -- what stays of a medium, whatever is repaired behind its header
 pub record Keeps (old new : MediaState) : Type 0 where
@@ -62,9 +72,10 @@ pub record Told : Type 0 where
 abbrev pub at_rest : work.Device
 at_rest = record { armed = None; programs = 0; erases = 0 }
 
--- An operation or a read of the mount failed, and nothing was written. `Holds` says for which tables the medium stands at the
--- end: those that were left, without what is in memory alone.
-pub record MountFails (plans : List Plan) (tables : List Table) (told : Told) (Holds : List Table → Type 0) : Type 0 where
+-- One of the tables has the name, but an operation or a read of the mount failed, and nothing was written. `Holds` says for
+-- which tables the medium stands at the end: those that were left, without what is in memory alone.
+pub record MountFails (plans : List Plan) (tables : List Table) (name : List ℕ) (told : Told) (Holds : List Table → Type 0) : Type 0 where
+  pub named : has_name name plans ≡ true
   pub rose : Bool
   pub risen : IsTrue rose → Rose told.faults told.faults_now
   pub end : Progress
@@ -90,11 +101,19 @@ TablesEnd plans tables name range told Holds OutWrite = Exports plans tables nam
 TablesEnd plans tables name range told Holds NoMemory = Exports plans tables name range told Holds (λ text. AppendsFront told.written told.written_now text)
 TablesEnd plans tables name range told Holds Device =
     Rose told.faults told.faults_now
-    × (MountFails plans tables told Holds ⊎ Exports plans tables name range told Holds (λ text. AppendsFront told.written told.written_now text))
+    × (MountFails plans tables name told Holds ⊎ Exports plans tables name range told Holds (λ text. AppendsFront told.written told.written_now text))
 TablesEnd plans tables name range told Holds (BadImage table) = ⊥
 TablesEnd plans tables name range told Holds NotImage = ⊥
 TablesEnd plans tables name range told Holds NoTable = ⊥
 TablesEnd plans tables name range told Holds Unsound = ⊥
+TablesEnd plans tables name range told Holds InputRead = ⊥
+TablesEnd plans tables name range told Holds InputLong = ⊥
+TablesEnd plans tables name range told Holds (BadInput number) = ⊥
+
+-- each page of the tables' rings stands, or was torn and is void now, or is erased
+abbrev pub AreRepaired : Config → List ℕ → List ℕ → Type 0
+AreRepaired config content content_now =
+    (page : ℕ) → page < sum_by blocks_of config.plans * config.geometry.block → IsRepaired config.geometry.page (page_bytes config content page) (page_bytes config content_now page)
 
 -- nothing was mounted and nothing written
 pub record IsUntouched (content content_now : List ℕ) (told : Told) : Type 0 where

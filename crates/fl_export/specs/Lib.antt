@@ -5,3 +5,4 @@ pub mod Blobs
 pub mod Rooms
 pub mod Ends
 pub mod Tables
+pub mod Laws

@@ -2,7 +2,7 @@
 use Rattle.std.specs.Prelude.{◌≡◌, ℕ, Bool, true, false, Result, Ok, Err, List}
 use Rattle.fl_csv.specs.Text.{Blob}
 use Rattle.fl_csv.specs.Text as csv
-use Rattle.fl_model.specs.Query.{BlobState, Without, Lost, Stands}
+use Rattle.fl_model.specs.Query.{BlobState}
 use Rattle.fl_export.specs.Text.{told_blob}
 use Rattle.fl_export.specs.Writing.{NoneBad}
 use Rattle.fl_export.specs.declared.fault.ExportFault.{ExportFault}

@@ -1,13 +1,17 @@
 -- How an export ends over a flash on which the tables of an image lie.
-use Rattle.std.specs.Prelude.{◌≡◌, ◌⊎◌, ℕ, ◌≤◌, false, Option, List, IsTrue}
+use Rattle.std.specs.Prelude.{◌≡◌, ◌⊎◌, ℕ, false, Option, List}
 use Rattle.fl_base.specs.declared.types.KeyRange.{KeyRange}
 use Rattle.fl_flash.specs.Flash.{FlashState}
 use Rattle.fl_flash.specs.Media.{MediaState}
+use Rattle.fl_flash.specs.declared.flash.FlashFault.{FlashFault}
+use Rattle.fl_flash.specs.declared.flash.FlashFault.TheVariants.{PowerLost, Media}
 use Rattle.fl_jobs.specs.declared.status.ToolStatus.{ToolStatus}
-use Rattle.fl_jobs.specs.declared.status.ToolStatus.TheVariants.{Done, OutWrite, NoMemory, NotImage, Device, BadImage, NoTable, Unsound}
+use Rattle.fl_jobs.specs.declared.status.ToolStatus.TheVariants.{Done, InputRead, OutWrite, InputLong, NoMemory, NotImage, Device, BadImage, NoTable, BadInput, Unsound}
 use Rattle.fl_model.specs.Record.{Plan, Config}
 use Rattle.fl_model.specs.Table.{Table}
 use Rattle.fl_page.specs.declared.fault.ReadFault.TheVariants.{Flash, BadPage}
+use Rattle.fl_table.specs.declared.faults.MountFault.{MountFault}
+use Rattle.fl_table.specs.declared.faults.MountFault.TheVariants as mount
 use Rattle.fl_tables.specs.Tables.{TablesStand}
 use Rattle.fl_tables.specs.declared.tables.Entry.{Entry}
 use Rattle.fl_words.specs.Medium.{IsImage}
@@ -15,12 +19,22 @@ use Rattle.fl_export.specs.Ends.{Told, TablesEnd, IsUntouched}
 use Rattle.fl_export.specs.declared.fault.ExportFault.{ExportFault}
 use Rattle.fl_export.specs.declared.fault.ExportFault.TheVariants as fault
 
+-- the status that tells a fault of the flash, on which no cut is armed
+abbrev pub flash_status : FlashFault → ToolStatus
+flash_status Media = Device
+flash_status PowerLost = NoMemory
+
 -- the status of an export of a table whose lines aren't written to the end
 abbrev pub status_of : ExportFault → ℕ → ToolStatus
 status_of fault.NoMemory at = NoMemory
 status_of (fault.Sink failed) at = OutWrite
-status_of (fault.Read (Flash e)) at = Device
+status_of (fault.Read (Flash e)) at = flash_status e
 status_of (fault.Read (BadPage bad)) at = BadImage at
+
+-- .. and of one whose tables aren't mounted, since this one isn't
+abbrev pub mount_status : MountFault → ℕ → ToolStatus
+mount_status (mount.Flash e) at = flash_status e
+mount_status bad at = BadImage at
 
 -- a status that comes once the table is found
 abbrev pub IsOfTable : ToolStatus → Type 0
@@ -32,12 +46,9 @@ IsOfTable (BadImage table) = Unit {0}
 IsOfTable NotImage = ⊥
 IsOfTable NoTable = ⊥
 IsOfTable Unsound = ⊥
-
--- .. and one of tables that aren't mounted
-abbrev pub IsOfMount : ToolStatus → Type 0
-IsOfMount Device = Unit {0}
-IsOfMount (BadImage table) = Unit {0}
-IsOfMount other = ⊥
+IsOfTable InputRead = ⊥
+IsOfTable InputLong = ⊥
+IsOfTable (BadInput number) = ⊥
 
 abbrev pub told_of : MediaState → MediaState → Option (List ℕ) → Option (List ℕ) → Told
 told_of old new told told_now = record { written = told; written_now = told_now; faults = old.faults; faults_now = new.faults }

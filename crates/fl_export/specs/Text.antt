@@ -1,5 +1,5 @@
 -- The text of a table's records.
-use Rattle.std.specs.Prelude.{◌≡◌, ℕ, Option, None, Some, List, [], ◌∷◌, length, map, slice_get, if◌then◌else◌}
+use Rattle.std.specs.Prelude.{◌≡◌, ℕ, None, Some, List, [], ◌∷◌, length, map, slice_get, if◌then◌else◌}
 use Rattle.fl_base.specs.declared.types.KeyRange.{KeyRange}
 use Rattle.fl_csv.specs.Text as csv
 use Rattle.fl_csv.specs.Text.{Blob, Absent, Nothing, Bytes, Gone, csv_text}

@@ -1,35 +1,45 @@
 // The export of a table of an image.
-ghost use Rattle.std.specs.Prelude.{◌≡◌, ◌⊎◌, ◌≤◌, ◌<◌, ℕ, false, true, None, List, length, IsTrue};
+ghost use Rattle.std.specs.Prelude.{◌≡◌, ◌⊎◌, ◌≤◌, ◌<◌, ◌*◌, ℕ, false, true, None, List, length, sum_by, IsTrue};
 ghost use Rattle.fl_base.specs.Causes.{Rose};
 ghost use Rattle.fl_config.specs.Whole.{is_whole, Makes};
-ghost use Rattle.fl_flash.specs.Flash.{Goes};
+ghost use Rattle.fl_flash.specs.Flash.{Goes, page_at};
 ghost use Rattle.fl_jobs.specs.Header.{IsMade};
 ghost use Rattle.fl_jobs.specs.Image.{OnlyLooksAt};
 ghost use Rattle.fl_jobs.specs.declared.status.ToolStatus.{ToolStatus};
 ghost use Rattle.fl_model.specs.Image.{medium_len};
-ghost use Rattle.fl_model.specs.Record.{Config as Configured, Plan};
+ghost use Rattle.fl_model.specs.Record.{Config as Configured, Plan, blocks_of};
 ghost use Rattle.fl_model.specs.Table as model;
 ghost use Rattle.fl_ring.specs.Device.{SameDevice};
+ghost use Rattle.fl_tables.specs.Repaired.{IsRepaired};
 ghost use Rattle.fl_tables.specs.Tables.{AreNewTables, IsNamed, LieOn, TablesStand};
 ghost use Rattle.fl_words.specs.Medium.{IsImage};
-ghost use Rattle.fl_export.specs.Ends.{at_rest, StatusFits, Keeps, ExportEnds};
+ghost use Rattle.fl_export.specs.Ends.{at_rest, AreRepaired, IsImageWith, StatusFits, Keeps, ExportEnds};
 ghost use Rattle.fl_export.specs.Rooms.{HasRooms};
-ghost use Rattle.fl_export.specs.Tables.{status_of, told_of, EndsOn, EndsOver, IsOfTable, IsOfMount};
-ghost use Rattle.fl_table.specs.declared.faults.MountFault.{MountFault};
-ghost use Rattle.fl_flash.specs.declared.flash.FlashFault.{FlashFault};
+ghost use Rattle.fl_export.specs.Tables.{flash_status, status_of, mount_status, told_of, EndsOn, EndsOver, IsOfTable};
 
 use crate::fault::ExportFault;
 use crate::rooms::Rooms;
 use crate::table::write_table;
 use fl_base::{KeyRange, Name, Sink};
 use fl_config::Config;
-use fl_flash::{Flash, FlashRoom, Media, SimFlash};
+use fl_flash::{Flash, FlashFault, FlashRoom, Media, SimFlash};
 use fl_jobs::{HEADER, ToolStatus, config_of_image};
 use fl_page::ReadFault;
 use fl_script::LineRoom;
 use fl_table::MountFault;
 use fl_tables::{BadMount, Tables};
 use std::alloc::Global;
+
+/// The status that tells a fault of the flash. No cut is armed on it, so that it loses no power; and `NoMemory`, which may
+/// come at any moment, says nothing of the medium.
+fn flash_status(fault: FlashFault) -> ToolStatus
+    ensures { result ≡ flash_status fault }
+{
+    match fault {
+        FlashFault::Media => ToolStatus::Device,
+        FlashFault::PowerLost => ToolStatus::NoMemory,
+    }
+}
 
 /// The status of an export of the table with this number whose lines aren't written to the end.
 fn status_of(fault: ExportFault, at: usize) -> ToolStatus
@@ -39,22 +49,22 @@ fn status_of(fault: ExportFault, at: usize) -> ToolStatus
     match fault {
         ExportFault::NoMemory => ToolStatus::NoMemory,
         ExportFault::Sink(_) => ToolStatus::OutWrite,
-        ExportFault::Read(ReadFault::Flash(_)) => ToolStatus::Device,
+        ExportFault::Read(ReadFault::Flash(fault)) => flash_status(fault),
         ExportFault::Read(ReadFault::BadPage(_)) => ToolStatus::BadImage { table: at as u32 },
     }
 }
 
 /// The status of an export whose tables aren't mounted.
-fn mount_status(tables: &Tables, bad: BadMount) -> ToolStatus
-    requires { length tables.now.entries.items ≤ 4 }
-    ensures flash { (fault : FlashFault) → bad.fault ≡ MountFault.Flash fault → result ≡ ToolStatus.Device }
-    ensures statuses { IsOfMount result }
+fn mount_status(bad: BadMount) -> ToolStatus
+    requires { bad.at < 4 }
+    ensures { result ≡ mount_status bad.fault bad.at }
 {
-    if let MountFault::Flash(_) = bad.fault {
-        return ToolStatus::Device;
+    match bad.fault {
+        MountFault::Flash(fault) => flash_status(fault),
+        _ => ToolStatus::BadImage {
+            table: bad.at as u32,
+        },
     }
-    let at = tables.find(bad.name).unwrap_or(0);
-    ToolStatus::BadImage { table: at as u32 }
 }
 
 /// Mounts the tables and writes the records of the one at this place.
@@ -75,12 +85,17 @@ fn export_on<F: Flash, K: Sink>(
     ensures later { K.faults out.old ≤ K.faults out.new }
     ensures write { result ≡ ToolStatus.OutWrite → Rose (K.faults out.old) (K.faults out.new) }
     ensures statuses { IsOfTable result }
+    ensures device { result ≡ ToolStatus.Device → Rose (F.state flash.old).media.faults (F.state flash.new).media.faults }
+    ensures bad { (table : ℕ) → result ≡ ToolStatus.BadImage table → table < length tables.old.entries.items }
     ensures ends { (plans : List Plan) (ts : List model.Table) (name : List ℕ) → IsTrue (F.state flash.old).media.tells → (F.state flash.old).is_on ≡ true → SameDevice (F.state flash.old) at_rest
         → TablesStand (F.state flash.old) (λ i. false) plans tables.old.entries.items ts → IsNamed tables.old.entries.items name at
         → EndsOn plans ts name range (F.state flash.old) (F.state flash.new) (K.written out.old) (K.written out.new) tables.new.entries.items result }
+    ensures repairs { (plans : List Plan) (ts : List model.Table) (name : List ℕ) → IsTrue (F.state flash.old).media.tells → (F.state flash.old).is_on ≡ true → SameDevice (F.state flash.old) at_rest
+        → TablesStand (F.state flash.old) (λ i. false) plans tables.old.entries.items ts → IsNamed tables.old.entries.items name at → (result ≡ ToolStatus.Device → ⊥)
+        → (page : ℕ) → page < sum_by blocks_of plans * (F.state flash.old).geometry.block → IsRepaired (F.state flash.old).geometry.page (page_at (F.state flash.old) page) (page_at (F.state flash.new) page) }
 {
     if let Err(bad) = tables.mount(flash, &mut rooms.rows) {
-        return mount_status(tables, bad);
+        return mount_status(bad);
     }
     match write_table(alloc, &tables.entries[at].table, range, flash, rooms, out) {
         Ok(()) => ToolStatus::Done,
@@ -106,8 +121,12 @@ fn export_at<M: Media, K: Sink>(
     ensures later { K.faults out.old ≤ K.faults out.new }
     ensures write { result ≡ ToolStatus.OutWrite → Rose (K.faults out.old) (K.faults out.new) }
     ensures statuses { IsOfTable result }
+    ensures device { result ≡ ToolStatus.Device → Rose (M.state media.old).faults (M.state media.new).faults }
+    ensures bad { (table : ℕ) → result ≡ ToolStatus.BadImage table → table < length tables.old.entries.items }
     ensures ends { (configured : Configured) (ts : List model.Table) (name : List ℕ) → IsTrue (M.state media.old).tells → Makes config.now configured → IsImage configured (M.state media.old).content ts
         → IsNamed tables.old.entries.items name at → EndsOver configured ts name range (M.state media.old) (M.state media.new) (K.written out.old) (K.written out.new) result }
+    ensures repairs { (configured : Configured) (ts : List model.Table) (name : List ℕ) → IsTrue (M.state media.old).tells → Makes config.now configured → IsImage configured (M.state media.old).content ts
+        → IsNamed tables.old.entries.items name at → (result ≡ ToolStatus.Device → ⊥) → AreRepaired configured (M.state media.old).content (M.state media.new).content }
 {
     // Its call tells the proof how few tables there are.
     let _tables = config.tables();
@@ -139,9 +158,16 @@ pub fn export_image<M: Media, K: Sink>(
     ensures ends { (config : Configured) (tables : List model.Table) → IsTrue (M.state media.old).tells → IsMade config → IsImage config (M.state media.old).content tables →
         ExportEnds config tables name range (told_of (M.state media.old) (M.state media.new) (K.written out.old) (K.written out.new)) (M.state media.old).content (M.state media.new).content result }
 
-    // Statuses have their causes, over any bytes.
+    // Nothing of the tables' pages changes but what a mount repairs, where the medium doesn't fail.
+    ensures repairs { (config : Configured) (tables : List model.Table) → IsTrue (M.state media.old).tells → IsMade config → IsImage config (M.state media.old).content tables → (result ≡ ToolStatus.Device → ⊥) →
+        AreRepaired config (M.state media.old).content (M.state media.new).content }
+
+    // Statuses have their causes, over any bytes, and a medium that doesn't tell them.
     ensures fits { IsTrue (M.state media.old).tells → StatusFits (M.state media.old).content name result }
+    ensures device { result ≡ ToolStatus.Device → Rose (M.state media.old).faults (M.state media.new).faults }
+    ensures known { result ≡ ToolStatus.Unsound → ⊥ }
     ensures untouched { (result ≡ ToolStatus.NotImage) ⊎ (result ≡ ToolStatus.NoTable) → OnlyLooksAt (M.state media.old) (M.state media.new) × (out.new ≡ out.old) }
+    ensures changes { IsTrue (M.state media.old).tells → IsImageWith (M.state media.old).content name true ⊎ ((M.state media.new).content ≡ (M.state media.old).content) }
     ensures write { result ≡ ToolStatus.OutWrite → Rose (K.faults out.old) (K.faults out.new) }
     ensures later { K.faults out.old ≤ K.faults out.new }
     ensures keeps { Keeps (M.state media.old) (M.state media.new) }

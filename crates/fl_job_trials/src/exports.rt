@@ -12,6 +12,11 @@ const PLAIN: &str = "device 128 4\ntable t 8 i32 3 0 0 8 0 10 1 0\n";
 
 const PLAIN_BYTES: u16 = 1536;
 
+// Two such tables, one behind the other.
+const TWO: &str = "device 128 4\ntable t 8 i32 3 0 0 8 0 10 1 0\ntable s 8 i32 3 0 0 8 0 10 1 0\n";
+
+const TWO_BYTES: u16 = 3072;
+
 // Data page 0 with the records (1, -25), (2, -5), (3, 0): 8 bytes of key and 4 of value each, from byte 16 on.
 const THREE_ROWS: [u8; 52] = [
     0, 0, 0, 0, 3, 0, 0, 0, 1, 0, 0, 0, 0, 0, 0, 0, 1, 0, 0, 0, 0, 0, 0, 0, 0xe7, 0xff, 0xff, 0xff,
@@ -111,7 +116,7 @@ fn blobs_are_told(rt: HostRuntime) -> Result<(), Fail> {
 
 #[test]
 fn statuses_have_their_causes(rt: HostRuntime) -> Result<(), Fail> {
-    let cases: [(&str, u16, &[Piece<'_>], &[u8], usize, ToolStatus); 6] = [
+    let cases: [(&str, u16, &[Piece<'_>], &[u8], usize, ToolStatus); 7] = [
         (PLAIN, PLAIN_BYTES, &THREE, b"t", 100, ToolStatus::Done),
         (PLAIN, PLAIN_BYTES, &THREE, b"t", 9, ToolStatus::OutWrite),
         (PLAIN, PLAIN_BYTES, &THREE, b"s", 100, ToolStatus::NoTable),
@@ -125,6 +130,21 @@ fn statuses_have_their_causes(rt: HostRuntime) -> Result<(), Fail> {
             b"t",
             100,
             ToolStatus::BadImage { table: 0 },
+        ),
+        // Nor in the second table.
+        (
+            TWO,
+            TWO_BYTES,
+            &[
+                (0, &THREE_ROWS),
+                (120, &SEAL),
+                (1536, &THREE_ROWS),
+                (1536, &[5]),
+                (1656, &SEAL),
+            ],
+            b"t",
+            100,
+            ToolStatus::BadImage { table: 1 },
         ),
     ];
     for (text, pages, pieces, name, room, wanted) in cases {

@@ -1,4 +1,4 @@
-//! Tests of checks and exports, over images made by hand, through public calls. They stand above all that they call, so that
+//! Tests of checks, exports and imports, over images made by hand, through public calls. They stand above all that they call, so that
 //! each crate below is proved once.
 #![tactic(auto)]
 
@@ -6,3 +6,5 @@
 mod checks;
 #[cfg(test)]
 mod exports;
+#[cfg(test)]
+mod imports;

@@ -18,7 +18,7 @@ use Rattle.fl_jobs.specs.Image.{IsImageOf}
 use Rattle.fl_jobs.specs.Checking.{IsOver, TablesEnd, ImageEnds, CheckEnds}
 use Rattle.fl_check.specs.declared.finding.Finding.{Finding}
 use Rattle.fl_jobs.specs.declared.status.ToolStatus.{ToolStatus}
-use Rattle.fl_jobs.specs.declared.status.ToolStatus.TheVariants.{Done, OutWrite, NoMemory, NotImage, Device, BadImage, NoTable, Unsound}
+use Rattle.fl_jobs.specs.declared.status.ToolStatus.TheVariants.{Done, InputRead, OutWrite, InputLong, NoMemory, NotImage, Device, BadImage, NoTable, BadInput, Unsound}
 use Rattle.fl_jobs.proofs.Telling.{told-none}
 
 -- the pages of the device lie on the medium
@@ -76,6 +76,9 @@ image-ends Finds bytes told told_now Device h = inr h
 image-ends Finds bytes told told_now NotImage h = absurd h.ends
 image-ends Finds bytes told told_now (BadImage table) h = absurd h.ends
 image-ends Finds bytes told told_now NoTable h = absurd h.ends
+image-ends Finds bytes told told_now InputRead h = absurd h.ends
+image-ends Finds bytes told told_now InputLong h = absurd h.ends
+image-ends Finds bytes told told_now (BadInput number) h = absurd h.ends
 
 -- .. or before the first
 pub early-ends : (Finds : TableConfig → FlashState → Finding → Type 0) (bytes : List ℕ) (told : Option (List ℕ)) (status : ToolStatus) → (status ≡ NotImage) ⊎ (status ≡ Device)

@@ -17,7 +17,7 @@ use Rattle.fl_check.specs.declared.finding.Finding.{Finding}
 use Rattle.fl_check.specs.declared.finding.CheckFault.{CheckFault}
 use Rattle.fl_check.specs.declared.finding.CheckFault.TheVariants.{Flash, NoMemory as NoRoom}
 use Rattle.fl_jobs.specs.declared.status.ToolStatus.{ToolStatus}
-use Rattle.fl_jobs.specs.declared.status.ToolStatus.TheVariants.{Done, OutWrite, NoMemory, NotImage, Device, BadImage, NoTable, Unsound}
+use Rattle.fl_jobs.specs.declared.status.ToolStatus.TheVariants.{Done, InputRead, OutWrite, InputLong, NoMemory, NotImage, Device, BadImage, NoTable, BadInput, Unsound}
 
 -- the rings of a table that isn't refused lie on the flash, one behind another
 pub record LiesOn (config : TableConfig) (f : FlashState) : Type 0 where
@@ -110,6 +110,9 @@ TablesEnd Finds lines bytes told told_now Device = TellsFew Finds lines bytes to
 TablesEnd Finds lines bytes told told_now NotImage = ⊥
 TablesEnd Finds lines bytes told told_now (BadImage table) = ⊥
 TablesEnd Finds lines bytes told told_now NoTable = ⊥
+TablesEnd Finds lines bytes told told_now InputRead = ⊥
+TablesEnd Finds lines bytes told told_now InputLong = ⊥
+TablesEnd Finds lines bytes told told_now (BadInput number) = ⊥
 
 -- the bytes are an image, whose tables were checked so far
 pub record ImageEnds (Finds : TableConfig → FlashState → Finding → Type 0) (bytes : List ℕ) (told told_now : Option (List ℕ)) (status : ToolStatus) : Type 0 where

@@ -7,8 +7,12 @@ ghost use Rattle.fl_jobs.specs.Number.{number_of};
 pub enum ToolStatus {
     /// The job was done, and nothing was wrong.
     Done,
+    /// The source failed.
+    InputRead,
     /// The sink failed.
     OutWrite,
+    /// The input has more bytes than are read.
+    InputLong,
     /// There is no memory.
     NoMemory,
     /// The medium is no image: its first bytes are not the header of a configuration, or its length is not that one's.
@@ -19,6 +23,8 @@ pub enum ToolStatus {
     BadImage { table: u32 },
     /// No table of the image has the name.
     NoTable,
+    /// This line of an import isn't the line of the names, though it is the first, or has more than 4,096 bytes.
+    BadInput { line: u64 },
     /// A check found a fault, and has told it.
     Unsound,
 }
@@ -30,12 +36,15 @@ impl ToolStatus {
     {
         match self {
             ToolStatus::Done => 0,
+            ToolStatus::InputRead => 3,
             ToolStatus::OutWrite => 4,
+            ToolStatus::InputLong => 8,
             ToolStatus::NoMemory => 9,
             ToolStatus::NotImage => 11,
             ToolStatus::Device => 12,
             ToolStatus::BadImage { table: _ } => 13,
             ToolStatus::NoTable => 14,
+            ToolStatus::BadInput { line: _ } => 15,
             ToolStatus::Unsound => 16,
         }
     }

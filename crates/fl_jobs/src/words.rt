@@ -14,6 +14,8 @@ pub enum ToolJob {
     Check,
     /// Writes the records of a table whose keys are in the range.
     Export { name: Name, range: KeyRange },
+    /// Puts the records of an input into a table.
+    Import { name: Name },
 }
 
 fn is_check(word: &str) -> bool
@@ -26,6 +28,12 @@ fn is_export(word: &str) -> bool
     ensures { result ≡ bytes_equal word.now (codes "export") }
 {
     word == "export"
+}
+
+fn is_import(word: &str) -> bool
+    ensures { result ≡ bytes_equal word.now (codes "import") }
+{
+    word == "import"
 }
 
 fn names_image(word: &str) -> bool
@@ -79,6 +87,21 @@ fn check_of(words: &[String]) -> Option<ToolJob>
     Some(ToolJob::Check)
 }
 
+/// The import that the words name.
+fn import_of(words: &[String]) -> Option<ToolJob>
+    requires { length words.now ≡ 3 }
+    ensures { result ≡ job_named (map (λ word. string_bytes word) words.now) }
+{
+    if !is_import(words[0].as_str()) {
+        return None;
+    }
+    if !names_image(words[1].as_str()) {
+        return None;
+    }
+    let name = name(words[2].as_str())?;
+    Some(ToolJob::Import { name })
+}
+
 /// The export that the words name.
 fn export_of(words: &[String]) -> Option<ToolJob>
     requires { length words.now ≡ 5 }
@@ -93,14 +116,16 @@ fn export_of(words: &[String]) -> Option<ToolJob>
     export(words[2].as_str(), words[3].as_str(), words[4].as_str())
 }
 
-/// The job that the words name: `check` and an image, or `export`, an image, a table, and the lowest and the greatest key. An
-/// image is a word that isn't empty and doesn't begin with a dash; names of tables and numbers are those of a script.
+/// The job that the words name: `check` and an image; `import`, an image and a table; or `export`, an image, a table, and the
+/// lowest and the greatest key. An image is a word that isn't empty and doesn't begin with a dash; names of tables and numbers
+/// are those of a script.
 pub fn tool_of(words: &[String]) -> Option<ToolJob>
     ensures exact { result ≡ job_named (map (λ word. string_bytes word) words.now) }
     ensures image { IfSome result (λ job. 2 ≤ length words.now) }
 {
     match words.len() {
         2 => check_of(words),
+        3 => import_of(words),
         5 => export_of(words),
         _ => None,
     }

@@ -10,20 +10,21 @@ use Rattle.fl_words.specs.Config.{Lines, no_lines, whole}
 use Rattle.fl_machine.specs.Script.{Unended, BadLine, BadConfig, start_with, start_from, start_of, ended}
 use Rattle.fl_script.specs.declared.command.Command as code
 use Rattle.fl_script.specs.CommandView.{command_view}
-use Rattle.fl_session.specs.Texts.{most_bytes, lines_read, lines_within, is_long}
+use Rattle.fl_lines.specs.Texts.{most_bytes, lines_read, lines_within, is_long}
 use Rattle.fl_session.specs.Ends.{start_in}
-use Rattle.fl_session.specs.Given.{Given}
-use Rattle.fl_session.specs.Stream.{LinesState, Gives, TakesPart, TakesAhead}
-use Rattle.fl_session.specs.Taken.{TakesFew, TakesLine, TakesBegin, IsUnended}
+use Rattle.fl_lines.specs.Given.{Given}
+use Rattle.fl_lines.specs.Stream.{LinesState, Gives, TakesPart, TakesAhead}
+use Rattle.fl_session.specs.Taken.{TakesLine, TakesBegin, IsUnended}
+use Rattle.fl_lines.specs.Taken.{TakesFew}
 use Rattle.std.proofs.lemmas.List.{drop_all}
 use Rattle.fl_session.specs.Next.{NextCommand, EndsThere, IsRefused}
 use Rattle.fl_session.specs.Loop.{Tail}
 use Rattle.fl_session.specs.Begin.{IsFresh, GoesOn, EndsIt, Refuses, AtCommand, AtEnd, EndsInConfig, EndsBegin, BeginsAt, ConfiguresBy}
-use Rattle.fl_session.specs.declared.lines.LinesFault.{LinesFault}
-use Rattle.fl_session.specs.declared.lines.LinesFault.TheVariants.{Failed, Long}
+use Rattle.fl_lines.specs.declared.lines.LinesFault.{LinesFault}
+use Rattle.fl_lines.specs.declared.lines.LinesFault.TheVariants.{Failed, Long}
 use Rattle.fl_session.specs.declared.status.Status.{Status}
 use Rattle.fl_session.specs.declared.status.Status.TheVariants.{Line, ScriptRead, Config as BadConfiguration, ScriptLong}
-use Rattle.fl_session.proofs.Reading.{given-few, given-over, given-none, given-all, given-taken, given-most}
+use Rattle.fl_lines.proofs.Reading.{given-few, given-over, given-none, given-all, given-taken, given-most}
 use Rattle.fl_session.proofs.Accepting.{Configures, configures-none, configures-end, configures-line, configures-more, too_long-command}
 use Rattle.fl_session.proofs.Loops.{NextLine, fits, too_long, next_line}
 

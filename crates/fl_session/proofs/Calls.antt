@@ -25,7 +25,8 @@ use Rattle.fl_table.specs.declared.table.Table.{Table}
 use Rattle.fl_tables.specs.Tables.{first_of, entries_with, TablesStand, TablesMount}
 use Rattle.fl_tables.specs.declared.tables.BadMount.{BadMount}
 use Rattle.fl_tables.specs.declared.tables.Entry.{Entry}
-use Rattle.fl_session.specs.Answer.{Answers, IsReached, put_reply, flush_reply, mount_reply}
+use Rattle.fl_session.specs.Answer.{Answers, IsReached, mount_reply}
+use Rattle.fl_tables.specs.Replies.{put_reply, flush_reply}
 use Rattle.fl_session.specs.Notes.{without_cursors}
 use Rattle.fl_session.specs.declared.notes.Notes.{Notes}
 use Rattle.fl_session.specs.Standing.{SessionStands}

@@ -9,11 +9,12 @@ use Rattle.fl_words.specs.Command.{Command}
 use Rattle.fl_words.specs.Config.{Lines, whole}
 use Rattle.fl_machine.specs.Machine.{Machine}
 use Rattle.fl_machine.specs.Script.{Start, Ready, Unended, BadLine, BadConfig, start_with, start_of, ended, StandsFor, StandsAfter, Ran, RanInto, RoseBy}
-use Rattle.fl_session.specs.Texts.{most_bytes, whole_lines, rest_of, lines_read, lines_within, is_long}
-use Rattle.fl_session.specs.Stream.{LinesState}
+use Rattle.fl_lines.specs.Texts.{most_bytes, whole_lines, rest_of, lines_read, lines_within, is_long}
+use Rattle.fl_lines.specs.Stream.{LinesState}
 use Rattle.fl_session.specs.Execute.{Around, IsReady, StandsAlike, RanAll, RanPart}
 use Rattle.fl_session.specs.Loop.{Tail, TakesTail, TailTakes, lines_in, EndsCommands}
-use Rattle.fl_session.specs.Taken.{HasTaken, TakesFew, TakesLine, TakesBegin, IsUnended, begin_behind}
+use Rattle.fl_session.specs.Taken.{TakesLine, TakesBegin, IsUnended}
+use Rattle.fl_lines.specs.Taken.{HasTaken, TakesFew, begin_behind}
 use Rattle.std.proofs.lemmas.List.Sums.{sum_by-append}
 use Rattle.fl_script.specs.declared.command.Command as code
 use Rattle.fl_session.specs.Run.{tail_of, RunsFrom, IsOfCommands}

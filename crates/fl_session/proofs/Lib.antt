@@ -1,6 +1,4 @@
 pub mod Pairing
-pub mod Parts
-pub mod Reading
 pub mod Running
 pub mod Accepting
 pub mod Nexts
@@ -9,7 +7,6 @@ pub mod Configuring
 pub mod Beginning
 pub mod Ready
 pub mod Ending
-pub mod Pieces
 pub mod Executing
 pub mod Owning
 pub mod Answering
@@ -27,7 +24,6 @@ pub mod Fresh
 pub mod Completing
 pub mod BlobLines
 pub mod BlobNotes
-pub mod Untouched
 pub mod Generating
 pub mod Loading
 pub mod RowLines

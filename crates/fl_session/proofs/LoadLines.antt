@@ -19,7 +19,8 @@ use Rattle.fl_table.specs.declared.faults.PutRefusal.{PutRefusal}
 use Rattle.fl_table.specs.declared.table.Table.{Table}
 use Rattle.fl_tables.specs.Tables.{entries_with, IsNamed}
 use Rattle.fl_tables.specs.declared.tables.Entry.{Entry}
-use Rattle.fl_session.specs.Answer.{Answers, Refusal, IsReached, put_reply, load_replies}
+use Rattle.fl_session.specs.Answer.{Answers, Refusal, IsReached, load_replies}
+use Rattle.fl_tables.specs.Replies.{put_reply}
 use Rattle.fl_session.specs.Execute.{Executes}
 use Rattle.fl_session.specs.declared.notes.Notes.{Notes}
 use Rattle.fl_session.specs.Standing.{SessionStands}

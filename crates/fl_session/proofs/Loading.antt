@@ -33,7 +33,8 @@ use Rattle.fl_table.specs.Standing.{Stands}
 use Rattle.fl_tables.specs.Tables.{first_of, entries_with, IsNamed}
 use Rattle.fl_tables.specs.declared.tables.Entry.{Entry}
 use Rattle.fl_tables.proofs.TablesChanged.{set-there, set-elsewhere, set-same, some-is, at-place}
-use Rattle.fl_session.specs.Answer.{Answers, fault_reply, load_replies}
+use Rattle.fl_session.specs.Answer.{Answers, load_replies}
+use Rattle.fl_tables.specs.Replies.{fault_reply}
 use Rattle.fl_session.specs.Load.{load_key}
 use Rattle.fl_session.specs.declared.notes.Notes.{Notes}
 use Rattle.fl_session.specs.Standing.{SessionStands}

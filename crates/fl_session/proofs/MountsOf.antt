@@ -24,7 +24,8 @@ use Rattle.fl_tables.specs.Tables.{first_of, EntryStands, TablesStand, FaultIs, 
 use Rattle.fl_tables.specs.declared.tables.BadMount.{BadMount}
 use Rattle.fl_tables.specs.declared.tables.Entry.{Entry}
 use Rattle.fl_tables.proofs.TablesChanged.{entry-off, tables-still, tables-become}
-use Rattle.fl_session.specs.Answer.{Answers, fault_reply, bad_reply, mount_reply}
+use Rattle.fl_session.specs.Answer.{Answers, bad_reply, mount_reply}
+use Rattle.fl_tables.specs.Replies.{fault_reply}
 use Rattle.fl_session.specs.Notes.{without_cursors}
 use Rattle.fl_session.specs.declared.notes.Notes.{Notes}
 use Rattle.fl_session.specs.Standing.{SessionStands}

@@ -4,8 +4,8 @@ use Rattle.fl_words.specs.Command as words
 use Rattle.fl_words.specs.Grammar as grammar
 use Rattle.fl_words.specs.Grammar.{command_of}
 use Rattle.fl_machine.specs.Script.{runs, runs_read, runs_command}
-use Rattle.fl_session.specs.declared.lines.LinesFault.{LinesFault}
-use Rattle.fl_session.specs.declared.lines.LinesFault.TheVariants.{Failed, Long}
+use Rattle.fl_lines.specs.declared.lines.LinesFault.{LinesFault}
+use Rattle.fl_lines.specs.declared.lines.LinesFault.TheVariants.{Failed, Long}
 use Rattle.fl_session.specs.declared.status.Status.{Status}
 use Rattle.fl_session.specs.declared.status.Status.TheVariants.{Line}
 use Rattle.fl_session.specs.Next.{EndsThere, IsRefused, IsRead, IsToRun, is_config_line}

@@ -23,7 +23,7 @@ use Rattle.fl_tables.specs.declared.tables.Entry.{Entry}
 use Rattle.fl_tables.proofs.Apart.{blocks-apart}
 use Rattle.fl_tables.proofs.TablesChanged.{some-is}
 use Rattle.fl_session.specs.declared.status.Status.{Status}
-use Rattle.fl_session.specs.Stream.{LinesState}
+use Rattle.fl_lines.specs.Stream.{LinesState}
 use Rattle.fl_session.specs.Notes.{no_notes}
 use Rattle.fl_session.specs.declared.notes.Notes.{Notes}
 use Rattle.fl_session.specs.Standing.{SessionStands, IsSound, RestsOn, HasRooms}
@@ -34,7 +34,7 @@ use Rattle.fl_session.specs.declared.status.Status.TheVariants.{Usage, MediaMake
 use Rattle.fl_config.specs.declared.image.ImageRefusal.{ImageRefusal}
 use Rattle.fl_config.specs.declared.image.ImageRefusal.TheVariants.{Media, Other}
 use Rattle.fl_base.specs.Causes.{Rose}
-use Rattle.fl_session.specs.Texts.{is_long, lines_read}
+use Rattle.fl_lines.specs.Texts.{is_long, lines_read}
 use Rattle.fl_session.specs.Begin.{BeginsAt}
 use Rattle.fl_session.specs.Opening.{Opened, HalfOpened, Foreign, OpensAs, KeepsForm, MediaGoes}
 use Rattle.fl_session.specs.Ends.{Ends, IsFormed, told_of, start_in, EndsMaking, EndsOther, IsEarlyBy, Differs}
@@ -90,7 +90,7 @@ new-lie : (entries : List Entry) (lines : Lines) (f : FlashState) → AreNewTabl
 new-lie entries lines f new device blocks fits i entry e =
     let plan = slice_get-some lines.plans i (omega (arith, slice_get_within entries i entry e, new.as_many)) in
     let made = new.each i plan.0 entry plan.1 e in
-    made.lies f (some-is lines.device f.geometry entry.table.geometry device made.device ∙ sym made.planned.geometry) (omega (arith, blocks, blocks-within lines.plans i plan.0 plan.1)) (few-pages f lines.plans blocks fits)
+    made.lies f (some-is lines.device f.geometry plan.0.geometry device made.device) (omega (arith, blocks, blocks-within lines.plans i plan.0 plan.1)) (few-pages f lines.plans blocks fits)
 
 no-cursor : (n i : ℕ) (c : TableCursor) → slice_get (replicate n None) i ≡ Some (Some c) → ⊥
 no-cursor zero i c e = none e

@@ -168,9 +168,9 @@ session-begins config lines entries notes f m fresh told start geometry armed pr
     each i plan entry table p q r =
         let made = new.each i plan entry (ap (λ (ps : List Plan). slice_get ps i) plans ∙ p) q in
         let planned : IsPlanned entry.table (first_of config.plans i) plan = subst (λ (ps : List Plan). IsPlanned entry.table (first_of ps i) plan) plans made.planned in
-        let own : entry.table.geometry ≡ config.geometry = some-is lines.device entry.table.geometry config.geometry made.device device in
+        let own : plan.geometry ≡ config.geometry = some-is lines.device plan.geometry config.geometry made.device device in
         let image = subst (λ n. IsTableImage config f.media.content n plan table) (let m : 0 + i ≡ i = omega arith in m) (images-at config f.media.content 0 config.plans h.0 h.1.tables_are i plan table p r) in
-        record { named = made.named; geometry = planned.geometry ∙ (own ∙ sym geometry); planned = planned; on_flash = image-rests config i plan table f start geometry image }
+        record { named = made.named; geometry = own ∙ sym geometry; planned = planned; on_flash = image-rests config i plan table f start geometry image }
 
 -- the medium on which a session ended stands for what it had on it
 pub session-ends : (config : Config) (entries : List Entry) (notes : Notes) (f : FlashState) (mounted : Bool) (m : Machine) → SessionStands config entries f mounted notes m → StandsAfter config (Some f.media.content) m

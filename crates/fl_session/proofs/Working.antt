@@ -38,7 +38,8 @@ use Rattle.fl_table.proofs.SealAnswers.{planned-same}
 use Rattle.fl_tables.specs.Tables.{first_of, entries_with, EntryStands, TablesStand}
 use Rattle.fl_tables.specs.declared.tables.Entry.{Entry}
 use Rattle.fl_tables.proofs.TablesChanged.{entry-off, some-is, set-same, length-changed, tables-changed, option_map-same}
-use Rattle.fl_session.specs.Answer.{Answers, fault_reply, put_reply, flush_reply}
+use Rattle.fl_session.specs.Answer.{Answers}
+use Rattle.fl_tables.specs.Replies.{fault_reply, put_reply, flush_reply}
 use Rattle.fl_session.specs.declared.notes.Notes.{Notes}
 use Rattle.fl_session.specs.Standing.{SessionStands, IsOnMedium}
 use Rattle.fl_session.proofs.Answering.{answers-saying, saying, says, step-is, table-step}

@@ -2,8 +2,6 @@
 use Rattle.std.specs.Prelude.{◌≡◌, ℕ, Bool, true, false, IsTrue, None, Result, Ok, Err, List, [], ◌∷◌}
 use Rattle.fl_base.specs.Causes.{Rose}
 use Rattle.fl_flash.specs.Flash.{FlashState}
-use Rattle.fl_flash.specs.declared.flash.FlashFault.{FlashFault}
-use Rattle.fl_flash.specs.declared.flash.FlashFault.TheVariants.{PowerLost, Media}
 use Rattle.fl_model.specs.Record.{Config}
 use Rattle.fl_words.specs.Command.{Command}
 use Rattle.fl_words.specs.Reply as reply
@@ -17,8 +15,7 @@ use Rattle.fl_table.specs.declared.faults.PutRefusal.{PutRefusal}
 use Rattle.fl_table.specs.declared.faults.PutRefusal.TheVariants as put
 use Rattle.fl_table.specs.declared.faults.MountFault.{MountFault}
 use Rattle.fl_table.specs.declared.faults.MountFault.TheVariants as mount
-use Rattle.fl_table.specs.declared.faults.FlushFault.{FlushFault}
-use Rattle.fl_table.specs.declared.faults.FlushFault.TheVariants as flush
+use Rattle.fl_tables.specs.Replies.{fault_reply, put_reply}
 use Rattle.fl_tables.specs.Tables.{IsNamed, Names}
 use Rattle.fl_tables.specs.declared.tables.BadMount.{BadMount}
 use Rattle.fl_tables.specs.declared.tables.Entry.{Entry}
@@ -35,31 +32,10 @@ pub record Answers (config : Config) (old : Machine) (command : Command) (stands
   pub rose : IsTrue moment.rose → Rose flash.media.faults flash_now.media.faults
   pub said_is : texts moment.replies ≡ said
 
--- the reply to an operation that failed
-abbrev pub fault_reply : FlashFault → Reply
-fault_reply PowerLost = reply.PowerLost
-fault_reply Media = reply.DeviceFault
-
--- .. to a put, and to a flush
-abbrev pub put_reply : Result (Unit {0}) PutRefusal → Reply
-put_reply (Ok done) = reply.Done
-put_reply (Err (put.Key last)) = reply.RefusedKey last
-put_reply (Err (put.Columns wanted)) = reply.RefusedColumns wanted
-put_reply (Err (put.Value column)) = reply.RefusedValue column
-put_reply (Err (put.Blob limit)) = reply.RefusedBlob limit
-put_reply (Err put.Spent) = reply.RefusedSpent
-put_reply (Err put.Stopped) = reply.NotMounted
-put_reply (Err (put.Flash fault)) = fault_reply fault
-
--- .. and to a load: how many records were put, and why the next one wasn't
+-- the replies to a load: how many records were put, and why the next one wasn't
 abbrev pub load_replies : ℕ → Result (Unit {0}) PutRefusal → List Reply
 load_replies count (Ok done) = reply.Loaded count ∷ []
 load_replies count (Err refusal) = reply.Loaded count ∷ put_reply (Err refusal) ∷ []
-
-abbrev pub flush_reply : Result (Unit {0}) FlushFault → Reply
-flush_reply (Ok done) = reply.Done
-flush_reply (Err flush.Stopped) = reply.NotMounted
-flush_reply (Err (flush.Flash fault)) = fault_reply fault
 
 -- why a command on a table isn't executed: nothing is mounted, or no table has this name
 abbrev pub Refusal : List Entry → Bool → List ℕ → code.Reply → Type 0

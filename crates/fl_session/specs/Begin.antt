@@ -4,14 +4,15 @@ use Rattle.fl_words.specs.Command.{Command}
 use Rattle.fl_words.specs.Config.{Lines, whole}
 use Rattle.fl_machine.specs.Script.{Start, Unended, BadLine, BadConfig, start_with, start_line, start_of}
 use Rattle.fl_session.specs.Runnable.{IsRunnable}
-use Rattle.fl_session.specs.Taken.{HasTaken, TakesFew, TakesLine, TakesBegin, IsUnended}
-use Rattle.fl_session.specs.Texts.{most_bytes, whole_lines, rest_of, lines_read}
+use Rattle.fl_session.specs.Taken.{TakesLine, TakesBegin, IsUnended}
+use Rattle.fl_lines.specs.Taken.{HasTaken, TakesFew}
+use Rattle.fl_lines.specs.Texts.{most_bytes, whole_lines, rest_of, lines_read}
 use Rattle.fl_session.specs.Ends.{start_in}
 use Rattle.fl_session.specs.Next.{IsToRun}
 use Rattle.fl_script.specs.declared.command.Command as code
 use Rattle.fl_script.specs.CommandView.{command_view}
-use Rattle.fl_session.specs.Given.{Given}
-use Rattle.fl_session.specs.Stream.{LinesState}
+use Rattle.fl_lines.specs.Given.{Given}
+use Rattle.fl_lines.specs.Stream.{LinesState}
 use Rattle.fl_session.specs.declared.status.Status.{Status}
 use Rattle.fl_session.specs.declared.status.Status.TheVariants.{Line, ScriptRead, Config as BadConfiguration, ScriptLong}
 

@@ -5,7 +5,7 @@ use Rattle.fl_model.specs.Record.{Config}
 use Rattle.fl_words.specs.Command.{Command}
 use Rattle.fl_machine.specs.Script.{Ready, accepted, first_refused}
 use Rattle.fl_session.specs.Ends.{Told, RunsAll, start_in, new_content}
-use Rattle.fl_session.specs.Texts.{most_bytes}
+use Rattle.fl_lines.specs.Texts.{most_bytes}
 use Rattle.fl_session.specs.declared.status.Status.{Status}
 use Rattle.fl_session.specs.declared.status.Status.TheVariants.{Done, Usage, Line, ScriptRead, OutWrite, MediaMake, Config as BadConfiguration, OtherConfig, ScriptLong, NoMemory}
 

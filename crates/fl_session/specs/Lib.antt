@@ -4,15 +4,12 @@ pub mod BlobNotes
 pub mod BlobShown
 pub mod Words
 pub mod Runnable
-pub mod Texts
 pub mod Taken
 pub mod Ends
 pub mod Number
 pub mod Execute
-pub mod Stream
 pub mod Next
 pub mod Loop
-pub mod Given
 pub mod Begin
 pub mod Opening
 pub mod Answer

@@ -3,8 +3,8 @@ use Rattle.std.specs.Prelude.{◌≡◌, ℕ, ◌+◌, ◌<◌, ◌≤◌, Bool,
 use Rattle.fl_words.specs.Command.{Command}
 use Rattle.fl_machine.specs.Machine.{Machine}
 use Rattle.fl_machine.specs.Script.{accepted, first_refused}
-use Rattle.fl_session.specs.Taken.{HasTaken, TakesFew}
-use Rattle.fl_session.specs.Texts.{whole_lines, rest_of, lines_within}
+use Rattle.fl_lines.specs.Taken.{HasTaken, TakesFew}
+use Rattle.fl_lines.specs.Texts.{whole_lines, rest_of, lines_within}
 use Rattle.fl_session.specs.Execute.{Around, RanAll, RanPart}
 use Rattle.fl_session.specs.declared.status.Status.{Status}
 use Rattle.fl_session.specs.declared.status.Status.TheVariants.{Done, Usage, Line, ScriptRead, OutWrite, MediaMake, Config, OtherConfig, ScriptLong, NoMemory}

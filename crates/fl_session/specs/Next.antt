@@ -6,11 +6,11 @@ use Rattle.fl_words.specs.Grammar.{command_of}
 use Rattle.fl_machine.specs.Script.{runs}
 use Rattle.fl_script.specs.declared.command.Command.{Command}
 use Rattle.fl_script.specs.CommandView.{command_view}
-use Rattle.fl_session.specs.declared.lines.LinesFault.{LinesFault}
-use Rattle.fl_session.specs.declared.lines.LinesFault.TheVariants.{Failed, Long}
+use Rattle.fl_lines.specs.declared.lines.LinesFault.{LinesFault}
+use Rattle.fl_lines.specs.declared.lines.LinesFault.TheVariants.{Failed, Long}
 use Rattle.fl_session.specs.declared.status.Status.{Status}
 use Rattle.fl_session.specs.declared.status.Status.TheVariants.{Line, ScriptRead, ScriptLong}
-use Rattle.fl_session.specs.Stream.{LinesState, Advances}
+use Rattle.fl_lines.specs.Stream.{LinesState, Advances}
 use Rattle.fl_session.specs.Runnable.{is_within, IsRunnable}
 
 abbrev pub is_config_line : words.Command → Bool

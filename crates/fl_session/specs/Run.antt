@@ -10,7 +10,7 @@ use Rattle.fl_session.specs.declared.status.Status.{Status}
 use Rattle.fl_session.specs.declared.status.Status.TheVariants.{Done, Line, ScriptRead, OutWrite, MediaMake, OtherConfig, ScriptLong}
 use Rattle.fl_config.specs.declared.image.ImageRefusal.{ImageRefusal}
 use Rattle.fl_config.specs.declared.image.ImageRefusal.TheVariants.{Media, Other}
-use Rattle.fl_session.specs.Stream.{LinesState}
+use Rattle.fl_lines.specs.Stream.{LinesState}
 use Rattle.fl_session.specs.Execute.{Around}
 use Rattle.fl_session.specs.Loop.{Tail, EndsCommands}
 

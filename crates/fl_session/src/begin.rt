@@ -9,10 +9,10 @@ ghost use Rattle.fl_session.specs.Next as words;
 ghost use Rattle.fl_session.specs.Begin.{ConfiguresBy, IsFresh, BeginsAt, EndsBegin, HoldsFirst, IsOfScript};
 
 use crate::Status;
-use crate::lines::Lines;
 use crate::next::{is_config, next_command};
 use fl_base::Source;
 use fl_config::Config;
+use fl_lines::Lines;
 use fl_script::{Command, LineRoom};
 
 fn is_nothing(command: &Command) -> bool

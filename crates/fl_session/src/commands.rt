@@ -10,9 +10,9 @@ ghost use Rattle.fl_session.specs.Run.{IsOfCommands};
 
 use crate::Status;
 use crate::executor::Executor;
-use crate::lines::Lines;
 use crate::next::next_run;
 use fl_base::{Sink, Source};
+use fl_lines::Lines;
 use fl_script::{Command, LineRoom};
 
 /// Executes a command, which is the line of this number, and then those of the lines behind it. Each reply is written

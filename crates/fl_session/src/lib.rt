@@ -14,7 +14,6 @@ mod field_lines;
 mod generator;
 mod group_lines;
 mod laws;
-mod lines;
 mod listing;
 mod load;
 mod lookup;

@@ -16,12 +16,11 @@ ghost use Rattle.fl_session.specs.Standing.{SessionStands};
 ghost use Rattle.fl_session.specs.declared.notes.Notes.{Notes};
 
 use crate::generator::Generator;
-use crate::replies::put_reply;
 use fl_base::{Sink, SinkFailed};
 use fl_flash::Flash;
 use fl_script::{Reply, write_reply};
 use fl_table::PutRefusal;
-use fl_tables::Table;
+use fl_tables::{Table, put_reply};
 
 /// How a load ended.
 #[derive(Clone, Copy, Debug)]

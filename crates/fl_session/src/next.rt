@@ -4,8 +4,8 @@ ghost use Rattle.fl_script.specs.CommandView.{command_view};
 ghost use Rattle.fl_session.specs.Next.{NextCommand, NextRun, is_config_line};
 
 use crate::Status;
-use crate::lines::{Lines, LinesFault};
 use fl_base::Source;
+use fl_lines::{Lines, LinesFault};
 use fl_script::{Command, LineRoom, read_line};
 
 pub(crate) fn is_config(command: &Command) -> bool

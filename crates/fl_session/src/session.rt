@@ -25,12 +25,12 @@ use crate::load::load;
 use crate::lookup::look_up;
 use crate::notes::{NO_CURSORS, Notes, TableCursor};
 use crate::operators::Comparison;
-use crate::replies::{cost_reply, flush_breaks, flush_reply, mount_reply, put_breaks, put_reply};
+use crate::replies::{cost_reply, flush_breaks, mount_reply, put_breaks};
 use crate::scans::list_rows;
 use fl_base::{CutKind, KeyRange, Name, Sink, SinkFailed, Span};
 use fl_flash::{Flash, Media, SimFlash};
 use fl_script::{Command, LineRoom, Reply, write_reply};
-use fl_tables::Tables;
+use fl_tables::{Tables, flush_reply, put_reply};
 
 mod operate;
 

@@ -10,7 +10,7 @@ use Rattle.fl_jobs.specs.Header.{IsAccepted}
 use Rattle.fl_jobs.specs.Image.{IsImageOf}
 use Rattle.fl_jobs.specs.Report.{is_sound, report_text}
 use Rattle.fl_jobs.specs.declared.status.ToolStatus.{ToolStatus}
-use Rattle.fl_jobs.specs.declared.status.ToolStatus.TheVariants.{Done, OutWrite, NoMemory, NotImage, Device, BadImage, NoTable, Unsound}
+use Rattle.fl_jobs.specs.declared.status.ToolStatus.TheVariants.{Done, InputRead, OutWrite, InputLong, NoMemory, NotImage, Device, BadImage, NoTable, BadInput, Unsound}
 use Rattle.fl_jobs.proofs.ReadBack.{one-header}
 use Rattle.fl_model.specs.Image.{AreTableImages, medium_len}
 use Rattle.fl_model.specs.Record.{Plan, Config}
@@ -148,6 +148,9 @@ module _ (lines : Lines) (config : Config) (bytes : List ℕ) (tables : List Tab
     front-told Unsound h = absurd (unsound h)
     front-told (BadImage table) h = absurd h.ends
     front-told NoTable h = absurd h.ends
+    front-told InputRead h = absurd h.ends
+    front-told InputLong h = absurd h.ends
+    front-told (BadInput number) h = absurd h.ends
 
     ends-sound : (status : ToolStatus) → CheckEnds Finds bytes told told_now status → law.TellsSound config tables told told_now status
     ends-sound status h = record {

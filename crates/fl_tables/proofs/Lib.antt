@@ -1,5 +1,6 @@
 pub mod Going
 pub mod Apart
+pub mod Stopping
 pub mod TablesChanged
 pub mod Lying
 pub mod Naming

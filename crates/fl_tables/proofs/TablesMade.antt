@@ -1,5 +1,5 @@
 -- The tables that are made for a configuration, one after another.
-use Rattle.std.proofs.Common.{◌≡◌, ℕ, ◌+◌, ◌^◌, ◌<◌, ◌≤◌, ◌⊎◌, inl, inr, Option, None, Some, List, [], ◌∷◌, ◌++◌, length, sum_by, take, refl, sym, ◌∙◌, ap, subst, length-append, arith}
+use Rattle.std.proofs.Common.{◌≡◌, false, ℕ, ◌+◌, ◌^◌, ◌<◌, ◌≤◌, ◌⊎◌, inl, inr, Option, None, Some, List, [], ◌∷◌, ◌++◌, length, sum_by, take, refl, sym, ◌∙◌, ap, subst, length-append, arith}
 use Rattle.std.specs.Prelude.{IfSome}
 use Rattle.std.specs.List.{slice_get}
 use Rattle.fl_model.specs.Record.{Plan, blocks_of}
@@ -8,7 +8,7 @@ use Rattle.fl_base.specs.declared.types.RingPlace.{RingPlace}
 use Rattle.fl_plan.specs.Plan.{IsConfigOf, blocks_in}
 use Rattle.fl_plan.specs.declared.table_config.TableConfig.{TableConfig}
 use Rattle.fl_flash.specs.Flash.{FlashState, pages}
-use Rattle.fl_table.specs.Memory.{IsPlanned, LiesOn}
+use Rattle.fl_table.specs.Memory.{IsPlanned, LiesOn, is_running}
 use Rattle.fl_table.specs.declared.table.Table.{Table}
 use Rattle.fl_words.specs.Config.{Lines}
 use Rattle.fl_tables.specs.Tables.{first_of, IsNewTable, AreNewTables}
@@ -44,22 +44,23 @@ var-within config plan blocks of within = by-var config.var of.var (ap (λ (p : 
 -- the table of the next line
 new-table : (lines : Lines) (i : ℕ) (plan : Plan) (config : TableConfig) (name : List ℕ) (t : Table 64 64) → slice_get lines.plans i ≡ Some plan → lines.device ≡ Some config.geometry →
     IfSome (slice_get lines.plans i) (λ plan. IsConfigOf config plan) → IfSome (slice_get lines.plans i) (λ plan. name ≡ plan.name) → config.rows.first_block ≡ sum_by blocks_of (take i lines.plans) →
-    ((plan : Plan) → IsConfigOf config plan → IsPlanned t config.rows.first_block plan) → ((f : FlashState) → f.geometry ≡ config.geometry → config.rows.first_block + config.rows.blocks ≤ f.blocks → IfSome config.index (λ place. place.first_block + place.blocks ≤ f.blocks) → IfSome config.var (λ place. place.first_block + place.blocks ≤ f.blocks) → pages f < 2 ^ 32 → LiesOn t f) → IsNewTable (record { name = name; table = t }) (first_of lines.plans i) plan lines
-new-table lines i plan config name t p device is named first planned lies =
+    ((plan : Plan) → IsConfigOf config plan → IsPlanned t config.rows.first_block plan) → ((f : FlashState) → f.geometry ≡ config.geometry → config.rows.first_block + config.rows.blocks ≤ f.blocks → IfSome config.index (λ place. place.first_block + place.blocks ≤ f.blocks) → IfSome config.var (λ place. place.first_block + place.blocks ≤ f.blocks) → pages f < 2 ^ 32 → LiesOn t f) → is_running t ≡ false → IsNewTable (record { name = name; table = t }) (first_of lines.plans i) plan lines
+new-table lines i plan config name t p device is named first planned lies down =
     let of : IsConfigOf config plan = subst (λ o. IfSome o (λ plan. IsConfigOf config plan)) p is in
     let name_is : name ≡ plan.name = subst (λ o. IfSome o (λ (plan : Plan). name ≡ plan.name)) p named in
     let own = planned plan of in
     record {
       named = sym name_is;
-      device = device ∙ ap Some (geometry-of config plan of ∙ own.geometry);
+      device = device ∙ ap Some (geometry-of config plan of);
+      down = down;
       planned = subst (λ n. IsPlanned t n plan) first own;
       lies = λ f geometry within few. lies f (geometry ∙ sym (geometry-of config plan of)) (omega (arith, within, first, ap (λ (p : Plan). p.data_blocks) of.is)) (index-within config plan f.blocks of (omega (arith, within, first))) (var-within config plan f.blocks of (omega (arith, within, first))) few;
     }
 
 pub made-more : (lines : Lines) (n : ℕ) (entries : List Entry) (config : TableConfig) (name : List ℕ) (t : Table 64 64) → MadeSoFar lines n entries → lines.device ≡ Some config.geometry →
     IfSome (slice_get lines.plans n) (λ plan. IsConfigOf config plan) → IfSome (slice_get lines.plans n) (λ plan. name ≡ plan.name) → config.rows.first_block ≡ sum_by blocks_of (take n lines.plans) →
-    ((plan : Plan) → IsConfigOf config plan → IsPlanned t config.rows.first_block plan) → ((f : FlashState) → f.geometry ≡ config.geometry → config.rows.first_block + config.rows.blocks ≤ f.blocks → IfSome config.index (λ place. place.first_block + place.blocks ≤ f.blocks) → IfSome config.var (λ place. place.first_block + place.blocks ≤ f.blocks) → pages f < 2 ^ 32 → LiesOn t f) → MadeSoFar lines (n + 1) (entries ++ record { name = name; table = t } ∷ [])
-made-more lines n entries config name t so_far device is named first planned lies = record {
+    ((plan : Plan) → IsConfigOf config plan → IsPlanned t config.rows.first_block plan) → ((f : FlashState) → f.geometry ≡ config.geometry → config.rows.first_block + config.rows.blocks ≤ f.blocks → IfSome config.index (λ place. place.first_block + place.blocks ≤ f.blocks) → IfSome config.var (λ place. place.first_block + place.blocks ≤ f.blocks) → pages f < 2 ^ 32 → LiesOn t f) → is_running t ≡ false → MadeSoFar lines (n + 1) (entries ++ record { name = name; table = t } ∷ [])
+made-more lines n entries config name t so_far device is named first planned lies down = record {
   as_many = length-append entries (new ∷ []) ∙ ap (λ k. k + 1) so_far.as_many;
   each = λ i plan entry p e. by-place i plan entry p (slice_get-push entries new i entry e);
 }
@@ -71,7 +72,7 @@ made-more lines n entries config name t so_far device is named first planned lie
     by-place i plan entry p (inl e) = so_far.each i plan entry p e
     by-place i plan entry p (inr e) =
         let here : i ≡ n = e.0 ∙ so_far.as_many in
-        let made = new-table lines n plan config name t (ap (slice_get lines.plans) (sym here) ∙ p) device is named first planned lies in
+        let made = new-table lines n plan config name t (ap (slice_get lines.plans) (sym here) ∙ p) device is named first planned lies down in
         subst (λ x. IsNewTable x (first_of lines.plans i) plan lines) e.1 (subst (λ k. IsNewTable new (first_of lines.plans k) plan lines) (sym here) made)
 
 pub made-all : (lines : Lines) (n : ℕ) (entries : List Entry) → n ≡ length lines.plans → MadeSoFar lines n entries → AreNewTables entries lines

@@ -8,7 +8,9 @@ use Rattle.fl_model.specs.Record.{Plan, blocks_of}
 use Rattle.fl_model.specs.Table as model
 use Rattle.fl_model.specs.Table.{lose}
 use Rattle.fl_model.specs.Work.{Device, Progress, Outcome, Finished, CutShort, Failed}
+use Rattle.fl_base.specs.Causes.{Rose}
 use Rattle.fl_ring.specs.Device.{SameDevice}
+use Rattle.fl_ring.specs.declared.fault.RingFault.TheVariants as ring
 use Rattle.fl_words.specs.Config.{Lines}
 use Rattle.fl_machine.specs.Step.{all_ready}
 use Rattle.fl_table.specs.Memory.{IsPlanned, LiesOn, is_running}
@@ -28,7 +30,8 @@ first_of plans i = sum_by blocks_of (take i plans)
 -- a table that was made for a plan, whose blocks begin at `first`, and never mounted
 pub record IsNewTable (entry : Entry) (first : ℕ) (plan : Plan) (lines : Lines) : Type 0 where
   pub named : plan.name ≡ entry.name
-  pub device : lines.device ≡ Some entry.table.geometry
+  pub device : lines.device ≡ Some plan.geometry
+  pub down : is_running entry.table ≡ false
   pub planned : IsPlanned entry.table first plan
   pub lies : (f : FlashState) → f.geometry ≡ plan.geometry → first + blocks_of plan ≤ f.blocks → pages f < 2 ^ 32 → LiesOn entry.table f
 
@@ -58,6 +61,21 @@ LieOn entries f = (i : ℕ) (entry : Entry) → slice_get entries i ≡ Some ent
 
 abbrev pub AreRunning : List Entry → Type 0
 AreRunning entries = (i : ℕ) (entry : Entry) → slice_get entries i ≡ Some entry → is_running entry.table ≡ true
+
+-- A mount of these tables stopped at this one: those before it are mounted, it isn't, and those behind it weren't touched.
+pub record StopsAt (old new : List Entry) (bad : BadMount) : Type 0 where
+  pub entry : Entry
+  pub here : slice_get new bad.at ≡ Some entry
+  pub named : entry.name ≡ bad.name
+  pub down : is_running entry.table ≡ false
+  pub before : (i : ℕ) (other : Entry) → i < bad.at → slice_get new i ≡ Some other → is_running other.table ≡ true
+  pub behind : (i : ℕ) → bad.at < i → slice_get new i ≡ slice_get old i
+
+-- a fault of the medium comes only where its count rose, and one of the flash never as one of a ring
+abbrev pub MountFailsFor : FlashState → MountFault → FlashState → Type 0
+MountFailsFor old (mount.Flash Media) new = Rose old.media.faults new.media.faults
+MountFailsFor old (mount.Ring (ring.Flash fault)) new = ⊥
+MountFailsFor old fault new = Unit {0}
 
 -- the pages of their rings
 abbrev pub pages_of : List Entry → ℕ

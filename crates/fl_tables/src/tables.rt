@@ -1,5 +1,5 @@
 // The tables of an image.
-ghost use Rattle.std.specs.Prelude.{◌≡◌, ◌<◌, ◌≤◌, ◌+◌, ◌*◌, ℕ, Bool, List, false, true, length, sum_by, IsTrue, IfOk, OnOk};
+ghost use Rattle.std.specs.Prelude.{◌≡◌, ◌<◌, ◌≤◌, ◌+◌, ◌*◌, ℕ, Bool, List, false, true, length, sum_by, IsTrue, IfOk, IfErr, OnOk};
 ghost use Rattle.fl_flash.specs.Flash.{Goes, page_at};
 ghost use Rattle.fl_model.specs.Record.{Plan, blocks_of};
 ghost use Rattle.fl_model.specs.Table as model;
@@ -32,6 +32,8 @@ pub struct Tables {
 /// Which table isn't mounted, and why.
 #[derive(Clone, Copy, Debug)]
 pub struct BadMount {
+    /// The place of the table, from 0.
+    pub at: usize,
     /// The name of the table.
     pub name: Name,
     /// What its mount answers.
@@ -40,7 +42,7 @@ pub struct BadMount {
 
 impl Tables {
     ghost use Rattle.fl_tables.specs.Repaired.{IsRepaired};
-    ghost use Rattle.fl_tables.specs.Tables.{AreNewTables, Names, LieOn, AreRunning, TablesStand, TablesMount, pages_of};
+    ghost use Rattle.fl_tables.specs.Tables.{AreNewTables, Names, LieOn, AreRunning, StopsAt, MountFailsFor, TablesStand, TablesMount, pages_of};
 
     /// The tables of a configuration, one for each line. None of them is mounted.
     pub fn plan(alloc: Global, config: &Config) -> Result<Tables, NoMemory>
@@ -69,8 +71,8 @@ impl Tables {
         None
     }
 
-    /// Mounts the tables in their order, up to the first that isn't mounted. The buffer, of the size of a page, holds no page
-    /// afterwards.
+    /// Mounts the tables in their order, up to the first that isn't mounted; those behind it stay as they are. The buffer has
+    /// the size of a page.
     pub fn mount<F: Flash>(&mut self, flash: &mut F, buf: &mut PageBuf) -> Result<(), BadMount>
         requires lie { LieOn self.old.entries.items (F.state flash.old) }
         requires room { length buf.old.bytes ≡ (F.state flash.old).geometry.page }
@@ -79,6 +81,8 @@ impl Tables {
         ensures room { length buf.new.bytes ≡ length buf.old.bytes }
         ensures as_many { length self.new.entries.items ≡ length self.old.entries.items }
         ensures running { OnOk result (AreRunning self.new.entries.items) }
+        ensures stops { IfErr result (λ bad. StopsAt self.old.entries.items self.new.entries.items bad) }
+        ensures cause { IfErr result (λ bad. MountFailsFor (F.state flash.old) bad.fault (F.state flash.new)) }
         ensures reads { IsTrue (F.state flash.old).media.tells → (F.state flash.new).work.reads ≤ (F.state flash.old).work.reads + 4 * pages_of self.old.entries.items }
         ensures ends { (plans : List Plan) → (tables : List model.Table) → (rose : Bool) → (device : Device) → IsWatched (F.state flash.old) (F.state flash.new) rose device
             → TablesStand (F.state flash.old) (λ i. false) plans self.old.entries.items tables → TablesMount plans tables rose device result self.new.entries.items (F.state flash.new) }
@@ -88,7 +92,7 @@ impl Tables {
         for i in 0..self.entries.len() {
             if let Err(fault) = self.entries[i].table.mount(flash, buf) {
                 let name = self.entries[i].name;
-                return Err(BadMount { name, fault });
+                return Err(BadMount { at: i, name, fault });
             }
         }
         Ok(())

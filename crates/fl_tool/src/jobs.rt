@@ -3,8 +3,9 @@ ghost use Rattle.std.specs.Prelude.{◌≡◌, ◌≤◌, length, OnOk, OnErr};
 ghost use Rattle.fl_jobs.specs.declared.status.ToolStatus.{ToolStatus};
 
 use fl_base::SinkFailed;
-use fl_edge::{FileMedia, ReplyBuffer, StandardOutput};
+use fl_edge::{FileMedia, ReplyBuffer, StandardInput, StandardOutput};
 use fl_export::export_image;
+use fl_import::import_image;
 use fl_jobs::{RingChecker, ToolJob, ToolStatus, check_image};
 use std::alloc::Global;
 use std::cell::RefCell;
@@ -19,12 +20,12 @@ where
 {
     match job {
         ToolJob::Check => FileMedia::open_read_only(rt, name),
-        ToolJob::Export { .. } => FileMedia::open_existing(rt, name),
+        ToolJob::Export { .. } | ToolJob::Import { .. } => FileMedia::open_existing(rt, name),
     }
 }
 
 /// Does the job over the image that is the second word.
-pub(crate) fn do_job<R: Alloc<A = Global> + Files + Print>(
+pub(crate) fn do_job<R: Alloc<A = Global> + Files + Input + Print>(
     rt: &R,
     job: ToolJob,
     words: &[String],
@@ -44,6 +45,10 @@ where
         ToolJob::Check => check_image(rt.alloc(), &mut RingChecker, &mut media, &mut out),
         ToolJob::Export { name, range } => {
             export_image(rt.alloc(), name, range, &mut media, &mut out)
+        }
+        ToolJob::Import { name } => {
+            let mut input = StandardInput::new(rt.reader(), &lines);
+            import_image(rt.alloc(), name, &mut media, &mut input, &mut out)
         }
     };
     status_behind(status, out.hand_out())

@@ -1,6 +1,7 @@
 //! `flashts run IMAGE` runs the script on standard input over the image, and writes its replies on standard output.
-//! `flashts check IMAGE` tells there whether each table of the image is sound, and `flashts export IMAGE NAME LOW HIGH` writes
-//! the records of a table there whose keys are in the range.
+//! `flashts check IMAGE` tells there whether each table of the image is sound, `flashts export IMAGE NAME LOW HIGH` writes the
+//! records of a table there whose keys are in the range, and `flashts import IMAGE NAME` puts those that standard input has
+//! into a table.
 #![tactic(auto)]
 
 ghost use Rattle.std.specs.Prelude.{◌≡◌, OnOk, OnErr};

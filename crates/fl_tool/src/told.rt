@@ -23,12 +23,15 @@ pub(crate) fn tell<R: Eprint>(rt: &R, status: Status) {
 pub(crate) fn tell_job<R: Eprint>(rt: &R, status: ToolStatus) {
     let _ = match status {
         ToolStatus::Done => Ok(()),
+        ToolStatus::InputRead => eprintln!(rt; "flashts: the script cannot be read"),
         ToolStatus::OutWrite => eprintln!(rt; "flashts: the replies cannot be written"),
+        ToolStatus::InputLong => eprintln!(rt; "flashts: the script is longer than 16777216 bytes"),
         ToolStatus::NoMemory => eprintln!(rt; "flashts: no memory"),
         ToolStatus::NotImage
         | ToolStatus::Device
         | ToolStatus::BadImage { .. }
         | ToolStatus::NoTable
+        | ToolStatus::BadInput { .. }
         | ToolStatus::Unsound => {
             let number = status.number();
             eprintln!(rt; "flashts: status {number}")

@@ -1,4 +1,4 @@
-use Rattle.std.proofs.Common.{◌≡◌, ◌+◌, rules, ◌≤◌, length, refl, sym, ◌∙◌, ap, subst, arith}
+use Rattle.std.proofs.Common.{◌+◌, rules, ◌≤◌, length, sym, ◌∙◌, ap, arith}
 use Rattle.fl_base.specs.declared.types.BlobRef.{BlobRef}
 use Rattle.fl_page.proofs.Reading.{OnlyReads-then}
 use Rattle.fl_table.proofs.HeldBlobs.{standing-bytes}

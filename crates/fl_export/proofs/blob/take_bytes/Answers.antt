@@ -1,4 +1,4 @@
-use Rattle.std.proofs.Common.{◌≡◌, Bool, Err, List, ℕ, refl, ◌∙◌, ap, subst, ◌++◌}
+use Rattle.std.proofs.Common.{◌≡◌, Bool, List, ℕ, refl, ◌∙◌, ap, ◌++◌}
 use Rattle.std.proofs.lemmas.Result.{err_from_is_err_and}
 use Rattle.fl_page.proofs.Reading.{OnlyReads-same, OnlyReads-then, IsCaused-later}
 use Rattle.fl_var.specs.Reading.{chunk_of}

@@ -1,7 +1,8 @@
 use Rattle.std.proofs.Common.{◌≡◌, rules, refl, ◌∙◌, arith}
 use Rattle.fl_jobs.proofs.Ending.{reach}
-use Rattle.fl_export.proofs.Ending.{goes-keeps, flash-ends, no-room, looks-keeps}
+use Rattle.fl_export.proofs.Ending.{goes-keeps, flash-ends, flash-repairs, no-room, looks-keeps}
 use Rattle.fl_export.proofs.Images.{lie-medium}
+use Rattle.fl_export.proofs.Repairing.{still-repaired}
 use Rattle.fl_export.proofs.Statuses.{looks-same}
 use Rattle.fl_export.proofs.export.export_at.Goals as goal
 
@@ -42,3 +43,15 @@ returns-clause-ends g c = λ configured ts name tells makes image named.
     let e : g.M.Media.state c.media-1.given.0 ≡ g.M.Media.state c.into_media-media.result.now = search rules in
     flash-ends configured c.args.config.now ts name c.args.range _ _ _ _ c.geometry-geometry.result c.blocks-blocks.result _ (g.K.Sink.written c.args.out.now) (g.K.Sink.written c.export_on-status.new.out) c.args.tables.now.entries.items c.export_on-status.new.tables.entries.items c.args.at c.export_on-status.result
     c.with_room-flash.ensures (e ∙ c.into_media-media.ensures.state) c.export_on-status.ensures.goes c.geometry-geometry.ensures.device tells makes image c.requires.tables named c.export_on-status.ensures.ends
+
+pub returns-in_default-clause-repairs : goal.returns-in_default-clause-repairs
+returns-in_default-clause-repairs g c = λ configured ts name tells makes image named well. still-repaired configured _ _ refl
+
+pub returns-in_default-new-clause-repairs : goal.returns-in_default-new-clause-repairs
+returns-in_default-new-clause-repairs g c = λ configured ts name tells makes image named well. still-repaired configured _ _ refl
+
+pub returns-clause-repairs : goal.returns-clause-repairs
+returns-clause-repairs g c = λ configured ts name tells makes image named well.
+    let e : g.M.Media.state c.media-1.given.0 ≡ g.M.Media.state c.into_media-media.result.now = search rules in
+    flash-repairs configured c.args.config.now ts name _ _ _ _ c.geometry-geometry.result c.blocks-blocks.result _ c.args.tables.now.entries.items c.args.at c.export_on-status.result
+    c.with_room-flash.ensures (e ∙ c.into_media-media.ensures.state) c.export_on-status.ensures.goes c.geometry-geometry.ensures.device tells makes image c.requires.tables named well c.export_on-status.ensures.repairs

@@ -1,8 +1,9 @@
-use Rattle.std.proofs.Common.{Err, IsTrue, List, ℕ, sym, ap, subst}
+use Rattle.std.proofs.Common.{◌<◌, Err, refl, inl, arith, length, IsTrue, List, ℕ, sym, ap, subst}
 use Rattle.fl_jobs.specs.declared.status.ToolStatus.{ToolStatus}
 use Rattle.fl_words.specs.Medium.{IsImage}
 use Rattle.fl_export.proofs.Ending.{over-ends, looks-keeps, keeps-then, same-lines}
-use Rattle.fl_export.proofs.Statuses.{looks-same, fits-table, fits-early, image-without, image-with, not-early, memory-ends, early-ends, nameless-ends}
+use Rattle.fl_export.proofs.Repairing.{still-repaired, repaired-after}
+use Rattle.fl_export.proofs.Statuses.{looks-same, fits-table, fits-early, image-without, image-with, not-early, not-unsound, memory-ends, early-ends, nameless-ends}
 use Rattle.fl_export.proofs.export.export_image.Goals as goal
 
 pub returns-in_default-clause-ends : goal.returns-in_default-clause-ends
@@ -56,9 +57,41 @@ returns-clause-fits g c = λ tells.
     let found = c.in-Ok-config_of_image.ensures.image tells in
     fits-table (g.M.Media.state c.args.media.now).content c.args.name c.export_at.result c.export_at.ensures.statuses
     (image-with (g.M.Media.state c.args.media.now).content c.args.name c.in-Ok-config_of_image.config c.in-Ok-plan.tables.entries.items found.0 found.1 c.in-Ok-plan.ensures c.in-Some.at c.in-Some.ensures)
+    (λ table is. let lt : table < length c.in-Ok-config_of_image.config.plans = omega (arith, c.export_at.ensures.bad table is, c.in-Ok-plan.ensures.as_many) in lt)
+
+pub returns-clause-changes : goal.returns-clause-changes
+returns-clause-changes g c = λ tells.
+    let found = c.in-Ok-config_of_image.ensures.image tells in
+    inl (image-with (g.M.Media.state c.args.media.now).content c.args.name c.in-Ok-config_of_image.config c.in-Ok-plan.tables.entries.items found.0 found.1 c.in-Ok-plan.ensures c.in-Some.at c.in-Some.ensures)
+
+pub returns-clause-device : goal.returns-clause-device
+returns-clause-device g c = λ is. omega (arith, c.export_at.ensures.device is, c.in-Ok-config_of_image.ensures.looks.later)
+
+pub returns-clause-known : goal.returns-clause-known
+returns-clause-known g c = λ is. not-unsound c.export_at.result c.export_at.ensures.statuses is
 
 pub returns-clause-untouched : goal.returns-clause-untouched
 returns-clause-untouched g c = λ early. not-early c.export_at.result c.export_at.ensures.statuses early
 
 pub returns-clause-keeps : goal.returns-clause-keeps
 returns-clause-keeps g c = keeps-then _ _ _ c.in-Ok-config_of_image.ensures.looks c.export_at.ensures.keeps
+
+pub returns-in_default-clause-repairs : goal.returns-in_default-clause-repairs
+returns-in_default-clause-repairs g c = λ config tables tells made image well. still-repaired config _ _ refl
+
+pub returns-in-Err-clause-repairs : goal.returns-in-Err-clause-repairs
+returns-in-Err-clause-repairs g c = λ config tables tells made image well. still-repaired config _ _ c.in-Err.ensures.looks.content
+
+pub returns-in_default-plan-clause-repairs : goal.returns-in_default-plan-clause-repairs
+returns-in_default-plan-clause-repairs g c = λ config tables tells made image well. still-repaired config _ _ c.in-Ok-config_of_image.ensures.looks.content
+
+pub returns-in_default-find-clause-repairs : goal.returns-in_default-find-clause-repairs
+returns-in_default-find-clause-repairs g c = λ config tables tells made image well. still-repaired config _ _ c.in-Ok-config_of_image.ensures.looks.content
+
+pub returns-clause-repairs : goal.returns-clause-repairs
+returns-clause-repairs g c = λ config tables tells made image well.
+    let looks = c.in-Ok-config_of_image.ensures.looks in
+    let found = c.in-Ok-config_of_image.ensures.image tells in
+    let makes = same-lines config made (g.M.Media.state c.args.media.now).content tables c.in-Ok-config_of_image.config image found.0 found.1 in
+    repaired-after config _ _ _ looks.content
+    (c.export_at.ensures.repairs config tables c.args.name (subst IsTrue (sym looks.tells) tells) makes (subst (λ (l : List ℕ). IsImage config l tables) (sym looks.content) image) c.in-Some.ensures well)

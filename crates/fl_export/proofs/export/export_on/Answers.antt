@@ -1,20 +1,50 @@
-use Rattle.std.proofs.Common.{◌≡◌, ◌+◌, ◌≤◌, IsTrue, Some, length, refl, sym, ◌∙◌, subst, arith}
+use Rattle.std.proofs.Common.{◌≡◌, IsTrue, false, Some, length, refl, sym, ◌∙◌, subst, arith}
 use Rattle.std.specs.List.{slice_get}
+use Rattle.std.proofs.lemmas.Option.{slice_get_within}
 use Rattle.fl_jobs.specs.declared.status.ToolStatus.{ToolStatus}
 use Rattle.fl_tables.specs.Tables.{first_of}
 use Rattle.fl_tables.proofs.TablesChanged.{item-there}
 use Rattle.fl_export.specs.Ends.{at_rest}
-use Rattle.fl_export.specs.Tables.{EndsOn}
-use Rattle.fl_export.proofs.Exporting.{unmounted, own, done, failed}
+use Rattle.fl_export.specs.Tables.{EndsOn, IsOfTable}
+use Rattle.fl_export.proofs.Exporting.{unmounted, broken-device, own, done, failed}
+use Rattle.fl_export.proofs.Locating.{stands-there}
+use Rattle.fl_export.proofs.Repairing.{repaired-read}
+use Rattle.fl_export.proofs.Statuses.{of-mount, mount-unwritten, mount-rose, mount-place, fault-rose, fault-place}
 use Rattle.fl_export.proofs.Risen.{has_risen, watched}
 use Rattle.fl_export.proofs.export.export_on.Goals as goal
+
+pub mount_status-requires : goal.mount_status-requires
+mount_status-requires g c = omega (arith, slice_get_within c.mount.new.self.entries.items c.in-Err.bad.at c.in-Err.ensures.stops.entry c.in-Err.ensures.stops.here, c.mount.ensures.as_many, c.requires.few)
+
+pub returns-in-Err-clause-statuses : goal.returns-in-Err-clause-statuses
+returns-in-Err-clause-statuses g c = subst IsOfTable (sym c.mount_status.ensures) (of-mount c.in-Err.bad.fault c.in-Err.bad.at)
+
+pub returns-in-Err-clause-write : goal.returns-in-Err-clause-write
+returns-in-Err-clause-write g c = λ is. mount-unwritten c.in-Err.bad.fault c.in-Err.bad.at (sym c.mount_status.ensures ∙ is)
+
+pub returns-in-Err-clause-device : goal.returns-in-Err-clause-device
+returns-in-Err-clause-device g c = λ is. mount-rose (g.F.Flash.state c.args.flash.now) (g.F.Flash.state c.mount.new.flash) c.in-Err.bad.fault c.in-Err.bad.at (sym c.mount_status.ensures ∙ is) c.in-Err.ensures.cause
+
+pub returns-in-Err-clause-bad : goal.returns-in-Err-clause-bad
+returns-in-Err-clause-bad g c = λ table is.
+    omega (arith, mount-place c.in-Err.bad.fault c.in-Err.bad.at table (sym c.mount_status.ensures ∙ is), slice_get_within c.mount.new.self.entries.items c.in-Err.bad.at c.in-Err.ensures.stops.entry c.in-Err.ensures.stops.here, c.mount.ensures.as_many)
 
 pub returns-in-Err-clause-ends : goal.returns-in-Err-clause-ends
 returns-in-Err-clause-ends g c = λ plans ts name tells on calm stand named.
     let f = g.F.Flash.state c.args.flash.now in
     let m = g.F.Flash.state c.mount.new.flash in
     let breaks = c.in-Err.ensures.ends plans ts (has_risen f m) at_rest (watched f m at_rest tells on calm) stand in
-    unmounted plans ts name c.args.range f m (g.K.Sink.written c.args.out.now) c.mount.new.self.entries.items c.in-Err.bad c.mount_status.result breaks c.mount_status.ensures.flash
+    subst (λ (s : ToolStatus). EndsOn plans ts name c.args.range f m (g.K.Sink.written c.args.out.now) (g.K.Sink.written c.args.out.now) c.mount.new.self.entries.items s) (sym c.mount_status.ensures)
+    (unmounted plans ts name c.args.range f m (g.K.Sink.written c.args.out.now) c.mount.new.self.entries.items
+    (stands-there f (λ i. false) plans c.args.tables.now.entries.items ts name c.args.at stand named) c.in-Err.bad.fault c.in-Err.bad.at breaks)
+
+pub returns-in-Err-write_table-clause-device : goal.returns-in-Err-write_table-clause-device
+returns-in-Err-write_table-clause-device g c = λ is.
+    let rose = fault-rose (g.F.Flash.state c.mount.new.flash) (g.F.Flash.state c.write_table.new.flash) c.in-Err-write_table.fault c.args.at (sym c.status_of.ensures ∙ is) c.in-Err-write_table.ensures.unread in
+    omega (arith, c.mount.ensures.goes.faults, rose)
+
+pub returns-in-Err-write_table-clause-bad : goal.returns-in-Err-write_table-clause-bad
+returns-in-Err-write_table-clause-bad g c = λ table is. omega (arith, fault-place c.in-Err-write_table.fault c.args.at table (sym c.status_of.ensures ∙ is), c.requires.at)
 
 pub write_table-requires-clause-running : goal.write_table-requires-clause-running
 write_table-requires-clause-running g c =
@@ -56,3 +86,21 @@ returns-in-Err-write_table-clause-ends g c = λ plans ts name tells on calm stan
     let end = failed plans ts name c.args.range f m h (g.K.Sink.written c.args.out.now) (g.K.Sink.written c.write_table.new.out) c.args.tables.now.entries.items now c.args.at c.index.result.now c.mount.ensures.goes.faults c.write_table.ensures.counts stand named here mounted
     c.in-Err-write_table.fault c.args.at (c.in-Err-write_table.ensures.writes (first_of plans c.args.at) at.plan at.table told at.stands.on_flash) c.in-Err-write_table.ensures.unread in
     subst (λ (s : ToolStatus). EndsOn plans ts name c.args.range (g.F.Flash.state c.args.flash.now) (g.F.Flash.state c.write_table.new.flash) (g.K.Sink.written c.args.out.now) (g.K.Sink.written c.write_table.new.out) c.mount.new.self.entries.items s) (sym c.status_of.ensures) end
+
+pub returns-in-Err-clause-repairs : goal.returns-in-Err-clause-repairs
+returns-in-Err-clause-repairs g c = λ plans ts name tells on calm stand named well.
+    let f = g.F.Flash.state c.args.flash.now in
+    let m = g.F.Flash.state c.mount.new.flash in
+    let breaks = c.in-Err.ensures.ends plans ts (has_risen f m) at_rest (watched f m at_rest tells on calm) stand in
+    absurd (well (c.mount_status.ensures ∙ broken-device plans ts name c.args.range f m (g.K.Sink.written c.args.out.now) c.mount.new.self.entries.items
+    (stands-there f (λ i. false) plans c.args.tables.now.entries.items ts name c.args.at stand named) c.in-Err.bad.fault c.in-Err.bad.at breaks))
+
+pub returns-in-Ok-clause-repairs : goal.returns-in-Ok-clause-repairs
+returns-in-Ok-clause-repairs g c = λ plans ts name tells on calm stand named well page lt.
+    repaired-read (g.F.Flash.state c.args.flash.now).geometry.page page (g.F.Flash.state c.args.flash.now) (g.F.Flash.state c.mount.new.flash) (g.F.Flash.state c.write_table.new.flash) c.write_table.ensures.counts
+    (c.in_default.ensures.repaired tells plans ts stand page lt)
+
+pub returns-in-Err-write_table-clause-repairs : goal.returns-in-Err-write_table-clause-repairs
+returns-in-Err-write_table-clause-repairs g c = λ plans ts name tells on calm stand named well page lt.
+    repaired-read (g.F.Flash.state c.args.flash.now).geometry.page page (g.F.Flash.state c.args.flash.now) (g.F.Flash.state c.mount.new.flash) (g.F.Flash.state c.write_table.new.flash) c.write_table.ensures.counts
+    (c.in_default.ensures.repaired tells plans ts stand page lt)

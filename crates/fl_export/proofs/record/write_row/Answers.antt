@@ -1,7 +1,7 @@
 use Rattle.std.proofs.Common.{◌≡◌, List, ℕ, ◌∙◌, ap, subst}
 use Rattle.std.proofs.lemmas.Result.{err_from_is_err_and}
 use Rattle.fl_base.specs.Causes.{Appends, AppendsFront}
-use Rattle.fl_csv.specs.Text.{Blob, entry_text}
+use Rattle.fl_csv.specs.Text.{entry_text}
 use Rattle.fl_csv.specs.Views.{blob_view}
 use Rattle.fl_model.specs.Query.{blob_of}
 use Rattle.fl_model.specs.Row.{Row}

@@ -1,5 +1,5 @@
 use Rattle.std.proofs.Common.{◌≡◌, ℕ, ◌≤◌, IsTrue, List, length, map}
-use Rattle.fl_cursor.specs.Cursor.{table_of, mark_of, left_of, IsReady, IsTold}
+use Rattle.fl_cursor.specs.Cursor.{mark_of, left_of, IsReady, IsTold}
 use Rattle.fl_cursor.specs.Going.{Keeps}
 use Rattle.fl_model.specs.Record.{Plan}
 use Rattle.fl_model.specs.Row.{stored_row}

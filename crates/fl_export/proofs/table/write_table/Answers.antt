@@ -1,8 +1,7 @@
-use Rattle.std.proofs.Common.{◌≡◌, Bool, None, ℕ, List, ◌++◌, length, map, ◌∙◌, ap, subst}
+use Rattle.std.proofs.Common.{◌≡◌, None, ℕ, List, length, ◌∙◌, ap, subst}
 use Rattle.std.proofs.lemmas.Result.{err_from_is_err_and}
-use Rattle.std.specs.List.{flat_map}
 use Rattle.fl_base.specs.Causes.{Appends, AppendsFront}
-use Rattle.fl_csv.specs.Text.{header_text, entry_text}
+use Rattle.fl_csv.specs.Text.{header_text}
 use Rattle.fl_model.specs.Query.{matches, selected}
 use Rattle.fl_model.specs.Record.{has_var}
 use Rattle.fl_model.specs.Table.{Entry}

@@ -10,6 +10,7 @@ use Rattle.fl_tables.proofs.Lying.{lie-with, running-more}
 use Rattle.fl_tables.proofs.MountedSoFar.{mounted-none, mounted-more, mounted-err, mounted-all, own, was, stood}
 use Rattle.fl_tables.proofs.TableRepairs.{repaired-none, repaired-more}
 use Rattle.fl_tables.proofs.TablesReads.{reads-more, reads-most}
+use Rattle.fl_tables.proofs.Stopping.{name-after, stops-at, fails-for}
 use Rattle.fl_tables.proofs.TablesChanged.{item-there, set-elsewhere}
 use Rattle.fl_tables.proofs.tables.Tables.mount.Goals as goal
 
@@ -56,6 +57,18 @@ returns-in-Err-clause-ends g c = λ plans tables rose device watched stand.
     let stands = stood plans tables rose device c.loop-i.i c.loop-i.self.entries.items c.index_mut.result.now c.mount.new.self m n so_far here p.goes p.same (p.outside told) in
     mounted-err plans tables rose device c.loop-i.i c.loop-i.self.entries.items c.index_mut.result.now c.mount.new.self m n so_far here p.goes p.same (p.outside told) c.in-Err.fault
     (c.in-Err.ensures.ends (first_of plans c.loop-i.i) at.plan before rose so_far.now sees stands.planned stands.on_flash)
+
+pub returns-in-Err-clause-stops : goal.returns-in-Err-clause-stops
+returns-in-Err-clause-stops g c =
+    let here : slice_get c.loop-i.self.entries.items c.loop-i.i ≡ Some c.index_mut.result.now =
+    item-there c.loop-i.self.entries.items (length c.loop-i.self.entries.items) c.loop-i.i c.index_mut.result.now refl (omega (arith, c.loop-i-test.true, c.len-i-end.ensures, c.args.self.now.entries.ok.0, c.loop-i.invariant.as_many)) c.index_mut.ensures.value in
+    stops-at c.args.self.now.entries.items c.loop-i.self.entries.items c.index_mut.result.now c.mount.new.self (record { at = c.loop-i.i; name = c.index.result.now.name; fault = c.in-Err.fault }) here
+    (name-after c.loop-i.self.entries.items c.loop-i.i c.index_mut.result.now c.mount.new.self c.index.result.now here c.index.ensures) c.in-Err.ensures.mounted
+    c.loop-i.invariant.running c.loop-i.invariant.ahead
+
+pub returns-in-Err-clause-cause : goal.returns-in-Err-clause-cause
+returns-in-Err-clause-cause g c =
+    fails-for (g.F.Flash.state c.args.flash.now) (g.F.Flash.state c.loop-i.flash) (g.F.Flash.state c.mount.new.flash) c.in-Err.fault c.loop-i.invariant.goes.faults c.in-Err.ensures.cause
 
 pub loop-i-preserved : goal.loop-i-preserved
 loop-i-preserved g c =

@@ -1,0 +1,318 @@
+-- The lines of an import, one after another.
+use Rattle.std.proofs.Common.{◌≡◌, ℕ, ◌+◌, ◌≤◌, Bool, true, false, Option, Result, Ok, Err, List, [], ◌∷◌, ◌++◌, length, refl, sym, ◌∙◌, ap, subst, append-nil, length-append, arith, if◌then◌else◌}
+use Rattle.fl_base.specs.Causes.{Appends, AppendsFront}
+use Rattle.fl_csv.specs.declared.record.CsvRefusal.{CsvRefusal}
+use Rattle.fl_flash.specs.Flash.{FlashState}
+use Rattle.fl_jobs.specs.declared.status.ToolStatus.{ToolStatus}
+use Rattle.fl_jobs.specs.declared.status.ToolStatus.TheVariants.{Done, InputRead, OutWrite, InputLong, NoMemory, NotImage, Device, BadImage, NoTable, BadInput, Unsound}
+use Rattle.fl_lines.specs.Stream.{LinesState, Advances}
+use Rattle.fl_model.specs.Record.{Record, Plan, has_var}
+use Rattle.fl_model.specs.Table as model
+use Rattle.fl_script.proofs.Sending.{appends-append}
+use Rattle.fl_tables.proofs.Going.{rose-back}
+use Rattle.fl_table.specs.declared.table.Table.{Table}
+use Rattle.fl_import.specs.Ends.{Reports, puts_of, table_after, told_of_lines}
+use Rattle.fl_import.specs.Lines.{meaning, Takes}
+use Rattle.fl_import.specs.Puts.{is_put, after_put, after_puts, put_count}
+use Rattle.fl_import.specs.Report.{told_line, told_lines}
+use Rattle.fl_import.specs.Reading.{Stops, TakesUntil}
+use Rattle.fl_import.specs.Steps.{AllEnds, LineEnds, LinesEnd, LinesDone, IsFormOf, IsOfLine, Works}
+use Rattle.fl_import.specs.Taking.{Ended, IsOfReading, NextOf, NextLine, TakesSoFar, TakesThese}
+use Rattle.fl_import.specs.declared.form.Form.{Form}
+use Rattle.fl_export.proofs.Lines.{appends-none}
+use Rattle.fl_import.proofs.Putting.{after-more, told-more, count-more, means-behind, means-length}
+use Rattle.fl_import.proofs.Taken.{Shows, taken-next, shows-next, stops-done, stops-next}
+
+as-plan : (P : ℕ → Bool → Type 0) (form : Form) (plan : Plan) → IsFormOf form plan → P form.columns form.blobs → P (length plan.columns) (has_var plan)
+as-plan P form plan is h = subst (λ b. P (length plan.columns) b) is.blobs (subst (λ n. P n form.blobs) is.columns h)
+
+-- the lines that were taken were put and told
+pub record PutSoFar (first : ℕ) (plan : Plan) (table : model.Table) (taken : List (List ℕ)) (u : Table 64 64) (g : FlashState) (told told_now : Option (List ℕ)) (accepted : ℕ) : Type 0 where
+  pub works : Works u g first plan (table_after plan table taken)
+  pub reports : Appends told told_now (told_of_lines plan table taken)
+  pub count : accepted ≡ put_count plan table (puts_of plan taken)
+
+pub record SoFar (form : Form) (text : List ℕ) (t : Table 64 64) (f : FlashState) (u : Table 64 64) (g : FlashState) (told told_now : Option (List ℕ)) (state : LinesState) (left : Option (List ℕ)) (accepted refused : ℕ) : Type 0 where
+  pub taken : List (List ℕ)
+  pub some : 1 ≤ length taken
+  pub number : length taken ≡ accepted + refused + 1
+  pub takes : TakesSoFar form.columns form.blobs text taken state left
+  pub puts : (first : ℕ) (plan : Plan) (table : model.Table) → IsFormOf form plan → Works t f first plan table → PutSoFar first plan table taken u g told told_now accepted
+
+pub so_far-first : (form : Form) (text names : List ℕ) (t : Table 64 64) (f : FlashState) (told : Option (List ℕ)) (state : LinesState) (left : Option (List ℕ)) → TakesSoFar form.columns form.blobs text (names ∷ []) state left →
+    SoFar form text t f t f told told state left 0 0
+so_far-first form text names t f told state left takes = record {
+  taken = names ∷ [];
+  some = omega arith;
+  number = omega arith;
+  takes = takes;
+  puts = λ first plan table is works. record { works = works; reports = appends-none told; count = refl };
+}
+
+-- ---- one more line
+
+module _ (first : ℕ) (plan : Plan) (table : model.Table) (taken : List (List ℕ)) (form : Form) (is : IsFormOf form plan) (u v : Table 64 64) (g h : FlashState) (told told_mid told_now : Option (List ℕ)) (accepted number : ℕ) (line : List ℕ)
+    (some : 1 ≤ length taken) (number_is : number ≡ length taken + 1) (puts : PutSoFar first plan table taken u g told told_mid accepted) where
+  abbrev put : Result Record CsvRefusal
+  put = meaning (length plan.columns) (has_var plan) line
+
+  meant : meaning form.columns form.blobs line ≡ put
+  meant = ap (λ n. meaning n form.blobs line) is.columns ∙ ap (λ b. meaning (length plan.columns) b line) is.blobs
+
+  more : puts_of plan (taken ++ line ∷ []) ≡ puts_of plan taken ++ put ∷ []
+  more = means-behind (length plan.columns) (has_var plan) taken line some
+
+  table-more : table_after plan table (taken ++ line ∷ []) ≡ after_put plan (table_after plan table taken) put
+  table-more = ap (after_puts plan table) more ∙ after-more plan put table (puts_of plan taken)
+
+  told-so : told_of_lines plan table (taken ++ line ∷ []) ≡ told_of_lines plan table taken ++ told_line plan number (table_after plan table taken) put
+  told-so =
+      let n : 2 + length (puts_of plan taken) ≡ number = omega (arith, number_is, means-length (length plan.columns) (has_var plan) taken some) in
+      ap (told_lines plan 2 table) more ∙ (told-more plan put 2 table (puts_of plan taken) ∙ ap (λ k. told_of_lines plan table taken ++ told_line plan k (table_after plan table taken) put) n)
+
+  abbrev pub LineSo : Result Bool ToolStatus → Type 0
+  LineSo result = LineEnds first plan (table_after plan table taken) number put v g h told_mid told_now result
+
+  pub line-so : (result : Result Bool ToolStatus) → LineEnds first plan (table_after plan table taken) number (meaning form.columns form.blobs line) v g h told_mid told_now result → LineSo result
+  line-so result ends = subst (λ p. LineEnds first plan (table_after plan table taken) number p v g h told_mid told_now result) meant ends
+
+  pub put-more : (one : Bool) (now : ℕ) → now ≡ accepted + (if one then 1 else 0) → LineSo (Ok one) → PutSoFar first plan table (taken ++ line ∷ []) v h told told_now now
+  put-more one now count ends = record {
+    works = subst (λ x. Works v h first plan x) (sym table-more) ends.1;
+    reports = subst (λ l. Appends told told_now l) (sym told-so) (appends-append told told_mid told_now (told_of_lines plan table taken) (told_line plan number (table_after plan table taken) put) puts.reports ends.2);
+    count = count
+        ∙ (ap (λ b. accepted + (if b then 1 else 0)) ends.0
+        ∙ (ap (λ n. n + (if is_put plan (table_after plan table taken) put then 1 else 0)) puts.count
+        ∙ (sym (count-more plan put table (puts_of plan taken)) ∙ ap (put_count plan table) (sym more))));
+  }
+
+  -- it isn't passed
+  pub line-stops : (f : FlashState) → f.media.faults ≤ g.media.faults → (text : List ℕ) (rest : Option (List ℕ)) (others : List (List ℕ)) → Takes (length plan.columns) (has_var plan) text taken (line ∷ others) → (status : ToolStatus) → LineSo (Err status) →
+      AllEnds first plan table text v f h told told_now rest (Err status)
+  line-stops f later text rest others takes OutWrite ends = record {
+    puts = record {
+      taken = taken;
+      left = line ∷ others;
+      takes = takes;
+      stops = (some, omega arith);
+      reports =
+          let n : number ≡ length taken + 1 = number_is in
+          let front = subst (λ k. AppendsFront told_mid told_now (told_line plan k (table_after plan table taken) put)) n ends.1 in
+          (front.0, front.1, appends-append told told_mid told_now (told_of_lines plan table taken) front.0 puts.reports front.2);
+    };
+    works = ends.0;
+  }
+  line-stops f later text rest others takes NoMemory ends = record {
+    puts = record {
+      taken = taken;
+      left = line ∷ others;
+      takes = takes;
+      stops = (some, omega arith);
+      reports = subst (λ l. Appends told told_now l) (append-nil (told_of_lines plan table taken)) (appends-append told told_mid told_now (told_of_lines plan table taken) [] puts.reports ends.1);
+    };
+    works = ends.0;
+  }
+  line-stops f later text rest others takes Device ends = record {
+    rose = rose-back f.media.faults g.media.faults h.media.faults later ends.0;
+    after = ends.2.3.0;
+    fails = record {
+      taken = taken;
+      line = line;
+      left = others;
+      takes = takes;
+      some = some;
+      item = ends.2.0;
+      means = ends.2.1;
+      accepted = ends.2.2;
+      fails = ends.2.3.1;
+      reports = subst (λ l. Appends told told_now l) (append-nil (told_of_lines plan table taken)) (appends-append told told_mid told_now (told_of_lines plan table taken) [] puts.reports ends.1);
+    };
+    rests = ends.2.3.2;
+  }
+  line-stops f later text rest others takes Done ends = absurd ends
+  line-stops f later text rest others takes InputRead ends = absurd ends
+  line-stops f later text rest others takes InputLong ends = absurd ends
+  line-stops f later text rest others takes (BadInput n) ends = absurd ends
+  line-stops f later text rest others takes NotImage ends = absurd ends
+  line-stops f later text rest others takes (BadImage n) ends = absurd ends
+  line-stops f later text rest others takes NoTable ends = absurd ends
+  line-stops f later text rest others takes Unsound ends = absurd ends
+
+-- ---- the lines after some
+
+module _ (form : Form) (text : List ℕ) (t : Table 64 64) (f : FlashState) (u : Table 64 64) (g : FlashState) (told told_mid : Option (List ℕ)) (old new : LinesState) (left left_now : Option (List ℕ)) (faults faults_now accepted refused : ℕ)
+    (far : SoFar form text t f u g told told_mid old left accepted refused) where
+  number-is : accepted + refused + 2 ≡ length far.taken + 1
+  number-is = omega (arith, far.number)
+
+  not-none : {P : Type 0} → far.taken ≡ [] → P
+  not-none e = absurd (omega (arith, far.some, ap length e))
+
+  -- a line was given, and put or refused
+  pub far-next : (v : Table 64 64) (h : FlashState) (told_now : Option (List ℕ)) (one : Bool) (accepted_now refused_now : ℕ) → NextLine old left faults (accepted + refused + 2) (Ok true) new left_now faults_now →
+      accepted_now ≡ accepted + (if one then 1 else 0) → accepted_now + refused_now ≡ accepted + refused + 1 →
+      ((first : ℕ) (plan : Plan) (table : model.Table) → IsFormOf form plan → Works u g first plan table →
+      LineEnds first plan table (accepted + refused + 2) (meaning form.columns form.blobs new.line) v g h told_mid told_now (Ok one)) → SoFar form text t f v h told told_now new left_now accepted_now refused_now
+  far-next v h told_now one accepted_now refused_now next count both ends = record {
+    taken = far.taken ++ new.line ∷ [];
+    some = omega (arith, length-append far.taken (new.line ∷ []));
+    number = omega (arith, length-append far.taken (new.line ∷ []), far.number, both);
+    takes = taken-next form.columns form.blobs text far.taken old new left left_now faults faults_now far.takes
+        (subst (λ r. Advances old left faults r new left_now faults_now) next.next.0 next.advances) (next.next.1 refl) (λ e. not-none e);
+    puts = λ first plan table is works.
+        let p = far.puts first plan table is works in
+        put-more first plan table far.taken form is u v g h told told_mid told_now accepted (accepted + refused + 2) new.line far.some number-is p one accepted_now count
+        (line-so first plan table far.taken form is u v g h told told_mid told_now accepted (accepted + refused + 2) new.line far.some number-is p (Ok one) (ends first plan (table_after plan table far.taken) is p.works));
+  }
+
+  -- .. or it isn't passed
+  pub far-stops : (v : Table 64 64) (h : FlashState) (told_now : Option (List ℕ)) (status : ToolStatus) → NextLine old left faults (accepted + refused + 2) (Ok true) new left_now faults_now →
+      ((first : ℕ) (plan : Plan) (table : model.Table) → IsFormOf form plan → Works u g first plan table →
+      LineEnds first plan table (accepted + refused + 2) (meaning form.columns form.blobs new.line) v g h told_mid told_now (Err status)) → f.media.faults ≤ g.media.faults →
+      (first : ℕ) (plan : Plan) (table : model.Table) → IsFormOf form plan → Works t f first plan table → AllEnds first plan table text v f h told told_now left_now (Err status)
+  far-stops v h told_now status next ends later first plan table is works =
+      let p = far.puts first plan table is works in
+      let advances = subst (λ r. Advances old left faults r new left_now faults_now) next.next.0 next.advances in
+      let shows = shows-next form.columns form.blobs text far.taken old new left left_now faults faults_now far.takes advances (next.next.1 refl) in
+      line-stops first plan table far.taken form is u v g h told told_mid told_now accepted (accepted + refused + 2) new.line far.some number-is p f later text left_now shows.others
+      (as-plan (λ n b. Takes n b text far.taken (new.line ∷ shows.others)) form plan is shows.takes_not) status
+      (line-so first plan table far.taken form is u v g h told told_mid told_now accepted (accepted + refused + 2) new.line far.some number-is p (Err status) (ends first plan (table_after plan table far.taken) is p.works))
+
+  pub ended-stops : (status : ToolStatus) → NextLine old left faults (accepted + refused + 2) (Ok true) new left_now faults_now → IsOfLine status → Ended form.columns form.blobs text left_now status
+  ended-stops status next of = by-status status of
+    where
+      advances : Advances old left faults (Ok true) new left_now faults_now
+      advances = subst (λ r. Advances old left faults r new left_now faults_now) next.next.0 next.advances
+
+      shows : Shows form.columns form.blobs text far.taken old new left left_now faults faults_now far.takes new.line
+      shows = shows-next form.columns form.blobs text far.taken old new left left_now faults faults_now far.takes advances (next.next.1 refl)
+
+      by-status : (status : ToolStatus) → IsOfLine status → Ended form.columns form.blobs text left_now status
+      by-status OutWrite of = record { taken = far.taken; left = new.line ∷ shows.others; takes = shows.takes_not; stops = (far.some, omega arith) }
+      by-status NoMemory of = record { taken = far.taken; left = new.line ∷ shows.others; takes = shows.takes_not; stops = (far.some, omega arith) }
+      by-status Device of = tt
+      by-status Done of = absurd of
+      by-status InputRead of = absurd of
+      by-status InputLong of = absurd of
+      by-status (BadInput n) of = absurd of
+      by-status NotImage of = absurd of
+      by-status (BadImage n) of = absurd of
+      by-status NoTable of = absurd of
+      by-status Unsound of = absurd of
+
+  -- ---- no line was given
+
+  until : (status : ToolStatus) → TakesThese form.columns form.blobs text far.taken left_now status → TakesUntil form.columns form.blobs text left_now status
+  until status these = record { taken = far.taken; left = these.left; takes = these.takes; stops = these.stops }
+
+  puts-until : (status : ToolStatus) → TakesThese form.columns form.blobs text far.taken left_now status → (first : ℕ) (plan : Plan) (table : model.Table) → IsFormOf form plan → Works t f first plan table →
+      ((left : List (List ℕ)) → Reports plan table far.taken status left told told_mid ≡ Appends told told_mid (told_of_lines plan table far.taken)) → LinesEnd first plan table text u g told told_mid left_now status
+  puts-until status these first plan table is works same =
+      let p = far.puts first plan table is works in
+      record {
+        puts = record {
+          taken = far.taken;
+          left = these.left;
+          takes = as-plan (λ n b. Takes n b text far.taken these.left) form plan is these.takes;
+          stops = as-plan (λ n b. Stops n b text far.taken these.left left_now status) form plan is these.stops;
+          reports = subst (λ (P : Type 0). P) (sym (same these.left)) p.reports;
+        };
+        works = p.works;
+      }
+
+  pub ended-done : NextLine old left faults (accepted + refused + 2) (Ok false) new left_now faults_now → TakesUntil form.columns form.blobs text left_now Done
+  ended-done next = until Done (stops-done form.columns form.blobs text far.taken old new left left_now faults faults_now far.takes (subst (λ r. Advances old left faults r new left_now faults_now) next.next.0 next.advances) far.some)
+
+  pub far-done : NextLine old left faults (accepted + refused + 2) (Ok false) new left_now faults_now → (first : ℕ) (plan : Plan) (table : model.Table) → IsFormOf form plan → Works t f first plan table →
+      LinesDone first plan table text u g told told_mid left_now (record { accepted = accepted; refused = refused })
+  unfolding puts-until
+  far-done next first plan table is works =
+      let these = stops-done form.columns form.blobs text far.taken old new left left_now faults faults_now far.takes (subst (λ r. Advances old left faults r new left_now faults_now) next.next.0 next.advances) far.some in
+      record {
+        ends = puts-until Done these first plan table is works (λ _. refl);
+        accepted = (far.puts first plan table is works).count;
+        all = omega (arith, far.number, means-length (length plan.columns) (has_var plan) far.taken far.some);
+      }
+
+  these-next : (status : ToolStatus) → NextLine old left faults (accepted + refused + 2) (Err status) new left_now faults_now → TakesThese form.columns form.blobs text far.taken left_now status
+  these-next status next = stops-next form.columns form.blobs text far.taken old new left left_now faults faults_now far.takes (accepted + refused + 2) number-is next.given status next.advances next.next
+
+  pub ended-next : (status : ToolStatus) → NextLine old left faults (accepted + refused + 2) (Err status) new left_now faults_now → Ended form.columns form.blobs text left_now status
+  ended-next status next = by-status status next.next (until status (these-next status next))
+    where
+      by-status : (status : ToolStatus) → NextOf next.given new.line (accepted + refused + 2) (Err status) → TakesUntil form.columns form.blobs text left_now status → Ended form.columns form.blobs text left_now status
+      by-status InputRead of h = h
+      by-status InputLong of h = h
+      by-status (BadInput n) of h = h
+      by-status Done of h = absurd of
+      by-status OutWrite of h = absurd of
+      by-status NoMemory of h = absurd of
+      by-status Device of h = absurd of
+      by-status NotImage of h = absurd of
+      by-status (BadImage n) of h = absurd of
+      by-status NoTable of h = absurd of
+      by-status Unsound of h = absurd of
+
+  pub far-ended : (status : ToolStatus) → NextLine old left faults (accepted + refused + 2) (Err status) new left_now faults_now → (first : ℕ) (plan : Plan) (table : model.Table) → IsFormOf form plan → Works t f first plan table →
+      AllEnds first plan table text u f g told told_mid left_now (Err status)
+  far-ended status next first plan table is works = by-status status next.next (these-next status next)
+    where
+      by-status : (status : ToolStatus) → NextOf next.given new.line (accepted + refused + 2) (Err status) → TakesThese form.columns form.blobs text far.taken left_now status → AllEnds first plan table text u f g told told_mid left_now (Err status)
+      by-status InputRead of h = puts-until InputRead h first plan table is works (λ _. refl)
+      by-status InputLong of h = puts-until InputLong h first plan table is works (λ _. refl)
+      by-status (BadInput n) of h = puts-until (BadInput n) h first plan table is works (λ _. refl)
+      by-status Done of h = absurd of
+      by-status OutWrite of h = absurd of
+      by-status NoMemory of h = absurd of
+      by-status Device of h = absurd of
+      by-status NotImage of h = absurd of
+      by-status (BadImage n) of h = absurd of
+      by-status NoTable of h = absurd of
+      by-status Unsound of h = absurd of
+
+-- ---- the line of the names wasn't taken
+
+pub names-ended : (columns : ℕ) (blobs : Bool) (text : List ℕ) (rest : Option (List ℕ)) (status : ToolStatus) → IsOfReading status → TakesThese columns blobs text [] rest status → Ended columns blobs text rest status
+names-ended columns blobs text rest status of these = by-status status of (record { taken = []; left = these.left; takes = these.takes; stops = these.stops })
+  where
+    by-status : (status : ToolStatus) → IsOfReading status → TakesUntil columns blobs text rest status → Ended columns blobs text rest status
+    by-status InputRead of h = h
+    by-status InputLong of h = h
+    by-status (BadInput n) of h = h
+    by-status Done of h = absurd of
+    by-status OutWrite of h = absurd of
+    by-status NoMemory of h = absurd of
+    by-status Device of h = absurd of
+    by-status NotImage of h = absurd of
+    by-status (BadImage n) of h = absurd of
+    by-status NoTable of h = absurd of
+    by-status Unsound of h = absurd of
+
+pub names-ends : (form : Form) (text : List ℕ) (t : Table 64 64) (f : FlashState) (told rest : Option (List ℕ)) (first : ℕ) (plan : Plan) (table : model.Table) (status : ToolStatus) → IsOfReading status → TakesThese form.columns form.blobs text [] rest status → IsFormOf form plan → Works t f first plan table →
+    AllEnds first plan table text t f f told told rest (Err status)
+names-ends form text t f told rest first plan table status of these is works = by-status status of these
+  where
+    ends : (status : ToolStatus) → TakesThese form.columns form.blobs text [] rest status → ((left : List (List ℕ)) → Reports plan table [] status left told told ≡ Appends told told []) → LinesEnd first plan table text t f told told rest status
+    ends status these same = record {
+      puts = record {
+        taken = [];
+        left = these.left;
+        takes = as-plan (λ n b. Takes n b text [] these.left) form plan is these.takes;
+        stops = as-plan (λ n b. Stops n b text [] these.left rest status) form plan is these.stops;
+        reports = subst (λ (P : Type 0). P) (sym (same these.left)) (appends-none told);
+      };
+      works = works;
+    }
+
+    by-status : (status : ToolStatus) → IsOfReading status → TakesThese form.columns form.blobs text [] rest status → AllEnds first plan table text t f f told told rest (Err status)
+    by-status InputRead of these = ends InputRead these (λ _. refl)
+    by-status InputLong of these = ends InputLong these (λ _. refl)
+    by-status (BadInput n) of these = ends (BadInput n) these (λ _. refl)
+    by-status Done of these = absurd of
+    by-status OutWrite of these = absurd of
+    by-status NoMemory of these = absurd of
+    by-status Device of these = absurd of
+    by-status NotImage of these = absurd of
+    by-status (BadImage n) of these = absurd of
+    by-status NoTable of these = absurd of
+    by-status Unsound of these = absurd of

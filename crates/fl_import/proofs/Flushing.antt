@@ -1,0 +1,229 @@
+-- The flush behind the lines of an import.
+use Rattle.std.proofs.Common.{◌≡◌, ℕ, ◌-◌, ◌≤◌, inl, inr, Bool, true, false, IfOk, IfErr, Option, Result, Ok, Err, List, length, refl, sym, ◌∙◌, ap, subst, arith}
+use Rattle.fl_base.specs.Causes.{Rose, Appends, AppendsFront}
+use Rattle.fl_export.proofs.Risen.{has_risen}
+use Rattle.fl_flash.specs.Flash.{FlashState, Goes}
+use Rattle.fl_jobs.specs.declared.status.ToolStatus.{ToolStatus}
+use Rattle.fl_jobs.specs.declared.status.ToolStatus.TheVariants.{Done, InputRead, OutWrite, InputLong, NoMemory, NotImage, Device, BadImage, NoTable, BadInput, Unsound}
+use Rattle.fl_model.specs.Record.{Plan}
+use Rattle.fl_model.specs.Table as model
+use Rattle.fl_model.specs.Table.{table_seals, flushed, lose}
+use Rattle.fl_table.specs.Outcomes.{FlushEnds}
+use Rattle.fl_table.specs.Pages.{Rests}
+use Rattle.fl_table.specs.declared.table.Table.{Table}
+use Rattle.fl_table.specs.declared.faults.FlushFault.{FlushFault}
+use Rattle.fl_table.specs.declared.faults.FlushFault.TheVariants as flush
+use Rattle.fl_tables.proofs.Going.{rose-back}
+use Rattle.fl_tables.proofs.TablesChanged.{off-rests}
+use Rattle.fl_import.specs.Ends.{Leaves, Flushes, puts_of, table_after}
+use Rattle.fl_import.specs.Images.{told_of}
+use Rattle.fl_import.specs.Puts.{put_count}
+use Rattle.fl_import.specs.Reading.{TakesUntil}
+use Rattle.fl_import.specs.Report.{count_line, counts_of}
+use Rattle.fl_import.specs.Steps.{AllEnds, LinesEnd, LinesDone, IsOfLines, IsOfTable, TableEnds, TellsCounts, is_broken, status_of}
+use Rattle.fl_import.specs.Taking.{Ended, EndedAs}
+use Rattle.fl_import.specs.declared.counts.Counts.{Counts}
+use Rattle.fl_import.proofs.OneLine.{works-done, works-broken}
+
+-- a put that failed stops the import
+pub failed-ends : (first : ℕ) (plan : Plan) (table : model.Table) (text : List ℕ) (u : Table 64 64) (f g : FlashState) (told told_now rest : Option (List ℕ)) → AllEnds first plan table text u f g told told_now rest (Err Device) →
+    TableEnds first plan table text f g (told_of told told_now rest) Device
+failed-ends first plan table text u f g told told_now rest fails = record { after = fails.after; leaves = inl fails.fails; rests = fails.rests; rose = λ _. fails.rose }
+
+module _ (first : ℕ) (plan : Plan) (table : model.Table) (text : List ℕ) (u v : Table 64 64) (f g h : FlashState) (told told_mid told_now rest : Option (List ℕ)) where
+  -- the table goes on behind the lines
+  abbrev pub goes-on : (taken : Result Counts ToolStatus) → is_broken taken ≡ false → AllEnds first plan table text u f g told told_mid rest taken → LinesEnd first plan table text u g told told_mid rest (status_of taken)
+  goes-on (Ok counts) other ends = ends.ends
+  goes-on (Err Device) other ends = cc
+  goes-on (Err Done) other ends = ends
+  goes-on (Err InputRead) other ends = ends
+  goes-on (Err OutWrite) other ends = ends
+  goes-on (Err InputLong) other ends = ends
+  goes-on (Err NoMemory) other ends = ends
+  goes-on (Err NotImage) other ends = ends
+  goes-on (Err (BadImage n)) other ends = ends
+  goes-on (Err NoTable) other ends = ends
+  goes-on (Err (BadInput n)) other ends = ends
+  goes-on (Err Unsound) other ends = ends
+
+  module _ (taken : Result Counts ToolStatus) (other : is_broken taken ≡ false) (ends : AllEnds first plan table text u f g told told_mid rest taken) where
+    abbrev pub lines : LinesEnd first plan table text u g told told_mid rest (status_of taken)
+    lines = goes-on taken other ends
+
+    abbrev pub then_table : model.Table
+    then_table = table_after plan table lines.puts.taken
+
+    pub flush-broken : (fault : FlushFault) → f.media.faults ≤ g.media.faults → FlushEnds first plan then_table (has_risen g h) lines.works.device (Err fault) v g h → TableEnds first plan table text f h (told_of told told_mid rest) Device
+    flush-broken (flush.Flash fault) later flushes =
+        let b = works-broken first plan then_table u v g h lines.works (table_seals plan then_table) fault flushes in
+        record { after = b.after; leaves = inr (record { status = status_of taken; puts = lines.puts; fails = b.fails }); rests = b.rests; rose = λ _. rose-back f.media.faults g.media.faults h.media.faults later b.rose }
+    flush-broken flush.Stopped later flushes = absurd flushes
+
+    abbrev pub after : model.Table
+    after = flushed plan then_table
+
+    pub rested : Goes g h → FlushEnds first plan then_table (has_risen g h) lines.works.device (Ok tt) v g h → Rests h first plan (lose after)
+    rested goes flushes = off-rests v h first plan after true (works-done first plan then_table u v g h lines.works goes (table_seals plan then_table) after flushes).stands
+
+  counts-are : (counts : Counts) (d : LinesDone first plan table text u g told told_mid rest counts) → count_line counts.accepted counts.refused ≡ counts_of plan table (puts_of plan d.ends.puts.taken)
+  counts-are counts d =
+      let n : counts.refused ≡ length (puts_of plan d.ends.puts.taken) - put_count plan table (puts_of plan d.ends.puts.taken) = omega (arith, d.accepted, d.all) in
+      ap (λ a. count_line a counts.refused) d.accepted ∙ ap (λ r. count_line (put_count plan table (puts_of plan d.ends.puts.taken)) r) n
+
+  pub flush-told : (counts : Counts) (d : AllEnds first plan table text u f g told told_mid rest (Ok counts)) → Goes g h → FlushEnds first plan (then_table (Ok counts) refl d) (has_risen g h) (lines (Ok counts) refl d).works.device (Ok tt) v g h →
+      (faults faults_now : ℕ) (status : ToolStatus) → TellsCounts counts told_mid told_now faults faults_now status → TableEnds first plan table text f h (told_of told told_now rest) status
+  flush-told counts d goes flushes faults faults_now Done tells = record {
+    after = after (Ok counts) refl d;
+    leaves = record { written_then = told_mid; puts = d.ends.puts; after_is = refl; counts = subst (λ l. Appends told_mid told_now l) (counts-are counts d) tells };
+    rests = rested (Ok counts) refl d goes flushes;
+    rose = λ e. cc;
+  }
+  flush-told counts d goes flushes faults faults_now OutWrite tells = record {
+    after = after (Ok counts) refl d;
+    leaves = inr (record { written_then = told_mid; puts = d.ends.puts; after_is = refl; counts = subst (λ l. AppendsFront told_mid told_now l) (counts-are counts d) tells.0 });
+    rests = rested (Ok counts) refl d goes flushes;
+    rose = λ e. cc;
+  }
+  flush-told counts d goes flushes faults faults_now InputRead tells = absurd tells
+  flush-told counts d goes flushes faults faults_now InputLong tells = absurd tells
+  flush-told counts d goes flushes faults faults_now NoMemory tells = absurd tells
+  flush-told counts d goes flushes faults faults_now NotImage tells = absurd tells
+  flush-told counts d goes flushes faults faults_now Device tells = absurd tells
+  flush-told counts d goes flushes faults faults_now (BadImage n) tells = absurd tells
+  flush-told counts d goes flushes faults faults_now NoTable tells = absurd tells
+  flush-told counts d goes flushes faults faults_now (BadInput n) tells = absurd tells
+  flush-told counts d goes flushes faults faults_now Unsound tells = absurd tells
+
+-- the lines weren't taken to their end
+pub flush-status : (first : ℕ) (plan : Plan) (table : model.Table) (text : List ℕ) (u v : Table 64 64) (f g h : FlashState) (told told_now rest : Option (List ℕ)) (status : ToolStatus) → IsOfLines status → (other : is_broken (Err status) ≡ false) →
+    (ends : AllEnds first plan table text u f g told told_now rest (Err status)) → Goes g h →
+    FlushEnds first plan (then_table first plan table text u v f g h told told_now told_now rest (Err status) other ends) (has_risen g h) (lines first plan table text u v f g h told told_now told_now rest (Err status) other ends).works.device (Ok tt) v g h →
+    TableEnds first plan table text f h (told_of told told_now rest) status
+flush-status first plan table text u v f g h told told_now rest status of other ends goes flushes = record {
+  after = after first plan table text u v f g h told told_now told_now rest (Err status) other ends;
+  leaves = by-status status of (λ e. not-broken e) (record { puts = (lines first plan table text u v f g h told told_now told_now rest (Err status) other ends).puts; after_is = refl });
+  rests = rested first plan table text u v f g h told told_now told_now rest (Err status) other ends goes flushes;
+  rose = λ e. absurd (not-broken e);
+}
+  where
+    not-broken : status ≡ Device → ⊥
+    not-broken e = let no = sym other ∙ ap (λ (s : ToolStatus). is_broken (Err s)) e in cc
+
+    by-status : (status : ToolStatus) {x : model.Table} → IsOfLines status → (status ≡ Device → ⊥) → Flushes plan table text (told_of told told_now rest) x status → Leaves plan table text (told_of told told_now rest) x status
+    by-status InputRead of other l = l
+    by-status OutWrite of other l = inl l
+    by-status InputLong of other l = l
+    by-status NoMemory of other l = l
+    by-status (BadInput n) of other l = l
+    by-status Device of other l = absurd (other refl)
+    by-status Done of other l = absurd of
+    by-status NotImage of other l = absurd of
+    by-status (BadImage n) of other l = absurd of
+    by-status NoTable of other l = absurd of
+    by-status Unsound of other l = absurd of
+
+-- the lines of the import, by its status
+pub ended-as : (columns : ℕ) (blobs : Bool) (text : List ℕ) (rest : Option (List ℕ)) (status : ToolStatus) → IsOfLines status → Ended columns blobs text rest status → EndedAs columns blobs text rest status
+ended-as columns blobs text rest InputRead of h = h
+ended-as columns blobs text rest OutWrite of h = inl h
+ended-as columns blobs text rest InputLong of h = h
+ended-as columns blobs text rest NoMemory of h = tt
+ended-as columns blobs text rest Device of h = tt
+ended-as columns blobs text rest (BadInput n) of h = h
+ended-as columns blobs text rest Done of h = absurd of
+ended-as columns blobs text rest NotImage of h = absurd of
+ended-as columns blobs text rest (BadImage n) of h = absurd of
+ended-as columns blobs text rest NoTable of h = absurd of
+ended-as columns blobs text rest Unsound of h = absurd of
+
+pub ended-told : (columns : ℕ) (blobs : Bool) (text : List ℕ) (rest told told_now : Option (List ℕ)) (faults faults_now : ℕ) (counts : Counts) (status : ToolStatus) → TellsCounts counts told told_now faults faults_now status → TakesUntil columns blobs text rest Done → EndedAs columns blobs text rest status
+ended-told columns blobs text rest told told_now faults faults_now counts Done tells h = h
+ended-told columns blobs text rest told told_now faults faults_now counts OutWrite tells h = inr h
+ended-told columns blobs text rest told told_now faults faults_now counts InputRead tells h = absurd tells
+ended-told columns blobs text rest told told_now faults faults_now counts InputLong tells h = absurd tells
+ended-told columns blobs text rest told told_now faults faults_now counts NoMemory tells h = absurd tells
+ended-told columns blobs text rest told told_now faults faults_now counts NotImage tells h = absurd tells
+ended-told columns blobs text rest told told_now faults faults_now counts Device tells h = absurd tells
+ended-told columns blobs text rest told told_now faults faults_now counts (BadImage n) tells h = absurd tells
+ended-told columns blobs text rest told told_now faults faults_now counts NoTable tells h = absurd tells
+ended-told columns blobs text rest told told_now faults faults_now counts (BadInput n) tells h = absurd tells
+ended-told columns blobs text rest told told_now faults faults_now counts Unsound tells h = absurd tells
+
+-- the statuses of an import of a table
+pub of-lines : (status : ToolStatus) → IsOfLines status → IsOfTable status
+of-lines InputRead of = tt
+of-lines OutWrite of = tt
+of-lines InputLong of = tt
+of-lines NoMemory of = tt
+of-lines Device of = tt
+of-lines (BadInput n) of = tt
+of-lines Done of = absurd of
+of-lines NotImage of = absurd of
+of-lines (BadImage n) of = absurd of
+of-lines NoTable of = absurd of
+of-lines Unsound of = absurd of
+
+pub of-told : (told told_now : Option (List ℕ)) (faults faults_now : ℕ) (counts : Counts) (status : ToolStatus) → TellsCounts counts told told_now faults faults_now status → IsOfTable status
+of-told told told_now faults faults_now counts Done tells = tt
+of-told told told_now faults faults_now counts OutWrite tells = tt
+of-told told told_now faults faults_now counts InputRead tells = tt
+of-told told told_now faults faults_now counts InputLong tells = tt
+of-told told told_now faults faults_now counts NoMemory tells = tt
+of-told told told_now faults faults_now counts Device tells = tt
+of-told told told_now faults faults_now counts (BadInput n) tells = tt
+of-told told told_now faults faults_now counts NotImage tells = absurd tells
+of-told told told_now faults faults_now counts (BadImage n) tells = absurd tells
+of-told told told_now faults faults_now counts NoTable tells = absurd tells
+of-told told told_now faults faults_now counts Unsound tells = absurd tells
+
+pub broken-is : (taken : Result Counts ToolStatus) → is_broken taken ≡ true → taken ≡ Err Device
+broken-is (Ok counts) is = cc
+broken-is (Err Device) is = refl
+broken-is (Err Done) is = cc
+broken-is (Err InputRead) is = cc
+broken-is (Err OutWrite) is = cc
+broken-is (Err InputLong) is = cc
+broken-is (Err NoMemory) is = cc
+broken-is (Err NotImage) is = cc
+broken-is (Err (BadImage n)) is = cc
+broken-is (Err NoTable) is = cc
+broken-is (Err (BadInput n)) is = cc
+broken-is (Err Unsound) is = cc
+
+-- ---- the table was flushed, and it was told how many lines were put, where they were taken to their end
+
+module _ {X : Type 0} (written : X → Option (List ℕ)) (faults : X → ℕ) (start mid now : X) (result : ToolStatus) where
+  abbrev pub Untold : ToolStatus → Type 0
+  Untold status = (result ≡ status) × (now ≡ mid)
+
+  abbrev pub Told? : Counts → Type 0
+  Told? counts = TellsCounts counts (written mid) (written now) (faults mid) (faults now) result
+
+  pub all-ends : (first : ℕ) (plan : Plan) (table : model.Table) (text : List ℕ) (u v : Table 64 64) (f g h : FlashState) (rest : Option (List ℕ)) (taken : Result Counts ToolStatus) (other : is_broken taken ≡ false) (ends : AllEnds first plan table text u f g (written start) (written mid) rest taken) →
+      IfErr taken IsOfLines → IfErr taken Untold → IfOk taken Told? → Goes g h →
+      FlushEnds first plan (then_table first plan table text u v f g h (written start) (written mid) (written now) rest taken other ends) (has_risen g h) (lines first plan table text u v f g h (written start) (written mid) (written now) rest taken other ends).works.device (Ok tt) v g h →
+      TableEnds first plan table text f h (told_of (written start) (written now) rest) result
+  all-ends first plan table text u v f g h rest (Ok counts) other ends of none tells goes flushes =
+      flush-told first plan table text u v f g h (written start) (written mid) (written now) rest counts ends goes flushes (faults mid) (faults now) result tells
+  all-ends first plan table text u v f g h rest (Err status) other ends of none tells goes flushes =
+      subst (λ (s : ToolStatus). TableEnds first plan table text f h (told_of (written start) (written now) rest) s) (sym none.0)
+      (subst (λ (x : X). TableEnds first plan table text f h (told_of (written start) (written x) rest) status) (sym none.1)
+      (flush-status first plan table text u v f g h (written start) (written mid) rest status of other ends goes flushes))
+
+  pub all-ended : (columns : ℕ) (blobs : Bool) (text : List ℕ) (rest : Option (List ℕ)) (taken : Result Counts ToolStatus) → IfErr taken IsOfLines → IfErr taken Untold → IfOk taken Told? → Ended columns blobs text rest (status_of taken) → EndedAs columns blobs text rest result
+  all-ended columns blobs text rest (Ok counts) of none tells ended = ended-told columns blobs text rest (written mid) (written now) (faults mid) (faults now) counts result tells ended
+  all-ended columns blobs text rest (Err status) of none tells ended = subst (λ (s : ToolStatus). EndedAs columns blobs text rest s) (sym none.0) (ended-as columns blobs text rest status of ended)
+
+  pub all-of : (taken : Result Counts ToolStatus) → IfErr taken IsOfLines → IfErr taken Untold → IfOk taken Told? → IsOfTable result
+  all-of (Ok counts) of none tells = of-told (written mid) (written now) (faults mid) (faults now) counts result tells
+  all-of (Err status) of none tells = subst IsOfTable (sym none.0) (of-lines status of)
+
+  pub all-read : {P : Type 0} (taken : Result Counts ToolStatus) → IfErr taken Untold → IfOk taken Told? → (taken ≡ Err InputRead → P) → result ≡ InputRead → P
+  all-read (Ok counts) none tells read is = absurd (subst (λ (s : ToolStatus). TellsCounts counts (written mid) (written now) (faults mid) (faults now) s) is tells)
+  all-read (Err status) none tells read is = read (ap (λ (s : ToolStatus). Err s) (sym none.0 ∙ is))
+
+  pub all-write : (taken : Result Counts ToolStatus) → IfErr taken Untold → IfOk taken Told? → faults start ≤ faults mid → (taken ≡ Err OutWrite → Rose (faults start) (faults mid)) → result ≡ OutWrite → Rose (faults start) (faults now)
+  all-write (Ok counts) none tells later write is =
+      let t = subst (λ (s : ToolStatus). TellsCounts counts (written mid) (written now) (faults mid) (faults now) s) is tells in
+      rose-back (faults start) (faults mid) (faults now) later t.1
+  all-write (Err status) none tells later write is = subst (λ (x : X). Rose (faults start) (faults x)) (sym none.1) (write (ap (λ (s : ToolStatus). Err s) (sym none.0 ∙ is)))

@@ -1,0 +1,10 @@
+mod Header
+mod Putting
+mod Taken
+mod Failing
+mod OneLine
+mod AllLines
+mod Flushing
+mod Mounted
+mod Importing
+mod Closing

@@ -1,0 +1,137 @@
+-- One line of an import over a table that is mounted.
+use Rattle.std.proofs.Common.{◌≡◌, ℕ, ◌⊎◌, inl, inr, Bool, true, false, IsTrue, IsErr, IfErr, Option, Some, Result, Ok, Err, List, [], ◌++◌, refl, sym, ◌∙◌, ap, subst}
+use Rattle.fl_base.specs.Causes.{Rose, HasCause, Appends, AppendsFront}
+use Rattle.fl_base.specs.declared.stream.SinkFailed.{SinkFailed}
+use Rattle.fl_csv.specs.declared.record.CsvRefusal.{CsvRefusal}
+use Rattle.fl_csv.specs.declared.record.CsvRefusal.TheVariants as unread
+use Rattle.fl_export.proofs.Lines.{appends-none, front-behind, front-more}
+use Rattle.fl_export.proofs.Risen.{has_risen, risen-rose, watched}
+use Rattle.fl_flash.specs.Flash.{FlashState, Goes}
+use Rattle.fl_flash.specs.declared.flash.FlashFault.{FlashFault}
+use Rattle.fl_jobs.specs.declared.status.ToolStatus.TheVariants.{OutWrite, NoMemory, Device}
+use Rattle.fl_machine.specs.Step.{refused}
+use Rattle.fl_model.specs.Record.{Record, Plan}
+use Rattle.fl_model.specs.Table as model
+use Rattle.fl_model.specs.Table.{RingName, refusal_of, put_record, put_seals, lose, Refusal, BadKey, BadColumns, BadValue, BadBlob, Spent}
+use Rattle.fl_model.specs.Within.{seals_within, effect_within}
+use Rattle.fl_model.specs.Work.{PartEnd, Whole}
+use Rattle.fl_ring.specs.Step.{IsWatched}
+use Rattle.fl_script.specs.Written.{Written}
+use Rattle.fl_script.proofs.Sending.{appends-append, written-err}
+use Rattle.fl_table.specs.Causes.{RefusedSame, put_breaks}
+use Rattle.fl_table.specs.Outcomes.{PutEnds, Finishes, Breaks, FaultEnds}
+use Rattle.fl_table.specs.Pages.{Rests}
+use Rattle.fl_table.specs.declared.table.Table.{Table}
+use Rattle.fl_table.specs.declared.faults.PutRefusal.{PutRefusal}
+use Rattle.fl_table.specs.declared.faults.PutRefusal.TheVariants as refusal
+use Rattle.fl_tables.specs.Replies.{put_reply}
+use Rattle.fl_words.specs.Reply.{Reply, text}
+use Rattle.fl_words.specs.Grammar.{without_return}
+use Rattle.fl_csv.specs.Lines.{line_put}
+use Rattle.fl_import.specs.Lines.{meaning}
+use Rattle.fl_import.specs.Puts.{FailsIn}
+use Rattle.fl_import.specs.Report.{number_text, reason_line}
+use Rattle.fl_import.specs.Steps.{IsOfLine, LineEnds, Works, by_told, is_unread}
+use Rattle.fl_import.proofs.Failing.{calm}
+
+-- ---- two texts, one behind the other
+
+pub told-front : {E : Type 0} (a b : Option (List ℕ)) (result : Result (Unit {0}) E) (first then written : List ℕ) → IsErr result → written ≡ first → AppendsFront a b written → Written a b result (first ++ then)
+told-front a b result first then written err is front = written-err a b result (first ++ then) err (front-more a b first then (subst (λ l. AppendsFront a b l) is front))
+
+pub told-behind : {E : Type 0} (a b c : Option (List ℕ)) (result : Result (Unit {0}) E) (first then written reply : List ℕ) → written ≡ first → Appends a b written → reply ≡ then → Written b c result reply → Written a c result (first ++ then)
+told-behind a b c (Ok done) first then written reply is wrote same more = appends-append a b c first then (subst (λ l. Appends a b l) is wrote) (subst (λ l. Appends b c l) same more)
+told-behind a b c (Err failed) first then written reply is wrote same more = front-behind a b c first then (subst (λ l. Appends a b l) is wrote) (subst (λ l. AppendsFront b c l) same more)
+
+-- ---- a line that is refused
+
+pub means-either : (columns : ℕ) (blobs : Bool) (line read : List ℕ) (why : CsvRefusal) → read ≡ without_return line → (why ≡ unread.NoMemory) ⊎ (line_put columns blobs read ≡ Err why) → (why ≡ unread.NoMemory) ⊎ (meaning columns blobs line ≡ Err why)
+means-either columns blobs line read why is (inl none) = inl none
+means-either columns blobs line read why is (inr means) = inr (ap (line_put columns blobs) (sym is) ∙ means)
+
+pub told-write : (a b : ℕ) (told : Result (Unit {0}) SinkFailed) → HasCause a b told → by_told told ≡ Err OutWrite → Rose a b
+told-write a b (Ok done) cause is = cc
+told-write a b (Err failed) cause is = cause.failed
+
+pub told-status : (told : Result (Unit {0}) SinkFailed) → IfErr (by_told told) IsOfLine
+told-status (Ok done) = tt
+told-status (Err failed) = tt
+
+module _ (first : ℕ) (plan : Plan) (table : model.Table) (t u : Table 64 64) (f g : FlashState) (works : Works t f first plan table) where
+  pub works-watched : IsWatched f g (has_risen f g) works.device
+  works-watched = watched f g works.device works.told works.power works.counts
+
+  -- the operations of some seals were done
+  pub works-done : Goes f g → (seals : List RingName) (after : model.Table) → Finishes first plan (seals_within plan seals table) table after (has_risen f g) works.device u f g → Works u g first plan after
+  works-done goes seals after fin =
+      let c = calm (λ operation. operation.1) (effect_within plan) (has_risen f g) (seals_within plan seals table) works.device table fin.now works.unarmed fin.did in
+      record { stands = fin.stands; told = subst IsTrue (sym goes.tells) works.told; power = fin.power; device = fin.now.device; counts = fin.counts; unarmed = c.unarmed fin.whole }
+
+  -- .. or one failed
+  pub record IsBroken (seals : List RingName) : Type 0 where
+    pub rose : Rose f.media.faults g.media.faults
+    pub after : model.Table
+    pub fails : FailsIn plan seals table after
+    pub rests : Rests g first plan (lose after)
+
+  pub works-broken : (seals : List RingName) (fault : FlashFault) → Breaks first plan (seals_within plan seals table) table (has_risen f g) works.device fault g → IsBroken seals
+  works-broken seals fault b =
+      let c = calm (λ operation. operation.1) (effect_within plan) (has_risen f g) (seals_within plan seals table) works.device table b.now works.unarmed b.did in
+      let bad : b.now.end ≡ Whole → ⊥ = λ e. subst (λ (x : PartEnd model.Table). FaultEnds x fault g) e b.answer in
+      record {
+        rose = risen-rose f g (c.rises bad);
+        after = b.now.state;
+        fails = record { device = works.device; unarmed = works.unarmed; now = b.now; did = c.did; failed = bad; left_is = refl };
+        rests = b.rests;
+      }
+
+  works-same : u ≡ t → g ≡ f → Works u g first plan table
+  works-same e k = subst (λ (x : FlashState). Works u x first plan table) (sym k) (subst (λ (x : Table 64 64). Works x f first plan table) (sym e) works)
+
+  module _ (number : ℕ) (told told_now : Option (List ℕ)) where
+    -- the line is no record
+    pub ends-reason : (put : Result Record CsvRefusal) (why : CsvRefusal) → is_unread why ≡ false → (why ≡ unread.NoMemory) ⊎ (put ≡ Err why) → u ≡ t → g ≡ f → (wrote : Result (Unit {0}) SinkFailed) → Written told told_now wrote (reason_line number why) → LineEnds first plan table number put u f g told told_now (by_told wrote)
+    ends-reason put why other (inl none) e k wrote written = let no = sym other ∙ ap is_unread none in cc
+    ends-reason put why other (inr is) e k (Ok done) written =
+        rw is (refl, works-same e k, written)
+    ends-reason put why other (inr is) e k (Err fault) written =
+        rw is (works-same e k, written)
+
+    pub ends-memory : (put : Result Record CsvRefusal) → u ≡ t → g ≡ f → told_now ≡ told → LineEnds first plan table number put u f g told told_now (Err NoMemory)
+    ends-memory put e k same = (works-same e k, subst (λ (o : Option (List ℕ)). Appends told o []) (sym same) (appends-none told))
+
+    -- the table refuses it
+    ends-refused : (put : Result Record CsvRefusal) (item : Record) (why : Refusal) (reply : Reply) → put ≡ Ok item → refusal_of plan table item ≡ Some why → reply ≡ refused why → u ≡ t → g ≡ f → (wrote : Result (Unit {0}) SinkFailed) →
+        Written told told_now wrote (number_text number ++ text reply) → LineEnds first plan table number put u f g told told_now (by_told wrote)
+    ends-refused put item why reply is by same e k (Ok done) written =
+        rw (is, by) (refl, works-same e k, subst (λ (r : Reply). Appends told told_now (number_text number ++ text r)) same written)
+    ends-refused put item why reply is by same e k (Err fault) written =
+        rw (is, by) (works-same e k, subst (λ (r : Reply). AppendsFront told told_now (number_text number ++ text r)) same written)
+
+    module _ (put : Result Record CsvRefusal) (item : Record) (is : put ≡ Ok item) where
+      pub ends-put : Goes f g → told_now ≡ told → PutEnds first plan item table (has_risen f g) works.device (Ok tt) u f g → LineEnds first plan table number put u f g told told_now (Ok true)
+      ends-put goes same ends =
+          let done = works-done goes (put_seals plan item table) (put_record plan item table) ends.1 in
+          rw (is, ends.0) (refl, done, subst (λ (o : Option (List ℕ)). Appends told o []) (sym same) (appends-none told))
+
+      pub ends-broken : (outcome : Result (Unit {0}) PutRefusal) → put_breaks outcome ≡ true → told_now ≡ told → PutEnds first plan item table (has_risen f g) works.device outcome u f g → LineEnds first plan table number put u f g told told_now (Err Device)
+      ends-broken (Ok done) breaks same ends = cc
+      ends-broken (Err (refusal.Key last)) breaks same ends = cc
+      ends-broken (Err (refusal.Columns wanted)) breaks same ends = cc
+      ends-broken (Err (refusal.Value column)) breaks same ends = cc
+      ends-broken (Err (refusal.Blob limit)) breaks same ends = cc
+      ends-broken (Err refusal.Spent) breaks same ends = cc
+      ends-broken (Err refusal.Stopped) breaks same ends = cc
+      ends-broken (Err (refusal.Flash fault)) breaks same ends =
+          let b = works-broken (put_seals plan item table) fault ends.1 in
+          (b.rose, subst (λ (o : Option (List ℕ)). Appends told o []) (sym same) (appends-none told), (item, is, ends.0, (b.after, b.fails, b.rests)))
+
+      pub ends-told : (why : PutRefusal) → put_breaks (Err why) ≡ false → PutEnds first plan item table (has_risen f g) works.device (Err why) u f g → RefusedSame t f why u g →
+          (wrote : Result (Unit {0}) SinkFailed) → Written told told_now wrote (number_text number ++ text (put_reply (Err why))) → LineEnds first plan table number put u f g told told_now (by_told wrote)
+      ends-told (refusal.Flash fault) other ends same wrote written = cc
+      ends-told (refusal.Key last) other ends same wrote written = ends-refused put item (BadKey last) (put_reply (Err (refusal.Key last))) is ends refl same.0 same.1 wrote written
+      ends-told (refusal.Columns wanted) other ends same wrote written = ends-refused put item (BadColumns wanted) (put_reply (Err (refusal.Columns wanted))) is ends refl same.0 same.1 wrote written
+      ends-told (refusal.Value column) other ends same wrote written = ends-refused put item (BadValue column) (put_reply (Err (refusal.Value column))) is ends refl same.0 same.1 wrote written
+      ends-told (refusal.Blob limit) other ends same wrote written = ends-refused put item (BadBlob limit) (put_reply (Err (refusal.Blob limit))) is ends refl same.0 same.1 wrote written
+      ends-told refusal.Spent other ends same wrote written = ends-refused put item Spent (put_reply (Err refusal.Spent)) is ends refl same.0 same.1 wrote written
+      ends-told refusal.Stopped other ends same wrote written = absurd ends

@@ -1,0 +1,179 @@
+-- How an import ends, by its status.
+use Rattle.std.specs.Prelude.{◌≡◌, ◌⊎◌, ℕ, ◌+◌, ◌≤◌, IsTrue, Bool, true, false, Option, None, Some, Result, Ok, List, [], ◌∷◌, ◌++◌, length, map, find}
+use Rattle.fl_base.specs.Causes.{Rose, Appends, AppendsFront, IsFront}
+use Rattle.fl_csv.specs.declared.record.CsvRefusal.{CsvRefusal}
+use Rattle.fl_export.specs.Ends.{IsImageWith, at_rest}
+use Rattle.fl_jobs.specs.Header.{IsAccepted}
+use Rattle.fl_jobs.specs.Image.{IsImageOf}
+use Rattle.fl_jobs.specs.declared.status.ToolStatus.{ToolStatus}
+use Rattle.fl_jobs.specs.declared.status.ToolStatus.TheVariants.{Done, InputRead, OutWrite, InputLong, NoMemory, NotImage, Device, BadImage, NoTable, BadInput, Unsound}
+use Rattle.fl_machine.specs.Step.{Located, located_from, all_ready}
+use Rattle.fl_model.specs.Mount.{Mounts, Mounted, Stopped, Unread, rings_from}
+use Rattle.fl_model.specs.Record.{Record, Plan, Config, has_var, bytes_equal}
+use Rattle.fl_model.specs.Table.{Table, refusal_of, put_seals, table_seals, flushed, lose}
+use Rattle.fl_model.specs.Within.{with_table}
+use Rattle.fl_model.specs.Work.{Progress}
+use Rattle.fl_words.specs.Config.{Lines}
+use Rattle.fl_words.specs.Medium.{IsImage}
+use Rattle.fl_import.specs.Lines.{meaning, meanings, Takes}
+use Rattle.fl_import.specs.Puts.{after_puts, FailsIn}
+use Rattle.fl_import.specs.Reading.{Stops, TakesUntil}
+use Rattle.fl_import.specs.Report.{told_line, told_lines, counts_of}
+
+-- what is written, before and after, and what the source has left
+pub record Told : Type 0 where
+  pub written : Option (List ℕ)
+  pub written_now : Option (List ℕ)
+  pub left_now : Option (List ℕ)
+
+-- ---- what an import does to its table, once that is mounted
+
+-- what the lines that were taken mean for the table of this plan
+abbrev pub puts_of : Plan → List (List ℕ) → List (Result Record CsvRefusal)
+puts_of plan taken = meanings (length plan.columns) (has_var plan) taken
+
+abbrev pub table_after : Plan → Table → List (List ℕ) → Table
+table_after plan table taken = after_puts plan table (puts_of plan taken)
+
+abbrev pub told_of_lines : Plan → Table → List (List ℕ) → List ℕ
+told_of_lines plan table taken = told_lines plan 2 table (puts_of plan taken)
+
+-- what is told of the line that comes next
+abbrev pub told_next : Plan → Table → List (List ℕ) → List ℕ → List ℕ
+told_next plan table taken line =
+    told_line plan (length taken + 1) (table_after plan table taken) (meaning (length plan.columns) (has_var plan) line)
+
+-- it was told of the lines that were taken; and where the sink failed, by a front of what is told of the next one
+abbrev pub Reports : Plan → Table → List (List ℕ) → ToolStatus → List (List ℕ) → Option (List ℕ) → Option (List ℕ) → Type 0
+Reports plan table taken OutWrite [] told told_now = ⊥
+Reports plan table taken OutWrite (line ∷ left) told told_now =
+    (front : List ℕ) × IsFront front (told_next plan table taken line) × Appends told told_now (told_of_lines plan table taken ++ front)
+Reports plan table taken status left told told_now = Appends told told_now (told_of_lines plan table taken)
+
+-- The lines that were taken were put and told, and no more are taken.
+pub record Puts (plan : Plan) (table : Table) (text : List ℕ) (told told_now rest : Option (List ℕ)) (status : ToolStatus) : Type 0 where
+  pub taken : List (List ℕ)
+  pub left : List (List ℕ)
+  pub takes : Takes (length plan.columns) (has_var plan) text taken left
+  pub stops : Stops (length plan.columns) (has_var plan) text taken left rest status
+  pub reports : Reports plan table taken status left told told_now
+
+-- .. but an operation failed in the put of the next one.
+pub record PutFails (plan : Plan) (table : Table) (text : List ℕ) (told told_now : Option (List ℕ)) (after : Table) : Type 0 where
+  pub taken : List (List ℕ)
+  pub line : List ℕ
+  pub left : List (List ℕ)
+  pub takes : Takes (length plan.columns) (has_var plan) text taken (line ∷ left)
+  pub some : 1 ≤ length taken
+  pub item : Record
+  pub means : meaning (length plan.columns) (has_var plan) line ≡ Ok item
+  pub accepted : refusal_of plan (table_after plan table taken) item ≡ None
+  pub fails : FailsIn plan (put_seals plan item (table_after plan table taken)) (table_after plan table taken) after
+  pub reports : Appends told told_now (told_of_lines plan table taken)
+
+-- .. and then the table was flushed,
+pub record Flushes (plan : Plan) (table : Table) (text : List ℕ) (told : Told) (after : Table) (status : ToolStatus) : Type 0 where
+  pub puts : Puts plan table text told.written told.written_now told.left_now status
+  pub after_is : after ≡ flushed plan (table_after plan table puts.taken)
+
+-- or an operation failed in the flush.
+pub record FlushFails (plan : Plan) (table : Table) (text : List ℕ) (told : Told) (after : Table) : Type 0 where
+  pub status : ToolStatus
+  pub puts : Puts plan table text told.written told.written_now told.left_now status
+  pub fails : FailsIn plan (table_seals plan (table_after plan table puts.taken)) (table_after plan table puts.taken) after
+
+-- All lines were put, the table was flushed, and it was told how many were put: `Wrote` says what was written of that.
+pub record Counts (plan : Plan) (table : Table) (text : List ℕ) (told : Told) (after : Table) (Wrote : Option (List ℕ) → Option (List ℕ) → List ℕ → Type 0) : Type 0 where
+  pub written_then : Option (List ℕ)
+  pub puts : Puts plan table text told.written written_then told.left_now Done
+  pub after_is : after ≡ flushed plan (table_after plan table puts.taken)
+  pub counts : Wrote written_then told.written_now (counts_of plan table (puts_of plan puts.taken))
+
+-- the table after an import that ended so
+abbrev pub Leaves : Plan → Table → List ℕ → Told → Table → ToolStatus → Type 0
+Leaves plan table text told after Done = Counts plan table text told after Appends
+Leaves plan table text told after OutWrite = Flushes plan table text told after OutWrite ⊎ Counts plan table text told after AppendsFront
+Leaves plan table text told after InputRead = Flushes plan table text told after InputRead
+Leaves plan table text told after InputLong = Flushes plan table text told after InputLong
+Leaves plan table text told after (BadInput number) = Flushes plan table text told after (BadInput number)
+Leaves plan table text told after NoMemory = Flushes plan table text told after NoMemory
+Leaves plan table text told after Device = PutFails plan table text told.written told.written_now after ⊎ FlushFails plan table text told after
+Leaves plan table text told after NotImage = ⊥
+Leaves plan table text told after (BadImage number) = ⊥
+Leaves plan table text told after NoTable = ⊥
+Leaves plan table text told after Unsound = ⊥
+
+-- ---- how an import of an image of tables ends
+
+-- An operation or a read of the mount failed, and nothing was written. `Holds` says for which tables the medium stands at the
+-- end: those that were left, without what is in memory alone.
+pub record MountFails (plans : List Plan) (tables : List Table) (told : Told) (faults faults_now : ℕ) (Holds : List Table → Type 0) : Type 0 where
+  pub rose : Bool
+  pub risen : IsTrue rose → Rose faults faults_now
+  pub end : Progress
+  pub did : Mounts plans rose (rings_from 0 plans) at_rest tables (Stopped end) ⊎ Mounts plans rose (rings_from 0 plans) at_rest tables (Unread end)
+  pub holds : Holds (map lose end.tables)
+  pub nothing : Appends told.written told.written_now []
+
+-- The tables were mounted, and the one with the name is left so.
+pub record Imports (plans : List Plan) (tables : List Table) (name : List ℕ) (told : Told) (faults faults_now : ℕ) (Holds : List Table → Type 0) (Left : Plan → Table → Table → Type 0) : Type 0 where
+  pub rose : Bool
+  pub risen : IsTrue rose → Rose faults faults_now
+  pub end : Progress
+  pub did : Mounts plans rose (rings_from 0 plans) at_rest tables (Mounted end)
+  pub at : Located
+  pub found : located_from 0 plans (all_ready plans end.tables) name ≡ Some at
+  pub after : Table
+  pub left : Left at.plan at.table after
+  pub holds : Holds (map lose (with_table at.place (all_ready plans end.tables) after))
+
+-- how it ends over tables of which one has the name
+abbrev pub TablesEnd : List Plan → List Table → List ℕ → List ℕ → Told → ℕ → ℕ → (List Table → Type 0) → ToolStatus → Type 0
+TablesEnd plans tables name text told faults faults_now Holds Device =
+    Rose faults faults_now
+    × (MountFails plans tables told faults faults_now Holds ⊎ Imports plans tables name told faults faults_now Holds (λ plan table after. Leaves plan table text told after Device))
+TablesEnd plans tables name text told faults faults_now Holds status = Imports plans tables name told faults faults_now Holds (λ plan table after. Leaves plan table text told after status)
+
+-- nothing was mounted and nothing written
+pub record IsUntouched (content content_now : List ℕ) (told : Told) : Type 0 where
+  pub same : content_now ≡ content
+  pub nothing : Appends told.written told.written_now []
+
+-- how it ends over a medium that stands for tables
+abbrev pub ImportEnds : Config → List Table → List ℕ → List ℕ → Told → ℕ → ℕ → List ℕ → List ℕ → ToolStatus → Type 0
+ImportEnds config tables name text told faults faults_now content content_now NoTable = (located_from 0 config.plans tables name ≡ None) × IsUntouched content content_now told
+ImportEnds config tables name text told faults faults_now content content_now NoMemory =
+    IsUntouched content content_now told ⊎ TablesEnd config.plans tables name text told faults faults_now (IsImage config content_now) NoMemory
+ImportEnds config tables name text told faults faults_now content content_now Device =
+    (Rose faults faults_now × IsUntouched content content_now told) ⊎ TablesEnd config.plans tables name text told faults faults_now (IsImage config content_now) Device
+ImportEnds config tables name text told faults faults_now content content_now status = TablesEnd config.plans tables name text told faults faults_now (IsImage config content_now) status
+
+-- ---- the causes of statuses, over any bytes
+
+-- The bytes are an image, and a table of it has the name. `Until` says of a text how its lines are taken for the first such.
+pub record IsImageFor (bytes : List ℕ) (name : List ℕ) (text : Option (List ℕ)) (Until : ℕ → Bool → List ℕ → Type 0) : Type 0 where
+  pub lines : Lines
+  pub accepted : IsAccepted lines
+  pub image : IsImageOf bytes lines
+  pub plan : Plan
+  pub named : find (λ plan. bytes_equal plan.name name) lines.plans ≡ Some plan
+  pub takes : (l : List ℕ) → text ≡ Some l → Until (length plan.columns) (has_var plan) l
+
+abbrev pub EndsLines : Option (List ℕ) → ToolStatus → ℕ → Bool → List ℕ → Type 0
+EndsLines rest status columns blobs text = TakesUntil columns blobs text rest status
+
+-- There is no image, or it has no such table, or its lines end so; the medium and memory may fail before. `text` is what the
+-- source had at first.
+abbrev pub StatusFits : List ℕ → List ℕ → Option (List ℕ) → Option (List ℕ) → ToolStatus → Type 0
+StatusFits bytes name text rest NotImage = (lines : Lines) → IsAccepted lines → IsImageOf bytes lines → ⊥
+StatusFits bytes name text rest NoTable = IsImageWith bytes name false
+StatusFits bytes name text rest (BadImage table) = IsImageWith bytes name true
+StatusFits bytes name text rest Done = IsImageFor bytes name text (EndsLines rest Done)
+StatusFits bytes name text rest InputRead = IsImageFor bytes name text (EndsLines rest InputRead)
+StatusFits bytes name text rest InputLong = IsImageFor bytes name text (EndsLines rest InputLong)
+StatusFits bytes name text rest (BadInput number) = IsImageFor bytes name text (EndsLines rest (BadInput number))
+StatusFits bytes name text rest OutWrite =
+    IsImageFor bytes name text (λ columns blobs l. TakesUntil columns blobs l rest OutWrite ⊎ TakesUntil columns blobs l rest Done)
+StatusFits bytes name text rest NoMemory = Unit {0}
+StatusFits bytes name text rest Device = Unit {0}
+StatusFits bytes name text rest Unsound = ⊥

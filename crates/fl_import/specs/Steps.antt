@@ -1,0 +1,138 @@
+-- How the steps of an import of a table end.
+use Rattle.std.specs.Prelude.{◌≡◌, ℕ, ◌+◌, IsTrue, Bool, true, false, Option, None, Result, Ok, Err, List, [], length}
+use Rattle.fl_base.specs.Causes.{Rose, Appends, AppendsFront}
+use Rattle.fl_base.specs.declared.stream.SinkFailed.{SinkFailed}
+use Rattle.fl_csv.specs.declared.record.CsvRefusal.{CsvRefusal}
+use Rattle.fl_csv.specs.declared.record.CsvRefusal.TheVariants as unread
+use Rattle.fl_flash.specs.Flash.{FlashState}
+use Rattle.fl_jobs.specs.declared.status.ToolStatus.{ToolStatus}
+use Rattle.fl_jobs.specs.declared.status.ToolStatus.TheVariants.{Done, InputRead, OutWrite, InputLong, NoMemory, NotImage, Device, BadImage, NoTable, BadInput, Unsound}
+use Rattle.fl_model.specs.Record.{Record, Plan, has_var}
+use Rattle.fl_model.specs.Table as model
+use Rattle.fl_model.specs.Table.{refusal_of, put_seals, lose}
+use Rattle.fl_model.specs.Work as work
+use Rattle.fl_ring.specs.Device.{SameDevice}
+use Rattle.fl_table.specs.Pages.{Rests}
+use Rattle.fl_table.specs.Standing.{Stands}
+use Rattle.fl_table.specs.declared.table.Table.{Table}
+use Rattle.fl_import.specs.Ends.{Told, Puts, PutFails, Leaves, puts_of, table_after}
+use Rattle.fl_import.specs.Puts.{is_put, after_put, put_count, FailsIn}
+use Rattle.fl_import.specs.Report.{told_line, count_line}
+use Rattle.fl_import.specs.declared.counts.Counts.{Counts}
+use Rattle.fl_import.specs.declared.form.Form.{Form}
+
+-- a table that is mounted over a flash that tells its bytes, with the power on and no cut armed
+pub record Works (t : Table 64 64) (f : FlashState) (first : ℕ) (plan : Plan) (table : model.Table) : Type 0 where
+  pub stands : Stands t f first plan table
+  pub told : IsTrue f.media.tells
+  pub power : f.is_on ≡ true
+  pub device : work.Device
+  pub counts : SameDevice f device
+  pub unarmed : device.armed ≡ None
+
+-- the lines of a plan's records
+pub record IsFormOf (form : Form) (plan : Plan) : Type 0 where
+  pub columns : form.columns ≡ length plan.columns
+  pub blobs : form.blobs ≡ has_var plan
+
+-- ---- one line
+
+-- it wasn't read for want of memory
+abbrev pub is_unread : CsvRefusal → Bool
+is_unread unread.NoMemory = true
+is_unread refusal = false
+
+-- a line that is refused, once that is told
+abbrev pub by_told : Result (Unit {0}) SinkFailed → Result Bool ToolStatus
+by_told (Ok done) = Ok false
+by_told (Err failed) = Err OutWrite
+
+-- why it isn't passed
+abbrev pub IsOfLine : ToolStatus → Type 0
+IsOfLine OutWrite = Unit {0}
+IsOfLine NoMemory = Unit {0}
+IsOfLine Device = Unit {0}
+IsOfLine status = ⊥
+
+abbrev pub LineEnds : ℕ → Plan → model.Table → ℕ → Result Record CsvRefusal → Table 64 64 → FlashState → FlashState → Option (List ℕ) → Option (List ℕ) → Result Bool ToolStatus → Type 0
+LineEnds first plan table number put t f g told told_now (Ok accepted) =
+    (accepted ≡ is_put plan table put) × Works t g first plan (after_put plan table put) × Appends told told_now (told_line plan number table put)
+LineEnds first plan table number put t f g told told_now (Err OutWrite) = Works t g first plan table × AppendsFront told told_now (told_line plan number table put)
+LineEnds first plan table number put t f g told told_now (Err NoMemory) = Works t g first plan table × Appends told told_now []
+LineEnds first plan table number put t f g told told_now (Err Device) =
+    Rose f.media.faults g.media.faults × Appends told told_now []
+    × ((item : Record) × (put ≡ Ok item) × (refusal_of plan table item ≡ None) × ((after : model.Table) × FailsIn plan (put_seals plan item table) table after × Rests g first plan (lose after)))
+LineEnds first plan table number put t f g told told_now (Err status) = ⊥
+
+-- ---- all lines
+
+-- why they aren't taken to their end
+abbrev pub IsOfLines : ToolStatus → Type 0
+IsOfLines InputRead = Unit {0}
+IsOfLines OutWrite = Unit {0}
+IsOfLines InputLong = Unit {0}
+IsOfLines NoMemory = Unit {0}
+IsOfLines Device = Unit {0}
+IsOfLines (BadInput number) = Unit {0}
+IsOfLines status = ⊥
+
+-- no more are taken, and the table goes on
+pub record LinesEnd (first : ℕ) (plan : Plan) (table : model.Table) (text : List ℕ) (t : Table 64 64) (g : FlashState) (told told_now rest : Option (List ℕ)) (status : ToolStatus) : Type 0 where
+  pub puts : Puts plan table text told told_now rest status
+  pub works : Works t g first plan (table_after plan table puts.taken)
+
+-- all were put
+pub record LinesDone (first : ℕ) (plan : Plan) (table : model.Table) (text : List ℕ) (t : Table 64 64) (g : FlashState) (told told_now rest : Option (List ℕ)) (counts : Counts) : Type 0 where
+  pub ends : LinesEnd first plan table text t g told told_now rest Done
+  pub accepted : counts.accepted ≡ put_count plan table (puts_of plan ends.puts.taken)
+  pub all : counts.accepted + counts.refused ≡ length (puts_of plan ends.puts.taken)
+
+-- an operation failed in a put
+pub record LinesFail (first : ℕ) (plan : Plan) (table : model.Table) (text : List ℕ) (f g : FlashState) (told told_now : Option (List ℕ)) : Type 0 where
+  pub rose : Rose f.media.faults g.media.faults
+  pub after : model.Table
+  pub fails : PutFails plan table text told told_now after
+  pub rests : Rests g first plan (lose after)
+
+abbrev pub AllEnds : ℕ → Plan → model.Table → List ℕ → Table 64 64 → FlashState → FlashState → Option (List ℕ) → Option (List ℕ) → Option (List ℕ) → Result Counts ToolStatus → Type 0
+AllEnds first plan table text t f g told told_now rest (Ok counts) = LinesDone first plan table text t g told told_now rest counts
+AllEnds first plan table text t f g told told_now rest (Err Device) = LinesFail first plan table text f g told told_now
+AllEnds first plan table text t f g told told_now rest (Err status) = LinesEnd first plan table text t g told told_now rest status
+
+-- an operation failed in a put
+abbrev pub is_broken : Result Counts ToolStatus → Bool
+is_broken (Err Device) = true
+is_broken taken = false
+
+abbrev pub status_of : Result Counts ToolStatus → ToolStatus
+status_of (Ok counts) = Done
+status_of (Err status) = status
+
+-- ---- the table
+
+-- it is told how many lines were put
+abbrev pub TellsCounts : Counts → Option (List ℕ) → Option (List ℕ) → ℕ → ℕ → ToolStatus → Type 0
+TellsCounts counts told told_now faults faults_now Done = Appends told told_now (count_line counts.accepted counts.refused)
+TellsCounts counts told told_now faults faults_now OutWrite = AppendsFront told told_now (count_line counts.accepted counts.refused) × Rose faults faults_now
+TellsCounts counts told told_now faults faults_now status = ⊥
+
+-- a status of an import of a table
+abbrev pub IsOfTable : ToolStatus → Type 0
+IsOfTable Done = Unit {0}
+IsOfTable InputRead = Unit {0}
+IsOfTable OutWrite = Unit {0}
+IsOfTable InputLong = Unit {0}
+IsOfTable NoMemory = Unit {0}
+IsOfTable Device = Unit {0}
+IsOfTable (BadInput number) = Unit {0}
+IsOfTable (BadImage table) = ⊥
+IsOfTable NotImage = ⊥
+IsOfTable NoTable = ⊥
+IsOfTable Unsound = ⊥
+
+-- it was imported so, and the flash stands for what is left of it without what is in memory alone
+pub record TableEnds (first : ℕ) (plan : Plan) (table : model.Table) (text : List ℕ) (f g : FlashState) (told : Told) (status : ToolStatus) : Type 0 where
+  pub after : model.Table
+  pub leaves : Leaves plan table text told after status
+  pub rests : Rests g first plan (lose after)
+  pub rose : status ≡ Device → Rose f.media.faults g.media.faults

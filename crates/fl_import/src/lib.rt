@@ -1,0 +1,14 @@
+//! The import of records into a table of an image: the lines of CSV that a source gives, each a put or a refusal.
+#![tactic(auto)]
+
+mod counts;
+mod form;
+mod import;
+mod line;
+mod lines;
+mod names;
+mod report;
+mod table;
+mod taking;
+
+pub use import::import_image;

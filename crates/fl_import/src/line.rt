@@ -1,0 +1,110 @@
+// One line of an import: a record that is put, or a refusal that is told.
+ghost use Rattle.std.specs.Prelude.{◌≡◌, ◌≤◌, ℕ, Bool, false, option_map, IsTrue, IfErr, Ok, Err};
+ghost use Rattle.fl_base.specs.Causes.{Rose};
+ghost use Rattle.fl_csv.specs.Lines.{line_put};
+ghost use Rattle.fl_csv.specs.Views.{put_view};
+ghost use Rattle.fl_flash.specs.Flash.{Goes, page_at};
+ghost use Rattle.fl_jobs.specs.declared.status.ToolStatus.{ToolStatus};
+ghost use Rattle.fl_model.specs.Record.{Plan};
+ghost use Rattle.fl_model.specs.Table as model;
+ghost use Rattle.fl_model.specs.Work.{Device};
+ghost use Rattle.fl_ring.specs.Step.{IsWatched};
+ghost use Rattle.fl_table.specs.Causes.{RefusedSame, put_breaks};
+ghost use Rattle.fl_table.specs.Memory.{is_running, IsSamePlan, LiesOn};
+ghost use Rattle.fl_table.specs.Mounting.{OutsideStands};
+ghost use Rattle.fl_table.specs.Outcomes.{PutEnds};
+ghost use Rattle.fl_table.specs.Standing.{Stands};
+ghost use Rattle.fl_words.specs.Grammar as grammar;
+ghost use Rattle.fl_import.specs.Lines.{meaning};
+ghost use Rattle.fl_import.specs.Steps.{IsFormOf, IsOfLine, LineEnds, Works, by_told, is_unread};
+
+use crate::form::Form;
+use crate::names::without_return;
+use crate::report::{tell_reason, tell_refusal};
+use fl_base::{Sink, SinkFailed};
+use fl_csv::{CsvPut, CsvRefusal, read_record};
+use fl_flash::Flash;
+use fl_jobs::ToolStatus;
+use fl_table::PutRefusal;
+use fl_tables::Table;
+use std::alloc::Global;
+
+/// Puts a record that was read.
+fn put_record<F: Flash>(table: &mut Table, flash: &mut F, put: &CsvPut) -> Result<(), PutRefusal>
+    requires lies { LiesOn table.old (F.state flash.old) }
+    ensures goes { Goes (F.state flash.old) (F.state flash.new) }
+    ensures same { IsSamePlan table.old table.new }
+    ensures lies { LiesOn table.new (F.state flash.new) }
+    ensures ends { (first : ℕ) → (plan : Plan) → (t : model.Table) → (rose : Bool) → (device : Device) → IsWatched (F.state flash.old) (F.state flash.new) rose device
+        → Stands table.old (F.state flash.old) first plan t → PutEnds first plan (put_view put.now) t rose device result table.new (F.state flash.old) (F.state flash.new) }
+    ensures refused { IfErr result (λ e. RefusedSame table.old (F.state flash.old) e table.new (F.state flash.new)) }
+    ensures outside { IsTrue (F.state flash.old).media.tells → OutsideStands table.old (page_at (F.state flash.old)) (page_at (F.state flash.new)) }
+{
+    let blob = match &put.blob {
+        None => None,
+        Some(blob) => Some(blob.bytes()),
+    };
+    table.put(flash, put.key, put.values.as_slice(), blob)
+}
+
+/// Whether a line wasn't read for want of memory.
+fn is_unread(refusal: &CsvRefusal) -> bool
+    ensures { result ≡ is_unread refusal.now }
+{
+    matches!(refusal, CsvRefusal::NoMemory)
+}
+
+/// Whether an operation failed in a put.
+fn breaks(outcome: &Result<(), PutRefusal>) -> bool
+    ensures { result ≡ put_breaks outcome.now }
+{
+    matches!(outcome, Err(PutRefusal::Flash(_)))
+}
+
+/// A line that is refused, once that is told.
+fn refused(told: Result<(), SinkFailed>) -> Result<bool, ToolStatus>
+    ensures { result ≡ by_told told }
+{
+    match told {
+        Ok(()) => Ok(false),
+        Err(_) => Err(ToolStatus::OutWrite),
+    }
+}
+
+/// Puts the record that the line of this number is, and says whether it was put. A line that is refused is told of.
+pub(crate) fn put_line<F: Flash, K: Sink>(
+    alloc: Global,
+    form: Form,
+    number: u64,
+    line: &[u8],
+    table: &mut Table,
+    flash: &mut F,
+    out: &mut K,
+) -> Result<bool, ToolStatus>
+    requires some { 1 ≤ form.columns }
+    requires few { form.columns ≤ 8 }
+    requires lies { LiesOn table.old (F.state flash.old) }
+    ensures goes { Goes (F.state flash.old) (F.state flash.new) }
+    ensures same { IsSamePlan table.old table.new }
+    ensures lies { LiesOn table.new (F.state flash.new) }
+    ensures outside { IsTrue (F.state flash.old).media.tells → OutsideStands table.old (page_at (F.state flash.old)) (page_at (F.state flash.new)) }
+    ensures later { K.faults out.old ≤ K.faults out.new }
+    ensures write { result ≡ Err ToolStatus.OutWrite → Rose (K.faults out.old) (K.faults out.new) }
+    ensures statuses { IfErr result (λ status. IsOfLine status) }
+    ensures ends { (first : ℕ) (plan : Plan) (t : model.Table) → IsFormOf form plan → Works table.old (F.state flash.old) first plan t
+        → LineEnds first plan t number (meaning form.columns form.blobs line.now) table.new (F.state flash.old) (F.state flash.new) (K.written out.old) (K.written out.new) result }
+{
+    let put = match read_record(alloc, without_return(line), form.columns, form.blobs) {
+        Ok(put) => put,
+        Err(refusal) if is_unread(&refusal) => return Err(ToolStatus::NoMemory),
+        Err(refusal) => return refused(tell_reason(number, refusal, out)),
+    };
+    let outcome = put_record(table, flash, &put);
+    if breaks(&outcome) {
+        return Err(ToolStatus::Device);
+    }
+    match outcome {
+        Ok(()) => Ok(true),
+        Err(refusal) => refused(tell_refusal(number, refusal, out)),
+    }
+}

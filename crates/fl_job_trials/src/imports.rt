@@ -1,0 +1,262 @@
+// Imports into images made by hand: what is told, what the image then holds, and how they end.
+use crate::checks::{Piece, SEAL, image};
+use fl_base::{KeyRange, MemSink, MemSource, Name, NoMemory};
+use fl_export::export_image;
+use fl_flash::MemMedia;
+use fl_import::import_image;
+use fl_jobs::ToolStatus;
+use std::alloc::Global;
+use std::test::Fail;
+
+// Pages of 128 bytes, four a block, and a ring of three blocks.
+const PLAIN: &str = "device 128 4\ntable t 8 i32 3 0 0 8 0 10 1 0\n";
+
+const PLAIN_BYTES: u16 = 1536;
+
+// Pages of 64 bytes, two a block, and variable data.
+const WITH_BLOBS: &str = "device 64 2\ntable t 8 i32 3 0 3 8 0 10 1 30\n";
+
+const BLOB_BYTES: u16 = 768;
+
+// Imports a text into table t, into a sink with so much room, and tells the status. A call of the source may fail.
+fn import(
+    alloc: Global,
+    media: &mut MemMedia,
+    name: &[u8],
+    text: &[u8],
+    failing: &[u64],
+    room: usize,
+) -> Result<(ToolStatus, MemSink), NoMemory> {
+    let Some(name) = Name::of(name) else {
+        return Err(NoMemory);
+    };
+    let mut input = MemSource::new(text.to_vec(alloc)?, failing.to_vec(alloc)?);
+    let mut out = MemSink::new(alloc, room, Vec::new(alloc))?;
+    let status = import_image(alloc, name, media, &mut input, &mut out);
+    Ok((status, out))
+}
+
+// The records of table t.
+fn records(alloc: Global, media: &mut MemMedia) -> Result<MemSink, NoMemory> {
+    let Some(name) = Name::of(b"t") else {
+        return Err(NoMemory);
+    };
+    let all = KeyRange {
+        low: 0,
+        high: u64::MAX,
+    };
+    let mut out = MemSink::new(alloc, 200, Vec::new(alloc))?;
+    let _status = export_image(alloc, name, all, media, &mut out);
+    Ok(out)
+}
+
+// An empty image of these lines.
+fn empty(alloc: Global, lines: &str, pages: u16) -> Result<MemMedia, NoMemory> {
+    let bytes = image(alloc, lines, pages, &[])?;
+    let len = bytes.len();
+    MemMedia::new(alloc, bytes, len)
+}
+
+#[test]
+fn lines_are_put_or_told(rt: HostRuntime) -> Result<(), Fail> {
+    let cases: [(&str, &str, &str); 6] = [
+        (
+            "key,c1\n1,-25\n2\n2,x\n1,4\n\"2\",-5\n",
+            "line 3 fields 2\nline 4 number 2\nline 5 refused key 1\nimported 2 refused 3\n",
+            "key,c1\n1,-25\n2,-5\n",
+        ),
+        ("key,c1\n", "imported 0 refused 0\n", "key,c1\n"),
+        ("key,c1", "imported 0 refused 0\n", "key,c1\n"),
+        (
+            "key,c1\r\n9,1\r\n",
+            "imported 1 refused 0\n",
+            "key,c1\n9,1\n",
+        ),
+        ("key,c1\n9,1\r", "imported 1 refused 0\n", "key,c1\n9,1\n"),
+        (
+            "key,c1\n\n9,2147483648\n7,8",
+            "line 2 csv\nline 3 refused value 1\nimported 1 refused 2\n",
+            "key,c1\n7,8\n",
+        ),
+    ];
+    for (text, told, kept) in cases {
+        let mut media = empty(rt.alloc(), PLAIN, PLAIN_BYTES)?;
+        let (status, out) = import(rt.alloc(), &mut media, b"t", text.as_bytes(), &[], 100)?;
+        assert_eq!(rt; status, ToolStatus::Done, "{text}");
+        assert_eq!(rt; out.bytes(), told.as_bytes(), "{text}");
+        let out = records(rt.alloc(), &mut media)?;
+        assert_eq!(rt; out.bytes(), kept.as_bytes(), "{text}");
+    }
+    Ok(())
+}
+
+#[test]
+fn blobs_are_put(rt: HostRuntime) -> Result<(), Fail> {
+    let text = "key,c1,blob\n1,-25,\n2,-5,00ABff\n3,0,-\n4,7,gone\n5,1,0g\n";
+    let mut media = empty(rt.alloc(), WITH_BLOBS, BLOB_BYTES)?;
+    let (status, out) = import(rt.alloc(), &mut media, b"t", text.as_bytes(), &[], 100)?;
+    assert_eq!(rt; status, ToolStatus::Done);
+    let told = "line 5 number 3\nline 6 number 3\nimported 3 refused 2\n";
+    assert_eq!(rt; out.bytes(), told.as_bytes());
+    let out = records(rt.alloc(), &mut media)?;
+    let kept = "key,c1,blob\n1,-25,\n2,-5,00abff\n3,0,-\n";
+    assert_eq!(rt; out.bytes(), kept.as_bytes());
+    Ok(())
+}
+
+#[test]
+fn statuses_have_their_causes(rt: HostRuntime) -> Result<(), Fail> {
+    let cases: [(&str, &[u8], usize, ToolStatus, &str); 8] = [
+        (
+            "key,c1\n1,2\n",
+            b"t",
+            100,
+            ToolStatus::Done,
+            "key,c1\n1,2\n",
+        ),
+        ("key,c1\n1,2\n", b"s", 100, ToolStatus::NoTable, "key,c1\n"),
+        (
+            "key,c2\n1,2\n",
+            b"t",
+            100,
+            ToolStatus::BadInput { line: 1 },
+            "key,c1\n",
+        ),
+        ("", b"t", 100, ToolStatus::BadInput { line: 1 }, "key,c1\n"),
+        (
+            "\nkey,c1\n",
+            b"t",
+            100,
+            ToolStatus::BadInput { line: 1 },
+            "key,c1\n",
+        ),
+        (
+            "key,c1,blob\n",
+            b"t",
+            100,
+            ToolStatus::BadInput { line: 1 },
+            "key,c1\n",
+        ),
+        // The line that is refused isn't told whole, and the ones before it are flushed.
+        (
+            "key,c1\n1,2\nx\n3,4\n",
+            b"t",
+            9,
+            ToolStatus::OutWrite,
+            "key,c1\n1,2\n",
+        ),
+        (
+            "key,c1\n1,2\n",
+            b"t",
+            9,
+            ToolStatus::OutWrite,
+            "key,c1\n1,2\n",
+        ),
+    ];
+    for (text, name, room, wanted, kept) in cases {
+        let mut media = empty(rt.alloc(), PLAIN, PLAIN_BYTES)?;
+        let (status, _out) = import(rt.alloc(), &mut media, name, text.as_bytes(), &[], room)?;
+        assert_eq!(rt; status, wanted, "{text}");
+        let out = records(rt.alloc(), &mut media)?;
+        assert_eq!(rt; out.bytes(), kept.as_bytes(), "{text}");
+    }
+    Ok(())
+}
+
+// A header, a record, and a line of so many bytes.
+fn with_line(alloc: Global, len: usize) -> Result<Vec<u8>, NoMemory> {
+    let mut text = b"key,c1\n1,2\n".to_vec(alloc)?;
+    for _ in 0..len {
+        text.push(b'0')?;
+    }
+    text.extend_from_slice(b"\n3,4\n")?;
+    Ok(text)
+}
+
+#[test]
+fn a_line_has_at_most_4096_bytes(rt: HostRuntime) -> Result<(), Fail> {
+    let text = with_line(rt.alloc(), 4096)?;
+    let mut media = empty(rt.alloc(), PLAIN, PLAIN_BYTES)?;
+    let (status, out) = import(rt.alloc(), &mut media, b"t", &text, &[], 100)?;
+    assert_eq!(rt; status, ToolStatus::Done);
+    let told = "line 3 fields 2\nimported 2 refused 1\n";
+    assert_eq!(rt; out.bytes(), told.as_bytes());
+    let text = with_line(rt.alloc(), 4097)?;
+    let mut media = empty(rt.alloc(), PLAIN, PLAIN_BYTES)?;
+    let (status, out) = import(rt.alloc(), &mut media, b"t", &text, &[], 100)?;
+    assert_eq!(rt; status, ToolStatus::BadInput { line: 3 });
+    assert_eq!(rt; out.bytes().len(), 0);
+    let out = records(rt.alloc(), &mut media)?;
+    assert_eq!(rt; out.bytes(), "key,c1\n1,2\n".as_bytes());
+    Ok(())
+}
+
+#[test]
+fn a_source_that_fails_is_told(rt: HostRuntime) -> Result<(), Fail> {
+    // The first call gives all bytes, and the second, which fails, would tell that there are no more.
+    let cases: [(u64, &str, &str); 2] = [
+        (1, "key,c1\n1,2\n", "key,c1\n"),
+        (2, "key,c1\n1,2\n3,4", "key,c1\n1,2\n"),
+    ];
+    for (call, text, kept) in cases {
+        let mut media = empty(rt.alloc(), PLAIN, PLAIN_BYTES)?;
+        let (status, out) = import(rt.alloc(), &mut media, b"t", text.as_bytes(), &[call], 100)?;
+        assert_eq!(rt; status, ToolStatus::InputRead);
+        assert_eq!(rt; out.bytes().len(), 0);
+        let out = records(rt.alloc(), &mut media)?;
+        assert_eq!(rt; out.bytes(), kept.as_bytes());
+    }
+    Ok(())
+}
+
+#[test]
+fn a_medium_that_fails_is_told(rt: HostRuntime) -> Result<(), Fail> {
+    // The first call reads the header, the third is one of the mount, and a later one programs the page of the flush.
+    let mut done = false;
+    for call in 1..200 {
+        let mut media = empty(rt.alloc(), PLAIN, PLAIN_BYTES)?;
+        media.fail_call(call);
+        let (status, out) = import(rt.alloc(), &mut media, b"t", b"key,c1\n1,2\n", &[], 100)?;
+        if status == ToolStatus::Done {
+            done = true;
+            break;
+        }
+        assert_eq!(rt; status, ToolStatus::Device);
+        assert_eq!(rt; out.bytes().len(), 0);
+    }
+    assert!(rt; done);
+    Ok(())
+}
+
+#[test]
+fn an_input_has_at_most_16777216_bytes(rt: HostRuntime) -> Result<(), Fail> {
+    // Behind the first record 4,096 lines of 4,096 bytes with their newline, each of which has one field too few.
+    let mut line = Vec::new(rt.alloc());
+    line.resize(4095, b'0')?;
+    line.push(b'\n')?;
+    let mut text = b"key,c1\n1,2\n".to_vec(rt.alloc())?;
+    for _ in 0..4096 {
+        text.extend_from_slice(&line)?;
+    }
+    let mut media = empty(rt.alloc(), PLAIN, PLAIN_BYTES)?;
+    let (status, _out) = import(rt.alloc(), &mut media, b"t", &text, &[], 100_000)?;
+    assert_eq!(rt; status, ToolStatus::InputLong);
+    let out = records(rt.alloc(), &mut media)?;
+    assert_eq!(rt; out.bytes(), "key,c1\n1,2\n".as_bytes());
+    Ok(())
+}
+
+#[test]
+fn a_bad_image_is_told(rt: HostRuntime) -> Result<(), Fail> {
+    // Number 5 doesn't stand at place 0.
+    let pieces: [Piece<'_>; 3] = [(0, &[5, 0, 0, 0, 1, 0, 0, 0]), (8, &[1]), (120, &SEAL)];
+    let bytes = image(rt.alloc(), PLAIN, PLAIN_BYTES, &pieces)?;
+    let len = bytes.len();
+    let mut media = MemMedia::new(rt.alloc(), bytes, len)?;
+    let (status, _out) = import(rt.alloc(), &mut media, b"t", b"key,c1\n", &[], 100)?;
+    assert_eq!(rt; status, ToolStatus::BadImage { table: 0 });
+    let mut media = empty(rt.alloc(), PLAIN, 1535)?;
+    let (status, _out) = import(rt.alloc(), &mut media, b"t", b"key,c1\n", &[], 100)?;
+    assert_eq!(rt; status, ToolStatus::NotImage);
+    Ok(())
+}

@@ -1,0 +1,4 @@
+pub mod Pieces
+pub mod Untouched
+pub mod Parts
+pub mod Reading

@@ -1,0 +1,4 @@
+pub mod Stream
+pub mod Texts
+pub mod Taken
+pub mod Given
