@@ -3,7 +3,6 @@ use Rattle.std.proofs.Common.{◌≡◌, ◌≢◌, ◌⊎◌, inl, inr, ℕ, ze
 use Rattle.std.proofs.lemmas.Bool.{both_ways, cases_lt, and_parts, or_cases, eqb-true}
 use Rattle.std.proofs.lemmas.Grind.{numeral_and}
 use Rattle.std.proofs.lemmas.List.{places, drop-drop, drop-replicate, take-replicate, get_or-set_other, get_or_default}
-use Rattle.std.proofs.Math.Bool.{or-true}
 use Rattle.std.proofs.Math.Nat.{mod-eq_of_lt, mul_assoc}
 use Rattle.std.specs.Int.Bits.{and_zero_r}
 use Rattle.fl_base.specs.declared.types.Geometry.{Geometry}
