@@ -34,6 +34,13 @@ use Rattle.fl_import.specs.Report.{number_text, reason_line}
 use Rattle.fl_import.specs.Steps.{IsOfLine, LineEnds, Works, by_told, is_unread}
 use Rattle.fl_import.proofs.Failing.{calm}
 
+-- two answers of a test are two
+no-true : false ≡ true → ⊥
+no-true e = cc
+
+no-false : true ≡ false → ⊥
+no-false e = cc
+
 -- ---- two texts, one behind the other
 
 pub told-front : {E : Type 0} (a b : Option (List ℕ)) (result : Result (Unit {0}) E) (first then written : List ℕ) → IsErr result → written ≡ first → AppendsFront a b written → Written a b result (first ++ then)
@@ -91,7 +98,7 @@ module _ (first : ℕ) (plan : Plan) (table : model.Table) (t u : Table 64 64) (
   module _ (number : ℕ) (told told_now : Option (List ℕ)) where
     -- the line is no record
     pub ends-reason : (put : Result Record CsvRefusal) (why : CsvRefusal) → is_unread why ≡ false → (why ≡ unread.NoMemory) ⊎ (put ≡ Err why) → u ≡ t → g ≡ f → (wrote : Result (Unit {0}) SinkFailed) → Written told told_now wrote (reason_line number why) → LineEnds first plan table number put u f g told told_now (by_told wrote)
-    ends-reason put why other (inl none) e k wrote written = let no = sym other ∙ ap is_unread none in cc
+    ends-reason put why other (inl none) e k wrote written = absurd (no-false (sym (ap is_unread none) ∙ other))
     ends-reason put why other (inr is) e k (Ok done) written =
         rw is (refl, works-same e k, written)
     ends-reason put why other (inr is) e k (Err fault) written =
@@ -115,20 +122,20 @@ module _ (first : ℕ) (plan : Plan) (table : model.Table) (t u : Table 64 64) (
           rw (is, ends.0) (refl, done, subst (λ (o : Option (List ℕ)). Appends told o []) (sym same) (appends-none told))
 
       pub ends-broken : (outcome : Result (Unit {0}) PutRefusal) → put_breaks outcome ≡ true → told_now ≡ told → PutEnds first plan item table (has_risen f g) works.device outcome u f g → LineEnds first plan table number put u f g told told_now (Err Device)
-      ends-broken (Ok done) breaks same ends = cc
-      ends-broken (Err (refusal.Key last)) breaks same ends = cc
-      ends-broken (Err (refusal.Columns wanted)) breaks same ends = cc
-      ends-broken (Err (refusal.Value column)) breaks same ends = cc
-      ends-broken (Err (refusal.Blob limit)) breaks same ends = cc
-      ends-broken (Err refusal.Spent) breaks same ends = cc
-      ends-broken (Err refusal.Stopped) breaks same ends = cc
+      ends-broken (Ok done) breaks same ends = absurd (no-true breaks)
+      ends-broken (Err (refusal.Key last)) breaks same ends = absurd (no-true breaks)
+      ends-broken (Err (refusal.Columns wanted)) breaks same ends = absurd (no-true breaks)
+      ends-broken (Err (refusal.Value column)) breaks same ends = absurd (no-true breaks)
+      ends-broken (Err (refusal.Blob limit)) breaks same ends = absurd (no-true breaks)
+      ends-broken (Err refusal.Spent) breaks same ends = absurd (no-true breaks)
+      ends-broken (Err refusal.Stopped) breaks same ends = absurd (no-true breaks)
       ends-broken (Err (refusal.Flash fault)) breaks same ends =
           let b = works-broken (put_seals plan item table) fault ends.1 in
           (b.rose, subst (λ (o : Option (List ℕ)). Appends told o []) (sym same) (appends-none told), (item, is, ends.0, (b.after, b.fails, b.rests)))
 
       pub ends-told : (why : PutRefusal) → put_breaks (Err why) ≡ false → PutEnds first plan item table (has_risen f g) works.device (Err why) u f g → RefusedSame t f why u g →
           (wrote : Result (Unit {0}) SinkFailed) → Written told told_now wrote (number_text number ++ text (put_reply (Err why))) → LineEnds first plan table number put u f g told told_now (by_told wrote)
-      ends-told (refusal.Flash fault) other ends same wrote written = cc
+      ends-told (refusal.Flash fault) other ends same wrote written = absurd (no-false other)
       ends-told (refusal.Key last) other ends same wrote written = ends-refused put item (BadKey last) (put_reply (Err (refusal.Key last))) is ends refl same.0 same.1 wrote written
       ends-told (refusal.Columns wanted) other ends same wrote written = ends-refused put item (BadColumns wanted) (put_reply (Err (refusal.Columns wanted))) is ends refl same.0 same.1 wrote written
       ends-told (refusal.Value column) other ends same wrote written = ends-refused put item (BadValue column) (put_reply (Err (refusal.Value column))) is ends refl same.0 same.1 wrote written

@@ -5,6 +5,7 @@ use Rattle.fl_table.specs.Look.{oldest_in, rows_noted}
 use Rattle.fl_table.specs.Memory.{next_in}
 use Rattle.fl_table.specs.declared.counts.TableCounts.{TableCounts}
 use Rattle.fl_table.proofs.Looks.{counts-is, counts-told}
+use Rattle.fl_table.proofs.Sizes.{table-fits}
 use Rattle.fl_table.proofs.PagesRead.{is-void, not-void, voids_few}
 use Rattle.fl_table.proofs.table.Table.counts.Goals as goal
 use Rattle.fl_table.proofs.table.Table.counts.Goals.{then-rows-eq0, else-rows-eq0}
@@ -66,3 +67,15 @@ returns-clause-exact g c =
     let last : c.loop-number.number - oldest_in t ≡ next_in t - oldest_in t =
     omega (arith, c.loop-number-test.false, c.loop-number.auto.number-end, c.oldest-oldest.ensures.exact, c.next_number-next.ensures.exact, c.next_number-next.ensures.ordered) in
     counts-told t c.loop-number.counts (c.loop-number.number - oldest_in t) last inv.rows inv.pending inv.pages inv.voids
+
+pub oldest-oldest-requires : goal.oldest-oldest-requires
+oldest-oldest-requires g c = table-fits g.row.KNOTS g.row.SLOTS c.args.self.now.few_knots c.args.self.now.few_slots
+
+pub next_number-next-requires : goal.next_number-next-requires
+next_number-next-requires g c = table-fits g.row.KNOTS g.row.SLOTS c.args.self.now.few_knots c.args.self.now.few_slots
+
+pub pending_rows-pending-requires : goal.pending_rows-pending-requires
+pending_rows-pending-requires g c = table-fits g.row.KNOTS g.row.SLOTS c.args.self.now.few_knots c.args.self.now.few_slots
+
+pub rows_of-rows-requires : goal.rows_of-rows-requires
+rows_of-rows-requires g c = table-fits g.row.KNOTS g.row.SLOTS c.args.self.now.few_knots c.args.self.now.few_slots
