@@ -1,7 +1,7 @@
 -- The fields of a record, one after another.
-use Rattle.std.proofs.Common.{◌≡◌, ℕ, ◌+◌, ◌<◌, ◌≤◌, zero, suc, ℤ, List, [], ◌∷◌, ◌++◌, Option, Some, None, Result, Ok, Err, Bor, length, take, drop, get_or, refl, sym, ◌∙◌, ap, arith, append_assoc, length-take, length-drop}
+use Rattle.std.proofs.Common.{◌≡◌, ℕ, ◌+◌, ◌<◌, ◌≤◌, zero, suc, ℤ, List, [], ◌∷◌, ◌++◌, Option, Some, None, Result, Ok, Err, Bor, length, take, drop, get_or, refl, sym, ◌∙◌, ap, arith, append_assoc, length-append, length-take, length-drop, eqb, eqb-true, true, map}
 use Rattle.std.specs.Prelude.{unwrap_or, option_map}
-use Rattle.std.proofs.lemmas.List.{append-nil, at_drop_more, at_drop_all, get_or-drop, get_or-take}
+use Rattle.std.proofs.lemmas.List.{append-nil, at_drop_more, at_drop_all, get_or-drop, get_or-take, length-map, map-append}
 use Rattle.csv.specs.Records.{field_at}
 use Rattle.fl_words.specs.Grammar.{Number, signed}
 use Rattle.fl_csv.specs.Lines.{◌>>=◌, values_from}
@@ -64,3 +64,30 @@ pub values-end : (columns i place : ℕ) (fields : List (List ℕ)) (done : List
 values-end columns i place fields done le =
     let few = length-take columns (drop 1 fields) in
     at_drop_all (λ l. after done (values_from place l)) (behind columns fields) i (omega (arith, few)) ∙ ap Ok (append-nil done)
+
+-- ---- fields taken one after another
+
+-- the fields so far, and those that are left
+abbrev nows : List (Bor (List ℕ)) → List (List ℕ)
+nows fields = map (λ field. field.now) fields
+
+pub too-many : (taken : List (Bor (List ℕ))) (n : ℕ) (all : List (List ℕ)) → nows taken ++ drop n all ≡ all → n < length all
+    → eqb (length taken) 10 ≡ true → 10 < length all
+too-many taken n all is lt full =
+    let ten : length taken ≡ 10 = eqb-true _ _ full in
+    let sum : length (nows taken) + length (drop n all) ≡ length all = sym (length-append (nows taken) (drop n all)) ∙ ap length is in
+    omega (arith, ten, sum, length-map taken (λ field. field.now), length-drop n all, lt)
+
+pub next-taken : (taken after : List (Bor (List ℕ))) (n : ℕ) (all : List (List ℕ)) (field : Bor (List ℕ)) → nows taken ++ drop n all ≡ all
+    → (n < length all) × (field.now ≡ get_or all n field.now) → after ≡ taken ++ field ∷ [] → nows after ++ drop (n + 1) all ≡ all
+next-taken taken after n all field is here pushed =
+    let front : nows after ≡ nows taken ++ field.now ∷ [] = ap nows pushed ∙ map-append (λ f. f.now) taken (field ∷ []) in
+    ap (λ l. l ++ drop (n + 1) all) front
+    ∙ append_assoc (nows taken) (field.now ∷ []) (drop (n + 1) all)
+    ∙ ap (λ x. nows taken ++ x ∷ drop (n + 1) all) here.1
+    ∙ sym (at_drop_more (λ l. nows taken ++ l) all n field.now here.0)
+    ∙ is
+
+pub all-taken : (taken : List (Bor (List ℕ))) (n : ℕ) (all : List (List ℕ)) → nows taken ++ drop n all ≡ all → n ≡ length all → nows taken ≡ all
+all-taken taken n all is end =
+    sym (append-nil (nows taken)) ∙ sym (at_drop_all (λ l. nows taken ++ l) all n (omega (arith, end))) ∙ is

@@ -12,7 +12,7 @@ use Rattle.std.proofs.lemmas.Str.Parse.{digit_from_value}
 use Rattle.std.proofs.Math.Seq.{take-append_seam}
 use Rattle.fl_model.specs.Record.{Record}
 use Rattle.fl_csv.specs.Text.{blob_fields, entry_fields, joined}
-use Rattle.fl_csv.specs.Lines.{blob_of, fields_put, only_record, record_put, records_of, values_from, wanted_fields}
+use Rattle.fl_csv.specs.Lines.{blob_of, fields_put, line_fields, record_put, values_from, wanted_fields}
 use Rattle.fl_csv.specs.Laws.{Fits, IsBlob, IsValue, LinesReadBack, blob_told, entry_of}
 use Rattle.fl_csv.specs.declared.record.CsvRefusal.TheVariants as refusal
 use Rattle.fl_csv.proofs.Blobs.{blob-written}
@@ -30,7 +30,7 @@ all-fit (value ∷ values) h = (as-fits value h.0, all-fit values h.1)
 
 -- a word of digits and fields behind it
 only-digits : (word : List ℕ) (rest : List (List ℕ)) → 0 < length word → AllDigits 10 word → IsPlain word → ArePlain rest
-    → only_record (records_of (joined (word ∷ rest))) ≡ Some (word ∷ rest)
+    → line_fields (joined (word ∷ rest)) ≡ Some (word ∷ rest)
 only-digits [] rest some digits h hs = absurd (omega arith)
 only-digits (byte ∷ bytes) rest some digits h hs = only-joined byte bytes rest (omega (arith, (digit_from_value byte digits.0).1)) h hs
 

@@ -17,7 +17,7 @@ unfolding records_from
 from-some n s xs p e = rw e refl
 
 -- a text from which a record is read isn't empty
-empty-none : next_record default_config st.StartRecord [] [] [] ≡ None
+pub empty-none : next_record default_config st.StartRecord [] [] [] ≡ None
 unfolding next_record
 empty-none = refl
 

@@ -1,9 +1,13 @@
 -- What is written of a record is read back as that record.
 use Rattle.std.specs.Prelude.{◌≡◌, ◌≤◌, ◌<◌, ◌^◌, ℕ, ◌-◌, ℤ, pos, negsuc, Bool, true, false, Option, Some, None, Ok, List, length, map, ⊤}
-use Rattle.std.specs.List.{AllByRecursion}
+use Rattle.std.specs.List.{AllByRecursion, fold}
+use Rattle.csv.specs.Machine.{step}
+use Rattle.csv.specs.Reading.{default_config, strip_bom}
+use Rattle.csv.specs.declared.parser.State.{State}
+use Rattle.csv.specs.declared.parser.State.TheVariants as st
 use Rattle.fl_model.specs.Record.{Record}
 use Rattle.fl_csv.specs.Text.{Blob, Absent, Nothing, Bytes, Entry, entry_fields, joined, csv_text}
-use Rattle.fl_csv.specs.Lines.{line_put, text_puts}
+use Rattle.fl_csv.specs.Lines.{is_bare, is_open, line_fields, line_put, parts_of, text_puts}
 
 -- a number of 64 bits with a sign
 abbrev pub IsValue : ℤ → Type 0
@@ -41,3 +45,21 @@ LinesReadBack = (columns : ℕ) (blobs : Bool) (stored : Record) → Fits column
 abbrev pub TextsReadBack : Type 0
 TextsReadBack = (columns : ℕ) (blobs : Bool) (stored : List Record) → columns ≤ 8 → AllByRecursion (Fits columns blobs) stored
     → text_puts columns blobs (csv_text columns blobs (map (entry_of blobs) stored)) ≡ map Ok stored
+
+abbrev pub is_quoted : State → Bool
+is_quoted st.InQuoted = true
+is_quoted st.StartRecord = false
+is_quoted st.StartField = false
+is_quoted st.InField = false
+is_quoted st.AfterQuote = false
+is_quoted st.InEscape = false
+is_quoted st.InComment = false
+is_quoted st.AfterCr = false
+
+-- a line ends between quotes just where the machine of the crate csv does, which goes on from one record to the next
+abbrev pub QuotesAsCsv : Type 0
+QuotesAsCsv = (line : List ℕ) → is_open line ≡ is_quoted (fold (λ state byte. (step default_config state byte).0) st.StartRecord (strip_bom line))
+
+-- what stands between the commas of a bare line is the one record that the crate csv reads
+abbrev pub BareLines : Type 0
+BareLines = (line : List ℕ) → is_bare line ≡ true → line_fields line ≡ Some (parts_of line)

@@ -1,14 +1,50 @@
 -- What a line means: the record that it is, or why it is none.
-use Rattle.std.specs.Prelude.{ℕ, ◌+◌, ℤ, Bool, ◌==◌, Option, Some, None, Result, Ok, Err, List, [], ◌∷◌, length, take, drop, get_or, map, if◌then◌else◌}
+use Rattle.std.specs.Prelude.{ℕ, ◌+◌, ℤ, Bool, true, false, not, ◌==◌, ◌&&◌, ◌||◌, Option, Some, None, Result, Ok, Err, List, [], ◌∷◌, length, take, drop, get_or, map, if◌then◌else◌}
+use Rattle.std.specs.List.{fold, list_all, slice_split}
 use Rattle.fl_model.specs.Record.{Record}
 use Rattle.fl_words.specs.Grammar as grammar
 use Rattle.csv.specs.Reading.{default_config, records, strip_bom}
+use Rattle.fl_csv.specs.declared.quotes.Place.{Place}
+use Rattle.fl_csv.specs.declared.quotes.Place.TheVariants.{Edge, Bare, Quoted}
 use Rattle.fl_csv.specs.declared.record.CsvRefusal.{CsvRefusal}
 use Rattle.fl_csv.specs.declared.record.CsvRefusal.TheVariants.{Csv, Fields, Number}
 
 -- the records that the crate csv reads from a text without a header row, whose records may differ in their number of fields
 abbrev pub records_of : List ℕ → List (List (List ℕ))
 records_of text = records default_config (strip_bom text)
+
+-- outside quotes a field begins behind a comma, a carriage return and a newline
+abbrev pub place_outside : ℕ → Place
+place_outside byte = if (byte == 44) || (byte == 13) || (byte == 10) then Edge else Bare
+
+-- A quote opens where it is the first byte of a field, and right behind a closing quote, so that a doubled quote is content.
+-- Between quotes it closes. Elsewhere it is a byte like any other, as are those behind a closing quote.
+abbrev pub place_after : Place → ℕ → Place
+place_after Edge byte = if byte == 34 then Quoted else place_outside byte
+place_after Bare byte = place_outside byte
+place_after Quoted byte = if byte == 34 then Edge else Quoted
+
+abbrev pub is_between : Place → Bool
+is_between Edge = false
+is_between Bare = false
+is_between Quoted = true
+
+-- a line that ends between quotes
+abbrev pub is_open : List ℕ → Bool
+is_open line = is_between (fold place_after Edge (strip_bom line))
+
+-- a byte that is neither a quote nor ends a record
+abbrev pub stands_alone : ℕ → Bool
+stands_alone byte = not ((byte == 34) || (byte == 13) || (byte == 10))
+
+-- a line whose fields are what stands between its commas: each of its bytes stands alone, it isn't empty, and it doesn't
+-- begin with 239, the first byte of a byte order mark
+abbrev pub is_bare : List ℕ → Bool
+is_bare [] = false
+is_bare (byte ∷ bytes) = not (byte == 239) && list_all stands_alone (byte ∷ bytes)
+
+abbrev pub parts_of : List ℕ → List (List ℕ)
+parts_of line = slice_split (λ byte. byte == 44) line
 
 infixl 10 ◌>>=◌
 abbrev pub ◌>>=◌ : {A B : Type 0} → Result A CsvRefusal → (A → Result B CsvRefusal) → Result B CsvRefusal
@@ -54,6 +90,10 @@ abbrev pub only_record : List (List (List ℕ)) → Option (List (List ℕ))
 only_record (fields ∷ []) = Some fields
 only_record other = None
 
+-- the only record of a line, whose quotes are all closed
+abbrev pub line_fields : List ℕ → Option (List (List ℕ))
+line_fields line = if is_open line then None else only_record (records_of line)
+
 abbrev pub record_put : ℕ → Bool → Option (List (List ℕ)) → Result Record CsvRefusal
 record_put columns blobs None = Err Csv
 record_put columns blobs (Some fields) =
@@ -61,7 +101,7 @@ record_put columns blobs (Some fields) =
 
 -- what a line without its newline means
 abbrev pub line_put : ℕ → Bool → List ℕ → Result Record CsvRefusal
-line_put columns blobs line = record_put columns blobs (only_record (records_of line))
+line_put columns blobs line = record_put columns blobs (line_fields line)
 
 -- what the lines of a text below the first one mean, in turn
 abbrev pub text_puts : ℕ → Bool → List ℕ → List (Result Record CsvRefusal)

@@ -1,11 +1,14 @@
 //! Records as lines of CSV, both ways: a line of the columns' names, and a line for each record.
 #![tactic(auto)]
 
-ghost use Rattle.fl_csv.specs.Laws.{LinesReadBack, TextsReadBack};
+ghost use Rattle.fl_csv.specs.Laws.{BareLines, LinesReadBack, QuotesAsCsv, TextsReadBack};
 
+mod bare;
 mod field;
+mod quotes;
 mod read;
 mod record;
+mod row;
 #[cfg(test)]
 mod tests;
 mod write;
@@ -22,4 +25,14 @@ pub fn lines_read_back()
 /// The text of records that fit is read back, line by line, as these records.
 pub fn texts_read_back()
     ensures { TextsReadBack }
+{}
+
+/// A line ends between quotes just where the crate csv reads it so.
+pub fn quotes_as_csv()
+    ensures { QuotesAsCsv }
+{}
+
+/// A line that is cut at its commas is read by the crate csv as the one record of these fields.
+pub fn bare_lines()
+    ensures { BareLines }
 {}

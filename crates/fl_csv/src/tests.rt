@@ -75,9 +75,11 @@ fn is_put(
 
 #[test]
 fn a_line_is_a_record(rt: HostRuntime) -> Result<(), Fail> {
-    let lines: [(&str, bool, u64, &[i64], Option<&[u8]>); 8] = [
+    let lines: [(&str, bool, u64, &[i64], Option<&[u8]>); 10] = [
         ("1,-25", false, 1, &[-25], None),
         ("\"2\",-5", false, 2, &[-5], None),
+        ("\"1\"2,\"\"3", false, 12, &[3], None),
+        ("\u{feff}\"1\",2", false, 1, &[2], None),
         ("007,-0,00", false, 7, &[0, 0], None),
         ("1,2\r", false, 1, &[2], None),
         ("\u{feff}1,2", false, 1, &[2], None),
@@ -98,7 +100,14 @@ fn the_first_fault_is_told(rt: HostRuntime) -> Result<(), Fail> {
         ("", false, Csv),
         ("\r", false, Csv),
         ("1,2\r3,4", false, Csv),
+        ("\"", false, Csv),
+        ("1,\"2", false, Csv),
+        ("1,\"\"\"", false, Csv),
+        ("\"1\"\",2", false, Csv),
+        ("\u{feff}\"1,2", false, Csv),
+        ("\"\"", false, Fields { wanted: 2 }),
         ("2", false, Fields { wanted: 2 }),
+        ("1,2,3,4,5,6,7,8,9,10,11", false, Fields { wanted: 2 }),
         ("x,y,z", false, Fields { wanted: 2 }),
         ("1,2", true, Fields { wanted: 3 }),
         ("x,y", false, Number { field: 1 }),
@@ -107,6 +116,8 @@ fn the_first_fault_is_told(rt: HostRuntime) -> Result<(), Fail> {
         ("-1,2", false, Number { field: 1 }),
         ("18446744073709551616,1", false, Number { field: 1 }),
         ("2,x", false, Number { field: 2 }),
+        ("1,2\"", false, Number { field: 2 }),
+        ("1,\"2\"b\"", false, Number { field: 2 }),
         ("1, 2", false, Number { field: 2 }),
         ("1,+2", false, Number { field: 2 }),
         ("1,-", false, Number { field: 2 }),

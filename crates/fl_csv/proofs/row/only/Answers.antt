@@ -3,7 +3,7 @@ use Rattle.csv.specs.Reading.{default_config, strip_bom}
 use Rattle.csv.specs.declared.parser.State.TheVariants as st
 use Rattle.csv.proofs.ReadFacts.{rows-end, rows-more}
 use Rattle.fl_csv.proofs.Reading.{no-record, one-record, two-records, none-of, reached-start}
-use Rattle.fl_csv.proofs.read.only.Goals as goal
+use Rattle.fl_csv.proofs.row.only.Goals as goal
 
 -- the bytes that a slice has left
 abbrev left-of : Bor (List ℕ) → Option (List ℕ)

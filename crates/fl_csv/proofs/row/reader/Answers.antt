@@ -1,5 +1,5 @@
 use Rattle.std.proofs.Common.{◌∙◌, inr}
-use Rattle.fl_csv.proofs.read.reader.Goals as goal
+use Rattle.fl_csv.proofs.row.reader.Goals as goal
 
 pub returns : goal.returns
 returns c =

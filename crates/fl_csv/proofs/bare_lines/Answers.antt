@@ -1,0 +1,5 @@
+use Rattle.fl_csv.proofs.Splitting.{bare-line}
+use Rattle.fl_csv.proofs.bare_lines.Goals as goal
+
+pub returns : goal.returns
+returns c = bare-line
