@@ -4,6 +4,7 @@ pub mod Numbers
 pub mod Fields
 pub mod Plain
 pub mod Sends
+pub mod Gathers
 pub mod Places
 pub mod Splitting
 pub mod ReadBack

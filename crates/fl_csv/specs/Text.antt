@@ -28,6 +28,20 @@ blob_fields Nothing = [] ∷ []
 blob_fields (Bytes bytes) = bytes_field bytes ∷ []
 blob_fields Gone = codes "gone" ∷ []
 
+-- the blob's field behind its comma, where there is one: what isn't its digits, and the digits
+abbrev pub blob_mark : Blob → List ℕ
+blob_mark Absent = []
+blob_mark Nothing = codes ","
+blob_mark (Bytes []) = codes ",-"
+blob_mark (Bytes (byte ∷ bytes)) = codes ","
+blob_mark Gone = codes ",gone"
+
+abbrev pub blob_digits : Blob → List ℕ
+blob_digits Absent = []
+blob_digits Nothing = []
+blob_digits (Bytes bytes) = hex_text bytes
+blob_digits Gone = []
+
 -- the key, the values and the blob
 abbrev pub entry_fields : Entry → List (List ℕ)
 entry_fields entry = decimal entry.key ∷ (map signed_decimal entry.values ++ blob_fields entry.blob)

@@ -1,21 +1,20 @@
 // The line of the names and the line of a record, written to a sink.
-ghost use Rattle.std.specs.Prelude.{◌≡◌, ◌≤◌, ◌++◌, ◌∷◌, [], Err, IfOk, OnOk, FitsSigned, codes, decimal};
-ghost use Rattle.std.specs.Int.{w64};
-ghost use Rattle.std.specs.List.{AllByRecursion};
-ghost use Rattle.csv.specs.Records.{fields_of, partial_of};
-ghost use Rattle.csv.specs.Writing.{default_writer, row_text};
+ghost use Rattle.std.specs.Prelude.{◌≡◌, ◌≤◌, ◌+◌, ◌++◌, ◌∷◌, Err, IfOk, codes, decimal, length};
+ghost use Rattle.std.specs.String.{string_bytes};
 ghost use Rattle.fl_base.specs.Causes.{HasCause, Rose};
 ghost use Rattle.fl_base.specs.declared.stream.SinkFailed.{SinkFailed};
+ghost use Rattle.fl_words.specs.Reply.{hex_text};
 ghost use Rattle.fl_script.specs.Written.{Written};
-ghost use Rattle.fl_csv.specs.Text.{blob_fields, bytes_field, entry_fields, entry_text, header_text};
+ghost use Rattle.fl_csv.specs.Text.{blob_digits, blob_mark, entry_text, header_text};
 ghost use Rattle.fl_csv.specs.Views.{blob_view};
 
 use crate::{CsvBlob, CsvFault};
-use csv::{ByteRecord, WriterBuilder};
 use fl_base::{NoMemory, Sink, SinkFailed};
-use fl_script::{TextLine, write_all};
-use itoa::{Buffer, Integer};
+use fl_script::{LINE_BYTES, TextLine, write_all};
 use std::alloc::Global;
+
+/// Behind so many bytes a line still has room for one more value with its comma, 21 bytes, what is told of a blob and a newline.
+const FULL: usize = LINE_BYTES - 32;
 
 /// Writes the name of a column behind a comma.
 fn column_name<K: Sink>(column: usize, out: &mut K) -> Result<(), SinkFailed>
@@ -41,89 +40,67 @@ pub fn header_line<K: Sink>(columns: usize, blobs: bool, out: &mut K) -> Result<
     write_all(last, out)
 }
 
-/// Adds a field of a number's decimal digits.
-fn push_number<I: Integer>(row: &mut ByteRecord, n: I) -> Result<(), NoMemory>
-    requires { partial_of row.old ≡ [] }
-    ensures fields { OnOk result (fields_of row.new ≡ fields_of row.old ++ I.text n ∷ []) }
-    ensures partial { OnOk result (partial_of row.new ≡ []) }
-{
-    let mut digits = Buffer::new();
-    row.push_field(digits.format(n).as_bytes())?;
-    Ok(())
-}
-
-/// Adds the field of a blob's bytes.
-fn push_bytes(alloc: Global, row: &mut ByteRecord, bytes: &[u8]) -> Result<(), NoMemory>
-    requires { partial_of row.old ≡ [] }
-    ensures { OnOk result (fields_of row.new ≡ fields_of row.old ++ bytes_field bytes.now ∷ []) }
-{
-    if bytes.is_empty() {
-        row.push_field(b"-")?;
-    } else {
-        row.push_field(hex::encode(alloc, bytes)?.as_bytes())?;
-    }
-    Ok(())
-}
-
-/// Adds the field that tells of the blob, if there is one.
-fn push_blob(alloc: Global, row: &mut ByteRecord, blob: CsvBlob<'_>) -> Result<(), NoMemory>
-    requires { partial_of row.old ≡ [] }
-    ensures { OnOk result (fields_of row.new ≡ fields_of row.old ++ blob_fields (blob_view blob.entry)) }
+/// Adds what stands between the last value and the digits of the blob, if it has any.
+fn add_mark(line: &mut TextLine, blob: CsvBlob<'_>)
+    requires { length line.old ≤ FULL + 21 }
+    ensures text { line.new ≡ line.old ++ blob_mark (blob_view blob.entry) }
+    ensures short { length line.new ≤ length line.old + 5 }
 {
     match blob {
         CsvBlob::Absent => {}
-        CsvBlob::Nothing => row.push_field(b"")?,
-        CsvBlob::Bytes(bytes) => push_bytes(alloc, row, bytes)?,
-        CsvBlob::Empty => push_bytes(alloc, row, &[])?,
-        CsvBlob::Gone => row.push_field(b"gone")?,
+        CsvBlob::Nothing => line.add(b","),
+        CsvBlob::Bytes(bytes) if !bytes.is_empty() => line.add(b","),
+        CsvBlob::Bytes(_) | CsvBlob::Empty => line.add(b",-"),
+        CsvBlob::Gone => line.add(b",gone"),
     }
-    Ok(())
 }
 
-/// The key, the values and what is told of the blob.
-fn fields(
-    alloc: Global,
+/// Two digits for each byte.
+fn encoded(alloc: Global, bytes: &[u8]) -> Result<String, NoMemory>
+    ensures { IfOk result (λ digits. string_bytes digits ≡ hex_text bytes.now) }
+{
+    Ok(hex::encode(alloc, bytes)?)
+}
+
+/// The digits of a blob's bytes; none where it has none.
+fn digits(alloc: Global, blob: CsvBlob<'_>) -> Result<String, NoMemory>
+    ensures { IfOk result (λ digits. string_bytes digits ≡ blob_digits (blob_view blob.entry)) }
+{
+    match blob {
+        CsvBlob::Bytes(bytes) => encoded(alloc, bytes),
+        _ => Ok(String::new(alloc)),
+    }
+}
+
+/// Writes the line of a record, as a whole where it is short. No field needs quotes.
+fn write_line<K: Sink>(
     key: u64,
     values: &[i64],
     blob: CsvBlob<'_>,
-) -> Result<ByteRecord, NoMemory>
-    ensures fields { IfOk result (λ row. fields_of row ≡ entry_fields (record { key = key; values = values.now; blob = blob_view blob.entry })) }
-    ensures fit { OnOk result (AllByRecursion (FitsSigned w64) values.now) }
+    digits: &[u8],
+    out: &mut K,
+) -> Result<(), SinkFailed>
+    requires { digits.now ≡ blob_digits (blob_view blob) }
+    ensures text { Written (K.written out.old) (K.written out.new) result (entry_text (record { key = key; values = values.now; blob = blob_view blob.entry })) }
+    ensures cause { HasCause (K.faults out.old) (K.faults out.new) result }
 {
-    let mut row = ByteRecord::new(alloc);
-    push_number(&mut row, key)?;
+    let mut line = TextLine::new();
+    line.add_number(b"", key);
     for value in values {
-        push_number(&mut row, *value)?;
+        if line.bytes().len() > FULL {
+            write_all(line.bytes(), out)?;
+            line = TextLine::new();
+        }
+        line.add_number(b",", *value);
     }
-    push_blob(alloc, &mut row, blob)?;
-    Ok(row)
-}
-
-/// The line of the fields. Over memory a write fails only where memory runs out.
-fn line(alloc: Global, row: &ByteRecord) -> Result<Vec<u8>, NoMemory>
-    ensures { IfOk result (λ line. line.items ≡ row_text default_writer (fields_of row.now)) }
-{
-    let mut writer = WriterBuilder::new().from_writer(Vec::new(alloc));
-    if writer.write_byte_record(row).is_err() {
-        return Err(NoMemory);
+    add_mark(&mut line, blob);
+    if digits.is_empty() {
+        line.add(b"\n");
+        return write_all(line.bytes(), out);
     }
-    match writer.into_inner() {
-        Ok(line) => Ok(line),
-        Err(_) => Err(NoMemory),
-    }
-}
-
-/// The line of a record.
-fn record_line(
-    alloc: Global,
-    key: u64,
-    values: &[i64],
-    blob: CsvBlob<'_>,
-) -> Result<Vec<u8>, NoMemory>
-    ensures { IfOk result (λ line. line.items ≡ entry_text (record { key = key; values = values.now; blob = blob_view blob.entry })) }
-{
-    let row = fields(alloc, key, values, blob)?;
-    line(alloc, &row)
+    write_all(line.bytes(), out)?;
+    write_all(digits, out)?;
+    write_all(b"\n", out)
 }
 
 /// Writes the line of a record: the key, the values, and what is told of the blob. Where the sink fails a front of it was
@@ -140,10 +117,10 @@ pub fn write_record<K: Sink>(
     ensures later { K.faults out.old ≤ K.faults out.new }
     ensures cause { (failed : SinkFailed) → result ≡ Err (CsvFault.Sink failed) → Rose (K.faults out.old) (K.faults out.new) }
 {
-    let Ok(line) = record_line(alloc, key, values, blob) else {
+    let Ok(digits) = digits(alloc, blob) else {
         return Err(CsvFault::NoMemory);
     };
-    match write_all(&line, out) {
+    match write_line(key, values, blob, digits.as_bytes(), out) {
         Ok(()) => Ok(()),
         Err(failed) => Err(CsvFault::Sink(failed)),
     }
