@@ -1,19 +1,15 @@
 -- The fields that are written need no quotes: each byte is a digit, a letter or a dash.
-use Rattle.std.proofs.Common.{◌≡◌, ℕ, ◌+◌, ◌/◌, ◌%◌, ◌<◌, ◌≤◌, ◌^◌, suc, ℤ, pos, negsuc, false, eqb, List, [], ◌∷◌, ◌++◌, length, get_or, slice_index, map, inl, inr, refl, ◌∙◌, arith, decimal}
+use Rattle.std.proofs.Common.{ℕ, ◌/◌, ◌%◌, ◌<◌, ◌≤◌, ◌^◌, suc, ℤ, pos, negsuc, List, [], ◌∷◌, ◌++◌, map, arith, decimal}
 use Rattle.std.specs.Prelude.{FitsSigned}
 use Rattle.std.specs.Int.{w64}
-use Rattle.std.specs.List.{AllByRecursion, list_any, flat_map}
+use Rattle.std.specs.List.{AllByRecursion}
 use Rattle.std.specs.Fmt.{signed_decimal}
 use Rattle.std.specs.Str.Parse.{AllDigits}
-use Rattle.std.proofs.lemmas.Bool.{cases_lt}
 use Rattle.std.proofs.lemmas.Bool.Decides.{nat_tests}
 use Rattle.std.proofs.lemmas.Fmt.{decimal_is_IsNumeral}
 use Rattle.std.proofs.lemmas.Str.Parse.{digit_from_value}
-use Rattle.csv.specs.Writing.{default_writer, fields_text, is_blank, needs_byte, row_text}
 use Rattle.fl_words.specs.Reply.{hex_digit, hex_text}
-use Rattle.hex.specs.Hex.{encode_lower}
-use Rattle.fl_script.proofs.Digits16.{encode_lower-is}
-use Rattle.fl_csv.specs.Text.{Blob, Absent, Nothing, Bytes, Gone, Entry, blob_fields, bytes_field, entry_fields, entry_text, line_text}
+use Rattle.fl_csv.specs.Text.{Blob, Absent, Nothing, Bytes, Gone, blob_fields, bytes_field}
 
 abbrev pub IsPlain : List ℕ → Type 0
 IsPlain field = AllByRecursion (λ byte. 45 ≤ byte) field

@@ -1,21 +1,20 @@
 -- A bare line is read as what stands between its commas, and fields joined by commas are such a line, where they need no quotes.
-use Rattle.std.proofs.Common.{◌≡◌, ◌≢◌, ℕ, ◌<◌, ◌≤◌, get_or, Bool, true, false, not, eqb, ◌&&◌, ◌||◌, Some, None, List, [], ◌∷◌, ◌++◌, length, refl, sym, ◌∙◌, ap, arith, append_assoc}
+use Rattle.std.proofs.Common.{◌≡◌, ◌≢◌, ℕ, ◌<◌, ◌≤◌, get_or, Bool, true, false, not, eqb, ◌||◌, Some, List, [], ◌∷◌, ◌++◌, length, refl, ◌∙◌, ap, arith, append_assoc}
 use Rattle.std.specs.Prelude.{All}
-use Rattle.std.specs.List.{flat_map, fold, list_all, onto_first, slice_split}
+use Rattle.std.specs.List.{flat_map, fold, list_all, onto_first}
 use Rattle.std.proofs.lemmas.Bool.{and_parts, ne_eqb}
 use Rattle.std.proofs.lemmas.Bool.Decides.{nat_tests}
 use Rattle.std.proofs.lemmas.List.{append-nil}
 use Rattle.std.proofs.lemmas.List.Elements.{All-cons, All-nil}
-use Rattle.std.proofs.lemmas.List.Folds.{list_all-append}
 use Rattle.std.proofs.lemmas.List.Splits.{length-slice_split, slice_split_at, slice_split_none}
 use Rattle.csv.specs.Machine.{next_record}
-use Rattle.csv.specs.Reading.{default_config, records, strip_bom}
+use Rattle.csv.specs.Reading.{default_config, strip_bom}
 use Rattle.csv.specs.declared.parser.State.TheVariants as st
 use Rattle.csv.proofs.RoundTrip.{record-same, start-same}
 use Rattle.fl_csv.specs.declared.quotes.Place.{Place}
 use Rattle.fl_csv.specs.declared.quotes.Place.TheVariants.{Edge, Bare, Quoted}
 use Rattle.fl_csv.specs.Laws.{BareLines}
-use Rattle.fl_csv.specs.Lines.{is_bare, is_between, line_fields, only_record, parts_of, place_after, place_outside, records_of, stands_alone}
+use Rattle.fl_csv.specs.Lines.{is_bare, is_between, line_fields, parts_of, place_after, place_outside, stands_alone}
 use Rattle.fl_csv.specs.Text.{joined}
 use Rattle.fl_csv.proofs.Plain.{IsPlain, ArePlain}
 use Rattle.fl_csv.proofs.Reading.{empty-none, one-record, reached-one}

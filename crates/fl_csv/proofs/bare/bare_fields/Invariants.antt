@@ -1,4 +1,4 @@
-use Rattle.std.proofs.Common.{◌≡◌, ◌≤◌, ◌++◌, length, drop, map}
+use Rattle.std.proofs.Common.{◌≡◌, ◌++◌, length, drop, map}
 use Rattle.fl_csv.specs.Lines.{parts_of}
 use Rattle.fl_csv.proofs.bare.bare_fields.Given as goal
 

@@ -1,4 +1,4 @@
-use Rattle.std.proofs.Common.{◌≡◌, ◌≤◌, ◌++◌, length}
+use Rattle.std.proofs.Common.{◌≤◌, ◌++◌, length}
 use Rattle.fl_script.proofs.Sending.{Sent}
 use Rattle.fl_csv.specs.Text.{entry_text}
 use Rattle.fl_csv.specs.Views.{blob_view}
