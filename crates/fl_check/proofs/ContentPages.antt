@@ -29,17 +29,14 @@ module _ (page : List ℕ) (number : ℕ) (least : 24 ≤ length page) where
     marks = marks;
   }
 
-  module _ (is : IsContentPage number page) (small : number < 2 ^ 32) (short : length page < 65536) where
-    pub content_number : page_number page ≡ number
-    content_number = ap number_of (sym (take-take 4 8 page (omega arith)) ∙ ap (λ (l : List ℕ). take 4 l) is.head) ∙ number_of-le 4 number small
+module _ (page : List ℕ) (number : ℕ) (is : IsContentPage number page) where
+  pub content_count : length page < 65536 → page_count page ≡ is.used
+  content_count short =
+      ap number_of (sym (take-take 2 4 (drop 4 page) (omega arith)) ∙ ap (λ (l : List ℕ). take 2 l) (sym (drop-take 4 4 page) ∙ ap (λ (l : List ℕ). drop 4 l) is.head))
+      ∙ number_of-le 2 is.used (omega (arith, is.most, short))
 
-    pub content_count : page_count page ≡ is.used
-    content_count =
-        ap number_of (sym (take-take 2 4 (drop 4 page) (omega arith)) ∙ ap (λ (l : List ℕ). take 2 l) (sym (drop-take 4 4 page) ∙ ap (λ (l : List ℕ). drop 4 l) is.head))
-        ∙ number_of-le 2 is.used (omega (arith, is.most, short))
-
-    pub content_zero : all_are 0 (slice_range page 6 8) ≡ true
-    content_zero = is_zero page 6 2 8 refl (sym (drop-take 6 2 page) ∙ ap (λ (l : List ℕ). drop 6 l) is.head)
+  pub content_zero : all_are 0 (slice_range page 6 8) ≡ true
+  content_zero = is_zero page 6 2 8 refl (sym (drop-take 6 2 page) ∙ ap (λ (l : List ℕ). drop 6 l) is.head)
 
 module _ (page : List ℕ) (number : ℕ) (plan : Plan) (ring : Ring) (i count : ℕ) (size : plan.geometry.page ≡ length page) (at : oldest ring + i ≡ number) (is : HoldsContent plan ring i count page) where
   abbrev pub content_of_page : IsContentPage number page

@@ -1,5 +1,6 @@
 pub mod BlobEnds
-pub mod BlobParts
+pub mod BlobReaches
+pub mod BlobsKnown
 pub mod Breaks
 pub mod BytesBack
 pub mod ContentPages

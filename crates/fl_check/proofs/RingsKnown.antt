@@ -1,15 +1,22 @@
 -- What a table's rings are known to be, while its check goes from ring to ring.
-use Rattle.std.proofs.Common.{◌≡◌, ℕ, ◌<◌, nat_lt, IsTrue, Option, Some, length, ap, subst, arith}
+use Rattle.std.proofs.Common.{◌≡◌, ℕ, ◌+◌, ◌-◌, ◌<◌, nat_lt, true, IsTrue, Option, Some, None, length, ap, subst, arith}
 use Rattle.fl_base.specs.declared.types.Geometry.{Geometry}
+use Rattle.fl_base.specs.declared.types.RingPlace.{RingPlace}
 use Rattle.fl_flash.specs.Flash.{FlashState, page_at}
+use Rattle.fl_mark.specs.Mark.{state_of_page}
 use Rattle.fl_plan.specs.Plan.{blocks_in}
 use Rattle.fl_plan.specs.declared.table_config.TableConfig.{TableConfig}
+use Rattle.fl_ring.specs.Newest.{commits, page_back}
+use Rattle.fl_check.specs.Claims.{AllBelow}
+use Rattle.fl_check.specs.ContentPage.{IsContentPage}
 use Rattle.fl_check.specs.Looks.{OnlyLooks}
+use Rattle.fl_check.specs.Reaches.{HasContent}
 use Rattle.fl_check.specs.Rising.{HaveRows}
 use Rattle.fl_check.specs.RingRules.{IsRingSound}
-use Rattle.fl_check.specs.Whole.{Fits, rows_shape, layout_in, index_end, tally_in, IsRowsForm, AreRowsSound}
+use Rattle.fl_check.specs.Whole.{Fits, shape_in, rows_shape, layout_in, index_end, tally_in, IsRowsForm, IsVarForm, AreRowsSound}
 use Rattle.fl_check.specs.declared.numbering.Numbering.{Numbering}
 use Rattle.fl_check.specs.declared.tally.Tally.{Tally}
+use Rattle.fl_check.proofs.ContentPages.{content_count}
 use Rattle.fl_check.proofs.FormedRows.{have_rows, page_short}
 use Rattle.fl_check.proofs.Looking.{looks_more, seen}
 
@@ -24,6 +31,28 @@ sound_rows config f at_least n fits is = have_rows config.key config.columns.ite
         let high = fits.limits.geometry.page_high in
         let same : config.geometry.page ≡ f.geometry.page = ap (λ (g : Geometry). g.page) fits.geometry in
         omega (arith, few, high, same)
+
+-- the committed pages of a sound ring of variable data have content
+pub sound_content : (config : TableConfig) (f : FlashState) (place : RingPlace) (at_least : ℕ) (n : Numbering) → Fits config f
+    → IsRingSound IsVarForm None (page_at f) (shape_in config place) at_least n → AllBelow (HasContent (page_at f) (shape_in config place) n.marks.at) n.marks.kept
+sound_content config f place at_least n fits is i lt committed =
+    let r = shape_in config place in
+    let j = n.marks.kept - (i + 1) in
+    let bytes = page_at f (page_back r n.marks.at (i + 1)) in
+    let number = n.next - (i + 1) in
+    let before : j < n.marks.kept = omega (arith, lt) in
+    let back : n.marks.kept - j ≡ i + 1 = omega (arith, lt) in
+    let own = (is.formed.numbered.numbers.each j before).not_negative in
+    let left = is.formed.numbered.numbers.left in
+    let form = subst
+    (λ (b : ℕ). (number : ℕ) → number + b ≡ n.next → commits (state_of_page (page_at f (page_back r n.marks.at b))) ≡ true → IsContentPage number (page_at f (page_back r n.marks.at b)))
+    back (is.formed.bodies j before) in
+    let good : IsContentPage number bytes = form number (omega (arith, own, back)) committed in
+    let few = page_short f (page_back r n.marks.at (i + 1)) in
+    let high = fits.limits.geometry.page_high in
+    let same : config.geometry.page ≡ f.geometry.page = ap (λ (g : Geometry). g.page) fits.geometry in
+    let count = content_count bytes number good (omega (arith, few, high, same)) in
+    (omega (arith, count, good.some), omega (arith, count, good.most, few, same))
 
 -- the numbers of the data ring begin after those that the index lists
 pub rows_known : (config : TableConfig) (a b c : FlashState) (index : Option Numbering) (end : ℕ) (rows : Numbering) → OnlyLooks a b → OnlyLooks b c

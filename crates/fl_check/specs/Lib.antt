@@ -12,6 +12,7 @@ pub mod Marks
 pub mod MountLaw
 pub mod Numbering
 pub mod Numbers
+pub mod Reaches
 pub mod References
 pub mod Rest
 pub mod RingRules

@@ -1,9 +1,9 @@
 -- The rule on the references of a table's rows: each leads before the next page of variable data, and where its first page
 -- is there, to all bytes of its blob.
-use Rattle.std.specs.Prelude.{◌≡◌, ℕ, ◌+◌, ◌-◌, ◌*◌, ◌/◌, ◌%◌, ◌<◌, ◌≤◌, true, Option, Some, IfSome, List, length, slice_get}
+use Rattle.std.specs.Prelude.{◌≡◌, ℕ, ◌+◌, ◌-◌, ◌/◌, ◌%◌, ◌<◌, ◌≤◌, true, Option, Some, IfSome, List, length, slice_get}
 use Rattle.fl_base.specs.declared.types.BlobRef.{BlobRef}
 use Rattle.fl_mark.specs.Mark.{state_of_page}
-use Rattle.fl_model.specs.Record.{RowLayout, layout_len}
+use Rattle.fl_model.specs.Record.{RowLayout}
 use Rattle.fl_model.specs.Row.{Row}
 use Rattle.fl_page.specs.Header.{page_number, page_count}
 use Rattle.fl_page.specs.Page.{IsGoodPage, rows_in}
@@ -84,10 +84,3 @@ pub record ReferencesBreak (layout : RowLayout) (page : ℕ → List ℕ) (d : S
   pub i : ℕ
   pub first : FailsFirst (PageLeads layout page d m r n) m.kept i
   pub is : p ≡ kept_page d m i
-
--- how many pages of variable data are read at most for the rows of a data page
-abbrev pub rows_reads : RowLayout → ℕ → Numbering → ℕ
-rows_reads layout size n = (size - 24) / layout_len layout * n.marks.kept
-
-abbrev pub references_reads : RowLayout → Shape → Marks → Numbering → ℕ
-references_reads layout d m n = m.kept * (1 + rows_reads layout d.size n)

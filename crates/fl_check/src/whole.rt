@@ -1,9 +1,10 @@
 // The check of a table: the rules of its rings, one ring after another, and then those on its index and its references.
-ghost use Rattle.std.specs.Prelude.{◌≡◌, ◌≤◌, ◌+◌, ℕ, List, None, Some, is_some, length, IsTrue, IfOk, IfErr, OnOk};
+ghost use Rattle.std.specs.Prelude.{◌≡◌, ◌≤◌, ◌+◌, ◌*◌, ℕ, List, None, Some, is_some, length, vec_len, IsTrue, IfOk, IfErr, OnOk};
 ghost use Rattle.fl_flash.specs.Flash.{page_at};
 ghost use Rattle.fl_flash.specs.declared.flash.FlashFault.{FlashFault};
 ghost use Rattle.fl_model.specs.Record.{layout_len};
 ghost use Rattle.fl_plan.specs.Limits.{IsWithinLimits};
+ghost use Rattle.fl_plan.specs.Plan.{blocks_in};
 ghost use Rattle.fl_plan.specs.Refusal.{config_fault};
 ghost use Rattle.fl_ring.specs.Looking.{ReadFails};
 ghost use Rattle.fl_schema.specs.Schema.{layout_of, types_of};
@@ -22,10 +23,12 @@ use crate::forms::{ContentForm, DataForm};
 use crate::halt::{Fault, Halt, in_ring};
 use crate::index_form::IndexForm;
 use crate::numbering::Numbering;
+use crate::reaches::find_reaches;
 use crate::references::{BlobPages, find_misleading};
 use crate::ringed::{check_ring, check_rows};
 use crate::rule::Rule;
 use crate::tally::{Tally, find_end, tally_pages};
+use fl_base::NoMemory;
 use fl_flash::{Flash, FlashFault, PageBuf};
 use fl_plan::TableConfig;
 use fl_ring::Ring;
@@ -266,11 +269,11 @@ impl Checked<'_> {
         &self,
         flash: &mut F,
         t: TableNumbers,
-        listing: &mut PageBuf,
+        reaches: &mut [u64],
         buf: &mut PageBuf,
     ) -> Result<(), Halt>
         requires fits { Fits self.now.config.now (F.state flash.old) }
-        requires listing { length listing.old.bytes ≡ self.now.config.now.geometry.page }
+        requires listed { blocks_in self.now.config.now.var * self.now.config.now.geometry.block ≤ length reaches.old }
         requires room { length buf.old.bytes ≡ self.now.config.now.geometry.page }
         requires rows { AreWithin (rows_shape self.now.config.now) t.rows.marks }
         requires var { LiesWithin self.now.config.now self.now.config.now.var t.var }
@@ -284,21 +287,16 @@ impl Checked<'_> {
             return Ok(());
         };
         let Some(n) = t.var else { unreachable!() };
-        let rows = Ring::unnumbered(flash, self.config.rows);
         let var = Ring::unnumbered(flash, place);
+        find_reaches(&var, flash, n.marks, reaches, buf)?;
         let blobs = BlobPages {
             ring: &var,
             numbering: n,
+            content: self.config.geometry.page - 16,
+            reaches,
         };
-        let broken = find_misleading(
-            &rows,
-            flash,
-            t.rows.marks,
-            &self.schema,
-            blobs,
-            listing,
-            buf,
-        )?;
+        let rows = Ring::unnumbered(flash, self.config.rows);
+        let broken = find_misleading(&rows, flash, t.rows.marks, &self.schema, &blobs, buf)?;
         found(RingName::Data, Rule::Blob, broken)
     }
 
@@ -306,10 +304,12 @@ impl Checked<'_> {
     fn check<F: Flash>(
         &self,
         flash: &mut F,
+        reaches: &mut [u64],
         listing: &mut PageBuf,
         buf: &mut PageBuf,
     ) -> Result<Rings, Halt>
         requires fits { Fits self.now.config.now (F.state flash.old) }
+        requires listed { blocks_in self.now.config.now.var * self.now.config.now.geometry.block ≤ length reaches.old }
         requires listing { length listing.old.bytes ≡ self.now.config.now.geometry.page }
         requires room { length buf.old.bytes ≡ self.now.config.now.geometry.page }
         ensures looks { OnlyLooks (F.state flash.old) (F.state flash.new) }
@@ -321,7 +321,7 @@ impl Checked<'_> {
     {
         let rings = self.check_rings(flash, buf)?;
         self.check_index_entries(flash, rings.numbers, listing, buf)?;
-        self.check_blobs(flash, rings.numbers, listing, buf)?;
+        self.check_blobs(flash, rings.numbers, reaches, buf)?;
         Ok(rings)
     }
 }
@@ -353,6 +353,15 @@ fn schema_of(config: &TableConfig) -> Schema<8>
     schema
 }
 
+/// Room for how far the content of each page of variable data reaches.
+fn reaches_room(alloc: Global, config: &TableConfig) -> Result<Vec<u64>, NoMemory>
+    requires { IsWithinLimits config.now }
+    ensures { IfOk result (λ reaches. vec_len reaches ≡ blocks_in config.now.var * config.now.geometry.block) }
+{
+    let pages = config.var_blocks() as usize * config.geometry.block as usize;
+    Ok(vec![in alloc; 0; pages]?)
+}
+
 /// Checks the rings of a table: their pages are read, and nothing is repaired. Finds the first rule that doesn't hold, with
 /// the first page that breaks it: ring by ring in the order of index, data and variable data those on the ring's own pages,
 /// and then those on the index and on the references. Its memory is taken before the flash is read.
@@ -369,9 +378,10 @@ pub fn check_table<F: Flash>(
 {
     let mut listing = PageBuf::new(alloc, config.geometry.page)?;
     let mut buf = PageBuf::new(alloc, config.geometry.page)?;
+    let mut reaches = reaches_room(alloc, config)?;
     let schema = schema_of(config);
     let checked = Checked { config, schema };
-    match checked.check(flash, &mut listing, &mut buf) {
+    match checked.check(flash, &mut reaches, &mut listing, &mut buf) {
         Ok(rings) => Ok(Finding::Sound {
             rows: rings.tally.rows,
             pages: rings.numbers.rows.marks.kept,

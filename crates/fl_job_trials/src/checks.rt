@@ -45,9 +45,9 @@ fn blob_page(page: u8, offset: u8, length: u8) -> [u8; 38] {
     ]
 }
 
-// Page 0 of variable data, with the number of its bytes of content.
-fn content_page(used: u8) -> [u8; 8] {
-    [0, 0, 0, 0, used, 0, 0, 0]
+// A page of variable data with this number, and the number of its bytes of content.
+fn content_page(number: u8, used: u8) -> [u8; 8] {
+    [number, 0, 0, 0, used, 0, 0, 0]
 }
 
 // An image of this configuration, whose pages are blank but for these pieces, of which a later one hides an earlier one.
@@ -304,23 +304,64 @@ fn entries(rt: HostRuntime) -> Result<(), Fail> {
 
 #[test]
 fn references(rt: HostRuntime) -> Result<(), Fail> {
-    let three = content_page(3);
+    let three = content_page(0, 3);
     let cases = [
         // The blob, or the end of it.
         (blob_page(0, 0, 3), three, ONE_ROW),
         (blob_page(0, 2, 1), three, ONE_ROW),
         // The content ends before it, or before its beginning.
-        (blob_page(0, 0, 3), content_page(2), "fault t data 0 7\n"),
+        (blob_page(0, 0, 3), content_page(0, 2), "fault t data 0 7\n"),
         (blob_page(0, 3, 1), three, "fault t data 0 7\n"),
         // Page 1 isn't written.
         (blob_page(1, 0, 3), three, "fault t data 0 7\n"),
         // The reference to an empty blob isn't ten bytes 0.
         (blob_page(1, 0, 0), three, "fault t data 0 4\n"),
         // A page has no content.
-        (blob_page(0, 0, 3), content_page(0), "fault t var 6 4\n"),
+        (blob_page(0, 0, 3), content_page(0, 0), "fault t var 6 4\n"),
     ];
     for (rows, content, wanted) in cases {
         let pieces: [Piece<'_>; 4] = [(0, &rows), (56, &SEAL), (384, &content), (440, &SEAL)];
+        let out = check(rt.alloc(), WITH_BLOBS, 768, &pieces)?;
+        assert_eq!(rt; out.bytes(), wanted.as_bytes());
+    }
+    Ok(())
+}
+
+// Three pages of variable data, of which 48 bytes of content fill one. The second has so many, and its mark stands there.
+#[test]
+fn blobs_over_pages(rt: HostRuntime) -> Result<(), Fail> {
+    let misleads = "fault t data 0 7\n";
+    let cases = [
+        // The blob ends with the content of the last page, or a byte after it.
+        (blob_page(0, 10, 95), 48, 56, ONE_ROW),
+        (blob_page(0, 10, 96), 48, 56, misleads),
+        // It ends with a full page.
+        (blob_page(0, 0, 96), 48, 56, ONE_ROW),
+        // It begins with the last byte of a full page, or after it.
+        (blob_page(0, 47, 2), 48, 56, ONE_ROW),
+        (blob_page(0, 48, 1), 48, 56, misleads),
+        // The second page lacks a byte.
+        (blob_page(0, 0, 95), 47, 56, ONE_ROW),
+        (blob_page(0, 0, 96), 47, 56, misleads),
+        // It was given up, so that a blob that begins there is gone.
+        (blob_page(0, 0, 48), 48, 60, ONE_ROW),
+        (blob_page(0, 0, 49), 48, 60, misleads),
+        (blob_page(1, 0, 1), 48, 60, ONE_ROW),
+    ];
+    for (rows, used, mark, wanted) in cases {
+        let first = content_page(0, 48);
+        let second = content_page(1, used);
+        let third = content_page(2, 9);
+        let pieces: [Piece<'_>; 8] = [
+            (0, &rows),
+            (56, &SEAL),
+            (384, &first),
+            (440, &SEAL),
+            (448, &second),
+            (448 + mark, &SEAL),
+            (512, &third),
+            (568, &SEAL),
+        ];
         let out = check(rt.alloc(), WITH_BLOBS, 768, &pieces)?;
         assert_eq!(rt; out.bytes(), wanted.as_bytes());
     }

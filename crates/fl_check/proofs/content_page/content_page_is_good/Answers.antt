@@ -17,5 +17,5 @@ returns-then-each_is c =
 pub returns-else-each_is : goal.returns-else-each_is
 returns-else-each_is c = (
   λ is. absurd (cc (sym is ∙ c.if-each_is.false)),
-  λ is. c.each_is.ensures ∙ content_zero c.args.page.now c.args.number c.requires.least is (omega (arith, c.ranges.number.fits)) c.requires.most,
+  λ is. c.each_is.ensures ∙ content_zero c.args.page.now c.args.number is,
 )

@@ -1,73 +1,71 @@
-use Rattle.std.proofs.Common.{rules, ℕ, ◌+◌, ◌*◌, sym, ◌∙◌, subst, arith}
-use Rattle.fl_ring.specs.Looking.{OnlyReads}
+use Rattle.std.proofs.Common.{◌≡◌, ℕ, List, true, sym, ◌∙◌, ap, subst, arith}
+use Rattle.std.proofs.lemmas.Bool.{true≢false}
+use Rattle.fl_flash.specs.Flash.{page_at}
+use Rattle.fl_mark.specs.Mark.{state_of_page}
+use Rattle.fl_page.specs.Header.{page_number}
+use Rattle.fl_page.specs.Page.{IsGoodPage, rows_in}
+use Rattle.fl_ring.specs.Newest.{commits}
 use Rattle.fl_ring.specs.Place.{shape_of}
-use Rattle.fl_ring.proofs.Exists.{lies_still, page_exists}
+use Rattle.fl_ring.proofs.Exists.{page_exists}
+use Rattle.fl_ring.proofs.Readings.{more_reads, same_page, told_still}
 use Rattle.fl_schema.specs.Schema.{layout_of}
-use Rattle.fl_check.specs.References.{rows_reads}
-use Rattle.fl_check.proofs.RowsLead.{reads_within, page_not, page_next}
+use Rattle.fl_check.specs.Marks.{kept_page}
+use Rattle.fl_check.specs.References.{RowsLead}
+use Rattle.fl_check.proofs.RowsLead.{page_not, page_next, committed_as}
 use Rattle.fl_check.proofs.references.find_misleading.Goals as goal
+use Rattle.fl_check.proofs.references.find_misleading.Goals.{then-is_committed+else-not-page_leads, else-is_committed}
 
-pub place_leads-requires : goal.place_leads-requires
-place_leads-requires g c =
+pub look-requires-clause-exists : goal.look-requires-clause-exists
+look-requires-clause-exists g c =
+    page_exists c.args.ring.now (g.F.Flash.state c.args.flash.now) (g.F.Flash.state c.loop-i.flash) c.loop-i.i c.page_back-place.result c.requires.lies c.loop-i.invariant.reads c.page_back-place.ensures.within
+
+pub returns-then-not-page_leads-clause-some : goal.returns-then-not-page_leads-clause-some
+returns-then-not-page_leads-clause-some g c = λ told forms measured.
     let f = g.F.Flash.state c.args.flash.now in
     let h = g.F.Flash.state c.loop-i.flash in
-    let goes = c.loop-i.invariant.reads.goes in
-    let lies = lies_still c.args.ring.now f h c.requires.lies goes in (
-      search rules,
-      (
-        page_exists c.args.ring.now f h (c.loop-i.i * (1 + rows_reads (layout_of c.args.schema.now) c.args.ring.now.size c.args.blobs.numbering)) c.page_back-place.result c.requires.lies c.loop-i.invariant.reads
-            c.page_back-place.ensures.within,
-        (
-          c.loop-i.invariant.room ∙ sym lies.page,
-          (
-            omega (arith, c.loop-i.invariant.room, c.args.ring.now.served.size),
-            (lies_still c.args.blobs.ring.now f h c.requires.blobs_lie goes, c.loop-i.invariant.blobs_room),
-          ),
-        ),
-      ),
-    )
-
-pub returns-in_err-leads-clause-reads : goal.returns-in_err-leads-clause-reads
-returns-in_err-leads-clause-reads g c =
-    let h = g.F.Flash.state c.loop-i.flash in
-    let last = g.F.Flash.state c.place_leads.new.flash in
+    let reads = c.loop-i.invariant.reads in
+    let r = shape_of c.args.blobs.now.ring.now in
+    let n = c.args.blobs.now.numbering in
     let layout = layout_of c.args.schema.now in
-    let n = c.args.blobs.numbering in
-    reads_within (g.F.Flash.state c.args.flash.now) h last c.loop-i.i c.args.m.kept (1 + rows_reads layout c.args.ring.now.size n) (omega (arith, c.loop-i-test.true)) c.loop-i.invariant.reads
-    (subst (λ (k : ℕ). OnlyReads h (1 + rows_reads layout k n) last) c.loop-i.invariant.room c.place_leads.ensures.reads)
-
-pub returns-then-not-leads-clause-reads : goal.returns-then-not-leads-clause-reads
-returns-then-not-leads-clause-reads g c =
-    let h = g.F.Flash.state c.loop-i.flash in
-    let last = g.F.Flash.state c.place_leads.new.flash in
-    let layout = layout_of c.args.schema.now in
-    let n = c.args.blobs.numbering in
-    reads_within (g.F.Flash.state c.args.flash.now) h last c.loop-i.i c.args.m.kept (1 + rows_reads layout c.args.ring.now.size n) (omega (arith, c.loop-i-test.true)) c.loop-i.invariant.reads
-    (subst (λ (k : ℕ). OnlyReads h (1 + rows_reads layout k n) last) c.loop-i.invariant.room c.place_leads.ensures.reads)
-
-pub returns-then-not-leads-clause-some : goal.returns-then-not-leads-clause-some
-returns-then-not-leads-clause-some g c = λ told forms.
-    page_not (g.F.Flash.state c.args.flash.now) (g.F.Flash.state c.loop-i.flash) (c.loop-i.i * (1 + rows_reads (layout_of c.args.schema.now) c.args.ring.now.size c.args.blobs.numbering)) c.loop-i.invariant.reads told
-    (layout_of c.args.schema.now) (shape_of c.args.ring.now) c.args.m (shape_of c.args.blobs.ring.now) c.args.blobs.numbering c.loop-i.i (omega (arith, c.loop-i-test.true))
-    c.page_back-place.result c.page_back-place.ensures.page c.in_ok-leads.leads c.if-not-leads.true c.in_ok-leads.ensures.no (c.loop-i.invariant.lead told forms)
+    let place = c.page_back-place.result in
+    let later = told_still f h c.loop-i.i reads told in
+    let bytes_are : c.look.new.buf.bytes ≡ page_at f (kept_page (shape_of c.args.ring.now) c.args.m c.loop-i.i) =
+    c.in_ok-state.ensures.bytes later ∙ same_page f h c.loop-i.i place reads ∙ ap (page_at f) c.page_back-place.ensures.page in
+    let committed : commits (state_of_page c.look.new.buf.bytes) ≡ true =
+    committed_as c.look.new.buf.bytes (page_at h place) c.in_ok-state.state c.is_committed.result (c.in_ok-state.ensures.bytes later) (c.in_ok-state.ensures.state later) c.is_committed.ensures ∙ c.if-is_committed.true in
+    page_not (page_at f) layout (shape_of c.args.ring.now) c.args.m r n c.loop-i.i (omega (arith, c.loop-i-test.true)) c.look.new.buf.bytes bytes_are place c.page_back-place.ensures.page committed
+    (subst (λ (l : List ℕ). RowsLead (page_at f) r n (rows_in layout l) → ⊥) c.bytes.ensures (c.page_leads.ensures.no c.if-not-page_leads.true (page_at f) measured))
+    (c.loop-i.invariant.lead told forms measured)
 
 pub loop-i-preserved : goal.loop-i-preserved
 loop-i-preserved g c =
     let f = g.F.Flash.state c.args.flash.now in
     let h = g.F.Flash.state c.loop-i.flash in
-    let last = g.F.Flash.state c.place_leads.new.flash in
+    let reads = c.loop-i.invariant.reads in
+    let r = shape_of c.args.blobs.now.ring.now in
+    let n = c.args.blobs.now.numbering in
     let layout = layout_of c.args.schema.now in
-    let n = c.args.blobs.numbering in
-    let each = 1 + rows_reads layout c.args.ring.now.size n in
+    let place = c.page_back-place.result in
     record {
-      reads = reads_within f h last c.loop-i.i (c.loop-i.i + 1) each (omega arith) c.loop-i.invariant.reads
-          (subst (λ (k : ℕ). OnlyReads h (1 + rows_reads layout k n) last) c.loop-i.invariant.room c.place_leads.ensures.reads);
-      room = c.place_leads.ensures.page_room ∙ c.loop-i.invariant.room;
-      blobs_room = c.place_leads.ensures.room;
-      lead = λ told forms. page_next f h (c.loop-i.i * each) c.loop-i.invariant.reads told layout (shape_of c.args.ring.now) c.args.m (shape_of c.args.blobs.ring.now) n c.loop-i.i
-          (omega (arith, c.loop-i-test.true)) c.page_back-place.result c.page_back-place.ensures.page c.in_ok-leads.leads c.if-not-leads.false c.in_ok-leads.ensures.yes forms
-          (c.loop-i.invariant.lead told forms);
+      reads = more_reads f h (g.F.Flash.state c.look.new.flash) c.loop-i.i 1 reads c.look.ensures.reads;
+      room = c.look.ensures.room ∙ c.loop-i.invariant.room;
+      lead = λ told forms measured.
+          let later = told_still f h c.loop-i.i reads told in
+          let bytes_are : c.look.new.buf.bytes ≡ page_at f (kept_page (shape_of c.args.ring.now) c.args.m c.loop-i.i) =
+          c.in_ok-state.ensures.bytes later ∙ same_page f h c.loop-i.i place reads ∙ ap (page_at f) c.page_back-place.ensures.page in
+          let is : commits (state_of_page c.look.new.buf.bytes) ≡ c.is_committed.result =
+          committed_as c.look.new.buf.bytes (page_at h place) c.in_ok-state.state c.is_committed.result (c.in_ok-state.ensures.bytes later) (c.in_ok-state.ensures.state later) c.is_committed.ensures in
+          let here : commits (state_of_page c.look.new.buf.bytes) ≡ true → IsGoodPage layout (page_number c.look.new.buf.bytes) c.look.new.buf.bytes →
+          RowsLead (page_at f) r n (rows_in layout c.look.new.buf.bytes) =
+          λ committed good. elim c.if-is_committed.branch [
+            | then-is_committed+else-not-page_leads w ↦
+                subst (λ (l : List ℕ). IsGoodPage layout (page_number l) l → RowsLead (page_at f) r n (rows_in layout l)) w.bytes.ensures
+                (w.page_leads.ensures.yes w.if-not-page_leads.false (page_at f) measured) good
+            | else-is_committed w ↦ absurd (true≢false (sym committed ∙ is ∙ w.if-is_committed.false))
+          ] in
+          page_next (page_at f) layout (shape_of c.args.ring.now) c.args.m r n c.loop-i.i (omega (arith, c.loop-i-test.true)) c.look.new.buf.bytes bytes_are here forms
+          (c.loop-i.invariant.lead told forms measured);
     }
 
 pub returns-clause-none : goal.returns-clause-none
-returns-clause-none g c = λ told forms i lt. c.loop-i.invariant.lead told forms i (omega (arith, lt, c.loop-i-test.false))
+returns-clause-none g c = λ told forms measured i lt. c.loop-i.invariant.lead told forms measured i (omega (arith, lt, c.loop-i-test.false))
