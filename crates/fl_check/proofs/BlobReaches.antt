@@ -10,7 +10,7 @@ use Rattle.fl_ring.specs.Newest.{commits, page_back}
 use Rattle.fl_ring.specs.Ring.{Shape}
 use Rattle.fl_check.specs.Claims.{AllBelow}
 use Rattle.fl_check.specs.Reaches.{reach_from, reach, AreReaches, HasContent, AreMeasured}
-use Rattle.fl_check.specs.References.{numbered, content_room, last_byte, last_part, IsThere, HoldsPart, IsWhole, Leads}
+use Rattle.fl_check.specs.References.{numbered, content_room, last_byte, last_part, IsThere, HoldsPart, Leads}
 use Rattle.fl_check.specs.declared.numbering.Numbering.{Numbering}
 
 -- ---- one page

@@ -1,5 +1,5 @@
 // The rule on the references of a table's rows.
-ghost use Rattle.std.specs.Prelude.{◌≡◌, ◌-◌, ◌<◌, ◌≤◌, ℕ, List, true, false, length, IsTrue, IfOk, IfErr, IfSome, IfNone};
+ghost use Rattle.std.specs.Prelude.{◌≡◌, ◌<◌, ◌≤◌, ℕ, List, true, false, length, IsTrue, IfOk, IfErr, IfSome, IfNone};
 ghost use Rattle.fl_flash.specs.Flash.{page_at};
 ghost use Rattle.fl_page.specs.Header.{page_number};
 ghost use Rattle.fl_page.specs.Page.{IsGoodPage, rows_in};

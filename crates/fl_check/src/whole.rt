@@ -355,7 +355,6 @@ fn schema_of(config: &TableConfig) -> Schema<8>
 
 /// Room for how far the content of each page of variable data reaches.
 fn reaches_room(alloc: Global, config: &TableConfig) -> Result<Vec<u64>, NoMemory>
-    requires { IsWithinLimits config.now }
     ensures { IfOk result (λ reaches. vec_len reaches ≡ blocks_in config.now.var * config.now.geometry.block) }
 {
     let pages = config.var_blocks() as usize * config.geometry.block as usize;

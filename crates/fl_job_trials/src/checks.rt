@@ -333,20 +333,20 @@ fn blobs_over_pages(rt: HostRuntime) -> Result<(), Fail> {
     let misleads = "fault t data 0 7\n";
     let cases = [
         // The blob ends with the content of the last page, or a byte after it.
-        (blob_page(0, 10, 95), 48, 56, ONE_ROW),
-        (blob_page(0, 10, 96), 48, 56, misleads),
+        (blob_page(0, 10, 95), 48, 504, ONE_ROW),
+        (blob_page(0, 10, 96), 48, 504, misleads),
         // It ends with a full page.
-        (blob_page(0, 0, 96), 48, 56, ONE_ROW),
+        (blob_page(0, 0, 96), 48, 504, ONE_ROW),
         // It begins with the last byte of a full page, or after it.
-        (blob_page(0, 47, 2), 48, 56, ONE_ROW),
-        (blob_page(0, 48, 1), 48, 56, misleads),
+        (blob_page(0, 47, 2), 48, 504, ONE_ROW),
+        (blob_page(0, 48, 1), 48, 504, misleads),
         // The second page lacks a byte.
-        (blob_page(0, 0, 95), 47, 56, ONE_ROW),
-        (blob_page(0, 0, 96), 47, 56, misleads),
+        (blob_page(0, 0, 95), 47, 504, ONE_ROW),
+        (blob_page(0, 0, 96), 47, 504, misleads),
         // It was given up, so that a blob that begins there is gone.
-        (blob_page(0, 0, 48), 48, 60, ONE_ROW),
-        (blob_page(0, 0, 49), 48, 60, misleads),
-        (blob_page(1, 0, 1), 48, 60, ONE_ROW),
+        (blob_page(0, 0, 48), 48, 508, ONE_ROW),
+        (blob_page(0, 0, 49), 48, 508, misleads),
+        (blob_page(1, 0, 1), 48, 508, ONE_ROW),
     ];
     for (rows, used, mark, wanted) in cases {
         let first = content_page(0, 48);
@@ -358,7 +358,7 @@ fn blobs_over_pages(rt: HostRuntime) -> Result<(), Fail> {
             (384, &first),
             (440, &SEAL),
             (448, &second),
-            (448 + mark, &SEAL),
+            (mark, &SEAL),
             (512, &third),
             (568, &SEAL),
         ];

@@ -1,4 +1,4 @@
-use Rattle.std.proofs.Common.{◌<◌, arith}
+use Rattle.std.proofs.Common.{arith}
 use Rattle.fl_ring.specs.Place.{shape_of}
 use Rattle.fl_check.proofs.RowsLead.{lead_none, lead_empty, lead_some, lead_not}
 use Rattle.fl_check.proofs.references.BlobPages.blob_leads.Goals as goal

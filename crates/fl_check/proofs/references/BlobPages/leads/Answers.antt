@@ -1,7 +1,7 @@
-use Rattle.std.proofs.Common.{◌≡◌, ◌+◌, ◌-◌, ◌<◌, ◌≤◌, ℕ, suc, List, sym, ◌∙◌, ap, subst, arith}
+use Rattle.std.proofs.Common.{◌+◌, ◌-◌, ◌<◌, ◌≤◌, sym, ◌∙◌, arith}
 use Rattle.std.proofs.lemmas.Bool.{leb-true, leb-false}
 use Rattle.fl_ring.specs.Place.{shape_of}
-use Rattle.fl_check.specs.Reaches.{reach, AreMeasured}
+use Rattle.fl_check.specs.Reaches.{reach}
 use Rattle.fl_check.specs.References.{content_room}
 use Rattle.fl_check.proofs.BlobReaches.{listed_reach, gone, whole, late, short}
 use Rattle.fl_check.proofs.references.BlobPages.leads.Goals as goal

@@ -1,6 +1,5 @@
 use Rattle.std.proofs.Common.{◌≡◌, ℕ, IfNone, IfSome, List, sym, ◌∙◌, ap}
 use Rattle.fl_base.specs.declared.types.Geometry.{Geometry}
-use Rattle.fl_flash.specs.Flash.{page_at}
 use Rattle.fl_ring.specs.Mounting.{shape_at}
 use Rattle.fl_ring.specs.Place.{shape_of}
 use Rattle.fl_schema.specs.Schema.{layout_of}
@@ -32,7 +31,7 @@ returns-clause-sound g c =
     (c.in_ok-find_reaches.ensures.reaches told) rings c.in_ok-broken.broken is
     (seen f mid
     (λ (page : ℕ → List ℕ). AllBelow (HasRows layout page d m) m.kept → AreMeasured page r n.marks.at n.marks.kept c.find_reaches.new.reaches
-        → IfNone c.in_ok-broken.broken (AllBelow (PageLeads layout page d m r n) m.kept))
+    → IfNone c.in_ok-broken.broken (AllBelow (PageLeads layout page d m r n) m.kept))
     looks c.in_ok-broken.ensures.none told))
     c.found.ensures.ok
 
@@ -55,6 +54,6 @@ returns-clause-broken g c =
     (c.in_ok-find_reaches.ensures.reaches told) rings c.in_ok-broken.broken fault is.0 is.1 is.2 entries
     (seen f mid
     (λ (page : ℕ → List ℕ). AllBelow (HasRows layout page d m) m.kept → AreMeasured page r n.marks.at n.marks.kept c.find_reaches.new.reaches
-        → IfSome c.in_ok-broken.broken (ReferencesBreak layout page d m r n))
+    → IfSome c.in_ok-broken.broken (ReferencesBreak layout page d m r n))
     looks c.in_ok-broken.ensures.some told))
     c.found.ensures.found
