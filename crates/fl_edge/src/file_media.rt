@@ -1,9 +1,10 @@
 // A file as a medium.
-ghost use Rattle.std.specs.Prelude.{◌≡◌, ◌≤◌, ◌<◌, ◌+◌, ◌^◌, false, max, length, OnOk, OnErr};
+ghost use Rattle.std.specs.Prelude.{◌≡◌, ◌≤◌, ◌<◌, ◌+◌, ◌^◌, false, max, length, IfOk, OnOk, OnErr};
 ghost use Rattle.fl_base.specs.Causes.{HasCause};
 
+use crate::image_file::{Access, ImageFile, ImageInUse, open_locked};
 use fl_flash::{Media, MediaFailed, PairFailed};
-use std::fs::{OpenFile, OpenOptions};
+use std::fs::OpenFile;
 use std::os::unix::fs::FileExt;
 use std::rt::Files;
 
@@ -11,66 +12,52 @@ use std::rt::Files;
 /// or write of the file, a pair of writes too, unless the system takes a part of it.
 #[derive(Drop)]
 pub struct FileMedia<F> {
-    // None where the file can't be opened: then the length is 0 and each call fails.
+    // None where there is no file that can be used: then the length is 0 and each call fails.
     file: Option<F>,
     len: u64,
     faults: u64,
     reads: u64,
 }
 
-// The length of a file; none of what is none, as a folder, which can be opened for reading.
+// The length of a file; none of what is none.
 fn length_of<F: OpenFile>(file: &F) -> Option<u64> {
     let metadata = file.metadata().ok()?;
     metadata.is_file().then_some(metadata.len())
 }
 
-impl<F: FileExt + OpenFile + Drop> FileMedia<F> {
-    /// The file of this name as a medium. This never fails: a file that can't be opened or made has length 0, and each
-    /// of its calls fails.
-    pub fn open<R: Files<File = F>>(rt: &R, name: &str) -> FileMedia<F>
-        ensures untold { (⟦<FileMedia<F> as Media>⟧.state result).tells ≡ false }
-        ensures no_fault { (⟦<FileMedia<F> as Media>⟧.state result).faults ≡ 0 }
-        ensures no_read { (⟦<FileMedia<F> as Media>⟧.state result).reads ≡ 0 }
+impl<F: ImageFile + Drop> FileMedia<F> {
+    /// The file of this name as a medium, for what a job does with it. It is locked before anything is read of it: for this
+    /// medium alone or, if it is only read, together with others that only read it. The lock ends with the medium.
+    ///
+    /// An error says that another open of the file holds a lock that keeps this one out; then nothing was read or changed, but
+    /// that an empty file may have been made. No clause tells of locks, since only the system knows them. A lock keeps out
+    /// those who ask for one. If the system has no locks for the file, it is used without.
+    ///
+    /// Where there is no such file and none is to be made, or it can't be opened or made, or is no regular file, the length is
+    /// 0 and each call fails; a pipe, a device or a socket isn't waited for. Under `Access::Repair` a file that can't be
+    /// opened for writing is only read, and then each write fails, as under `Access::Read`.
+    pub fn open_image<R: Files<File = F>>(
+        rt: &R,
+        name: &str,
+        access: Access,
+    ) -> Result<FileMedia<F>, ImageInUse>
+        ensures untold { IfOk result (λ media. (⟦<FileMedia<F> as Media>⟧.state media).tells ≡ false) }
+        ensures no_fault { IfOk result (λ media. (⟦<FileMedia<F> as Media>⟧.state media).faults ≡ 0) }
+        ensures no_read { IfOk result (λ media. (⟦<FileMedia<F> as Media>⟧.state media).reads ≡ 0) }
     {
-        let mut how = OpenOptions::new();
-        how.read(true).write(true).create(true);
-        FileMedia::of(how.open(rt, name).ok())
+        Ok(FileMedia::of(open_locked(rt, name, access)?))
     }
 
-    /// The file of this name as a medium that is only read. It is opened for reading alone and never made, and the system
-    /// refuses each write to it. This never fails: a file that can't be opened so has length 0, and each of its calls fails.
-    pub fn open_read_only<R: Files<File = F>>(rt: &R, name: &str) -> FileMedia<F>
-        ensures untold { (⟦<FileMedia<F> as Media>⟧.state result).tells ≡ false }
-        ensures no_fault { (⟦<FileMedia<F> as Media>⟧.state result).faults ≡ 0 }
-        ensures no_read { (⟦<FileMedia<F> as Media>⟧.state result).reads ≡ 0 }
-    {
-        let mut how = OpenOptions::new();
-        how.read(true);
-        FileMedia::of(how.open(rt, name).ok())
-    }
-
-    /// The file of this name as a medium that is never made. This never fails: a file that is missing, or that can't be
-    /// opened for reading and writing, has length 0, and each of its calls fails.
-    pub fn open_existing<R: Files<File = F>>(rt: &R, name: &str) -> FileMedia<F>
-        ensures untold { (⟦<FileMedia<F> as Media>⟧.state result).tells ≡ false }
-        ensures no_fault { (⟦<FileMedia<F> as Media>⟧.state result).faults ≡ 0 }
-        ensures no_read { (⟦<FileMedia<F> as Media>⟧.state result).reads ≡ 0 }
-    {
-        let mut how = OpenOptions::new();
-        how.read(true).write(true);
-        FileMedia::of(how.open(rt, name).ok())
-    }
-
-    // The medium of a file, or of none where that couldn't be opened.
+    // The medium of a file, or of none.
     fn of(file: Option<F>) -> FileMedia<F>
         ensures untold { (⟦<FileMedia<F> as Media>⟧.state result).tells ≡ false }
         ensures no_fault { (⟦<FileMedia<F> as Media>⟧.state result).faults ≡ 0 }
         ensures no_read { (⟦<FileMedia<F> as Media>⟧.state result).reads ≡ 0 }
     {
-        let len = file.as_ref().and_then(length_of).unwrap_or(0);
+        let len = file.as_ref().and_then(length_of);
         FileMedia {
-            file,
-            len,
+            file: file.filter(|_| len.is_some()),
+            len: len.unwrap_or(0),
             faults: 0,
             reads: 0,
         }

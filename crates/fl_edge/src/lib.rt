@@ -4,12 +4,16 @@
 #![tactic(auto)]
 
 mod file_media;
+mod image_file;
 mod reply_buffer;
 mod retried;
 mod standard;
+mod standard_descriptors;
 #[cfg(test)]
 mod tests;
 
 pub use file_media::FileMedia;
+pub use image_file::{Access, ImageFile, ImageInUse};
 pub use reply_buffer::ReplyBuffer;
 pub use standard::{StandardInput, StandardOutput};
+pub use standard_descriptors::StandardDescriptors;
