@@ -1,0 +1,84 @@
+# What the jobs write, and how they end.
+image empty
+flashts import image t <<< 'key,c1
+1,-25
+2
+2,x
+1,4
+"2",-5'
+ends "an import" 0 $'line 3 fields 2\nline 4 number 2\nline 5 refused key 1\nimported 2 refused 3\n' $'flashts: the table holds 2 rows\n'
+flashts export image t 0 9
+ends "the export of what was imported" 0 $'key,c1\n1,-25\n2,-5\n' ''
+flashts export image t 2 2
+ends "the export of one key" 0 $'key,c1\n2,-5\n' ''
+flashts export image t 3 9
+ends "the export of keys that aren't there" 0 $'key,c1\n' ''
+flashts check image
+ends "a check of a sound image" 0 $'sound t rows 2 pages 1 voids 0\n' ''
+image torn
+flashts check image
+leaves "a check of an image with a torn page" 0 $'sound t rows 1 pages 1 voids 0\n' ''
+flashts export image t 0 9
+ends "an export repairs a torn page" 0 $'key,c1\n1,0\n' ''
+flashts check image
+ends "a check of the repaired image" 0 $'sound t rows 1 pages 2 voids 1\n' ''
+
+# damaged images: a byte of the first data page is another one (docs/CHECK.md)
+image flushed
+byte 1024 05
+cp image before
+flashts check image
+leaves "a check of an image whose first page has another number" 16 $'fault t data 0 3\n' $'flashts: status 16\n'
+flashts export image t 0 9
+ends "an export of it" 13 '' $'flashts: status 13\n'
+flashts import image t <<< $'key,c1\n2,0'
+ends "an import into it" 13 '' $'flashts: status 13\n'
+image flushed
+byte 1032 02
+cp image before
+flashts check image
+leaves "a check of an image whose first page has another bitmap" 16 $'fault t data 0 4\n' $'flashts: status 16\n'
+image flushed
+byte 1040 02
+cp image before
+flashts check image
+leaves "a check of an image whose first record has another key" 0 $'sound t rows 1 pages 1 voids 0\n' ''
+image flushed
+byte 0 00
+cp image before
+for words in 'check image' 'export image t 0 9' 'import image t'; do
+    # shellcheck disable=SC2086
+    flashts $words <<< $'key,c1\n2,0'
+    leaves "no image: $words" 11 '' $'flashts: status 11\n'
+done
+image flushed
+for words in 'export image u 0 9' 'import image u'; do
+    # shellcheck disable=SC2086
+    flashts $words <<< $'key,c1\n2,0'
+    leaves "no such table: $words" 14 '' $'flashts: status 14\n'
+done
+flashts import image t < .
+leaves "an import whose input can't be read" 3 '' $'flashts: the script cannot be read\n'
+flashts import image t <<< $'key,c2\n2,0'
+leaves "an import whose first line names other fields" 15 '' $'flashts: status 15\n'
+flashts import image t < /dev/null
+leaves "an import of nothing" 15 '' $'flashts: status 15\n'
+{ printf 'key,c1\n2,7\n'; head -c 4097 /dev/zero | tr '\0' 1; } > input
+flashts import image t < input
+ends "an import with a line that is too long" 15 '' $'flashts: status 15\n'
+flashts export image t 0 9
+ends "the lines before it were put" 0 $'key,c1\n1,0\n2,7\n' ''
+image flushed
+{ printf 'key,c1\n2,7\n'; yes "$(seq -s ' ' 900)" | head -c 16777216; } > input
+call import image t < input > out 2> err
+status=$?
+: > out
+ends "an import that is too long" 8 '' $'flashts: the script is longer than 16777216 bytes\n'
+image flushed
+(trap '' XFSZ; ulimit -f 1; call import image t <<< $'key,c1\n2,7' > out 2> err)
+status=$?
+leaves "an import into an image that fails" 12 '' $'flashts: status 12\n'
+image torn
+(trap '' XFSZ; ulimit -f 1; call export image t 0 9 > out 2> err)
+status=$?
+leaves "an export whose repair fails" 12 '' $'flashts: status 12\n'
