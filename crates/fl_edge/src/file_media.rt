@@ -3,17 +3,20 @@ ghost use Rattle.std.specs.Prelude.{◌≡◌, ◌≤◌, ◌<◌, ◌+◌, ◌^
 ghost use Rattle.fl_base.specs.Causes.{HasCause};
 
 use crate::image_file::{Access, ImageFile, ImageInUse, open_locked};
+use crate::read_ahead::ReadAhead;
 use fl_flash::{Media, MediaFailed, PairFailed};
 use std::fs::OpenFile;
 use std::os::unix::fs::FileExt;
 use std::rt::Files;
 
-/// A file as a medium. It keeps its own length and counts, and does not tell its bytes. Each call is one positioned read
-/// or write of the file, a pair of writes too, unless the system takes a part of it.
+/// A file as a medium. It keeps its own length and counts, and does not tell its bytes. Each write is one positioned write
+/// of the file, a pair of writes too, unless the system takes a part of it. Each read is counted, though one read of the file
+/// may bring up to 8,192 bytes for those behind it: what others write to the file meanwhile may not be seen.
 #[derive(Drop)]
 pub struct FileMedia<F> {
     // None where there is no file that can be used: then the length is 0 and each call fails.
     file: Option<F>,
+    ahead: ReadAhead,
     len: u64,
     faults: u64,
     reads: u64,
@@ -57,6 +60,7 @@ impl<F: ImageFile + Drop> FileMedia<F> {
         let len = file.as_ref().and_then(length_of);
         FileMedia {
             file: file.filter(|_| len.is_some()),
+            ahead: ReadAhead::new(),
             len: len.unwrap_or(0),
             faults: 0,
             reads: 0,
@@ -70,6 +74,7 @@ impl<F: FileExt> FileMedia<F> {
     pub(crate) fn over(file: F) -> FileMedia<F> {
         FileMedia {
             file: Some(file),
+            ahead: ReadAhead::new(),
             len: 0,
             faults: 0,
             reads: 0,
@@ -129,7 +134,7 @@ impl<F: FileExt> Media for FileMedia<F> {
     fn read_at(&mut self, at: u64, into: &mut [u8]) -> Result<(), MediaFailed> {
         self.reads = self.reads.saturating_add(1);
         if let Some(file) = &self.file {
-            if file.read_exact_at(into, at).is_ok() {
+            if self.ahead.read(file, at, into) {
                 return Ok(());
             }
         }
@@ -138,6 +143,7 @@ impl<F: FileExt> Media for FileMedia<F> {
     }
 
     fn write_at(&mut self, at: u64, bytes: &[u8]) -> Result<(), MediaFailed> {
+        self.ahead.forget(at, bytes.len());
         if let Some(file) = &self.file {
             if let Some(end) = at.checked_add(bytes.len() as u64) {
                 if file.write_all_at(bytes, at).is_ok() {
@@ -152,6 +158,7 @@ impl<F: FileExt> Media for FileMedia<F> {
 
     // Where the system takes a front of both by one call, the rest is written as two writes are.
     fn write_pair(&mut self, at: u64, bytes: &[u8], split: usize) -> Result<(), PairFailed> {
+        self.ahead.forget(at, bytes.len());
         let count = self.write_front(at, bytes);
         if self.write_up_to(at, bytes, count, split).is_err() {
             return Err(PairFailed::First);

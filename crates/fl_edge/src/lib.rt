@@ -5,6 +5,7 @@
 
 mod file_media;
 mod image_file;
+mod read_ahead;
 mod reply_buffer;
 mod retried;
 mod standard;

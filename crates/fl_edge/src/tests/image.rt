@@ -8,6 +8,7 @@ use std::test::Fail;
 
 mod sealed;
 
+use super::byte_at;
 use sealed::Sealed;
 
 const ALL: [Access; 4] = [Access::Make, Access::Write, Access::Repair, Access::Read];
@@ -57,7 +58,7 @@ fn what_is_no_file_is_no_image(rt: HostRuntime) -> Result<(), Fail> {
             let mut media = FileMedia::open_image(&rt, name, access)?;
             assert_eq!(rt; media.len(), 0, "{name}");
             assert_eq!(rt; media.write_at(0, &[1]), Err(MediaFailed), "{name}");
-            assert_eq!(rt; media.read_at(0, &mut [0]), Err(MediaFailed), "{name}");
+            assert_eq!(rt; media.read_at(0, &mut []), Err(MediaFailed), "{name}");
         }
     }
     Ok(())
@@ -114,6 +115,29 @@ fn what_cannot_be_written_is_read_to_repair(rt: HostRuntime) -> Result<(), Fail>
         assert_eq!(rt; FileMedia::open_image(&sealed, name, access)?.len(), 0);
     }
     assert_eq!(rt; fs::read(&rt, name)?.as_slice(), [1, 2, 3].as_slice());
+    fs::remove_file(&rt, name)?;
+    Ok(())
+}
+
+#[test]
+fn what_was_read_ahead_is_read_as_it_was_written_since(rt: HostRuntime) -> Result<(), Fail> {
+    let name = "fl_edge_test.ahead";
+    fs::write(&rt, name, [7; 100].as_slice())?;
+    let mut media = FileMedia::open_image(&rt, name, Access::Write)?;
+    // down, so that all of it is read ahead
+    for at in [60, 56, 52] {
+        assert_eq!(rt; byte_at(&mut media, at), Some(7));
+    }
+    assert_eq!(rt; media.len(), 100);
+    assert_eq!(rt; media.write_at(20, &[1, 2]), Ok(()));
+    assert_eq!(rt; byte_at(&mut media, 20), Some(1));
+    assert_eq!(rt; byte_at(&mut media, 16), Some(7));
+    assert_eq!(rt; byte_at(&mut media, 12), Some(7));
+    assert_eq!(rt; media.len(), 100);
+    assert_eq!(rt; media.write_pair(4, &[3, 4, 5], 2), Ok(()));
+    for (at, want) in [(4, 3), (5, 4), (6, 5), (20, 1), (21, 2), (22, 7)] {
+        assert_eq!(rt; byte_at(&mut media, at), Some(want));
+    }
     fs::remove_file(&rt, name)?;
     Ok(())
 }
