@@ -7,6 +7,7 @@ mod Reading
 pub mod Risen
 pub mod Locating
 pub mod Images
+pub mod Unmounted
 mod Exporting
 pub mod Ending
 pub mod Statuses

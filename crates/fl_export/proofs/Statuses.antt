@@ -8,6 +8,7 @@ use Rattle.fl_flash.specs.declared.flash.FlashFault.{FlashFault}
 use Rattle.fl_flash.specs.declared.flash.FlashFault.TheVariants.{PowerLost, Media}
 use Rattle.fl_jobs.specs.Header.{IsAccepted, IsMade}
 use Rattle.fl_jobs.specs.Image.{IsImageOf, OnlyLooksAt}
+use Rattle.fl_jobs.specs.Status.{flash_status}
 use Rattle.fl_jobs.specs.declared.status.ToolStatus.{ToolStatus}
 use Rattle.fl_jobs.specs.declared.status.ToolStatus.TheVariants.{Done, InputRead, OutWrite, InputLong, NoMemory, NotImage, Device, BadImage, NoTable, BadInput, Unsound}
 use Rattle.fl_model.specs.Record.{Plan, Config}
@@ -20,7 +21,7 @@ use Rattle.fl_tables.specs.declared.tables.Entry.{Entry}
 use Rattle.fl_words.specs.Config.{Lines}
 use Rattle.fl_words.specs.Medium.{IsImage}
 use Rattle.fl_export.specs.Ends.{ExportEnds, IsImageWith, StatusFits}
-use Rattle.fl_export.specs.Tables.{flash_status, status_of, mount_status, told_of, IsOfTable}
+use Rattle.fl_export.specs.Tables.{status_of, mount_status, told_of, IsOfTable}
 use Rattle.fl_export.specs.Writing.{IfSink, IfUnread}
 use Rattle.fl_export.specs.declared.fault.ExportFault.{ExportFault}
 use Rattle.fl_export.specs.declared.fault.ExportFault.TheVariants as fault

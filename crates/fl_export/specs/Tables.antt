@@ -3,8 +3,7 @@ use Rattle.std.specs.Prelude.{◌≡◌, ◌⊎◌, ℕ, false, Option, List}
 use Rattle.fl_base.specs.declared.types.KeyRange.{KeyRange}
 use Rattle.fl_flash.specs.Flash.{FlashState}
 use Rattle.fl_flash.specs.Media.{MediaState}
-use Rattle.fl_flash.specs.declared.flash.FlashFault.{FlashFault}
-use Rattle.fl_flash.specs.declared.flash.FlashFault.TheVariants.{PowerLost, Media}
+use Rattle.fl_jobs.specs.Status.{flash_status}
 use Rattle.fl_jobs.specs.declared.status.ToolStatus.{ToolStatus}
 use Rattle.fl_jobs.specs.declared.status.ToolStatus.TheVariants.{Done, InputRead, OutWrite, InputLong, NoMemory, NotImage, Device, BadImage, NoTable, BadInput, Unsound}
 use Rattle.fl_model.specs.Record.{Plan, Config}
@@ -19,11 +18,6 @@ use Rattle.fl_export.specs.Ends.{Told, TablesEnd, IsUntouched}
 use Rattle.fl_export.specs.declared.fault.ExportFault.{ExportFault}
 use Rattle.fl_export.specs.declared.fault.ExportFault.TheVariants as fault
 
--- the status that tells a fault of the flash, on which no cut is armed
-abbrev pub flash_status : FlashFault → ToolStatus
-flash_status Media = Device
-flash_status PowerLost = NoMemory
-
 -- the status of an export of a table whose lines aren't written to the end
 abbrev pub status_of : ExportFault → ℕ → ToolStatus
 status_of fault.NoMemory at = NoMemory
@@ -31,7 +25,7 @@ status_of (fault.Sink failed) at = OutWrite
 status_of (fault.Read (Flash e)) at = flash_status e
 status_of (fault.Read (BadPage bad)) at = BadImage at
 
--- .. and of one whose tables aren't mounted, since this one isn't
+-- .. and of a job whose tables aren't mounted, since this one isn't
 abbrev pub mount_status : MountFault → ℕ → ToolStatus
 mount_status (mount.Flash e) at = flash_status e
 mount_status bad at = BadImage at

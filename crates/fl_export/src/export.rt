@@ -15,31 +15,20 @@ ghost use Rattle.fl_tables.specs.Tables.{AreNewTables, IsNamed, LieOn, TablesSta
 ghost use Rattle.fl_words.specs.Medium.{IsImage};
 ghost use Rattle.fl_export.specs.Ends.{at_rest, AreRepaired, IsImageWith, StatusFits, Keeps, ExportEnds};
 ghost use Rattle.fl_export.specs.Rooms.{HasRooms};
-ghost use Rattle.fl_export.specs.Tables.{flash_status, status_of, mount_status, told_of, EndsOn, EndsOver, IsOfTable};
+ghost use Rattle.fl_export.specs.Tables.{status_of, mount_status, told_of, EndsOn, EndsOver, IsOfTable};
 
 use crate::fault::ExportFault;
 use crate::rooms::Rooms;
 use crate::table::write_table;
 use fl_base::{KeyRange, Name, Sink};
 use fl_config::Config;
-use fl_flash::{Flash, FlashFault, FlashRoom, Media, SimFlash};
-use fl_jobs::{HEADER, ToolStatus, config_of_image};
+use fl_flash::{Flash, FlashRoom, Media, SimFlash};
+use fl_jobs::{HEADER, ToolStatus, config_of_image, flash_status};
 use fl_page::ReadFault;
 use fl_script::LineRoom;
 use fl_table::MountFault;
 use fl_tables::{BadMount, Tables};
 use std::alloc::Global;
-
-/// The status that tells a fault of the flash. No cut is armed on it, so that it loses no power; and `NoMemory`, which may
-/// come at any moment, says nothing of the medium.
-fn flash_status(fault: FlashFault) -> ToolStatus
-    ensures { result ≡ flash_status fault }
-{
-    match fault {
-        FlashFault::Media => ToolStatus::Device,
-        FlashFault::PowerLost => ToolStatus::NoMemory,
-    }
-}
 
 /// The status of an export of the table with this number whose lines aren't written to the end.
 fn status_of(fault: ExportFault, at: usize) -> ToolStatus
@@ -54,8 +43,8 @@ fn status_of(fault: ExportFault, at: usize) -> ToolStatus
     }
 }
 
-/// The status of an export whose tables aren't mounted.
-fn mount_status(bad: BadMount) -> ToolStatus
+/// The status of a job over an image of four tables at most, one of which isn't mounted.
+pub fn mount_status(bad: BadMount) -> ToolStatus
     requires { bad.at < 4 }
     ensures { result ≡ mount_status bad.fault bad.at }
 {

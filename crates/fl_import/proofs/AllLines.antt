@@ -6,10 +6,10 @@ use Rattle.fl_flash.specs.Flash.{FlashState}
 use Rattle.fl_jobs.specs.declared.status.ToolStatus.{ToolStatus}
 use Rattle.fl_jobs.specs.declared.status.ToolStatus.TheVariants.{Done, InputRead, OutWrite, InputLong, NoMemory, NotImage, Device, BadImage, NoTable, BadInput, Unsound}
 use Rattle.fl_lines.specs.Stream.{LinesState, Advances}
+use Rattle.fl_lines.specs.Taken.{TakesFew}
 use Rattle.fl_model.specs.Record.{Record, Plan, has_var}
 use Rattle.fl_model.specs.Table as model
 use Rattle.fl_script.proofs.Sending.{appends-append}
-use Rattle.fl_tables.proofs.Going.{rose-back}
 use Rattle.fl_table.specs.declared.table.Table.{Table}
 use Rattle.fl_import.specs.Ends.{Reports, puts_of, table_after, told_of_lines}
 use Rattle.fl_import.specs.Lines.{meaning, Takes}
@@ -71,10 +71,10 @@ module _ (first : ℕ) (plan : Plan) (table : model.Table) (taken : List (List �
       ap (told_lines plan 2 table) more ∙ (told-more plan put 2 table (puts_of plan taken) ∙ ap (λ k. told_of_lines plan table taken ++ told_line plan k (table_after plan table taken) put) n)
 
   abbrev pub LineSo : Result Bool ToolStatus → Type 0
-  LineSo result = LineEnds first plan (table_after plan table taken) number put v g h told_mid told_now result
+  LineSo result = LineEnds first plan (table_after plan table taken) number put v h told_mid told_now result
 
-  pub line-so : (result : Result Bool ToolStatus) → LineEnds first plan (table_after plan table taken) number (meaning form.columns form.blobs line) v g h told_mid told_now result → LineSo result
-  line-so result ends = subst (λ p. LineEnds first plan (table_after plan table taken) number p v g h told_mid told_now result) meant ends
+  pub line-so : (result : Result Bool ToolStatus) → LineEnds first plan (table_after plan table taken) number (meaning form.columns form.blobs line) v h told_mid told_now result → LineSo result
+  line-so result ends = subst (λ p. LineEnds first plan (table_after plan table taken) number p v h told_mid told_now result) meant ends
 
   pub put-more : (one : Bool) (now : ℕ) → now ≡ accepted + (if one then 1 else 0) → LineSo (Ok one) → PutSoFar first plan table (taken ++ line ∷ []) v h told told_now now
   put-more one now count ends = record {
@@ -87,13 +87,14 @@ module _ (first : ℕ) (plan : Plan) (table : model.Table) (taken : List (List �
   }
 
   -- it isn't passed
-  pub line-stops : (f : FlashState) → f.media.faults ≤ g.media.faults → (text : List ℕ) (rest : Option (List ℕ)) (others : List (List ℕ)) → Takes (length plan.columns) (has_var plan) text taken (line ∷ others) → (status : ToolStatus) → LineSo (Err status) →
-      AllEnds first plan table text v f h told told_now rest (Err status)
-  line-stops f later text rest others takes OutWrite ends = record {
+  pub line-stops : (text : List ℕ) (rest : Option (List ℕ)) (others : List (List ℕ)) → Takes (length plan.columns) (has_var plan) text taken (line ∷ others) → TakesFew text taken rest → (status : ToolStatus) → LineSo (Err status) →
+      AllEnds first plan table text v h told told_now rest (Err status)
+  line-stops text rest others takes few OutWrite ends = record {
     puts = record {
       taken = taken;
       left = line ∷ others;
       takes = takes;
+      few = few;
       stops = (some, omega arith);
       reports =
           let n : number ≡ length taken + 1 = number_is in
@@ -102,41 +103,42 @@ module _ (first : ℕ) (plan : Plan) (table : model.Table) (taken : List (List �
     };
     works = ends.0;
   }
-  line-stops f later text rest others takes NoMemory ends = record {
+  line-stops text rest others takes few NoMemory ends = record {
     puts = record {
       taken = taken;
       left = line ∷ others;
       takes = takes;
+      few = few;
       stops = (some, omega arith);
       reports = subst (λ l. Appends told told_now l) (append-nil (told_of_lines plan table taken)) (appends-append told told_mid told_now (told_of_lines plan table taken) [] puts.reports ends.1);
     };
     works = ends.0;
   }
-  line-stops f later text rest others takes Device ends = record {
-    rose = rose-back f.media.faults g.media.faults h.media.faults later ends.0;
-    after = ends.2.3.0;
+  line-stops text rest others takes few Device ends = record {
+    after = ends.1.3.0;
     fails = record {
       taken = taken;
       line = line;
       left = others;
       takes = takes;
+      few = few;
       some = some;
-      item = ends.2.0;
-      means = ends.2.1;
-      accepted = ends.2.2;
-      fails = ends.2.3.1;
-      reports = subst (λ l. Appends told told_now l) (append-nil (told_of_lines plan table taken)) (appends-append told told_mid told_now (told_of_lines plan table taken) [] puts.reports ends.1);
+      item = ends.1.0;
+      means = ends.1.1;
+      accepted = ends.1.2;
+      fails = ends.1.3.1;
+      reports = subst (λ l. Appends told told_now l) (append-nil (told_of_lines plan table taken)) (appends-append told told_mid told_now (told_of_lines plan table taken) [] puts.reports ends.0);
     };
-    rests = ends.2.3.2;
+    rests = ends.1.3.2;
   }
-  line-stops f later text rest others takes Done ends = absurd ends
-  line-stops f later text rest others takes InputRead ends = absurd ends
-  line-stops f later text rest others takes InputLong ends = absurd ends
-  line-stops f later text rest others takes (BadInput n) ends = absurd ends
-  line-stops f later text rest others takes NotImage ends = absurd ends
-  line-stops f later text rest others takes (BadImage n) ends = absurd ends
-  line-stops f later text rest others takes NoTable ends = absurd ends
-  line-stops f later text rest others takes Unsound ends = absurd ends
+  line-stops text rest others takes few Done ends = absurd ends
+  line-stops text rest others takes few InputRead ends = absurd ends
+  line-stops text rest others takes few InputLong ends = absurd ends
+  line-stops text rest others takes few (BadInput n) ends = absurd ends
+  line-stops text rest others takes few NotImage ends = absurd ends
+  line-stops text rest others takes few (BadImage n) ends = absurd ends
+  line-stops text rest others takes few NoTable ends = absurd ends
+  line-stops text rest others takes few Unsound ends = absurd ends
 
 -- ---- the lines after some
 
@@ -152,7 +154,7 @@ module _ (form : Form) (text : List ℕ) (t : Table 64 64) (f : FlashState) (u :
   pub far-next : (v : Table 64 64) (h : FlashState) (told_now : Option (List ℕ)) (one : Bool) (accepted_now refused_now : ℕ) → NextLine old left faults (accepted + refused + 2) (Ok true) new left_now faults_now →
       accepted_now ≡ accepted + (if one then 1 else 0) → accepted_now + refused_now ≡ accepted + refused + 1 →
       ((first : ℕ) (plan : Plan) (table : model.Table) → IsFormOf form plan → Works u g first plan table →
-      LineEnds first plan table (accepted + refused + 2) (meaning form.columns form.blobs new.line) v g h told_mid told_now (Ok one)) → SoFar form text t f v h told told_now new left_now accepted_now refused_now
+      LineEnds first plan table (accepted + refused + 2) (meaning form.columns form.blobs new.line) v h told_mid told_now (Ok one)) → SoFar form text t f v h told told_now new left_now accepted_now refused_now
   far-next v h told_now one accepted_now refused_now next count both ends = record {
     taken = far.taken ++ new.line ∷ [];
     some = omega (arith, length-append far.taken (new.line ∷ []));
@@ -168,14 +170,14 @@ module _ (form : Form) (text : List ℕ) (t : Table 64 64) (f : FlashState) (u :
   -- .. or it isn't passed
   pub far-stops : (v : Table 64 64) (h : FlashState) (told_now : Option (List ℕ)) (status : ToolStatus) → NextLine old left faults (accepted + refused + 2) (Ok true) new left_now faults_now →
       ((first : ℕ) (plan : Plan) (table : model.Table) → IsFormOf form plan → Works u g first plan table →
-      LineEnds first plan table (accepted + refused + 2) (meaning form.columns form.blobs new.line) v g h told_mid told_now (Err status)) → f.media.faults ≤ g.media.faults →
-      (first : ℕ) (plan : Plan) (table : model.Table) → IsFormOf form plan → Works t f first plan table → AllEnds first plan table text v f h told told_now left_now (Err status)
-  far-stops v h told_now status next ends later first plan table is works =
+      LineEnds first plan table (accepted + refused + 2) (meaning form.columns form.blobs new.line) v h told_mid told_now (Err status)) →
+      (first : ℕ) (plan : Plan) (table : model.Table) → IsFormOf form plan → Works t f first plan table → AllEnds first plan table text v h told told_now left_now (Err status)
+  far-stops v h told_now status next ends first plan table is works =
       let p = far.puts first plan table is works in
       let advances = subst (λ r. Advances old left faults r new left_now faults_now) next.next.0 next.advances in
       let shows = shows-next form.columns form.blobs text far.taken old new left left_now faults faults_now far.takes advances (next.next.1 refl) in
-      line-stops first plan table far.taken form is u v g h told told_mid told_now accepted (accepted + refused + 2) new.line far.some number-is p f later text left_now shows.others
-      (as-plan (λ n b. Takes n b text far.taken (new.line ∷ shows.others)) form plan is shows.takes_not) status
+      line-stops first plan table far.taken form is u v g h told told_mid told_now accepted (accepted + refused + 2) new.line far.some number-is p text left_now shows.others
+      (as-plan (λ n b. Takes n b text far.taken (new.line ∷ shows.others)) form plan is shows.takes_not) shows.few status
       (line-so first plan table far.taken form is u v g h told told_mid told_now accepted (accepted + refused + 2) new.line far.some number-is p (Err status) (ends first plan (table_after plan table far.taken) is p.works))
 
   pub ended-stops : (status : ToolStatus) → NextLine old left faults (accepted + refused + 2) (Ok true) new left_now faults_now → IsOfLine status → Ended form.columns form.blobs text left_now status
@@ -188,9 +190,9 @@ module _ (form : Form) (text : List ℕ) (t : Table 64 64) (f : FlashState) (u :
       shows = shows-next form.columns form.blobs text far.taken old new left left_now faults faults_now far.takes advances (next.next.1 refl)
 
       by-status : (status : ToolStatus) → IsOfLine status → Ended form.columns form.blobs text left_now status
-      by-status OutWrite of = record { taken = far.taken; left = new.line ∷ shows.others; takes = shows.takes_not; stops = (far.some, omega arith) }
-      by-status NoMemory of = record { taken = far.taken; left = new.line ∷ shows.others; takes = shows.takes_not; stops = (far.some, omega arith) }
-      by-status Device of = tt
+      by-status OutWrite of = record { taken = far.taken; left = new.line ∷ shows.others; takes = shows.takes_not; few = shows.few; stops = (far.some, omega arith) }
+      by-status NoMemory of = record { taken = far.taken; left = new.line ∷ shows.others; takes = shows.takes_not; few = shows.few }
+      by-status Device of = record { taken = far.taken; left = new.line ∷ shows.others; takes = shows.takes_not; few = shows.few }
       by-status Done of = absurd of
       by-status InputRead of = absurd of
       by-status InputLong of = absurd of
@@ -203,7 +205,7 @@ module _ (form : Form) (text : List ℕ) (t : Table 64 64) (f : FlashState) (u :
   -- ---- no line was given
 
   until : (status : ToolStatus) → TakesThese form.columns form.blobs text far.taken left_now status → TakesUntil form.columns form.blobs text left_now status
-  until status these = record { taken = far.taken; left = these.left; takes = these.takes; stops = these.stops }
+  until status these = record { taken = far.taken; left = these.left; takes = these.takes; few = these.few; stops = these.stops }
 
   puts-until : (status : ToolStatus) → TakesThese form.columns form.blobs text far.taken left_now status → (first : ℕ) (plan : Plan) (table : model.Table) → IsFormOf form plan → Works t f first plan table →
       ((left : List (List ℕ)) → Reports plan table far.taken status left told told_mid ≡ Appends told told_mid (told_of_lines plan table far.taken)) → LinesEnd first plan table text u g told told_mid left_now status
@@ -214,6 +216,7 @@ module _ (form : Form) (text : List ℕ) (t : Table 64 64) (f : FlashState) (u :
           taken = far.taken;
           left = these.left;
           takes = as-plan (λ n b. Takes n b text far.taken these.left) form plan is these.takes;
+          few = these.few;
           stops = as-plan (λ n b. Stops n b text far.taken these.left left_now status) form plan is these.stops;
           reports = subst (λ (P : Type 0). P) (sym (same these.left)) p.reports;
         };
@@ -254,10 +257,10 @@ module _ (form : Form) (text : List ℕ) (t : Table 64 64) (f : FlashState) (u :
       by-status Unsound of h = absurd of
 
   pub far-ended : (status : ToolStatus) → NextLine old left faults (accepted + refused + 2) (Err status) new left_now faults_now → (first : ℕ) (plan : Plan) (table : model.Table) → IsFormOf form plan → Works t f first plan table →
-      AllEnds first plan table text u f g told told_mid left_now (Err status)
+      AllEnds first plan table text u g told told_mid left_now (Err status)
   far-ended status next first plan table is works = by-status status next.next (these-next status next)
     where
-      by-status : (status : ToolStatus) → NextOf next.given new.line (accepted + refused + 2) (Err status) → TakesThese form.columns form.blobs text far.taken left_now status → AllEnds first plan table text u f g told told_mid left_now (Err status)
+      by-status : (status : ToolStatus) → NextOf next.given new.line (accepted + refused + 2) (Err status) → TakesThese form.columns form.blobs text far.taken left_now status → AllEnds first plan table text u g told told_mid left_now (Err status)
       by-status InputRead of h = puts-until InputRead h first plan table is works (λ _. refl)
       by-status InputLong of h = puts-until InputLong h first plan table is works (λ _. refl)
       by-status (BadInput n) of h = puts-until (BadInput n) h first plan table is works (λ _. refl)
@@ -273,7 +276,7 @@ module _ (form : Form) (text : List ℕ) (t : Table 64 64) (f : FlashState) (u :
 -- ---- the line of the names wasn't taken
 
 pub names-ended : (columns : ℕ) (blobs : Bool) (text : List ℕ) (rest : Option (List ℕ)) (status : ToolStatus) → IsOfReading status → TakesThese columns blobs text [] rest status → Ended columns blobs text rest status
-names-ended columns blobs text rest status of these = by-status status of (record { taken = []; left = these.left; takes = these.takes; stops = these.stops })
+names-ended columns blobs text rest status of these = by-status status of (record { taken = []; left = these.left; takes = these.takes; few = these.few; stops = these.stops })
   where
     by-status : (status : ToolStatus) → IsOfReading status → TakesUntil columns blobs text rest status → Ended columns blobs text rest status
     by-status InputRead of h = h
@@ -289,7 +292,7 @@ names-ended columns blobs text rest status of these = by-status status of (recor
     by-status Unsound of h = absurd of
 
 pub names-ends : (form : Form) (text : List ℕ) (t : Table 64 64) (f : FlashState) (told rest : Option (List ℕ)) (first : ℕ) (plan : Plan) (table : model.Table) (status : ToolStatus) → IsOfReading status → TakesThese form.columns form.blobs text [] rest status → IsFormOf form plan → Works t f first plan table →
-    AllEnds first plan table text t f f told told rest (Err status)
+    AllEnds first plan table text t f told told rest (Err status)
 names-ends form text t f told rest first plan table status of these is works = by-status status of these
   where
     ends : (status : ToolStatus) → TakesThese form.columns form.blobs text [] rest status → ((left : List (List ℕ)) → Reports plan table [] status left told told ≡ Appends told told []) → LinesEnd first plan table text t f told told rest status
@@ -298,13 +301,14 @@ names-ends form text t f told rest first plan table status of these is works = b
         taken = [];
         left = these.left;
         takes = as-plan (λ n b. Takes n b text [] these.left) form plan is these.takes;
+        few = these.few;
         stops = as-plan (λ n b. Stops n b text [] these.left rest status) form plan is these.stops;
         reports = subst (λ (P : Type 0). P) (sym (same these.left)) (appends-none told);
       };
       works = works;
     }
 
-    by-status : (status : ToolStatus) → IsOfReading status → TakesThese form.columns form.blobs text [] rest status → AllEnds first plan table text t f f told told rest (Err status)
+    by-status : (status : ToolStatus) → IsOfReading status → TakesThese form.columns form.blobs text [] rest status → AllEnds first plan table text t f told told rest (Err status)
     by-status InputRead of these = ends InputRead these (λ _. refl)
     by-status InputLong of these = ends InputLong these (λ _. refl)
     by-status (BadInput n) of these = ends (BadInput n) these (λ _. refl)

@@ -8,17 +8,22 @@ use Rattle.fl_base.specs.Causes.{Rose}
 use Rattle.fl_base.specs.declared.types.Geometry.{Geometry}
 use Rattle.fl_config.specs.Whole.{Makes}
 use Rattle.fl_config.proofs.Names.{bytes_equal-other}
-use Rattle.fl_export.specs.Ends.{at_rest}
+use Rattle.fl_export.specs.Ends.{MountFails, at_rest}
+use Rattle.fl_export.specs.Tables as export
+use Rattle.fl_export.specs.Tables.{mount_status}
 use Rattle.fl_export.proofs.Ending.{at-rest, made-image, same-lines}
 use Rattle.fl_export.proofs.Images.{made-by, image-tables, tables-image}
 use Rattle.fl_export.proofs.Lines.{appends-none}
 use Rattle.fl_export.proofs.Locating.{new-named, first-named, none-named, located-none}
-use Rattle.fl_export.proofs.Statuses.{image-with}
+use Rattle.fl_export.proofs.Statuses.{image-with, mount-place, mount-rose, mount-unwritten, of-mount}
 use Rattle.fl_flash.specs.Flash.{FlashState, Goes}
 use Rattle.fl_flash.specs.Media.{MediaState}
 use Rattle.fl_flash.specs.Sim.{on_medium}
+use Rattle.fl_flash.specs.declared.flash.FlashFault.TheVariants.{PowerLost, Media}
 use Rattle.fl_jobs.specs.Header.{IsAccepted, IsMade}
 use Rattle.fl_jobs.specs.Image.{IsImageOf, OnlyLooksAt}
+use Rattle.fl_jobs.specs.Status.{is_done}
+use Rattle.fl_jobs.specs.declared.job_end.JobEnd.{JobEnd}
 use Rattle.fl_jobs.specs.declared.status.ToolStatus.{ToolStatus}
 use Rattle.fl_jobs.specs.declared.status.ToolStatus.TheVariants.{Done, InputRead, OutWrite, InputLong, NoMemory, NotImage, Device, BadImage, NoTable, BadInput, Unsound}
 use Rattle.fl_model.specs.Record.{Plan, Config, RowLayout, bytes_equal, has_var}
@@ -29,15 +34,19 @@ use Rattle.fl_table.specs.BlobAt.{has_blobs}
 use Rattle.fl_table.specs.Look.{layout_in}
 use Rattle.fl_table.specs.Memory.{IsPlanned}
 use Rattle.fl_table.specs.declared.table.Table.{Table as CodeTable}
-use Rattle.fl_tables.specs.Tables.{AreNewTables, IsNamed, Names, TablesStand}
+use Rattle.fl_table.specs.declared.faults.MountFault.{MountFault}
+use Rattle.fl_table.specs.declared.faults.MountFault.TheVariants as mount
+use Rattle.fl_tables.specs.Tables.{AreNewTables, IsNamed, MountFailsFor, Names, TablesStand}
 use Rattle.fl_tables.specs.declared.tables.Entry.{Entry}
 use Rattle.fl_tables.proofs.Naming.{bytes_equal-own}
+use Rattle.fl_tables.proofs.TablesChanged.{some-is}
 use Rattle.fl_words.specs.Config.{Lines}
 use Rattle.fl_words.specs.Medium.{IsImage}
-use Rattle.fl_import.specs.Ends.{Told, MountFails, Imports, TablesEnd, IsUntouched, ImportEnds, IsImageFor, StatusFits}
-use Rattle.fl_import.specs.Images.{EndsOn, EndsOver, FormsAt, IsOfMount, IsOfMounted, told_of}
+use Rattle.fl_import.specs.Ends.{Told, Imports, TablesEnd, IsUnbegun, ImportEnds, IsImageFor, MayTake, StatusFits, of_mount}
+use Rattle.fl_import.specs.Images.{EndsOn, EndsOver, FormsAt, HasCauses, IsOfMounted, told_of}
+use Rattle.fl_import.specs.Reading.{TakesSome}
 use Rattle.fl_import.specs.Steps.{IsOfTable, IsFormOf}
-use Rattle.fl_import.specs.Taking.{EndedAs}
+use Rattle.fl_import.specs.Taking.{EndedAs, EndedOver}
 use Rattle.fl_import.specs.declared.form.Form.{Form}
 
 -- ---- what stands at the end in other words, and faults that are counted from an earlier moment on
@@ -46,31 +55,35 @@ module _ (plans : List Plan) (tables : List Table) (name text : List ℕ) (told 
   imports-seen : (Left : Plan → Table → Table → Type 0) → Imports plans tables name told b c Holds Left → Imports plans tables name told a c Stands Left
   imports-seen Left h = record { rose = h.rose; risen = λ r. rises (h.risen r); end = h.end; did = h.did; at = h.at; found = h.found; after = h.after; left = h.left; holds = seen _ h.holds }
 
-  fails-seen : MountFails plans tables told b c Holds → MountFails plans tables told a c Stands
-  fails-seen h = record { rose = h.rose; risen = λ r. rises (h.risen r); end = h.end; did = h.did; holds = seen _ h.holds; nothing = h.nothing }
+  fails-seen : MountFails plans tables name (of_mount told b c) Holds → MountFails plans tables name (of_mount told a c) Stands
+  fails-seen h = record { named = h.named; rose = h.rose; risen = λ r. rises (h.risen r); end = h.end; did = h.did; holds = seen _ h.holds; nothing = h.nothing }
 
-  pub ends-seen : (status : ToolStatus) → TablesEnd plans tables name text told b c Holds status → TablesEnd plans tables name text told a c Stands status
-  ends-seen Device (rose, inl h) = (rises rose, inl (fails-seen h))
-  ends-seen Device (rose, inr h) = (rises rose, inr (imports-seen _ h))
-  ends-seen Done h = imports-seen _ h
-  ends-seen InputRead h = imports-seen _ h
-  ends-seen OutWrite h = imports-seen _ h
-  ends-seen InputLong h = imports-seen _ h
-  ends-seen NoMemory h = imports-seen _ h
-  ends-seen NotImage h = imports-seen _ h
-  ends-seen (BadImage n) h = imports-seen _ h
-  ends-seen NoTable h = imports-seen _ h
-  ends-seen (BadInput n) h = imports-seen _ h
-  ends-seen Unsound h = imports-seen _ h
+  pub ends-seen : (kept : Option ℕ) (status : ToolStatus) → TablesEnd plans tables name text told b c Holds kept status → TablesEnd plans tables name text told a c Stands kept status
+  ends-seen kept Device (rose, inl h) = (rises rose, inl (fails-seen h.0, h.1))
+  ends-seen kept Device (rose, inr h) = (rises rose, inr (imports-seen _ h))
+  ends-seen kept Done h = imports-seen _ h
+  ends-seen kept InputRead h = imports-seen _ h
+  ends-seen kept OutWrite h = imports-seen _ h
+  ends-seen kept InputLong h = imports-seen _ h
+  ends-seen kept NoMemory h = imports-seen _ h
+  ends-seen kept NotImage h = imports-seen _ h
+  ends-seen kept (BadImage n) h = imports-seen _ h
+  ends-seen kept NoTable h = imports-seen _ h
+  ends-seen kept (BadInput n) h = imports-seen _ h
+  ends-seen kept Unsound h = imports-seen _ h
+
+-- an end of which no rows are told
+pub as-end : (P : Option ℕ → ToolStatus → Type 0) (end : JobEnd) (given status : ToolStatus) → end ≡ record { status = given; kept = None } → given ≡ status → P None status → P end.kept end.status
+as-end P end given status is same h = subst (λ (e : JobEnd). P e.kept e.status) (sym is) (subst (P None) (sym same) h)
 
 -- ---- over a flash that was made on the medium
 
-pub flash-ends : (config : Config) (lines : Lines) (tables : List Table) (name text : List ℕ) (f g : FlashState) (old new : MediaState) (geometry : Geometry) (blocks : ℕ) (origin : GName) (told : Told) (entries now : List Entry) (at : ℕ) (status : ToolStatus) →
+pub flash-ends : (config : Config) (lines : Lines) (tables : List Table) (name text : List ℕ) (f g : FlashState) (old new : MediaState) (geometry : Geometry) (blocks : ℕ) (origin : GName) (told : Told) (entries now : List Entry) (at : ℕ) (kept : Option ℕ) (status : ToolStatus) →
     f ≡ on_medium geometry blocks 1024 origin true None 0 (record { reads = 0; programs = 0; erases = 0 }) old → new ≡ g.media → Goes f g → lines.device ≡ Some geometry → IsTrue old.tells → Makes lines config → IsImage config old.content tables → AreNewTables entries lines →
     IsNamed entries name at → (form : Form) → FormsAt form lines.plans at →
-    ((plans : List Plan) (ts : List Table) (asked : List ℕ) → IsTrue f.media.tells → f.is_on ≡ true → SameDevice f at_rest → TablesStand f (λ i. false) plans entries ts → IsNamed entries asked at → FormsAt form plans at → EndsOn plans ts asked text told f g now status) →
-    EndsOver config tables name text told old new status
-flash-ends config lines tables name text f g old new geometry blocks origin told entries now at status is media goes device tells makes image made named form forms ends =
+    ((plans : List Plan) (ts : List Table) (asked : List ℕ) → IsTrue f.media.tells → f.is_on ≡ true → SameDevice f at_rest → TablesStand f (λ i. false) plans entries ts → IsNamed entries asked at → FormsAt form plans at → EndsOn plans ts asked text told f g now kept status) →
+    EndsOver config tables name text told old new kept status
+flash-ends config lines tables name text f g old new geometry blocks origin told entries now at kept status is media goes device tells makes image made named form forms ends =
     let f' : FlashState = on_medium geometry blocks 1024 origin true None 0 (record { reads = 0; programs = 0; erases = 0 }) old in
     let goes' : Goes f' g = subst (λ x. Goes x g) is goes in
     let same : geometry ≡ config.geometry = let k : ◌≡◌ {A = Option Geometry} (Some geometry) (Some config.geometry) = sym device ∙ (made-by lines config makes).device_is in cc in
@@ -79,74 +92,114 @@ flash-ends config lines tables name text f g old new geometry blocks origin told
     let on : f.is_on ≡ true = ap (λ (x : FlashState). x.is_on) is in
     let formed : FormsAt form config.plans at = subst (λ (ps : List Plan). FormsAt form ps at) (made-by lines config makes).plans_are forms in
     let end = ends config.plans tables name told_is on (at-rest f geometry blocks origin old is) stand named formed in
-    let here : TablesEnd config.plans tables name text told old.faults g.media.faults (TablesStand g (λ i. false) config.plans now) status =
-    subst (λ (x : FlashState). TablesEnd config.plans tables name text told x.media.faults g.media.faults (TablesStand g (λ i. false) config.plans now) status) is end in
+    let here : TablesEnd config.plans tables name text told old.faults g.media.faults (TablesStand g (λ i. false) config.plans now) kept status =
+    subst (λ (x : FlashState). TablesEnd config.plans tables name text told x.media.faults g.media.faults (TablesStand g (λ i. false) config.plans now) kept status) is end in
     let seen : (ts : List Table) → TablesStand g (λ i. false) config.plans now ts → IsImage config g.media.content ts =
     λ ts h. tables-image config now g ts (goes'.size ∙ image.len) (goes'.front tells ∙ image.head) goes'.start (goes'.geometry ∙ same) h in
-    subst (λ (x : MediaState). EndsOver config tables name text told old x status) (sym media)
-    (inr (ends-seen config.plans tables name text told old.faults old.faults g.media.faults (TablesStand g (λ i. false) config.plans now) (IsImage config g.media.content) seen (λ r. r) status here))
+    subst (λ (x : MediaState). EndsOver config tables name text told old x kept status) (sym media)
+    (inr (ends-seen config.plans tables name text told old.faults old.faults g.media.faults (TablesStand g (λ i. false) config.plans now) (IsImage config g.media.content) seen (λ r. r) kept status here))
 
 -- there was no room for it
-pub no-room : (config : Config) (tables : List Table) (name text : List ℕ) (medium : MediaState) (told rest : Option (List ℕ)) → EndsOver config tables name text (told_of told told rest) medium medium NoMemory
-no-room config tables name text medium told rest = inl (refl, record { same = refl; nothing = appends-none told })
+pub no-room : (config : Config) (tables : List Table) (name text : List ℕ) (medium : MediaState) (told rest : Option (List ℕ)) → rest ≡ Some text → EndsOver config tables name text (told_of told told rest) medium medium None NoMemory
+no-room config tables name text medium told rest is = inl (refl, (record { same = refl; nothing = appends-none told }, is))
+
+-- .. and it has its causes
+pub flash-causes : (f g : FlashState) (old new : MediaState) (geometry : Geometry) (blocks : ℕ) (origin : GName) (tables source source_now sink sink_now : ℕ) (kept : Option ℕ) (status : ToolStatus) →
+    f ≡ on_medium geometry blocks 1024 origin true None 0 (record { reads = 0; programs = 0; erases = 0 }) old → new ≡ g.media → Goes f g →
+    HasCauses tables f.media.faults g.media.faults source source_now sink sink_now kept status → HasCauses tables old.faults new.faults source source_now sink sink_now kept status
+flash-causes f g old new geometry blocks origin tables source source_now sink sink_now kept status is media goes h =
+    subst (λ (n : ℕ). HasCauses tables n new.faults source source_now sink sink_now kept status) (ap (λ (x : FlashState). x.media.faults) is)
+    (subst (λ (n : ℕ). HasCauses tables f.media.faults n source source_now sink sink_now kept status) (sym (ap (λ (m : MediaState). m.faults) media)) h)
 
 -- ---- over the medium, whose header was read before
 
-pub untouched : (old new : MediaState) (told rest : Option (List ℕ)) → OnlyLooksAt old new → IsUntouched old.content new.content (told_of told told rest)
-untouched old new told rest looks = record { same = looks.content; nothing = appends-none told }
+pub untouched : (text : List ℕ) (old new : MediaState) (told rest : Option (List ℕ)) → rest ≡ Some text → OnlyLooksAt old new → IsUnbegun old.content new.content text (told_of told told rest) old.faults new.faults
+untouched text old new told rest is looks = (record { same = looks.content; nothing = appends-none told }, is)
 
-table-ends : (config : Config) (tables : List Table) (name text : List ℕ) (told : Told) (a b : ℕ) (content content_now : List ℕ) (status : ToolStatus) → IsOfMounted status → TablesEnd config.plans tables name text told a b (IsImage config content_now) status →
-    ImportEnds config tables name text told a b content content_now status
-table-ends config tables name text told a b content content_now Done of h = h
-table-ends config tables name text told a b content content_now InputRead of h = h
-table-ends config tables name text told a b content content_now OutWrite of h = h
-table-ends config tables name text told a b content content_now InputLong of h = h
-table-ends config tables name text told a b content content_now NoMemory of h = inr h
-table-ends config tables name text told a b content content_now Device of h = inr h
-table-ends config tables name text told a b content content_now (BadImage n) of h = h
-table-ends config tables name text told a b content content_now (BadInput n) of h = h
-table-ends config tables name text told a b content content_now NotImage of h = absurd of
-table-ends config tables name text told a b content content_now NoTable of h = absurd of
-table-ends config tables name text told a b content content_now Unsound of h = absurd of
+table-ends : (config : Config) (tables : List Table) (name text : List ℕ) (told : Told) (a b : ℕ) (content content_now : List ℕ) (kept : Option ℕ) (status : ToolStatus) → IsOfMounted status → TablesEnd config.plans tables name text told a b (IsImage config content_now) kept status →
+    ImportEnds config tables name text told a b content content_now kept status
+table-ends config tables name text told a b content content_now kept Done of h = h
+table-ends config tables name text told a b content content_now kept InputRead of h = h
+table-ends config tables name text told a b content content_now kept OutWrite of h = h
+table-ends config tables name text told a b content content_now kept InputLong of h = h
+table-ends config tables name text told a b content content_now kept NoMemory of h = inr h
+table-ends config tables name text told a b content content_now kept Device of h = inr h
+table-ends config tables name text told a b content content_now kept (BadImage n) of h = h
+table-ends config tables name text told a b content content_now kept (BadInput n) of h = h
+table-ends config tables name text told a b content content_now kept NotImage of h = absurd of
+table-ends config tables name text told a b content content_now kept NoTable of h = absurd of
+table-ends config tables name text told a b content content_now kept Unsound of h = absurd of
 
-pub over-ends : (config : Config) (tables : List Table) (name text : List ℕ) (old mid new : MediaState) (told : Told) (status : ToolStatus) → IsOfMounted status → OnlyLooksAt old mid → EndsOver config tables name text told mid new status →
-    ImportEnds config tables name text told old.faults new.faults old.content new.content status
-over-ends config tables name text old mid new told status of looks (inl none) =
-    subst (λ (s : ToolStatus). ImportEnds config tables name text told old.faults new.faults old.content new.content s) (sym none.0)
-    (inl (record { same = none.1.same ∙ looks.content; nothing = none.1.nothing }))
-over-ends config tables name text old mid new told status of looks (inr h) =
-    table-ends config tables name text told old.faults new.faults old.content new.content status of
-    (ends-seen config.plans tables name text told old.faults mid.faults new.faults (IsImage config new.content) (IsImage config new.content) (λ ts i. i) (λ rose. omega (arith, looks.later, rose)) status h)
+pub over-ends : (config : Config) (tables : List Table) (name text : List ℕ) (old mid new : MediaState) (told : Told) (kept : Option ℕ) (status : ToolStatus) → IsOfMounted status → OnlyLooksAt old mid → EndsOver config tables name text told mid new kept status →
+    ImportEnds config tables name text told old.faults new.faults old.content new.content kept status
+over-ends config tables name text old mid new told kept status of looks (inl none) =
+    subst (λ (s : ToolStatus). ImportEnds config tables name text told old.faults new.faults old.content new.content kept s) (sym none.0)
+    (inl (record { same = none.1.0.same ∙ looks.content; nothing = none.1.0.nothing }, none.1.1))
+over-ends config tables name text old mid new told kept status of looks (inr h) =
+    table-ends config tables name text told old.faults new.faults old.content new.content kept status of
+    (ends-seen config.plans tables name text told old.faults mid.faults new.faults (IsImage config new.content) (IsImage config new.content) (λ ts i. i) (λ rose. omega (arith, looks.later, rose)) kept status h)
 
-pub memory-ends : (config : Config) (tables : List Table) (name text : List ℕ) (old new : MediaState) (told rest : Option (List ℕ)) → OnlyLooksAt old new →
-    ImportEnds config tables name text (told_of told told rest) old.faults new.faults old.content new.content NoMemory
-memory-ends config tables name text old new told rest looks = inl (untouched old new told rest looks)
+pub memory-ends : (config : Config) (tables : List Table) (name text : List ℕ) (old new : MediaState) (told rest : Option (List ℕ)) → rest ≡ Some text → OnlyLooksAt old new →
+    ImportEnds config tables name text (told_of told told rest) old.faults new.faults old.content new.content None NoMemory
+memory-ends config tables name text old new told rest is looks = inl (untouched text old new told rest is looks)
 
-pub early-ends : (config : Config) (tables : List Table) (name text : List ℕ) (old new : MediaState) (told rest : Option (List ℕ)) (status : ToolStatus) → IsMade config → IsImage config old.content tables → OnlyLooksAt old new →
+pub early-ends : (config : Config) (tables : List Table) (name text : List ℕ) (old new : MediaState) (told rest : Option (List ℕ)) (status : ToolStatus) → rest ≡ Some text → IsMade config → IsImage config old.content tables → OnlyLooksAt old new →
     (status ≡ NotImage) ⊎ (status ≡ Device) → (status ≡ NotImage → (lines : Lines) → IsAccepted lines → IsImageOf old.content lines → ⊥) → (status ≡ Device → Rose old.faults new.faults) →
-    ImportEnds config tables name text (told_of told told rest) old.faults new.faults old.content new.content status
-early-ends config tables name text old new told rest status made image looks (inl is) none device = absurd (none is made.lines made.accepted (made-image config made old.content tables image))
-early-ends config tables name text old new told rest status made image looks (inr is) none device =
-    subst (λ (s : ToolStatus). ImportEnds config tables name text (told_of told told rest) old.faults new.faults old.content new.content s) (sym is) (inl (device is, untouched old new told rest looks))
+    ImportEnds config tables name text (told_of told told rest) old.faults new.faults old.content new.content None status
+early-ends config tables name text old new told rest status whole made image looks (inl is) none device = absurd (none is made.lines made.accepted (made-image config made old.content tables image))
+early-ends config tables name text old new told rest status whole made image looks (inr is) none device =
+    subst (λ (s : ToolStatus). ImportEnds config tables name text (told_of told told rest) old.faults new.faults old.content new.content None s) (sym is) (inl (device is, untouched text old new told rest whole looks))
 
-pub nameless-ends : (config : Config) (tables : List Table) (name text : List ℕ) (old new : MediaState) (told rest : Option (List ℕ)) (lines : Lines) (entries : List Entry) → IsMade config → IsImage config old.content tables → OnlyLooksAt old new →
-    IsAccepted lines → IsImageOf old.content lines → AreNewTables entries lines → Names entries name None → ImportEnds config tables name text (told_of told told rest) old.faults new.faults old.content new.content NoTable
-nameless-ends config tables name text old new told rest lines entries made image looks accepted is fresh none =
+pub nameless-ends : (config : Config) (tables : List Table) (name text : List ℕ) (old new : MediaState) (told rest : Option (List ℕ)) (lines : Lines) (entries : List Entry) → rest ≡ Some text → IsMade config → IsImage config old.content tables → OnlyLooksAt old new →
+    IsAccepted lines → IsImageOf old.content lines → AreNewTables entries lines → Names entries name None → ImportEnds config tables name text (told_of told told rest) old.faults new.faults old.content new.content None NoTable
+nameless-ends config tables name text old new told rest lines entries whole made image looks accepted is fresh none =
     let makes = same-lines config made old.content tables lines image accepted is in
     let others = none-named lines.plans entries (new-named entries lines fresh) name none in
     let plans_are = (made-by lines config makes).plans_are in
-    (located-none config.plans tables 0 name (subst (λ (ps : List Plan). (i : ℕ) (other : Plan) → slice_get ps i ≡ Some other → other.name ≡ name → ⊥) plans_are others), untouched old new told rest looks)
+    (located-none config.plans tables 0 name (subst (λ (ps : List Plan). (i : ℕ) (other : Plan) → slice_get ps i ≡ Some other → other.name ≡ name → ⊥) plans_are others), untouched text old new told rest whole looks)
 
 -- a status of the table isn't one of those before it
 pub not-early : {P : Type 0} (status : ToolStatus) → IsOfMounted status → (status ≡ NotImage) ⊎ (status ≡ NoTable) → P
 not-early status h (inl is) = absurd (subst IsOfMounted is h)
 not-early status h (inr is) = absurd (subst IsOfMounted is h)
 
+-- .. nor that of a check
+pub not-unsound : (status : ToolStatus) → IsOfMounted status → status ≡ Unsound → ⊥
+not-unsound status h is = subst IsOfMounted is h
+
+-- a status that comes before the tables are mounted
+abbrev pub IsEarly : ToolStatus → Type 0
+IsEarly NotImage = Unit {0}
+IsEarly Device = Unit {0}
+IsEarly NoMemory = Unit {0}
+IsEarly NoTable = Unit {0}
+IsEarly status = ⊥
+
+pub not-nameless : NoTable ≡ Device → ⊥
+not-nameless e = cc
+
+pub early-of : (status : ToolStatus) → (status ≡ NotImage) ⊎ (status ≡ Device) → IsEarly status
+early-of status (inl is) = subst IsEarly (sym is) tt
+early-of status (inr is) = subst IsEarly (sym is) tt
+
+pub early-undone : (status : ToolStatus) → IsEarly status → false ≡ is_done status
+early-undone NotImage of = refl
+early-undone Device of = refl
+early-undone NoMemory of = refl
+early-undone NoTable of = refl
+early-undone Done of = absurd of
+early-undone InputRead of = absurd of
+early-undone OutWrite of = absurd of
+early-undone InputLong of = absurd of
+early-undone (BadInput n) of = absurd of
+early-undone (BadImage n) of = absurd of
+early-undone Unsound of = absurd of
+
 -- ---- over any bytes
 
-pub fits-early : (bytes name : List ℕ) (text rest : Option (List ℕ)) (status : ToolStatus) → (status ≡ NotImage) ⊎ (status ≡ Device) → (status ≡ NotImage → (lines : Lines) → IsAccepted lines → IsImageOf bytes lines → ⊥) → StatusFits bytes name text rest status
-fits-early bytes name text rest status (inl is) none = subst (StatusFits bytes name text rest) (sym is) (none is)
-fits-early bytes name text rest status (inr is) none = subst (StatusFits bytes name text rest) (sym is) tt
+pub fits-early : (bytes name : List ℕ) (text : Option (List ℕ)) (status : ToolStatus) → (status ≡ NotImage) ⊎ (status ≡ Device) → (status ≡ NotImage → (lines : Lines) → IsAccepted lines → IsImageOf bytes lines → ⊥) → StatusFits bytes name text text status
+fits-early bytes name text status (inl is) none = subst (StatusFits bytes name text text) (sym is) (none is)
+fits-early bytes name text status (inr is) none = subst (StatusFits bytes name text text) (sym is) (inl refl)
 
 -- the first plan with a name
 find-first : (plans : List Plan) (at : ℕ) (name : List ℕ) (plan : Plan) → slice_get plans at ≡ Some plan → plan.name ≡ name → ((i : ℕ) (other : Plan) → i < at → slice_get plans i ≡ Some other → other.name ≡ name → ⊥) →
@@ -170,8 +223,8 @@ module _ (bytes name : List ℕ) (text rest : Option (List ℕ)) (lines : Lines)
   at-plan : At
   at-plan = slice_get-some lines.plans at (omega (arith, slice_get_within entries at named.entry named.here, new.as_many))
 
-  for-name : (Until : ℕ → Bool → List ℕ → Type 0) → ((plan : Plan) (l : List ℕ) → slice_get lines.plans at ≡ Some plan → text ≡ Some l → Until (length plan.columns) (has_var plan) l) → IsImageFor bytes name text Until
-  for-name Until h =
+  for-own : (Until : ℕ → Bool → List ℕ → Type 0) → ((l : List ℕ) → text ≡ Some l → Until (length at-plan.0.columns) (has_var at-plan.0) l) → IsImageFor bytes name text Until
+  for-own Until h =
       let own = first-named lines.plans entries (new-named entries lines new) name at named at-plan.0 at-plan.1 in
       record {
         lines = lines;
@@ -179,55 +232,110 @@ module _ (bytes name : List ℕ) (text rest : Option (List ℕ)) (lines : Lines)
         image = image;
         plan = at-plan.0;
         named = find-first lines.plans at name at-plan.0 at-plan.1 own.0 (λ i other lt e k. own.1 i other lt e k);
-        takes = λ l is. h at-plan.0 l at-plan.1 is;
+        takes = h;
       }
 
-  pub fits-table : (status : ToolStatus) → IsOfMounted status → ((plan : Plan) (l : List ℕ) → slice_get lines.plans at ≡ Some plan → text ≡ Some l → EndedAs (length plan.columns) (has_var plan) l rest status) → StatusFits bytes name text rest status
-  fits-table Done of h = for-name _ h
-  fits-table InputRead of h = for-name _ h
-  fits-table OutWrite of h = for-name _ h
-  fits-table InputLong of h = for-name _ h
-  fits-table (BadInput n) of h = for-name _ h
-  fits-table (BadImage n) of h = image-with bytes name lines entries accepted image new at named
-  fits-table NoMemory of h = tt
-  fits-table Device of h = tt
-  fits-table NotImage of h = absurd of
-  fits-table NoTable of h = absurd of
-  fits-table Unsound of h = absurd of
+  -- some lines were taken, or none
+  may-take : ((l : List ℕ) → text ≡ Some l → (rest ≡ Some l) ⊎ TakesSome (length at-plan.0.columns) (has_var at-plan.0) l rest) → MayTake bytes name text rest
+  may-take h = by-text text refl
+    where
+      Some-of : ℕ → Bool → List ℕ → Type 0
+      Some-of columns blobs l = TakesSome columns blobs l rest
+
+      no-text : (l : List ℕ) → None ≡ Some l → ⊥
+      no-text l e = cc
+
+      by-end : (l : List ℕ) → text ≡ Some l → (rest ≡ Some l) ⊎ TakesSome (length at-plan.0.columns) (has_var at-plan.0) l rest → MayTake bytes name text rest
+      by-end l e (inl none) = inl (none ∙ sym e)
+      by-end l e (inr some) = inr (for-own (λ columns blobs l. TakesSome columns blobs l rest) (λ k is. subst (λ (x : List ℕ). TakesSome (length at-plan.0.columns) (has_var at-plan.0) x rest) (some-is text l k e is) some))
+
+      by-text : (t : Option (List ℕ)) → text ≡ t → MayTake bytes name text rest
+      by-text None e = inr (for-own (λ columns blobs l. TakesSome columns blobs l rest) (λ l is. absurd (no-text l (sym e ∙ is))))
+      by-text (Some l) e = by-end l e (h l e)
+
+  pub fits-table : (status : ToolStatus) → IsOfMounted status → ((table : ℕ) → status ≡ BadImage table → table < length lines.plans) → ((table : ℕ) → status ≡ BadImage table → rest ≡ text) →
+      ((plan : Plan) (l : List ℕ) → slice_get lines.plans at ≡ Some plan → text ≡ Some l → EndedOver (length plan.columns) (has_var plan) l rest status) → StatusFits bytes name text rest status
+  fits-table Done of bad same h = for-own _ (λ l is. h at-plan.0 l at-plan.1 is)
+  fits-table InputRead of bad same h = for-own _ (λ l is. h at-plan.0 l at-plan.1 is)
+  fits-table OutWrite of bad same h = for-own _ (λ l is. h at-plan.0 l at-plan.1 is)
+  fits-table InputLong of bad same h = for-own _ (λ l is. h at-plan.0 l at-plan.1 is)
+  fits-table (BadInput n) of bad same h = for-own _ (λ l is. h at-plan.0 l at-plan.1 is)
+  fits-table (BadImage n) of bad same h = ((image-with bytes name lines entries accepted image new at named, bad n refl), same n refl)
+  fits-table NoMemory of bad same h = may-take (λ l is. h at-plan.0 l at-plan.1 is)
+  fits-table Device of bad same h = may-take (λ l is. h at-plan.0 l at-plan.1 is)
+  fits-table NotImage of bad same h = absurd of
+  fits-table NoTable of bad same h = absurd of
+  fits-table Unsound of bad same h = absurd of
 
 -- ---- statuses
 
-pub mount-ended : (columns : ℕ) (blobs : Bool) (text : List ℕ) (rest : Option (List ℕ)) (status : ToolStatus) → IsOfMount status → EndedAs columns blobs text rest status
-mount-ended columns blobs text rest Device h = tt
-mount-ended columns blobs text rest (BadImage n) h = tt
-mount-ended columns blobs text rest Done h = absurd h
-mount-ended columns blobs text rest InputRead h = absurd h
-mount-ended columns blobs text rest OutWrite h = absurd h
-mount-ended columns blobs text rest InputLong h = absurd h
-mount-ended columns blobs text rest NoMemory h = absurd h
-mount-ended columns blobs text rest NotImage h = absurd h
-mount-ended columns blobs text rest NoTable h = absurd h
-mount-ended columns blobs text rest (BadInput n) h = absurd h
-mount-ended columns blobs text rest Unsound h = absurd h
+-- the tables aren't mounted
+pub mount-ended : (columns : ℕ) (blobs : Bool) (text : List ℕ) (rest : Option (List ℕ)) (bad : MountFault) (at : ℕ) → rest ≡ Some text → EndedOver columns blobs text rest (mount_status bad at)
+mount-ended columns blobs text rest (mount.Flash Media) at is = inl is
+mount-ended columns blobs text rest (mount.Flash PowerLost) at is = inl is
+mount-ended columns blobs text rest (mount.Ring fault) at is = is
+mount-ended columns blobs text rest (mount.BadPage page) at is = is
+mount-ended columns blobs text rest (mount.BadKeys page last key) at is = is
+mount-ended columns blobs text rest (mount.BadIndex end next) at is = is
+mount-ended columns blobs text rest (mount.BadBlob page next) at is = is
 
-pub mount-of : (status : ToolStatus) → IsOfMount status → IsOfMounted status
-mount-of Device h = tt
-mount-of (BadImage n) h = tt
-mount-of Done h = absurd h
-mount-of InputRead h = absurd h
-mount-of OutWrite h = absurd h
-mount-of InputLong h = absurd h
-mount-of NoMemory h = absurd h
-mount-of NotImage h = absurd h
-mount-of NoTable h = absurd h
-mount-of (BadInput n) h = absurd h
-mount-of Unsound h = absurd h
+pub mount-causes : (f g : FlashState) (tables source sink : ℕ) (bad : MountFault) (at : ℕ) → at < tables → MountFailsFor f bad g → HasCauses tables f.media.faults g.media.faults source source sink sink None (mount_status bad at)
+mount-causes f g tables source sink bad at few cause = record {
+  known = known bad at;
+  device = λ is. mount-rose f g bad at is cause;
+  bad = λ table is. subst (λ (n : ℕ). n < tables) (mount-place bad at table is) few;
+  read = λ is. absurd (subst export.IsOfTable is (of-mount bad at));
+  write = λ is. mount-unwritten bad at is;
+  later = (omega arith, omega arith);
+  kept_is = undone bad at;
+}
+  where
+    known : (bad : MountFault) (at : ℕ) → IsOfMounted (mount_status bad at)
+    known (mount.Flash Media) at = tt
+    known (mount.Flash PowerLost) at = tt
+    known (mount.Ring fault) at = tt
+    known (mount.BadPage page) at = tt
+    known (mount.BadKeys page last key) at = tt
+    known (mount.BadIndex end next) at = tt
+    known (mount.BadBlob page next) at = tt
 
-pub mount-read : {P : Type 0} (status : ToolStatus) → IsOfMount status → status ≡ InputRead → P
-mount-read status h is = absurd (subst IsOfMount is h)
+    undone : (bad : MountFault) (at : ℕ) → false ≡ is_done (mount_status bad at)
+    undone (mount.Flash Media) at = refl
+    undone (mount.Flash PowerLost) at = refl
+    undone (mount.Ring fault) at = refl
+    undone (mount.BadPage page) at = refl
+    undone (mount.BadKeys page last key) at = refl
+    undone (mount.BadIndex end next) at = refl
+    undone (mount.BadBlob page next) at = refl
 
-pub mount-write : {P : Type 0} (status : ToolStatus) → IsOfMount status → status ≡ OutWrite → P
-mount-write status h is = absurd (subst IsOfMount is h)
+-- there was no memory
+pub no-causes : (tables flash source sink : ℕ) → HasCauses tables flash flash source source sink sink None NoMemory
+no-causes tables flash source sink = record {
+  known = tt;
+  device = λ is. cc is;
+  bad = λ table is. cc is;
+  read = λ is. cc is;
+  write = λ is. cc is;
+  later = (omega arith, omega arith);
+  kept_is = refl;
+}
+
+-- the lines of the table were taken
+pub table-bad : (status : ToolStatus) (table : ℕ) → IsOfTable status → status ≡ BadImage table → ⊥
+table-bad status table of is = subst IsOfTable is of
+
+pub table-ended : (columns : ℕ) (blobs : Bool) (text : List ℕ) (rest : Option (List ℕ)) (status : ToolStatus) → IsOfTable status → EndedAs columns blobs text rest status → EndedOver columns blobs text rest status
+table-ended columns blobs text rest NoMemory of h = inr h
+table-ended columns blobs text rest Device of h = inr h
+table-ended columns blobs text rest Done of h = h
+table-ended columns blobs text rest InputRead of h = h
+table-ended columns blobs text rest OutWrite of h = h
+table-ended columns blobs text rest InputLong of h = h
+table-ended columns blobs text rest (BadInput n) of h = h
+table-ended columns blobs text rest (BadImage n) of h = absurd of
+table-ended columns blobs text rest NotImage of h = absurd of
+table-ended columns blobs text rest NoTable of h = absurd of
+table-ended columns blobs text rest Unsound of h = absurd of
 
 pub of-mounted : (status : ToolStatus) → IsOfTable status → IsOfMounted status
 of-mounted Done h = h
@@ -249,5 +357,5 @@ formed t first plan columns blobs planned many has = record {
   blobs = has ∙ (sym t.has_blobs ∙ sym (ap (λ (l : RowLayout). l.blobs) planned.layout));
 }
 
-pub formed-ended : (form : Form) (plan : Plan) (text : List ℕ) (rest : Option (List ℕ)) (status : ToolStatus) → IsFormOf form plan → EndedAs form.columns form.blobs text rest status → EndedAs (length plan.columns) (has_var plan) text rest status
-formed-ended form plan text rest status is h = subst (λ b. EndedAs (length plan.columns) b text rest status) is.blobs (subst (λ n. EndedAs n form.blobs text rest status) is.columns h)
+pub formed-ended : (form : Form) (plan : Plan) (text : List ℕ) (rest : Option (List ℕ)) (status : ToolStatus) → IsFormOf form plan → EndedOver form.columns form.blobs text rest status → EndedOver (length plan.columns) (has_var plan) text rest status
+formed-ended form plan text rest status is h = subst (λ b. EndedOver (length plan.columns) b text rest status) is.blobs (subst (λ n. EndedOver n form.blobs text rest status) is.columns h)

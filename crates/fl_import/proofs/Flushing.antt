@@ -1,15 +1,20 @@
 -- The flush behind the lines of an import.
-use Rattle.std.proofs.Common.{◌≡◌, ℕ, ◌-◌, ◌≤◌, inl, inr, Bool, true, false, IfOk, IfErr, Option, Result, Ok, Err, List, length, refl, sym, ◌∙◌, ap, subst, arith}
+use Rattle.std.proofs.Common.{◌≡◌, ℕ, ◌-◌, ◌≤◌, ◌==◌, ◌&&◌, inl, inr, Bool, true, false, nat_lt, if◌then◌else◌, IfOk, IfErr, Option, Result, Ok, Err, List, [], ◌∷◌, ◌++◌, length, length-take, refl, sym, ◌∙◌, ap, subst, arith}
+use Rattle.std.proofs.lemmas.Bool.{eqb-true}
 use Rattle.fl_base.specs.Causes.{Rose, Appends, AppendsFront}
 use Rattle.fl_export.proofs.Risen.{has_risen}
 use Rattle.fl_flash.specs.Flash.{FlashState, Goes}
+use Rattle.fl_flash.specs.declared.flash.FlashFault.TheVariants.{PowerLost, Media}
 use Rattle.fl_jobs.specs.declared.status.ToolStatus.{ToolStatus}
 use Rattle.fl_jobs.specs.declared.status.ToolStatus.TheVariants.{Done, InputRead, OutWrite, InputLong, NoMemory, NotImage, Device, BadImage, NoTable, BadInput, Unsound}
 use Rattle.fl_model.specs.Record.{Plan}
 use Rattle.fl_model.specs.Table as model
-use Rattle.fl_model.specs.Table.{table_seals, flushed, lose}
+use Rattle.fl_model.specs.Record.{entries_per_page, has_index}
+use Rattle.fl_model.specs.Table.{RingName, DataRing, IndexRing, VarRing, after_seal, after_seals, table_seals, flushed, lose}
+use Rattle.fl_table.specs.Causes.{FlushCausedBy}
 use Rattle.fl_table.specs.Outcomes.{FlushEnds}
 use Rattle.fl_table.specs.Pages.{Rests}
+use Rattle.fl_table.specs.Standing.{Stands}
 use Rattle.fl_table.specs.declared.table.Table.{Table}
 use Rattle.fl_table.specs.declared.faults.FlushFault.{FlushFault}
 use Rattle.fl_table.specs.declared.faults.FlushFault.TheVariants as flush
@@ -18,21 +23,53 @@ use Rattle.fl_tables.proofs.TablesChanged.{off-rests}
 use Rattle.fl_import.specs.Ends.{Leaves, Flushes, puts_of, table_after}
 use Rattle.fl_import.specs.Images.{told_of}
 use Rattle.fl_import.specs.Puts.{put_count}
-use Rattle.fl_import.specs.Reading.{TakesUntil}
+use Rattle.fl_import.specs.Reading.{TakesSome, TakesUntil}
 use Rattle.fl_import.specs.Report.{count_line, counts_of}
-use Rattle.fl_import.specs.Steps.{AllEnds, LinesEnd, LinesDone, IsOfLines, IsOfTable, TableEnds, TellsCounts, is_broken, status_of}
+use Rattle.fl_import.specs.Steps.{AllEnds, LinesEnd, LinesDone, IsOfLines, IsOfTable, TableEnds, TellsCounts, flush_status, is_broken, status_of}
 use Rattle.fl_import.specs.Taking.{Ended, EndedAs}
 use Rattle.fl_import.specs.declared.counts.Counts.{Counts}
-use Rattle.fl_import.proofs.OneLine.{works-done, works-broken}
+use Rattle.fl_import.proofs.OneLine.{not-device, works-done, works-broken, works-uncut}
 
--- a put that failed stops the import
-pub failed-ends : (first : ℕ) (plan : Plan) (table : model.Table) (text : List ℕ) (u : Table 64 64) (f g : FlashState) (told told_now rest : Option (List ℕ)) → AllEnds first plan table text u f g told told_now rest (Err Device) →
-    TableEnds first plan table text f g (told_of told told_now rest) Device
-failed-ends first plan table text u f g told told_now rest fails = record { after = fails.after; leaves = inl fails.fails; rests = fails.rests; rose = λ _. fails.rose }
+not-done : Device ≡ Done → ⊥
+not-done e = cc
 
-module _ (first : ℕ) (plan : Plan) (table : model.Table) (text : List ℕ) (u v : Table 64 64) (f g h : FlashState) (told told_mid told_now rest : Option (List ℕ)) where
+not-written : OutWrite ≡ Done → ⊥
+not-written e = cc
+
+-- ---- nothing is pending after a flush
+
+sealed-idle : (plan : Plan) (names : List RingName) (table : model.Table) → (after_seals plan (names ++ DataRing ∷ []) table).pending ≡ 0
+sealed-idle plan [] table = refl
+sealed-idle plan (name ∷ names) table = sealed-idle plan names (after_seal plan name table)
+
+flushed-idle : (plan : Plan) (table : model.Table) → (flushed plan table).pending ≡ 0
+flushed-idle plan table = by-test (table.pending == 0) refl
+  where
+    bitmaps : List RingName
+    bitmaps = if has_index plan && (table.waiting == entries_per_page plan) then IndexRing ∷ [] else []
+
+    blobs : List RingName
+    blobs = if nat_lt 0 table.fill then VarRing ∷ [] else []
+
+    by-test : (b : Bool) → (table.pending == 0) ≡ b → (after_seals plan (if b then [] else bitmaps ++ blobs ++ DataRing ∷ []) table).pending ≡ 0
+    by-test true is = eqb-true table.pending 0 is
+    by-test false is = sealed-idle plan (bitmaps ++ blobs) table
+
+-- .. so that the medium holds all of its records
+pub flushed-whole : (plan : Plan) (table : model.Table) → length (lose (flushed plan table)).entries ≡ length (flushed plan table).entries
+flushed-whole plan table =
+    let entries = (flushed plan table).entries in
+    length-take (length entries - (flushed plan table).pending) entries ∙ omega (arith, flushed-idle plan table)
+
+-- ---- a put that failed stops the import
+
+pub failed-ends : (first : ℕ) (plan : Plan) (table : model.Table) (text : List ℕ) (u : Table 64 64) (g : FlashState) (told told_now rest : Option (List ℕ)) → AllEnds first plan table text u g told told_now rest (Err Device) →
+    TableEnds first plan table text u g (told_of told told_now rest) Device
+failed-ends first plan table text u g told told_now rest fails = record { after = fails.after; leaves = inl fails.fails; rests = fails.rests; stands = λ e. absurd (not-done e) }
+
+module _ (first : ℕ) (plan : Plan) (table : model.Table) (text : List ℕ) (u v : Table 64 64) (g h : FlashState) (told told_mid told_now rest : Option (List ℕ)) where
   -- the table goes on behind the lines
-  abbrev pub goes-on : (taken : Result Counts ToolStatus) → is_broken taken ≡ false → AllEnds first plan table text u f g told told_mid rest taken → LinesEnd first plan table text u g told told_mid rest (status_of taken)
+  abbrev pub goes-on : (taken : Result Counts ToolStatus) → is_broken taken ≡ false → AllEnds first plan table text u g told told_mid rest taken → LinesEnd first plan table text u g told told_mid rest (status_of taken)
   goes-on (Ok counts) other ends = ends.ends
   goes-on (Err Device) other ends = cc
   goes-on (Err Done) other ends = ends
@@ -46,43 +83,47 @@ module _ (first : ℕ) (plan : Plan) (table : model.Table) (text : List ℕ) (u 
   goes-on (Err (BadInput n)) other ends = ends
   goes-on (Err Unsound) other ends = ends
 
-  module _ (taken : Result Counts ToolStatus) (other : is_broken taken ≡ false) (ends : AllEnds first plan table text u f g told told_mid rest taken) where
+  module _ (taken : Result Counts ToolStatus) (other : is_broken taken ≡ false) (ends : AllEnds first plan table text u g told told_mid rest taken) where
     abbrev pub lines : LinesEnd first plan table text u g told told_mid rest (status_of taken)
     lines = goes-on taken other ends
 
     abbrev pub then_table : model.Table
     then_table = table_after plan table lines.puts.taken
 
-    pub flush-broken : (fault : FlushFault) → f.media.faults ≤ g.media.faults → FlushEnds first plan then_table (has_risen g h) lines.works.device (Err fault) v g h → TableEnds first plan table text f h (told_of told told_mid rest) Device
-    flush-broken (flush.Flash fault) later flushes =
-        let b = works-broken first plan then_table u v g h lines.works (table_seals plan then_table) fault flushes in
-        record { after = b.after; leaves = inr (record { status = status_of taken; puts = lines.puts; fails = b.fails }); rests = b.rests; rose = λ _. rose-back f.media.faults g.media.faults h.media.faults later b.rose }
-    flush-broken flush.Stopped later flushes = absurd flushes
+    pub flush-broken : (fault : FlushFault) → FlushEnds first plan then_table (has_risen g h) lines.works.device (Err fault) v g h → TableEnds first plan table text v h (told_of told told_mid rest) (flush_status fault)
+    flush-broken (flush.Flash Media) flushes =
+        let b = works-broken first plan then_table u v g h lines.works (table_seals plan then_table) Media flushes in
+        record { after = b.after; leaves = inr (record { status = status_of taken; puts = lines.puts; fails = b.fails }); rests = b.rests; stands = λ e. absurd (not-done e) }
+    flush-broken (flush.Flash PowerLost) flushes = absurd (works-uncut first plan then_table u v g h lines.works (table_seals plan then_table) flushes)
+    flush-broken flush.Stopped flushes = absurd flushes
 
     abbrev pub after : model.Table
     after = flushed plan then_table
 
+    pub stood : Goes g h → FlushEnds first plan then_table (has_risen g h) lines.works.device (Ok tt) v g h → Stands v h first plan after
+    stood goes flushes = (works-done first plan then_table u v g h lines.works goes (table_seals plan then_table) after flushes).stands
+
     pub rested : Goes g h → FlushEnds first plan then_table (has_risen g h) lines.works.device (Ok tt) v g h → Rests h first plan (lose after)
-    rested goes flushes = off-rests v h first plan after true (works-done first plan then_table u v g h lines.works goes (table_seals plan then_table) after flushes).stands
+    rested goes flushes = off-rests v h first plan after true (stood goes flushes)
 
   counts-are : (counts : Counts) (d : LinesDone first plan table text u g told told_mid rest counts) → count_line counts.accepted counts.refused ≡ counts_of plan table (puts_of plan d.ends.puts.taken)
   counts-are counts d =
       let n : counts.refused ≡ length (puts_of plan d.ends.puts.taken) - put_count plan table (puts_of plan d.ends.puts.taken) = omega (arith, d.accepted, d.all) in
       ap (λ a. count_line a counts.refused) d.accepted ∙ ap (λ r. count_line (put_count plan table (puts_of plan d.ends.puts.taken)) r) n
 
-  pub flush-told : (counts : Counts) (d : AllEnds first plan table text u f g told told_mid rest (Ok counts)) → Goes g h → FlushEnds first plan (then_table (Ok counts) refl d) (has_risen g h) (lines (Ok counts) refl d).works.device (Ok tt) v g h →
-      (faults faults_now : ℕ) (status : ToolStatus) → TellsCounts counts told_mid told_now faults faults_now status → TableEnds first plan table text f h (told_of told told_now rest) status
+  pub flush-told : (counts : Counts) (d : AllEnds first plan table text u g told told_mid rest (Ok counts)) → Goes g h → FlushEnds first plan (then_table (Ok counts) refl d) (has_risen g h) (lines (Ok counts) refl d).works.device (Ok tt) v g h →
+      (faults faults_now : ℕ) (status : ToolStatus) → TellsCounts counts told_mid told_now faults faults_now status → TableEnds first plan table text v h (told_of told told_now rest) status
   flush-told counts d goes flushes faults faults_now Done tells = record {
     after = after (Ok counts) refl d;
     leaves = record { written_then = told_mid; puts = d.ends.puts; after_is = refl; counts = subst (λ l. Appends told_mid told_now l) (counts-are counts d) tells };
     rests = rested (Ok counts) refl d goes flushes;
-    rose = λ e. cc;
+    stands = λ e. stood (Ok counts) refl d goes flushes;
   }
   flush-told counts d goes flushes faults faults_now OutWrite tells = record {
     after = after (Ok counts) refl d;
     leaves = inr (record { written_then = told_mid; puts = d.ends.puts; after_is = refl; counts = subst (λ l. AppendsFront told_mid told_now l) (counts-are counts d) tells.0 });
     rests = rested (Ok counts) refl d goes flushes;
-    rose = λ e. cc;
+    stands = λ e. absurd (not-written e);
   }
   flush-told counts d goes flushes faults faults_now InputRead tells = absurd tells
   flush-told counts d goes flushes faults faults_now InputLong tells = absurd tells
@@ -95,15 +136,15 @@ module _ (first : ℕ) (plan : Plan) (table : model.Table) (text : List ℕ) (u 
   flush-told counts d goes flushes faults faults_now Unsound tells = absurd tells
 
 -- the lines weren't taken to their end
-pub flush-status : (first : ℕ) (plan : Plan) (table : model.Table) (text : List ℕ) (u v : Table 64 64) (f g h : FlashState) (told told_now rest : Option (List ℕ)) (status : ToolStatus) → IsOfLines status → (other : is_broken (Err status) ≡ false) →
-    (ends : AllEnds first plan table text u f g told told_now rest (Err status)) → Goes g h →
-    FlushEnds first plan (then_table first plan table text u v f g h told told_now told_now rest (Err status) other ends) (has_risen g h) (lines first plan table text u v f g h told told_now told_now rest (Err status) other ends).works.device (Ok tt) v g h →
-    TableEnds first plan table text f h (told_of told told_now rest) status
-flush-status first plan table text u v f g h told told_now rest status of other ends goes flushes = record {
-  after = after first plan table text u v f g h told told_now told_now rest (Err status) other ends;
-  leaves = by-status status of (λ e. not-broken e) (record { puts = (lines first plan table text u v f g h told told_now told_now rest (Err status) other ends).puts; after_is = refl });
-  rests = rested first plan table text u v f g h told told_now told_now rest (Err status) other ends goes flushes;
-  rose = λ e. absurd (not-broken e);
+pub flush-status : (first : ℕ) (plan : Plan) (table : model.Table) (text : List ℕ) (u v : Table 64 64) (g h : FlashState) (told told_now rest : Option (List ℕ)) (status : ToolStatus) → IsOfLines status → (other : is_broken (Err status) ≡ false) →
+    (ends : AllEnds first plan table text u g told told_now rest (Err status)) → Goes g h →
+    FlushEnds first plan (then_table first plan table text u v g h told told_now told_now rest (Err status) other ends) (has_risen g h) (lines first plan table text u v g h told told_now told_now rest (Err status) other ends).works.device (Ok tt) v g h →
+    TableEnds first plan table text v h (told_of told told_now rest) status
+flush-status first plan table text u v g h told told_now rest status of other ends goes flushes = record {
+  after = after first plan table text u v g h told told_now told_now rest (Err status) other ends;
+  leaves = by-status status of (λ e. not-broken e) (record { puts = (lines first plan table text u v g h told told_now told_now rest (Err status) other ends).puts; after_is = refl });
+  rests = rested first plan table text u v g h told told_now told_now rest (Err status) other ends goes flushes;
+  stands = λ e. absurd (subst IsOfLines e of);
 }
   where
     not-broken : status ≡ Device → ⊥
@@ -127,14 +168,57 @@ pub ended-as : (columns : ℕ) (blobs : Bool) (text : List ℕ) (rest : Option (
 ended-as columns blobs text rest InputRead of h = h
 ended-as columns blobs text rest OutWrite of h = inl h
 ended-as columns blobs text rest InputLong of h = h
-ended-as columns blobs text rest NoMemory of h = tt
-ended-as columns blobs text rest Device of h = tt
+ended-as columns blobs text rest NoMemory of h = h
+ended-as columns blobs text rest Device of h = h
 ended-as columns blobs text rest (BadInput n) of h = h
 ended-as columns blobs text rest Done of h = absurd of
 ended-as columns blobs text rest NotImage of h = absurd of
 ended-as columns blobs text rest (BadImage n) of h = absurd of
 ended-as columns blobs text rest NoTable of h = absurd of
 ended-as columns blobs text rest Unsound of h = absurd of
+
+-- .. and where the flush fails
+some-until : (columns : ℕ) (blobs : Bool) (text : List ℕ) (rest : Option (List ℕ)) (status : ToolStatus) → TakesUntil columns blobs text rest status → TakesSome columns blobs text rest
+some-until columns blobs text rest status h = record { taken = h.taken; left = h.left; takes = h.takes; few = h.few }
+
+some-taken : (columns : ℕ) (blobs : Bool) (text : List ℕ) (rest : Option (List ℕ)) (status : ToolStatus) → Ended columns blobs text rest status → TakesSome columns blobs text rest
+some-taken columns blobs text rest Device h = h
+some-taken columns blobs text rest NoMemory h = h
+some-taken columns blobs text rest Done h = some-until columns blobs text rest Done h
+some-taken columns blobs text rest InputRead h = some-until columns blobs text rest InputRead h
+some-taken columns blobs text rest OutWrite h = some-until columns blobs text rest OutWrite h
+some-taken columns blobs text rest InputLong h = some-until columns blobs text rest InputLong h
+some-taken columns blobs text rest NotImage h = some-until columns blobs text rest NotImage h
+some-taken columns blobs text rest (BadImage n) h = some-until columns blobs text rest (BadImage n) h
+some-taken columns blobs text rest NoTable h = some-until columns blobs text rest NoTable h
+some-taken columns blobs text rest (BadInput n) h = some-until columns blobs text rest (BadInput n) h
+some-taken columns blobs text rest Unsound h = some-until columns blobs text rest Unsound h
+
+pub flush-ended : (columns : ℕ) (blobs : Bool) (text : List ℕ) (rest : Option (List ℕ)) (taken : Result Counts ToolStatus) (fault : FlushFault) → Ended columns blobs text rest (status_of taken) → EndedAs columns blobs text rest (flush_status fault)
+flush-ended columns blobs text rest taken (flush.Flash Media) h = some-taken columns blobs text rest (status_of taken) h
+flush-ended columns blobs text rest taken (flush.Flash PowerLost) h = some-taken columns blobs text rest (status_of taken) h
+flush-ended columns blobs text rest taken flush.Stopped h = some-taken columns blobs text rest (status_of taken) h
+
+-- a flush that fails
+pub flush-of : (fault : FlushFault) → IsOfTable (flush_status fault)
+flush-of (flush.Flash Media) = tt
+flush-of (flush.Flash PowerLost) = tt
+flush-of flush.Stopped = tt
+
+pub flush-rose : (g h : FlashState) (fault : FlushFault) → FlushCausedBy g fault h → flush_status fault ≡ Device → Rose g.media.faults h.media.faults
+flush-rose g h (flush.Flash Media) cause is = cause
+flush-rose g h (flush.Flash PowerLost) cause is = absurd (not-device is)
+flush-rose g h flush.Stopped cause is = absurd (not-device is)
+
+pub flush-read : (fault : FlushFault) → flush_status fault ≡ InputRead → ⊥
+flush-read (flush.Flash Media) is = cc is
+flush-read (flush.Flash PowerLost) is = cc is
+flush-read flush.Stopped is = cc is
+
+pub flush-write : (fault : FlushFault) → flush_status fault ≡ OutWrite → ⊥
+flush-write (flush.Flash Media) is = cc is
+flush-write (flush.Flash PowerLost) is = cc is
+flush-write flush.Stopped is = cc is
 
 pub ended-told : (columns : ℕ) (blobs : Bool) (text : List ℕ) (rest told told_now : Option (List ℕ)) (faults faults_now : ℕ) (counts : Counts) (status : ToolStatus) → TellsCounts counts told told_now faults faults_now status → TakesUntil columns blobs text rest Done → EndedAs columns blobs text rest status
 ended-told columns blobs text rest told told_now faults faults_now counts Done tells h = h
@@ -190,6 +274,9 @@ broken-is (Err NoTable) is = cc
 broken-is (Err (BadInput n)) is = cc
 broken-is (Err Unsound) is = cc
 
+no-broken : false ≡ true → ⊥
+no-broken e = cc
+
 -- ---- the table was flushed, and it was told how many lines were put, where they were taken to their end
 
 module _ {X : Type 0} (written : X → Option (List ℕ)) (faults : X → ℕ) (start mid now : X) (result : ToolStatus) where
@@ -199,16 +286,16 @@ module _ {X : Type 0} (written : X → Option (List ℕ)) (faults : X → ℕ) (
   abbrev pub Told? : Counts → Type 0
   Told? counts = TellsCounts counts (written mid) (written now) (faults mid) (faults now) result
 
-  pub all-ends : (first : ℕ) (plan : Plan) (table : model.Table) (text : List ℕ) (u v : Table 64 64) (f g h : FlashState) (rest : Option (List ℕ)) (taken : Result Counts ToolStatus) (other : is_broken taken ≡ false) (ends : AllEnds first plan table text u f g (written start) (written mid) rest taken) →
+  pub all-ends : (first : ℕ) (plan : Plan) (table : model.Table) (text : List ℕ) (u v : Table 64 64) (g h : FlashState) (rest : Option (List ℕ)) (taken : Result Counts ToolStatus) (other : is_broken taken ≡ false) (ends : AllEnds first plan table text u g (written start) (written mid) rest taken) →
       IfErr taken IsOfLines → IfErr taken Untold → IfOk taken Told? → Goes g h →
-      FlushEnds first plan (then_table first plan table text u v f g h (written start) (written mid) (written now) rest taken other ends) (has_risen g h) (lines first plan table text u v f g h (written start) (written mid) (written now) rest taken other ends).works.device (Ok tt) v g h →
-      TableEnds first plan table text f h (told_of (written start) (written now) rest) result
-  all-ends first plan table text u v f g h rest (Ok counts) other ends of none tells goes flushes =
-      flush-told first plan table text u v f g h (written start) (written mid) (written now) rest counts ends goes flushes (faults mid) (faults now) result tells
-  all-ends first plan table text u v f g h rest (Err status) other ends of none tells goes flushes =
-      subst (λ (s : ToolStatus). TableEnds first plan table text f h (told_of (written start) (written now) rest) s) (sym none.0)
-      (subst (λ (x : X). TableEnds first plan table text f h (told_of (written start) (written x) rest) status) (sym none.1)
-      (flush-status first plan table text u v f g h (written start) (written mid) rest status of other ends goes flushes))
+      FlushEnds first plan (then_table first plan table text u v g h (written start) (written mid) (written now) rest taken other ends) (has_risen g h) (lines first plan table text u v g h (written start) (written mid) (written now) rest taken other ends).works.device (Ok tt) v g h →
+      TableEnds first plan table text v h (told_of (written start) (written now) rest) result
+  all-ends first plan table text u v g h rest (Ok counts) other ends of none tells goes flushes =
+      flush-told first plan table text u v g h (written start) (written mid) (written now) rest counts ends goes flushes (faults mid) (faults now) result tells
+  all-ends first plan table text u v g h rest (Err status) other ends of none tells goes flushes =
+      subst (λ (s : ToolStatus). TableEnds first plan table text v h (told_of (written start) (written now) rest) s) (sym none.0)
+      (subst (λ (x : X). TableEnds first plan table text v h (told_of (written start) (written x) rest) status) (sym none.1)
+      (flush-status first plan table text u v g h (written start) (written mid) rest status of other ends goes flushes))
 
   pub all-ended : (columns : ℕ) (blobs : Bool) (text : List ℕ) (rest : Option (List ℕ)) (taken : Result Counts ToolStatus) → IfErr taken IsOfLines → IfErr taken Untold → IfOk taken Told? → Ended columns blobs text rest (status_of taken) → EndedAs columns blobs text rest result
   all-ended columns blobs text rest (Ok counts) of none tells ended = ended-told columns blobs text rest (written mid) (written now) (faults mid) (faults now) counts result tells ended
@@ -217,6 +304,10 @@ module _ {X : Type 0} (written : X → Option (List ℕ)) (faults : X → ℕ) (
   pub all-of : (taken : Result Counts ToolStatus) → IfErr taken IsOfLines → IfErr taken Untold → IfOk taken Told? → IsOfTable result
   all-of (Ok counts) of none tells = of-told (written mid) (written now) (faults mid) (faults now) counts result tells
   all-of (Err status) of none tells = subst IsOfTable (sym none.0) (of-lines status of)
+
+  pub all-rose : (f g : ℕ) → (taken : Result Counts ToolStatus) → IfErr taken Untold → IfOk taken Told? → is_broken taken ≡ false → result ≡ Device → Rose f g
+  all-rose f g (Ok counts) none tells other is = absurd (subst (λ (s : ToolStatus). TellsCounts counts (written mid) (written now) (faults mid) (faults now) s) is tells)
+  all-rose f g (Err status) none tells other is = let no = sym other ∙ ap (λ (s : ToolStatus). is_broken (Err s)) (sym none.0 ∙ is) in absurd (no-broken no)
 
   pub all-read : {P : Type 0} (taken : Result Counts ToolStatus) → IfErr taken Untold → IfOk taken Told? → (taken ≡ Err InputRead → P) → result ≡ InputRead → P
   all-read (Ok counts) none tells read is = absurd (subst (λ (s : ToolStatus). TellsCounts counts (written mid) (written now) (faults mid) (faults now) s) is tells)

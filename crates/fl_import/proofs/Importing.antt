@@ -1,20 +1,20 @@
 -- How an import ends over a flash that stands for tables.
-use Rattle.std.proofs.Common.{◌≡◌, ℕ, ◌+◌, ◌≤◌, ◌⊎◌, inl, inr, true, false, IsTrue, Option, Some, List, map, refl, sym, ◌∙◌, ap, subst, arith}
+use Rattle.std.proofs.Common.{◌≡◌, ℕ, ◌+◌, ◌≤◌, inl, inr, true, false, IsTrue, Option, None, Some, List, length, map, refl, sym, ◌∙◌, ap, subst, arith}
 use Rattle.std.specs.Prelude.{option_map}
 use Rattle.std.specs.List.{slice_get}
 use Rattle.std.proofs.lemmas.List.{length-map}
 use Rattle.std.proofs.lemmas.Option.{slice_get-map}
-use Rattle.fl_export.specs.Ends.{at_rest}
-use Rattle.fl_export.proofs.Lines.{appends-none}
+use Rattle.fl_base.specs.Causes.{Rose}
+use Rattle.fl_export.specs.Ends.{at_rest, has_name}
+use Rattle.fl_export.specs.Tables.{mount_status}
 use Rattle.fl_export.proofs.Locating.{located-first, stand-named, first-named}
-use Rattle.fl_export.proofs.Risen.{has_risen, risen-rose, fails-rose}
+use Rattle.fl_export.proofs.Risen.{has_risen, risen-rose}
+use Rattle.fl_export.proofs.Unmounted as export
 use Rattle.fl_flash.specs.Flash.{FlashState, Goes, page_at}
-use Rattle.fl_flash.specs.declared.flash.FlashFault.{FlashFault}
-use Rattle.fl_flash.specs.declared.flash.FlashFault.TheVariants.{Media}
 use Rattle.fl_jobs.specs.declared.status.ToolStatus.{ToolStatus}
 use Rattle.fl_jobs.specs.declared.status.ToolStatus.TheVariants.{Done, InputRead, OutWrite, InputLong, NoMemory, NotImage, Device, BadImage, NoTable, BadInput, Unsound}
 use Rattle.fl_machine.specs.Step.{all_ready}
-use Rattle.fl_model.specs.Mount.{Mounts, Stopped, Unread, rings_from}
+use Rattle.fl_model.specs.Mount.{rings_from}
 use Rattle.fl_model.specs.Record.{Plan}
 use Rattle.fl_model.specs.Table as model
 use Rattle.fl_model.specs.Table.{lose}
@@ -23,51 +23,26 @@ use Rattle.fl_model.proofs.Among.{changed-there, changed-elsewhere}
 use Rattle.fl_table.specs.Memory.{IsSamePlan}
 use Rattle.fl_table.specs.Mounting.{OutsideStands}
 use Rattle.fl_table.specs.Pages.{Rests}
+use Rattle.fl_table.specs.Standing.{Stands}
 use Rattle.fl_table.specs.declared.table.Table.{Table}
 use Rattle.fl_table.specs.declared.faults.MountFault.{MountFault}
-use Rattle.fl_table.specs.declared.faults.MountFault.TheVariants as mount
 use Rattle.fl_table.proofs.SealAnswers.{planned-same}
-use Rattle.fl_tables.specs.Tables.{first_of, entries_with, FaultIs, IsNamed, EntryStands, TablesStand, TablesMounted, TablesBroken, MountBreaks}
-use Rattle.fl_tables.specs.declared.tables.BadMount.{BadMount}
+use Rattle.fl_tables.specs.Tables.{first_of, entries_with, IsNamed, EntryStands, TablesStand, TablesMounted, MountBreaks}
 use Rattle.fl_tables.specs.declared.tables.Entry.{Entry}
-use Rattle.fl_tables.proofs.Going.{rose-front, rose-back}
-use Rattle.fl_tables.proofs.TablesChanged.{AtPlace, at-place, entry-off, some-is, length-changed, tables-changed, tables-become}
-use Rattle.fl_import.specs.Ends.{Imports, Leaves}
+use Rattle.fl_tables.proofs.Going.{rose-front}
+use Rattle.fl_tables.proofs.TablesChanged.{AtPlace, at-place, entry-off, some-is, length-changed, tables-changed}
+use Rattle.fl_import.specs.Ends.{Imports, Leaves, table_after}
 use Rattle.fl_import.specs.Images.{EndsOn, told_of}
 use Rattle.fl_import.specs.Steps.{TableEnds, Works}
+use Rattle.fl_import.proofs.Flushing.{flushed-whole}
 use Rattle.fl_import.proofs.Mounted.{mounts-unarmed}
 
--- what is in memory alone is lost
-off : (f : FlashState) (plans : List Plan) (entries : List Entry) (tables : List model.Table) → TablesStand f (λ i. false) plans entries tables → TablesStand f (λ i. false) plans entries (map lose tables)
-off f plans entries tables h = tables-become f f (λ i. false) (λ i. false) plans entries tables lose h (λ i plan e x k. entry-off e f false (first_of plans i) plan x k)
-
--- ---- the tables aren't mounted
-
-module _ (plans : List Plan) (tables : List model.Table) (name text : List ℕ) (f g : FlashState) (told rest : Option (List ℕ)) (now : List Entry) where
-  broken : (fault : FlashFault) → TablesBroken plans tables (has_risen f g) at_rest fault now g → EndsOn plans tables name text (told_of told told rest) f g now Device
-  broken fault b = by_how b.did
-    where
-      fails : IsTrue (has_risen f g) → (Mounts plans (has_risen f g) (rings_from 0 plans) at_rest tables (Stopped b.end) ⊎ Mounts plans (has_risen f g) (rings_from 0 plans) at_rest tables (Unread b.end)) → EndsOn plans tables name text (told_of told told rest) f g now Device
-      fails rose did = (
-        risen-rose f g rose,
-        inl (record { rose = has_risen f g; risen = λ r. risen-rose f g r; end = b.end; did = did; holds = off g plans now b.end.tables b.rest; nothing = appends-none told }),
-      )
-
-      by_how : (Mounts plans (has_risen f g) (rings_from 0 plans) at_rest tables (Stopped b.end) × FaultIs b.end.outcome fault) ⊎ (Mounts plans (has_risen f g) (rings_from 0 plans) at_rest tables (Unread b.end) × (fault ≡ Media))
-          → EndsOn plans tables name text (told_of told told rest) f g now Device
-      by_how (inl x) = fails (fails-rose plans (has_risen f g) (rings_from 0 plans) at_rest tables b.end (Stopped b.end) refl (inl refl) x.0) (inl x.0)
-      by_how (inr x) = fails (fails-rose plans (has_risen f g) (rings_from 0 plans) at_rest tables b.end (Unread b.end) refl (inr refl) x.0) (inr x.0)
-
-  by-fault : (bad : MountFault) (status : ToolStatus) → MountBreaks plans tables (has_risen f g) at_rest bad now g → ((fault : FlashFault) → bad ≡ mount.Flash fault → status ≡ Device) → EndsOn plans tables name text (told_of told told rest) f g now status
-  by-fault (mount.Flash fault) status ends is = subst (λ (s : ToolStatus). EndsOn plans tables name text (told_of told told rest) f g now s) (sym (is fault refl)) (broken fault ends)
-  by-fault (mount.Ring fault) status ends is = absurd ends
-  by-fault (mount.BadPage page) status ends is = absurd ends
-  by-fault (mount.BadKeys page last key) status ends is = absurd ends
-  by-fault (mount.BadIndex end next) status ends is = absurd ends
-  by-fault (mount.BadBlob page next) status ends is = absurd ends
-
-  pub unmounted : (bad : BadMount) (status : ToolStatus) → MountBreaks plans tables (has_risen f g) at_rest bad.fault now g → ((fault : FlashFault) → bad.fault ≡ mount.Flash fault → status ≡ Device) → EndsOn plans tables name text (told_of told told rest) f g now status
-  unmounted bad status ends is = by-fault bad.fault status ends is
+-- the tables aren't mounted, and no byte was read
+pub unmounted : (plans : List Plan) (tables : List model.Table) (name text : List ℕ) (f g : FlashState) (told rest : Option (List ℕ)) (now : List Entry) → has_name name plans ≡ true → (bad : MountFault) (at : ℕ) → MountBreaks plans tables (has_risen f g) at_rest bad now g → rest ≡ Some text →
+    EndsOn plans tables name text (told_of told told rest) f g now None (mount_status bad at)
+unmounted plans tables name text f g told rest now has bad at ends is =
+    let u = export.unmounted plans tables name f g told now has bad at ends in
+    subst (λ (s : ToolStatus). EndsOn plans tables name text (told_of told told rest) f g now None s) (sym u.0) (u.1.0, inl (u.1.1, is))
 
 -- ---- the tables are mounted, and one of them was imported into
 
@@ -111,9 +86,9 @@ module _ (plans : List Plan) (tables : List model.Table) (name text : List ℕ) 
         (λ plan e. subst (λ p. EntryStands now_there h false (first_of plans at) p (lose after)) (own-plan plan e) entry-rests)
         (λ i plan e x other k. entry-off e h true (first_of plans i) plan x k)
 
-  imports : (status : ToolStatus) → TableEnds (first_of plans at) own.plan own.table text m h (told_of told told_now rest) status →
-      Imports plans tables name (told_of told told_now rest) f.media.faults h.media.faults (TablesStand h (λ i. false) plans (entries_with now at entry u)) (λ plan table after. Leaves plan table text (told_of told told_now rest) after status)
-  imports status ends =
+  imports : (Left : Plan → model.Table → model.Table → Type 0) (after : model.Table) → Left own.plan own.table after → Rests h (first_of plans at) own.plan (lose after) →
+      Imports plans tables name (told_of told told_now rest) f.media.faults h.media.faults (TablesStand h (λ i. false) plans (entries_with now at entry u)) Left
+  imports Left after left rests =
       let own_name = first-named plans entries (stand-named f (λ i. false) plans entries tables stood) name at named own.plan own.plan_is in
       record {
         rose = has_risen f m;
@@ -123,20 +98,35 @@ module _ (plans : List Plan) (tables : List model.Table) (name text : List ℕ) 
         at = record { place = at; plan = own.plan; table = own.table };
         found = located-first plans ready_tables 0 at name own.plan own.table own.plan_is own.table_is own_name.0 own_name.1
             ∙ ap (λ n. Some (record { place = n; plan = own.plan; table = own.table })) (let e : 0 + at ≡ at = omega arith in e);
-        after = ends.after;
-        left = ends.leaves;
-        holds = holds ends.after ends.rests;
+        after = after;
+        left = left;
+        holds = holds after rests;
       }
 
-  pub imported : (status : ToolStatus) → TableEnds (first_of plans at) own.plan own.table text m h (told_of told told_now rest) status → EndsOn plans tables name text (told_of told told_now rest) f h (entries_with now at entry u) status
-  imported Device ends = (rose-back f.media.faults m.media.faults h.media.faults earlier (ends.rose refl), inr (imports Device ends))
-  imported Done ends = imports Done ends
-  imported InputRead ends = imports InputRead ends
-  imported OutWrite ends = imports OutWrite ends
-  imported InputLong ends = imports InputLong ends
-  imported NoMemory ends = imports NoMemory ends
-  imported NotImage ends = imports NotImage ends
-  imported (BadImage n) ends = imports (BadImage n) ends
-  imported NoTable ends = imports NoTable ends
-  imported (BadInput n) ends = imports (BadInput n) ends
-  imported Unsound ends = imports Unsound ends
+  abbrev pub Ends : ToolStatus → Type 0
+  Ends status = TableEnds (first_of plans at) own.plan own.table text u h (told_of told told_now rest) status
+
+  imports-so : (status : ToolStatus) → Ends status →
+      Imports plans tables name (told_of told told_now rest) f.media.faults h.media.faults (TablesStand h (λ i. false) plans (entries_with now at entry u)) (λ plan table after. Leaves plan table text (told_of told told_now rest) after status)
+  imports-so status ends = imports (λ plan table after. Leaves plan table text (told_of told told_now rest) after status) ends.after ends.leaves ends.rests
+
+  -- `kept` are the rows of the table in memory, where it is done
+  pub imported : (kept : Option ℕ) (status : ToolStatus) → (status ≡ Device → Rose f.media.faults h.media.faults) →
+      ((g : FlashState) (first : ℕ) (plan : Plan) (t : model.Table) → status ≡ Done → Stands u g first plan t → kept ≡ Some (length t.entries)) → Ends status →
+      EndsOn plans tables name text (told_of told told_now rest) f h (entries_with now at entry u) kept status
+  imported kept Device rises rows ends = (rises refl, inr (imports-so Device ends))
+  imported kept Done rises rows ends =
+      imports (λ plan table after. Leaves plan table text (told_of told told_now rest) after Done × (kept ≡ Some (length (lose after).entries))) ends.after
+      (ends.leaves, rows h (first_of plans at) own.plan ends.after refl (ends.stands refl) ∙ ap (λ n. Some n) (sym (whole ends.after ends.leaves))) ends.rests
+    where
+      whole : (after : model.Table) → Leaves own.plan own.table text (told_of told told_now rest) after Done → length (lose after).entries ≡ length after.entries
+      whole after leaves = subst (λ (t : model.Table). length (lose t).entries ≡ length t.entries) (sym leaves.after_is) (flushed-whole own.plan (table_after own.plan own.table leaves.puts.taken))
+  imported kept InputRead rises rows ends = imports-so InputRead ends
+  imported kept OutWrite rises rows ends = imports-so OutWrite ends
+  imported kept InputLong rises rows ends = imports-so InputLong ends
+  imported kept NoMemory rises rows ends = imports-so NoMemory ends
+  imported kept NotImage rises rows ends = imports-so NotImage ends
+  imported kept (BadImage n) rises rows ends = imports-so (BadImage n) ends
+  imported kept NoTable rises rows ends = imports-so NoTable ends
+  imported kept (BadInput n) rises rows ends = imports-so (BadInput n) ends
+  imported kept Unsound rises rows ends = imports-so Unsound ends

@@ -1,24 +1,28 @@
 -- One line of an import over a table that is mounted.
-use Rattle.std.proofs.Common.{◌≡◌, ℕ, ◌⊎◌, inl, inr, Bool, true, false, IsTrue, IsErr, IfErr, Option, Some, Result, Ok, Err, List, [], ◌++◌, refl, sym, ◌∙◌, ap, subst}
+use Rattle.std.proofs.Common.{None, ◌≡◌, ℕ, ◌⊎◌, inl, inr, Bool, true, false, IsTrue, IsErr, IfErr, Option, Some, Result, Ok, Err, List, [], ◌++◌, refl, sym, ◌∙◌, ap, subst}
 use Rattle.fl_base.specs.Causes.{Rose, HasCause, Appends, AppendsFront}
 use Rattle.fl_base.specs.declared.stream.SinkFailed.{SinkFailed}
 use Rattle.fl_csv.specs.declared.record.CsvRefusal.{CsvRefusal}
 use Rattle.fl_csv.specs.declared.record.CsvRefusal.TheVariants as unread
 use Rattle.fl_export.proofs.Lines.{appends-none, front-behind, front-more}
-use Rattle.fl_export.proofs.Risen.{has_risen, risen-rose, watched}
+use Rattle.fl_export.proofs.Risen.{has_risen, watched}
 use Rattle.fl_flash.specs.Flash.{FlashState, Goes}
 use Rattle.fl_flash.specs.declared.flash.FlashFault.{FlashFault}
+use Rattle.fl_flash.specs.declared.flash.FlashFault.TheVariants.{PowerLost, Media}
+use Rattle.fl_jobs.specs.Status.{flash_status}
+use Rattle.fl_ring.specs.Causes.{CausedBy}
+use Rattle.fl_jobs.specs.declared.status.ToolStatus.{ToolStatus}
 use Rattle.fl_jobs.specs.declared.status.ToolStatus.TheVariants.{OutWrite, NoMemory, Device}
 use Rattle.fl_machine.specs.Step.{refused}
 use Rattle.fl_model.specs.Record.{Record, Plan}
 use Rattle.fl_model.specs.Table as model
 use Rattle.fl_model.specs.Table.{RingName, refusal_of, put_record, put_seals, lose, Refusal, BadKey, BadColumns, BadValue, BadBlob, Spent}
 use Rattle.fl_model.specs.Within.{seals_within, effect_within}
-use Rattle.fl_model.specs.Work.{PartEnd, Whole}
+use Rattle.fl_model.specs.Work.{PartEnd, Whole, CutIn, FailedIn}
 use Rattle.fl_ring.specs.Step.{IsWatched}
 use Rattle.fl_script.specs.Written.{Written}
 use Rattle.fl_script.proofs.Sending.{appends-append, written-err}
-use Rattle.fl_table.specs.Causes.{RefusedSame, put_breaks}
+use Rattle.fl_table.specs.Causes.{PutCausedBy, RefusedSame}
 use Rattle.fl_table.specs.Outcomes.{PutEnds, Finishes, Breaks, FaultEnds}
 use Rattle.fl_table.specs.Pages.{Rests}
 use Rattle.fl_table.specs.declared.table.Table.{Table}
@@ -31,15 +35,48 @@ use Rattle.fl_csv.specs.Lines.{line_put}
 use Rattle.fl_import.specs.Lines.{meaning}
 use Rattle.fl_import.specs.Puts.{FailsIn}
 use Rattle.fl_import.specs.Report.{number_text, reason_line}
-use Rattle.fl_import.specs.Steps.{IsOfLine, LineEnds, Works, by_told, is_unread}
+use Rattle.fl_import.specs.Steps.{IsOfLine, LineEnds, Works, by_told, fault_in, is_unread}
 use Rattle.fl_import.proofs.Failing.{calm}
 
--- two answers of a test are two
-no-true : false ≡ true → ⊥
-no-true e = cc
-
+-- two answers are two
 no-false : true ≡ false → ⊥
 no-false e = cc
+
+no-fault : (fault : FlashFault) → None ≡ Some fault → ⊥
+no-fault fault e = cc
+
+one-fault : (a b : FlashFault) → Some a ≡ Some b → a ≡ b
+one-fault a b e = cc
+
+not-media : PowerLost ≡ Media → ⊥
+not-media e = cc
+
+pub not-device : NoMemory ≡ Device → ⊥
+not-device e = cc
+
+-- the medium failed in a put that is told so
+pub put-rose : (f g : FlashState) (outcome : Result (Unit {0}) PutRefusal) (fault : FlashFault) → fault_in outcome ≡ Some fault → IfErr outcome (λ e. PutCausedBy f e g) → flash_status fault ≡ Device → Rose f.media.faults g.media.faults
+put-rose f g outcome PowerLost breaks cause device = absurd (not-device device)
+put-rose f g (Ok done) Media breaks cause device = absurd (no-fault Media breaks)
+put-rose f g (Err (refusal.Key last)) Media breaks cause device = absurd (no-fault Media breaks)
+put-rose f g (Err (refusal.Columns wanted)) Media breaks cause device = absurd (no-fault Media breaks)
+put-rose f g (Err (refusal.Value column)) Media breaks cause device = absurd (no-fault Media breaks)
+put-rose f g (Err (refusal.Blob limit)) Media breaks cause device = absurd (no-fault Media breaks)
+put-rose f g (Err refusal.Spent) Media breaks cause device = absurd (no-fault Media breaks)
+put-rose f g (Err refusal.Stopped) Media breaks cause device = absurd (no-fault Media breaks)
+put-rose f g (Err (refusal.Flash own)) Media breaks cause device = subst (λ (x : FlashFault). CausedBy f x g) (one-fault own Media breaks) cause
+
+-- .. and its status is one of a line, and no other
+pub fault-status : (fault : FlashFault) → IsOfLine (flash_status fault)
+fault-status Media = tt
+fault-status PowerLost = tt
+
+pub fault-unwritten : {P : Type 0} (fault : FlashFault) → flash_status fault ≡ OutWrite → P
+fault-unwritten Media is = absurd (cc is)
+fault-unwritten PowerLost is = absurd (cc is)
+
+pub one-status : (a b : ToolStatus) → ◌≡◌ {A = Result Bool ToolStatus} (Err a) (Err b) → a ≡ b
+one-status a b e = cc
 
 -- ---- two texts, one behind the other
 
@@ -60,6 +97,10 @@ pub told-write : (a b : ℕ) (told : Result (Unit {0}) SinkFailed) → HasCause 
 told-write a b (Ok done) cause is = cc
 told-write a b (Err failed) cause is = cause.failed
 
+pub told-device : {P : Type 0} (told : Result (Unit {0}) SinkFailed) → by_told told ≡ Err Device → P
+told-device (Ok done) is = absurd (cc is)
+told-device (Err failed) is = absurd (cc is)
+
 pub told-status : (told : Result (Unit {0}) SinkFailed) → IfErr (by_told told) IsOfLine
 told-status (Ok done) = tt
 told-status (Err failed) = tt
@@ -76,7 +117,6 @@ module _ (first : ℕ) (plan : Plan) (table : model.Table) (t u : Table 64 64) (
 
   -- .. or one failed
   pub record IsBroken (seals : List RingName) : Type 0 where
-    pub rose : Rose f.media.faults g.media.faults
     pub after : model.Table
     pub fails : FailsIn plan seals table after
     pub rests : Rests g first plan (lose after)
@@ -86,56 +126,72 @@ module _ (first : ℕ) (plan : Plan) (table : model.Table) (t u : Table 64 64) (
       let c = calm (λ operation. operation.1) (effect_within plan) (has_risen f g) (seals_within plan seals table) works.device table b.now works.unarmed b.did in
       let bad : b.now.end ≡ Whole → ⊥ = λ e. subst (λ (x : PartEnd model.Table). FaultEnds x fault g) e b.answer in
       record {
-        rose = risen-rose f g (c.rises bad);
         after = b.now.state;
         fails = record { device = works.device; unarmed = works.unarmed; now = b.now; did = c.did; failed = bad; left_is = refl };
         rests = b.rests;
       }
+
+  -- no cut is armed, so that none falls into it
+  pub works-uncut : (seals : List RingName) → Breaks first plan (seals_within plan seals table) table (has_risen f g) works.device PowerLost g → ⊥
+  works-uncut seals b = by-end b.now.end refl b.answer
+    where
+      by-end : (end : PartEnd model.Table) → b.now.end ≡ end → FaultEnds end PowerLost g → ⊥
+      by-end Whole is answer = answer
+      by-end (CutIn before) is answer =
+          (calm (λ operation. operation.1) (effect_within plan) (has_risen f g) (seals_within plan seals table) works.device table b.now works.unarmed b.did).uncut before is
+      by-end (FailedIn before) is answer = not-media answer.0
 
   works-same : u ≡ t → g ≡ f → Works u g first plan table
   works-same e k = subst (λ (x : FlashState). Works u x first plan table) (sym k) (subst (λ (x : Table 64 64). Works x f first plan table) (sym e) works)
 
   module _ (number : ℕ) (told told_now : Option (List ℕ)) where
     -- the line is no record
-    pub ends-reason : (put : Result Record CsvRefusal) (why : CsvRefusal) → is_unread why ≡ false → (why ≡ unread.NoMemory) ⊎ (put ≡ Err why) → u ≡ t → g ≡ f → (wrote : Result (Unit {0}) SinkFailed) → Written told told_now wrote (reason_line number why) → LineEnds first plan table number put u f g told told_now (by_told wrote)
+    pub ends-reason : (put : Result Record CsvRefusal) (why : CsvRefusal) → is_unread why ≡ false → (why ≡ unread.NoMemory) ⊎ (put ≡ Err why) → u ≡ t → g ≡ f → (wrote : Result (Unit {0}) SinkFailed) → Written told told_now wrote (reason_line number why) → LineEnds first plan table number put u g told told_now (by_told wrote)
     ends-reason put why other (inl none) e k wrote written = absurd (no-false (sym (ap is_unread none) ∙ other))
     ends-reason put why other (inr is) e k (Ok done) written =
         rw is (refl, works-same e k, written)
     ends-reason put why other (inr is) e k (Err fault) written =
         rw is (works-same e k, written)
 
-    pub ends-memory : (put : Result Record CsvRefusal) → u ≡ t → g ≡ f → told_now ≡ told → LineEnds first plan table number put u f g told told_now (Err NoMemory)
+    pub ends-memory : (put : Result Record CsvRefusal) → u ≡ t → g ≡ f → told_now ≡ told → LineEnds first plan table number put u g told told_now (Err NoMemory)
     ends-memory put e k same = (works-same e k, subst (λ (o : Option (List ℕ)). Appends told o []) (sym same) (appends-none told))
 
     -- the table refuses it
     ends-refused : (put : Result Record CsvRefusal) (item : Record) (why : Refusal) (reply : Reply) → put ≡ Ok item → refusal_of plan table item ≡ Some why → reply ≡ refused why → u ≡ t → g ≡ f → (wrote : Result (Unit {0}) SinkFailed) →
-        Written told told_now wrote (number_text number ++ text reply) → LineEnds first plan table number put u f g told told_now (by_told wrote)
+        Written told told_now wrote (number_text number ++ text reply) → LineEnds first plan table number put u g told told_now (by_told wrote)
     ends-refused put item why reply is by same e k (Ok done) written =
         rw (is, by) (refl, works-same e k, subst (λ (r : Reply). Appends told told_now (number_text number ++ text r)) same written)
     ends-refused put item why reply is by same e k (Err fault) written =
         rw (is, by) (works-same e k, subst (λ (r : Reply). AppendsFront told told_now (number_text number ++ text r)) same written)
 
     module _ (put : Result Record CsvRefusal) (item : Record) (is : put ≡ Ok item) where
-      pub ends-put : Goes f g → told_now ≡ told → PutEnds first plan item table (has_risen f g) works.device (Ok tt) u f g → LineEnds first plan table number put u f g told told_now (Ok true)
+      pub ends-put : Goes f g → told_now ≡ told → PutEnds first plan item table (has_risen f g) works.device (Ok tt) u f g → LineEnds first plan table number put u g told told_now (Ok true)
       ends-put goes same ends =
           let done = works-done goes (put_seals plan item table) (put_record plan item table) ends.1 in
           rw (is, ends.0) (refl, done, subst (λ (o : Option (List ℕ)). Appends told o []) (sym same) (appends-none told))
 
-      pub ends-broken : (outcome : Result (Unit {0}) PutRefusal) → put_breaks outcome ≡ true → told_now ≡ told → PutEnds first plan item table (has_risen f g) works.device outcome u f g → LineEnds first plan table number put u f g told told_now (Err Device)
-      ends-broken (Ok done) breaks same ends = absurd (no-true breaks)
-      ends-broken (Err (refusal.Key last)) breaks same ends = absurd (no-true breaks)
-      ends-broken (Err (refusal.Columns wanted)) breaks same ends = absurd (no-true breaks)
-      ends-broken (Err (refusal.Value column)) breaks same ends = absurd (no-true breaks)
-      ends-broken (Err (refusal.Blob limit)) breaks same ends = absurd (no-true breaks)
-      ends-broken (Err refusal.Spent) breaks same ends = absurd (no-true breaks)
-      ends-broken (Err refusal.Stopped) breaks same ends = absurd (no-true breaks)
-      ends-broken (Err (refusal.Flash fault)) breaks same ends =
-          let b = works-broken (put_seals plan item table) fault ends.1 in
-          (b.rose, subst (λ (o : Option (List ℕ)). Appends told o []) (sym same) (appends-none told), (item, is, ends.0, (b.after, b.fails, b.rests)))
+      broken-by : (fault : FlashFault) → told_now ≡ told → refusal_of plan table item ≡ None → Breaks first plan (seals_within plan (put_seals plan item table) table) table (has_risen f g) works.device fault g →
+          LineEnds first plan table number put u g told told_now (Err (flash_status fault))
+      broken-by Media same accepted ends =
+          let b = works-broken (put_seals plan item table) Media ends in
+          (subst (λ (o : Option (List ℕ)). Appends told o []) (sym same) (appends-none told), (item, is, accepted, (b.after, b.fails, b.rests)))
+      broken-by PowerLost same accepted ends = absurd (works-uncut (put_seals plan item table) ends)
 
-      pub ends-told : (why : PutRefusal) → put_breaks (Err why) ≡ false → PutEnds first plan item table (has_risen f g) works.device (Err why) u f g → RefusedSame t f why u g →
-          (wrote : Result (Unit {0}) SinkFailed) → Written told told_now wrote (number_text number ++ text (put_reply (Err why))) → LineEnds first plan table number put u f g told told_now (by_told wrote)
-      ends-told (refusal.Flash fault) other ends same wrote written = absurd (no-false other)
+      pub ends-broken : (outcome : Result (Unit {0}) PutRefusal) (fault : FlashFault) → fault_in outcome ≡ Some fault → told_now ≡ told → PutEnds first plan item table (has_risen f g) works.device outcome u f g →
+          LineEnds first plan table number put u g told told_now (Err (flash_status fault))
+      ends-broken (Ok done) fault breaks same ends = absurd (no-fault fault breaks)
+      ends-broken (Err (refusal.Key last)) fault breaks same ends = absurd (no-fault fault breaks)
+      ends-broken (Err (refusal.Columns wanted)) fault breaks same ends = absurd (no-fault fault breaks)
+      ends-broken (Err (refusal.Value column)) fault breaks same ends = absurd (no-fault fault breaks)
+      ends-broken (Err (refusal.Blob limit)) fault breaks same ends = absurd (no-fault fault breaks)
+      ends-broken (Err refusal.Spent) fault breaks same ends = absurd (no-fault fault breaks)
+      ends-broken (Err refusal.Stopped) fault breaks same ends = absurd (no-fault fault breaks)
+      ends-broken (Err (refusal.Flash own)) fault breaks same ends =
+          subst (λ (x : FlashFault). LineEnds first plan table number put u g told told_now (Err (flash_status x))) (one-fault own fault breaks) (broken-by own same ends.0 ends.1)
+
+      pub ends-told : (why : PutRefusal) → fault_in (Err why) ≡ None → PutEnds first plan item table (has_risen f g) works.device (Err why) u f g → RefusedSame t f why u g →
+          (wrote : Result (Unit {0}) SinkFailed) → Written told told_now wrote (number_text number ++ text (put_reply (Err why))) → LineEnds first plan table number put u g told told_now (by_told wrote)
+      ends-told (refusal.Flash fault) other ends same wrote written = absurd (no-fault fault (sym other))
       ends-told (refusal.Key last) other ends same wrote written = ends-refused put item (BadKey last) (put_reply (Err (refusal.Key last))) is ends refl same.0 same.1 wrote written
       ends-told (refusal.Columns wanted) other ends same wrote written = ends-refused put item (BadColumns wanted) (put_reply (Err (refusal.Columns wanted))) is ends refl same.0 same.1 wrote written
       ends-told (refusal.Value column) other ends same wrote written = ends-refused put item (BadValue column) (put_reply (Err (refusal.Value column))) is ends refl same.0 same.1 wrote written

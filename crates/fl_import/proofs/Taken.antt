@@ -6,10 +6,11 @@ use Rattle.fl_jobs.specs.declared.status.ToolStatus.{ToolStatus}
 use Rattle.fl_jobs.specs.declared.status.ToolStatus.TheVariants.{Done, InputRead, OutWrite, InputLong, NoMemory, NotImage, Device, BadImage, NoTable, BadInput, Unsound}
 use Rattle.fl_lines.specs.Given.{Given}
 use Rattle.fl_lines.specs.Stream.{LinesState, Advances, Gives, TakesAhead}
+use Rattle.fl_lines.specs.Taken.{HasTaken, TakesFew, begin_behind}
 use Rattle.fl_lines.specs.Texts.{most_bytes, lines_read, lines_within}
 use Rattle.fl_lines.specs.declared.lines.LinesFault.{LinesFault}
 use Rattle.fl_lines.specs.declared.lines.LinesFault.TheVariants.{Failed, Long}
-use Rattle.fl_lines.proofs.Reading.{IsTooLong, given-none, given-line, given-last, given-all, given-taken, given-most, given-too_long}
+use Rattle.fl_lines.proofs.Reading.{IsTooLong, given-none, given-line, given-last, given-all, given-few, given-most, given-over, given-part, given-taken, given-too_long}
 use Rattle.fl_words.specs.Grammar.{without_return}
 use Rattle.fl_import.specs.Lines.{names_line, IsHeaded, Takes, IsBad}
 use Rattle.fl_import.specs.Taking.{NextOf, TakesSoFar, TakesThese}
@@ -71,6 +72,18 @@ module _ (columns : ℕ) (blobs : Bool) (text : List ℕ) (taken : List (List �
   goes : (given : Result Bool LinesFault) → Given? given → Goes given
   goes given advances = advances.gives h.rest h.rest_is (λ closed. h.given.ended closed)
 
+  -- at most 4,097 bytes were taken from the first byte of the next one on
+  few-next : (given : Result Bool LinesFault) → Given? given → TakesFew text taken left_now
+  few-next given advances =
+      let g = goes given advances in
+      subst (λ (o : Option (List ℕ)). TakesFew text taken o) (sym g.1) (by-given given g.0 g.2 g.3)
+    where
+      by-given : (given : Result Bool LinesFault) (l : List ℕ) → Gives old (old.ahead ++ h.rest) given new l → TakesAhead old (old.ahead ++ h.rest) given l → TakesFew text taken (Some l)
+      by-given (Ok true) l gives ahead = given-few most_bytes text taken old h.rest l h.given ahead
+      by-given (Ok false) l gives ahead = given-part most_bytes text taken old.closed old.most (old.ahead ++ h.rest) [] l (begin_behind taken + 4097) h.given (gives ∙ sym ahead) (omega (arith, h.given.size))
+      by-given (Err Failed) l gives ahead = given-part most_bytes text taken old.closed old.most (old.ahead ++ h.rest) new.ahead l (begin_behind taken + 4097) h.given gives.split (omega (arith, h.given.size, gives.short))
+      by-given (Err Long) l gives ahead = given-part most_bytes text taken old.closed old.most (old.ahead ++ h.rest) ahead.0 l (begin_behind taken + 4097) h.given ahead.1 (omega (arith, h.given.size, ahead.2, gives.2, gives.1.short))
+
   -- the next one is taken
   pub taken-next : Given? (Ok true) → length new.line ≤ 4096 → (taken ≡ [] → without_return new.line ≡ names_line columns blobs) → TakesSoFar columns blobs text (taken ++ new.line ∷ []) new left_now
   taken-next advances short names =
@@ -87,13 +100,13 @@ module _ (columns : ℕ) (blobs : Bool) (text : List ℕ) (taken : List (List �
   stops-done advances some =
       let g = goes (Ok false) advances in
       let all = given-all most_bytes text taken old.closed old.most (old.ahead ++ h.rest) h.given g.2 in
-      record { left = []; takes = takes [] (all.0 ∙ sym (append-nil taken)); stops = (some, refl, all.1, g.1 ∙ ap Some g.3) }
+      record { left = []; takes = takes [] (all.0 ∙ sym (append-nil taken)); few = few-next (Ok false) advances; stops = (some, refl, all.1, g.1 ∙ ap Some g.3) }
 
   pub stops-none : Given? (Ok false) → (number : ℕ) → number ≡ length taken + 1 → taken ≡ [] → TakesThese columns blobs text taken left_now (BadInput number)
   stops-none advances number is none =
       let g = goes (Ok false) advances in
       let all = given-all most_bytes text taken old.closed old.most (old.ahead ++ h.rest) h.given g.2 in
-      record { left = []; takes = takes [] (all.0 ∙ sym (append-nil taken)); stops = (is, subst (λ (ls : List (List ℕ)). IsBad columns blobs ls []) (sym none) tt) }
+      record { left = []; takes = takes [] (all.0 ∙ sym (append-nil taken)); few = few-next (Ok false) advances; stops = (is, subst (λ (ls : List (List ℕ)). IsBad columns blobs ls []) (sym none) tt) }
 
   -- it is too long
   pub stops-long : Given? (Ok true) → 4096 < length new.line → (number : ℕ) → number ≡ length taken + 1 → TakesThese columns blobs text taken left_now (BadInput number)
@@ -105,13 +118,14 @@ module _ (columns : ℕ) (blobs : Bool) (text : List ℕ) (taken : List (List �
           Given most_bytes text (taken ++ new.line ∷ []) new.closed new.most (new.ahead ++ l) ⊎ (IsTooLong most_bytes text taken × (4096 < length new.line)) → TakesThese columns blobs text taken left_now (BadInput number)
       by-line l (inl g) =
           let others = lines_within new.most (new.ahead ++ l) in
-          record { left = new.line ∷ others; takes = takes (new.line ∷ others) (next-split text taken new.line new.closed new.most (new.ahead ++ l) g); stops = (is, bad-long columns blobs taken new.line others long) }
-      by-line l (inr w) = record { left = w.0.line ∷ w.0.others; takes = takes (w.0.line ∷ w.0.others) w.0.lines; stops = (is, bad-long columns blobs taken w.0.line w.0.others w.0.long) }
+          record { left = new.line ∷ others; takes = takes (new.line ∷ others) (next-split text taken new.line new.closed new.most (new.ahead ++ l) g); few = few-next (Ok true) advances; stops = (is, bad-long columns blobs taken new.line others long) }
+      by-line l (inr w) = record { left = w.0.line ∷ w.0.others; takes = takes (w.0.line ∷ w.0.others) w.0.lines; few = few-next (Ok true) advances; stops = (is, bad-long columns blobs taken w.0.line w.0.others w.0.long) }
 
   -- it is given, and isn't taken
   pub record Shows (line : List ℕ) : Type 0 where
     pub others : List (List ℕ)
     pub takes_not : Takes columns blobs text taken (line ∷ others)
+    pub few : TakesFew text taken left_now
 
   pub shows-next : Given? (Ok true) → length new.line ≤ 4096 → Shows new.line
   shows-next advances short =
@@ -120,7 +134,7 @@ module _ (columns : ℕ) (blobs : Bool) (text : List ℕ) (taken : List (List �
     where
       by-line : (l : List ℕ) →
           Given most_bytes text (taken ++ new.line ∷ []) new.closed new.most (new.ahead ++ l) ⊎ (IsTooLong most_bytes text taken × (4096 < length new.line)) → Shows new.line
-      by-line l (inl g) = record { others = lines_within new.most (new.ahead ++ l); takes_not = takes (new.line ∷ lines_within new.most (new.ahead ++ l)) (next-split text taken new.line new.closed new.most (new.ahead ++ l) g) }
+      by-line l (inl g) = record { others = lines_within new.most (new.ahead ++ l); takes_not = takes (new.line ∷ lines_within new.most (new.ahead ++ l)) (next-split text taken new.line new.closed new.most (new.ahead ++ l) g); few = few-next (Ok true) advances }
       by-line l (inr w) = absurd (omega (arith, w.1, short))
 
   -- the source failed, or has more bytes than are read
@@ -130,7 +144,12 @@ module _ (columns : ℕ) (blobs : Bool) (text : List ℕ) (taken : List (List �
       let part = g.2 in
       let open_given = subst (λ b. Given most_bytes text taken b old.most (old.ahead ++ h.rest)) part.open_before h.given in
       let w = given-taken most_bytes text taken old.most (old.ahead ++ h.rest) new.ahead g.0 open_given part.split part.one part.fits part.short in
-      record { left = lines_within old.most (old.ahead ++ h.rest); takes = takes (lines_within old.most (old.ahead ++ h.rest)) h.given.lines; stops = (w.taken, w.within, g.1 ∙ ap Some (sym w.left_is), sym w.whole) }
+      record {
+        left = lines_within old.most (old.ahead ++ h.rest);
+        takes = takes (lines_within old.most (old.ahead ++ h.rest)) h.given.lines;
+        few = few-next (Err Failed) advances;
+        stops = record { count = w.taken; within = w.within; few = w.few; short = w.short; rest_is = g.1 ∙ ap Some (sym w.left_is); whole = sym w.whole };
+      }
 
   pub stops-more : Given? (Err Long) → TakesThese columns blobs text taken left_now InputLong
   stops-more advances =
@@ -138,7 +157,16 @@ module _ (columns : ℕ) (blobs : Bool) (text : List ℕ) (taken : List (List �
       let part = g.2.1 in
       let open_given = subst (λ b. Given most_bytes text taken b old.most (old.ahead ++ h.rest)) part.open_before h.given in
       let all = given-most most_bytes text taken old.most (old.ahead ++ h.rest) new.ahead g.2.0 open_given part.split part.one g.2.2 part.short g.2.3 in
-      record { left = []; takes = takes [] (all.0 ∙ sym (append-nil taken)); stops = (refl, lt-ltb most_bytes (length text) all.1) }
+      record {
+        left = [];
+        takes = takes [] (all.0 ∙ sym (append-nil taken));
+        few = few-next (Err Long) advances;
+        stops = (
+          refl,
+          lt-ltb most_bytes (length text) all.1,
+          subst (λ (o : Option (List ℕ)). HasTaken text (most_bytes + 1) o) (sym g.1) (given-over most_bytes text taken old h.rest g.0 h.given part.open_before g.3),
+        );
+      }
 
   -- .. by the status that tells it
   pub stops-next : (number : ℕ) → number ≡ length taken + 1 → (given : Result Bool LinesFault) (status : ToolStatus) → Given? given → NextOf given new.line number (Err status) → TakesThese columns blobs text taken left_now status
@@ -159,4 +187,4 @@ pub stops-other : (columns : ℕ) (blobs : Bool) (text : List ℕ) (old new : Li
     length new.line ≤ 4096 → (without_return new.line ≡ names_line columns blobs → ⊥) → TakesThese columns blobs text [] left_now (BadInput 1)
 stops-other columns blobs text old new left left_now faults faults_now h advances short other =
     let s = shows-next columns blobs text [] old new left left_now faults faults_now h advances short in
-    record { left = new.line ∷ s.others; takes = s.takes_not; stops = (refl, inr other) }
+    record { left = new.line ∷ s.others; takes = s.takes_not; few = s.few; stops = (refl, inr other) }

@@ -1,14 +1,15 @@
 -- How an import ends, by its status.
-use Rattle.std.specs.Prelude.{◌≡◌, ◌⊎◌, ℕ, ◌+◌, ◌≤◌, IsTrue, Bool, true, false, Option, None, Some, Result, Ok, List, [], ◌∷◌, ◌++◌, length, map, find}
+use Rattle.std.specs.Prelude.{◌≡◌, ◌⊎◌, ℕ, ◌+◌, ◌≤◌, IsTrue, Bool, false, Option, None, Some, Result, Ok, List, [], ◌∷◌, ◌++◌, length, map, find}
 use Rattle.fl_base.specs.Causes.{Rose, Appends, AppendsFront, IsFront}
 use Rattle.fl_csv.specs.declared.record.CsvRefusal.{CsvRefusal}
-use Rattle.fl_export.specs.Ends.{IsImageWith, at_rest}
+use Rattle.fl_export.specs.Ends as export
+use Rattle.fl_export.specs.Ends.{IsImageOver, IsImageWith, IsUntouched, MountFails, at_rest}
 use Rattle.fl_jobs.specs.Header.{IsAccepted}
 use Rattle.fl_jobs.specs.Image.{IsImageOf}
 use Rattle.fl_jobs.specs.declared.status.ToolStatus.{ToolStatus}
 use Rattle.fl_jobs.specs.declared.status.ToolStatus.TheVariants.{Done, InputRead, OutWrite, InputLong, NoMemory, NotImage, Device, BadImage, NoTable, BadInput, Unsound}
 use Rattle.fl_machine.specs.Step.{Located, located_from, all_ready}
-use Rattle.fl_model.specs.Mount.{Mounts, Mounted, Stopped, Unread, rings_from}
+use Rattle.fl_model.specs.Mount.{Mounts, Mounted, rings_from}
 use Rattle.fl_model.specs.Record.{Record, Plan, Config, has_var, bytes_equal}
 use Rattle.fl_model.specs.Table.{Table, refusal_of, put_seals, table_seals, flushed, lose}
 use Rattle.fl_model.specs.Within.{with_table}
@@ -17,7 +18,8 @@ use Rattle.fl_words.specs.Config.{Lines}
 use Rattle.fl_words.specs.Medium.{IsImage}
 use Rattle.fl_import.specs.Lines.{meaning, meanings, Takes}
 use Rattle.fl_import.specs.Puts.{after_puts, FailsIn}
-use Rattle.fl_import.specs.Reading.{Stops, TakesUntil}
+use Rattle.fl_import.specs.Reading.{Stops, TakesSome, TakesUntil}
+use Rattle.fl_lines.specs.Taken.{TakesFew}
 use Rattle.fl_import.specs.Report.{told_line, told_lines, counts_of}
 
 -- what is written, before and after, and what the source has left
@@ -50,20 +52,23 @@ Reports plan table taken OutWrite (line ∷ left) told told_now =
     (front : List ℕ) × IsFront front (told_next plan table taken line) × Appends told told_now (told_of_lines plan table taken ++ front)
 Reports plan table taken status left told told_now = Appends told told_now (told_of_lines plan table taken)
 
--- The lines that were taken were put and told, and no more are taken.
+-- The lines that were taken were put and told, and no more are taken. At most 4,097 bytes were read from the first byte of the
+-- next one on.
 pub record Puts (plan : Plan) (table : Table) (text : List ℕ) (told told_now rest : Option (List ℕ)) (status : ToolStatus) : Type 0 where
   pub taken : List (List ℕ)
   pub left : List (List ℕ)
   pub takes : Takes (length plan.columns) (has_var plan) text taken left
+  pub few : TakesFew text taken rest
   pub stops : Stops (length plan.columns) (has_var plan) text taken left rest status
   pub reports : Reports plan table taken status left told told_now
 
 -- .. but an operation failed in the put of the next one.
-pub record PutFails (plan : Plan) (table : Table) (text : List ℕ) (told told_now : Option (List ℕ)) (after : Table) : Type 0 where
+pub record PutFails (plan : Plan) (table : Table) (text : List ℕ) (told told_now rest : Option (List ℕ)) (after : Table) : Type 0 where
   pub taken : List (List ℕ)
   pub line : List ℕ
   pub left : List (List ℕ)
   pub takes : Takes (length plan.columns) (has_var plan) text taken (line ∷ left)
+  pub few : TakesFew text taken rest
   pub some : 1 ≤ length taken
   pub item : Record
   pub means : meaning (length plan.columns) (has_var plan) line ≡ Ok item
@@ -97,7 +102,7 @@ Leaves plan table text told after InputRead = Flushes plan table text told after
 Leaves plan table text told after InputLong = Flushes plan table text told after InputLong
 Leaves plan table text told after (BadInput number) = Flushes plan table text told after (BadInput number)
 Leaves plan table text told after NoMemory = Flushes plan table text told after NoMemory
-Leaves plan table text told after Device = PutFails plan table text told.written told.written_now after ⊎ FlushFails plan table text told after
+Leaves plan table text told after Device = PutFails plan table text told.written told.written_now told.left_now after ⊎ FlushFails plan table text told after
 Leaves plan table text told after NotImage = ⊥
 Leaves plan table text told after (BadImage number) = ⊥
 Leaves plan table text told after NoTable = ⊥
@@ -105,15 +110,9 @@ Leaves plan table text told after Unsound = ⊥
 
 -- ---- how an import of an image of tables ends
 
--- An operation or a read of the mount failed, and nothing was written. `Holds` says for which tables the medium stands at the
--- end: those that were left, without what is in memory alone.
-pub record MountFails (plans : List Plan) (tables : List Table) (told : Told) (faults faults_now : ℕ) (Holds : List Table → Type 0) : Type 0 where
-  pub rose : Bool
-  pub risen : IsTrue rose → Rose faults faults_now
-  pub end : Progress
-  pub did : Mounts plans rose (rings_from 0 plans) at_rest tables (Stopped end) ⊎ Mounts plans rose (rings_from 0 plans) at_rest tables (Unread end)
-  pub holds : Holds (map lose end.tables)
-  pub nothing : Appends told.written told.written_now []
+-- what is told of the mount alone
+abbrev pub of_mount : Told → ℕ → ℕ → export.Told
+of_mount told faults faults_now = record { written = told.written; written_now = told.written_now; faults = faults; faults_now = faults_now }
 
 -- The tables were mounted, and the one with the name is left so.
 pub record Imports (plans : List Plan) (tables : List Table) (name : List ℕ) (told : Told) (faults faults_now : ℕ) (Holds : List Table → Type 0) (Left : Plan → Table → Table → Type 0) : Type 0 where
@@ -127,26 +126,32 @@ pub record Imports (plans : List Plan) (tables : List Table) (name : List ℕ) (
   pub left : Left at.plan at.table after
   pub holds : Holds (map lose (with_table at.place (all_ready plans end.tables) after))
 
--- how it ends over tables of which one has the name
-abbrev pub TablesEnd : List Plan → List Table → List ℕ → List ℕ → Told → ℕ → ℕ → (List Table → Type 0) → ToolStatus → Type 0
-TablesEnd plans tables name text told faults faults_now Holds Device =
+-- How it ends over tables of which one has the name. Where it is done, the rows are told that stand on the medium then; where
+-- the mount fails no byte is read.
+abbrev pub TablesEnd : List Plan → List Table → List ℕ → List ℕ → Told → ℕ → ℕ → (List Table → Type 0) → Option ℕ → ToolStatus → Type 0
+TablesEnd plans tables name text told faults faults_now Holds kept Device =
     Rose faults faults_now
-    × (MountFails plans tables told faults faults_now Holds ⊎ Imports plans tables name told faults faults_now Holds (λ plan table after. Leaves plan table text told after Device))
-TablesEnd plans tables name text told faults faults_now Holds status = Imports plans tables name told faults faults_now Holds (λ plan table after. Leaves plan table text told after status)
+    × ((MountFails plans tables name (of_mount told faults faults_now) Holds × (told.left_now ≡ Some text))
+    ⊎ Imports plans tables name told faults faults_now Holds (λ plan table after. Leaves plan table text told after Device))
+TablesEnd plans tables name text told faults faults_now Holds kept Done =
+    Imports plans tables name told faults faults_now Holds (λ plan table after. Leaves plan table text told after Done × (kept ≡ Some (length (lose after).entries)))
+TablesEnd plans tables name text told faults faults_now Holds kept status =
+    Imports plans tables name told faults faults_now Holds (λ plan table after. Leaves plan table text told after status)
 
--- nothing was mounted and nothing written
-pub record IsUntouched (content content_now : List ℕ) (told : Told) : Type 0 where
-  pub same : content_now ≡ content
-  pub nothing : Appends told.written told.written_now []
+-- nothing was mounted, written or read
+abbrev pub IsUnbegun : List ℕ → List ℕ → List ℕ → Told → ℕ → ℕ → Type 0
+IsUnbegun content content_now text told faults faults_now = IsUntouched content content_now (of_mount told faults faults_now) × (told.left_now ≡ Some text)
 
 -- how it ends over a medium that stands for tables
-abbrev pub ImportEnds : Config → List Table → List ℕ → List ℕ → Told → ℕ → ℕ → List ℕ → List ℕ → ToolStatus → Type 0
-ImportEnds config tables name text told faults faults_now content content_now NoTable = (located_from 0 config.plans tables name ≡ None) × IsUntouched content content_now told
-ImportEnds config tables name text told faults faults_now content content_now NoMemory =
-    IsUntouched content content_now told ⊎ TablesEnd config.plans tables name text told faults faults_now (IsImage config content_now) NoMemory
-ImportEnds config tables name text told faults faults_now content content_now Device =
-    (Rose faults faults_now × IsUntouched content content_now told) ⊎ TablesEnd config.plans tables name text told faults faults_now (IsImage config content_now) Device
-ImportEnds config tables name text told faults faults_now content content_now status = TablesEnd config.plans tables name text told faults faults_now (IsImage config content_now) status
+abbrev pub ImportEnds : Config → List Table → List ℕ → List ℕ → Told → ℕ → ℕ → List ℕ → List ℕ → Option ℕ → ToolStatus → Type 0
+ImportEnds config tables name text told faults faults_now content content_now kept NoTable =
+    (located_from 0 config.plans tables name ≡ None) × IsUnbegun content content_now text told faults faults_now
+ImportEnds config tables name text told faults faults_now content content_now kept NoMemory =
+    IsUnbegun content content_now text told faults faults_now ⊎ TablesEnd config.plans tables name text told faults faults_now (IsImage config content_now) kept NoMemory
+ImportEnds config tables name text told faults faults_now content content_now kept Device =
+    (Rose faults faults_now × IsUnbegun content content_now text told faults faults_now)
+    ⊎ TablesEnd config.plans tables name text told faults faults_now (IsImage config content_now) kept Device
+ImportEnds config tables name text told faults faults_now content content_now kept status = TablesEnd config.plans tables name text told faults faults_now (IsImage config content_now) kept status
 
 -- ---- the causes of statuses, over any bytes
 
@@ -162,18 +167,22 @@ pub record IsImageFor (bytes : List ℕ) (name : List ℕ) (text : Option (List 
 abbrev pub EndsLines : Option (List ℕ) → ToolStatus → ℕ → Bool → List ℕ → Type 0
 EndsLines rest status columns blobs text = TakesUntil columns blobs text rest status
 
--- There is no image, or it has no such table, or its lines end so; the medium and memory may fail before. `text` is what the
--- source had at first.
+-- No line was taken, or some were
+abbrev pub MayTake : List ℕ → List ℕ → Option (List ℕ) → Option (List ℕ) → Type 0
+MayTake bytes name text rest = (rest ≡ text) ⊎ IsImageFor bytes name text (λ columns blobs l. TakesSome columns blobs l rest)
+
+-- There is no image, or it has no such table, or its lines end so; the medium and memory may fail before. A bad table is one of
+-- the image. `text` is what the source had at first.
 abbrev pub StatusFits : List ℕ → List ℕ → Option (List ℕ) → Option (List ℕ) → ToolStatus → Type 0
 StatusFits bytes name text rest NotImage = (lines : Lines) → IsAccepted lines → IsImageOf bytes lines → ⊥
 StatusFits bytes name text rest NoTable = IsImageWith bytes name false
-StatusFits bytes name text rest (BadImage table) = IsImageWith bytes name true
+StatusFits bytes name text rest (BadImage table) = IsImageOver bytes name table × (rest ≡ text)
 StatusFits bytes name text rest Done = IsImageFor bytes name text (EndsLines rest Done)
 StatusFits bytes name text rest InputRead = IsImageFor bytes name text (EndsLines rest InputRead)
 StatusFits bytes name text rest InputLong = IsImageFor bytes name text (EndsLines rest InputLong)
 StatusFits bytes name text rest (BadInput number) = IsImageFor bytes name text (EndsLines rest (BadInput number))
 StatusFits bytes name text rest OutWrite =
     IsImageFor bytes name text (λ columns blobs l. TakesUntil columns blobs l rest OutWrite ⊎ TakesUntil columns blobs l rest Done)
-StatusFits bytes name text rest NoMemory = Unit {0}
-StatusFits bytes name text rest Device = Unit {0}
+StatusFits bytes name text rest NoMemory = MayTake bytes name text rest
+StatusFits bytes name text rest Device = MayTake bytes name text rest
 StatusFits bytes name text rest Unsound = ⊥

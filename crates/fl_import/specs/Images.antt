@@ -1,28 +1,34 @@
 -- How an import ends over a flash on which the tables of an image lie, and over its medium.
-use Rattle.std.specs.Prelude.{◌≡◌, ◌⊎◌, ℕ, false, Option, Some, List, slice_get}
+use Rattle.std.specs.Prelude.{◌≡◌, ◌⊎◌, ◌<◌, ◌≤◌, ℕ, false, is_some, Option, Some, List, slice_get}
+use Rattle.fl_base.specs.Causes.{Rose}
 use Rattle.fl_flash.specs.Flash.{FlashState}
 use Rattle.fl_flash.specs.Media.{MediaState}
+use Rattle.fl_jobs.specs.Status.{is_done}
 use Rattle.fl_jobs.specs.declared.status.ToolStatus.{ToolStatus}
-use Rattle.fl_jobs.specs.declared.status.ToolStatus.TheVariants.{NoMemory, Device, BadImage}
+use Rattle.fl_jobs.specs.declared.status.ToolStatus.TheVariants.{InputRead, OutWrite, NoMemory, Device, BadImage}
 use Rattle.fl_model.specs.Record.{Plan, Config}
 use Rattle.fl_model.specs.Table.{Table}
 use Rattle.fl_tables.specs.Tables.{TablesStand}
 use Rattle.fl_tables.specs.declared.tables.Entry.{Entry}
 use Rattle.fl_words.specs.Medium.{IsImage}
-use Rattle.fl_import.specs.Ends.{Told, TablesEnd, IsUntouched}
+use Rattle.fl_import.specs.Ends.{Told, TablesEnd, IsUnbegun}
 use Rattle.fl_import.specs.Steps.{IsFormOf, IsOfTable}
 use Rattle.fl_import.specs.declared.form.Form.{Form}
 
--- a status of tables that aren't mounted
-abbrev pub IsOfMount : ToolStatus → Type 0
-IsOfMount Device = Unit {0}
-IsOfMount (BadImage table) = Unit {0}
-IsOfMount other = ⊥
-
--- .. and one that comes once the table is found
+-- a status that comes once the table is found
 abbrev pub IsOfMounted : ToolStatus → Type 0
 IsOfMounted (BadImage table) = Unit {0}
 IsOfMounted status = IsOfTable status
+
+-- Why an import ends so, over any bytes: counts of faults before and after, those of the flash, of the source and of the sink.
+pub record HasCauses (tables flash flash_now source source_now sink sink_now : ℕ) (kept : Option ℕ) (status : ToolStatus) : Type 0 where
+  pub known : IsOfMounted status
+  pub device : status ≡ Device → Rose flash flash_now
+  pub bad : (table : ℕ) → status ≡ BadImage table → table < tables
+  pub read : status ≡ InputRead → Rose source source_now
+  pub write : status ≡ OutWrite → Rose sink sink_now
+  pub later : (source ≤ source_now) × (sink ≤ sink_now)
+  pub kept_is : is_some kept ≡ is_done status
 
 -- the form of the lines of the table at a place
 abbrev pub FormsAt : Form → List Plan → ℕ → Type 0
@@ -32,10 +38,11 @@ abbrev pub told_of : Option (List ℕ) → Option (List ℕ) → Option (List �
 told_of told told_now rest = record { written = told; written_now = told_now; left_now = rest }
 
 -- how it ends over a flash: that stands for the tables afterwards
-abbrev pub EndsOn : List Plan → List Table → List ℕ → List ℕ → Told → FlashState → FlashState → List Entry → ToolStatus → Type 0
-EndsOn plans tables name text told old new entries status = TablesEnd plans tables name text told old.media.faults new.media.faults (TablesStand new (λ i. false) plans entries) status
+abbrev pub EndsOn : List Plan → List Table → List ℕ → List ℕ → Told → FlashState → FlashState → List Entry → Option ℕ → ToolStatus → Type 0
+EndsOn plans tables name text told old new entries kept status = TablesEnd plans tables name text told old.media.faults new.media.faults (TablesStand new (λ i. false) plans entries) kept status
 
 -- .. and over a medium; where there was no room for the flash nothing was done
-abbrev pub EndsOver : Config → List Table → List ℕ → List ℕ → Told → MediaState → MediaState → ToolStatus → Type 0
-EndsOver config tables name text told old new status =
-    ((status ≡ NoMemory) × IsUntouched old.content new.content told) ⊎ TablesEnd config.plans tables name text told old.faults new.faults (IsImage config new.content) status
+abbrev pub EndsOver : Config → List Table → List ℕ → List ℕ → Told → MediaState → MediaState → Option ℕ → ToolStatus → Type 0
+EndsOver config tables name text told old new kept status =
+    ((status ≡ NoMemory) × IsUnbegun old.content new.content text told old.faults new.faults)
+    ⊎ TablesEnd config.plans tables name text told old.faults new.faults (IsImage config new.content) kept status

@@ -1,10 +1,13 @@
 -- How the steps of an import of a table end.
-use Rattle.std.specs.Prelude.{◌≡◌, ℕ, ◌+◌, IsTrue, Bool, true, false, Option, None, Result, Ok, Err, List, [], length}
+use Rattle.std.specs.Prelude.{◌≡◌, ℕ, ◌+◌, IsTrue, Bool, true, false, Option, None, Some, Result, Ok, Err, List, [], length}
 use Rattle.fl_base.specs.Causes.{Rose, Appends, AppendsFront}
 use Rattle.fl_base.specs.declared.stream.SinkFailed.{SinkFailed}
 use Rattle.fl_csv.specs.declared.record.CsvRefusal.{CsvRefusal}
 use Rattle.fl_csv.specs.declared.record.CsvRefusal.TheVariants as unread
 use Rattle.fl_flash.specs.Flash.{FlashState}
+use Rattle.fl_flash.specs.declared.flash.FlashFault.{FlashFault}
+use Rattle.fl_flash.specs.declared.flash.FlashFault.TheVariants.{PowerLost}
+use Rattle.fl_jobs.specs.Status.{flash_status}
 use Rattle.fl_jobs.specs.declared.status.ToolStatus.{ToolStatus}
 use Rattle.fl_jobs.specs.declared.status.ToolStatus.TheVariants.{Done, InputRead, OutWrite, InputLong, NoMemory, NotImage, Device, BadImage, NoTable, BadInput, Unsound}
 use Rattle.fl_model.specs.Record.{Record, Plan, has_var}
@@ -15,6 +18,10 @@ use Rattle.fl_ring.specs.Device.{SameDevice}
 use Rattle.fl_table.specs.Pages.{Rests}
 use Rattle.fl_table.specs.Standing.{Stands}
 use Rattle.fl_table.specs.declared.table.Table.{Table}
+use Rattle.fl_table.specs.declared.faults.FlushFault.{FlushFault}
+use Rattle.fl_table.specs.declared.faults.FlushFault.TheVariants as flush
+use Rattle.fl_table.specs.declared.faults.PutRefusal.{PutRefusal}
+use Rattle.fl_table.specs.declared.faults.PutRefusal.TheVariants as refusal
 use Rattle.fl_import.specs.Ends.{Told, Puts, PutFails, Leaves, puts_of, table_after}
 use Rattle.fl_import.specs.Puts.{is_put, after_put, put_count, FailsIn}
 use Rattle.fl_import.specs.Report.{told_line, count_line}
@@ -47,6 +54,11 @@ abbrev pub by_told : Result (Unit {0}) SinkFailed → Result Bool ToolStatus
 by_told (Ok done) = Ok false
 by_told (Err failed) = Err OutWrite
 
+-- the fault of the flash in a put
+abbrev pub fault_in : Result (Unit {0}) PutRefusal → Option FlashFault
+fault_in (Err (refusal.Flash fault)) = Some fault
+fault_in outcome = None
+
 -- why it isn't passed
 abbrev pub IsOfLine : ToolStatus → Type 0
 IsOfLine OutWrite = Unit {0}
@@ -54,15 +66,15 @@ IsOfLine NoMemory = Unit {0}
 IsOfLine Device = Unit {0}
 IsOfLine status = ⊥
 
-abbrev pub LineEnds : ℕ → Plan → model.Table → ℕ → Result Record CsvRefusal → Table 64 64 → FlashState → FlashState → Option (List ℕ) → Option (List ℕ) → Result Bool ToolStatus → Type 0
-LineEnds first plan table number put t f g told told_now (Ok accepted) =
+abbrev pub LineEnds : ℕ → Plan → model.Table → ℕ → Result Record CsvRefusal → Table 64 64 → FlashState → Option (List ℕ) → Option (List ℕ) → Result Bool ToolStatus → Type 0
+LineEnds first plan table number put t g told told_now (Ok accepted) =
     (accepted ≡ is_put plan table put) × Works t g first plan (after_put plan table put) × Appends told told_now (told_line plan number table put)
-LineEnds first plan table number put t f g told told_now (Err OutWrite) = Works t g first plan table × AppendsFront told told_now (told_line plan number table put)
-LineEnds first plan table number put t f g told told_now (Err NoMemory) = Works t g first plan table × Appends told told_now []
-LineEnds first plan table number put t f g told told_now (Err Device) =
-    Rose f.media.faults g.media.faults × Appends told told_now []
+LineEnds first plan table number put t g told told_now (Err OutWrite) = Works t g first plan table × AppendsFront told told_now (told_line plan number table put)
+LineEnds first plan table number put t g told told_now (Err NoMemory) = Works t g first plan table × Appends told told_now []
+LineEnds first plan table number put t g told told_now (Err Device) =
+    Appends told told_now []
     × ((item : Record) × (put ≡ Ok item) × (refusal_of plan table item ≡ None) × ((after : model.Table) × FailsIn plan (put_seals plan item table) table after × Rests g first plan (lose after)))
-LineEnds first plan table number put t f g told told_now (Err status) = ⊥
+LineEnds first plan table number put t g told told_now (Err status) = ⊥
 
 -- ---- all lines
 
@@ -88,16 +100,15 @@ pub record LinesDone (first : ℕ) (plan : Plan) (table : model.Table) (text : L
   pub all : counts.accepted + counts.refused ≡ length (puts_of plan ends.puts.taken)
 
 -- an operation failed in a put
-pub record LinesFail (first : ℕ) (plan : Plan) (table : model.Table) (text : List ℕ) (f g : FlashState) (told told_now : Option (List ℕ)) : Type 0 where
-  pub rose : Rose f.media.faults g.media.faults
+pub record LinesFail (first : ℕ) (plan : Plan) (table : model.Table) (text : List ℕ) (g : FlashState) (told told_now rest : Option (List ℕ)) : Type 0 where
   pub after : model.Table
-  pub fails : PutFails plan table text told told_now after
+  pub fails : PutFails plan table text told told_now rest after
   pub rests : Rests g first plan (lose after)
 
-abbrev pub AllEnds : ℕ → Plan → model.Table → List ℕ → Table 64 64 → FlashState → FlashState → Option (List ℕ) → Option (List ℕ) → Option (List ℕ) → Result Counts ToolStatus → Type 0
-AllEnds first plan table text t f g told told_now rest (Ok counts) = LinesDone first plan table text t g told told_now rest counts
-AllEnds first plan table text t f g told told_now rest (Err Device) = LinesFail first plan table text f g told told_now
-AllEnds first plan table text t f g told told_now rest (Err status) = LinesEnd first plan table text t g told told_now rest status
+abbrev pub AllEnds : ℕ → Plan → model.Table → List ℕ → Table 64 64 → FlashState → Option (List ℕ) → Option (List ℕ) → Option (List ℕ) → Result Counts ToolStatus → Type 0
+AllEnds first plan table text t g told told_now rest (Ok counts) = LinesDone first plan table text t g told told_now rest counts
+AllEnds first plan table text t g told told_now rest (Err Device) = LinesFail first plan table text g told told_now rest
+AllEnds first plan table text t g told told_now rest (Err status) = LinesEnd first plan table text t g told told_now rest status
 
 -- an operation failed in a put
 abbrev pub is_broken : Result Counts ToolStatus → Bool
@@ -116,6 +127,11 @@ TellsCounts counts told told_now faults faults_now Done = Appends told told_now 
 TellsCounts counts told told_now faults faults_now OutWrite = AppendsFront told told_now (count_line counts.accepted counts.refused) × Rose faults faults_now
 TellsCounts counts told told_now faults faults_now status = ⊥
 
+-- The status of an import whose table isn't flushed. A table is stopped where the power was lost in a put.
+abbrev pub flush_status : FlushFault → ToolStatus
+flush_status (flush.Flash fault) = flash_status fault
+flush_status flush.Stopped = flash_status PowerLost
+
 -- a status of an import of a table
 abbrev pub IsOfTable : ToolStatus → Type 0
 IsOfTable Done = Unit {0}
@@ -130,9 +146,10 @@ IsOfTable NotImage = ⊥
 IsOfTable NoTable = ⊥
 IsOfTable Unsound = ⊥
 
--- it was imported so, and the flash stands for what is left of it without what is in memory alone
-pub record TableEnds (first : ℕ) (plan : Plan) (table : model.Table) (text : List ℕ) (f g : FlashState) (told : Told) (status : ToolStatus) : Type 0 where
+-- it was imported so, and the flash stands for what is left of it without what is in memory alone; where it is done the table
+-- goes on
+pub record TableEnds (first : ℕ) (plan : Plan) (table : model.Table) (text : List ℕ) (t : Table 64 64) (g : FlashState) (told : Told) (status : ToolStatus) : Type 0 where
   pub after : model.Table
   pub leaves : Leaves plan table text told after status
   pub rests : Rests g first plan (lose after)
-  pub rose : status ≡ Device → Rose f.media.faults g.media.faults
+  pub stands : status ≡ Done → Stands t g first plan after

@@ -5,11 +5,12 @@ use Rattle.fl_jobs.specs.declared.status.ToolStatus.{ToolStatus}
 use Rattle.fl_jobs.specs.declared.status.ToolStatus.TheVariants.{Done, InputRead, OutWrite, InputLong, NoMemory, NotImage, Device, BadImage, NoTable, BadInput, Unsound}
 use Rattle.fl_lines.specs.Given.{Given}
 use Rattle.fl_lines.specs.Stream.{LinesState, Advances}
+use Rattle.fl_lines.specs.Taken.{TakesFew}
 use Rattle.fl_lines.specs.Texts.{most_bytes}
 use Rattle.fl_lines.specs.declared.lines.LinesFault.{LinesFault}
 use Rattle.fl_lines.specs.declared.lines.LinesFault.TheVariants.{Failed, Long}
 use Rattle.fl_import.specs.Lines.{IsHeaded, Takes}
-use Rattle.fl_import.specs.Reading.{Stops, TakesUntil}
+use Rattle.fl_import.specs.Reading.{Stops, TakesSome, TakesUntil}
 
 -- what was asked for is the line of a number, which isn't too long
 abbrev pub NextOf : Result Bool LinesFault → List ℕ → ℕ → Result Bool ToolStatus → Type 0
@@ -36,11 +37,13 @@ pub record TakesSoFar (columns : ℕ) (blobs : Bool) (text : List ℕ) (taken : 
 pub record TakesThese (columns : ℕ) (blobs : Bool) (text : List ℕ) (taken : List (List ℕ)) (rest : Option (List ℕ)) (status : ToolStatus) : Type 0 where
   pub left : List (List ℕ)
   pub takes : Takes columns blobs text taken left
+  pub few : TakesFew text taken rest
   pub stops : Stops columns blobs text taken left rest status
 
--- no more are taken; where an operation failed it isn't the lines that say so
+-- no more are taken; where the flash failed, or there is no memory, it isn't the lines that say so
 abbrev pub Ended : ℕ → Bool → List ℕ → Option (List ℕ) → ToolStatus → Type 0
-Ended columns blobs text rest Device = Unit {0}
+Ended columns blobs text rest Device = TakesSome columns blobs text rest
+Ended columns blobs text rest NoMemory = TakesSome columns blobs text rest
 Ended columns blobs text rest status = TakesUntil columns blobs text rest status
 
 -- a status of the lines alone
@@ -57,18 +60,16 @@ EndedAs columns blobs text rest InputRead = TakesUntil columns blobs text rest I
 EndedAs columns blobs text rest InputLong = TakesUntil columns blobs text rest InputLong
 EndedAs columns blobs text rest (BadInput number) = TakesUntil columns blobs text rest (BadInput number)
 EndedAs columns blobs text rest OutWrite = TakesUntil columns blobs text rest OutWrite ⊎ TakesUntil columns blobs text rest Done
-EndedAs columns blobs text rest status = Unit {0}
+EndedAs columns blobs text rest NoMemory = TakesSome columns blobs text rest
+EndedAs columns blobs text rest Device = TakesSome columns blobs text rest
+EndedAs columns blobs text rest (BadImage table) = ⊥
+EndedAs columns blobs text rest NotImage = ⊥
+EndedAs columns blobs text rest NoTable = ⊥
+EndedAs columns blobs text rest Unsound = ⊥
 
--- a status of an import of a table
-abbrev pub IsOfTable : ToolStatus → Type 0
-IsOfTable Done = Unit {0}
-IsOfTable InputRead = Unit {0}
-IsOfTable OutWrite = Unit {0}
-IsOfTable InputLong = Unit {0}
-IsOfTable NoMemory = Unit {0}
-IsOfTable Device = Unit {0}
-IsOfTable (BadInput number) = Unit {0}
-IsOfTable (BadImage table) = ⊥
-IsOfTable NotImage = ⊥
-IsOfTable NoTable = ⊥
-IsOfTable Unsound = ⊥
+-- .. or none was, since the tables weren't mounted or there was no memory before
+abbrev pub EndedOver : ℕ → Bool → List ℕ → Option (List ℕ) → ToolStatus → Type 0
+EndedOver columns blobs text rest NoMemory = (rest ≡ Some text) ⊎ TakesSome columns blobs text rest
+EndedOver columns blobs text rest Device = (rest ≡ Some text) ⊎ TakesSome columns blobs text rest
+EndedOver columns blobs text rest (BadImage table) = rest ≡ Some text
+EndedOver columns blobs text rest status = EndedAs columns blobs text rest status

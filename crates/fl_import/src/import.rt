@@ -1,48 +1,46 @@
 // The import of records into a table of an image.
-ghost use Rattle.std.specs.Prelude.{◌≡◌, ◌⊎◌, ◌≤◌, ◌<◌, ◌^◌, ℕ, false, true, Some, [], List, length, slice_get, IsTrue};
+ghost use Rattle.std.specs.Prelude.{◌≡◌, ◌⊎◌, ◌≤◌, ◌<◌, ◌^◌, ℕ, false, true, is_some, Some, [], List, length, slice_get, IsTrue};
 ghost use Rattle.fl_base.specs.Causes.{Rose};
 ghost use Rattle.fl_config.specs.Whole.{is_whole, Makes};
-ghost use Rattle.fl_export.specs.Ends.{at_rest, Keeps};
-ghost use Rattle.fl_flash.specs.Flash.{Goes};
+ghost use Rattle.fl_export.specs.Ends.{at_rest, IsImageWith, Keeps};
+ghost use Rattle.fl_flash.specs.Flash.{FlashState, Goes};
 ghost use Rattle.fl_jobs.specs.Header.{IsMade};
 ghost use Rattle.fl_jobs.specs.Image.{OnlyLooksAt};
+ghost use Rattle.fl_jobs.specs.Status.{is_done};
 ghost use Rattle.fl_jobs.specs.declared.status.ToolStatus.{ToolStatus};
 ghost use Rattle.fl_model.specs.Image.{medium_len};
 ghost use Rattle.fl_model.specs.Record.{Config as Configured, Plan, has_var};
 ghost use Rattle.fl_model.specs.Table as model;
 ghost use Rattle.fl_ring.specs.Device.{SameDevice};
+ghost use Rattle.fl_table.specs.Standing.{Stands};
 ghost use Rattle.fl_tables.specs.Tables.{AreNewTables, IsNamed, LieOn, TablesStand};
 ghost use Rattle.fl_words.specs.Config as words;
 ghost use Rattle.fl_words.specs.Medium.{IsImage};
 ghost use Rattle.fl_import.specs.Ends.{ImportEnds, StatusFits};
-ghost use Rattle.fl_import.specs.Images.{EndsOn, EndsOver, FormsAt, IsOfMount, IsOfMounted, told_of};
-ghost use Rattle.fl_import.specs.Taking.{EndedAs};
-ghost use Rattle.fl_table.specs.declared.faults.MountFault.{MountFault};
-ghost use Rattle.fl_flash.specs.declared.flash.FlashFault.{FlashFault};
+ghost use Rattle.fl_import.specs.Images.{EndsOn, EndsOver, FormsAt, HasCauses, told_of};
+ghost use Rattle.fl_import.specs.Taking.{EndedOver};
 
 use crate::form::Form;
 use crate::table::import_table;
 use fl_base::{Name, Sink, Source};
 use fl_config::Config;
+use fl_export::mount_status;
 use fl_flash::{Flash, FlashRoom, Media, PageBuf, SimFlash};
-use fl_jobs::{HEADER, ToolStatus, config_of_image};
+use fl_jobs::{HEADER, JobEnd, ToolStatus, config_of_image};
 use fl_lines::Lines;
 use fl_script::LineRoom;
-use fl_table::MountFault;
-use fl_tables::{BadMount, Tables};
+use fl_tables::{Table, Tables};
 use std::alloc::Global;
 
-/// The status of an import whose tables aren't mounted.
-fn mount_status(tables: &Tables, bad: BadMount) -> ToolStatus
-    requires { length tables.now.entries.items ≤ 4 }
-    ensures flash { (fault : FlashFault) → bad.fault ≡ MountFault.Flash fault → result ≡ ToolStatus.Device }
-    ensures statuses { IsOfMount result }
+/// The rows that the table holds, where the import is done.
+fn kept_rows(status: ToolStatus, table: &Table) -> Option<u64>
+    ensures some { is_some result ≡ is_done status }
+    ensures rows { (f : FlashState) (first : ℕ) (plan : Plan) (t : model.Table) → status ≡ ToolStatus.Done → Stands table.now f first plan t → result ≡ Some (length t.entries) }
 {
-    if let MountFault::Flash(_) = bad.fault {
-        return ToolStatus::Device;
+    match status {
+        ToolStatus::Done => Some(table.counts().rows),
+        _ => None,
     }
-    let at = tables.find(bad.name).unwrap_or(0);
-    ToolStatus::BadImage { table: at as u32 }
 }
 
 /// Mounts the tables and imports the lines of an input into the one at this place.
@@ -56,7 +54,7 @@ fn import_on<F: Flash, S: Source, K: Sink>(
     lines: &mut Lines,
     input: &mut S,
     out: &mut K,
-) -> ToolStatus
+) -> JobEnd
     requires some { 1 ≤ form.columns }
     requires form { form.columns ≤ 8 }
     requires lie { LieOn tables.old.entries.items (F.state flash.old) }
@@ -65,20 +63,20 @@ fn import_on<F: Flash, S: Source, K: Sink>(
     requires few { length tables.old.entries.items ≤ 4 }
     requires new { lines.old ≡ record { line = []; ahead = []; most = 2 ^ 24; closed = false } }
     ensures goes { Goes (F.state flash.old) (F.state flash.new) }
-    ensures later { (S.faults input.old ≤ S.faults input.new) × (K.faults out.old ≤ K.faults out.new) }
-    ensures read { result ≡ ToolStatus.InputRead → Rose (S.faults input.old) (S.faults input.new) }
-    ensures write { result ≡ ToolStatus.OutWrite → Rose (K.faults out.old) (K.faults out.new) }
-    ensures statuses { IsOfMounted result }
-    ensures ended { (text : List ℕ) → S.left input.old ≡ Some text → EndedAs form.columns form.blobs text (S.left input.new) result }
+    ensures causes { HasCauses (length tables.old.entries.items) (F.state flash.old).media.faults (F.state flash.new).media.faults (S.faults input.old) (S.faults input.new) (K.faults out.old) (K.faults out.new) result.kept result.status }
+    ensures unread { (table : ℕ) → result.status ≡ ToolStatus.BadImage table → (input.new ≡ input.old) × (out.new ≡ out.old) }
+    ensures ended { (text : List ℕ) → S.left input.old ≡ Some text → EndedOver form.columns form.blobs text (S.left input.new) result.status }
     ensures ends { (plans : List Plan) (ts : List model.Table) (name text : List ℕ) → IsTrue (F.state flash.old).media.tells → (F.state flash.old).is_on ≡ true → SameDevice (F.state flash.old) at_rest
         → TablesStand (F.state flash.old) (λ i. false) plans tables.old.entries.items ts → IsNamed tables.old.entries.items name at → FormsAt form plans at → S.left input.old ≡ Some text
-        → EndsOn plans ts name text (told_of (K.written out.old) (K.written out.new) (S.left input.new)) (F.state flash.old) (F.state flash.new) tables.new.entries.items result }
+        → EndsOn plans ts name text (told_of (K.written out.old) (K.written out.new) (S.left input.new)) (F.state flash.old) (F.state flash.new) tables.new.entries.items result.kept result.status }
 {
     if let Err(bad) = tables.mount(flash, room) {
-        return mount_status(tables, bad);
+        return JobEnd::of(mount_status(bad));
     }
     let table = &mut tables.entries[at].table;
-    import_table(alloc, form, table, flash, lines, input, out)
+    let status = import_table(alloc, form, table, flash, lines, input, out);
+    let kept = kept_rows(status, table);
+    JobEnd { status, kept }
 }
 
 /// The form of the lines of the table at this place.
@@ -104,20 +102,18 @@ fn import_at<M: Media, S: Source, K: Sink>(
     media: &mut M,
     input: &mut S,
     out: &mut K,
-) -> ToolStatus
+) -> JobEnd
     requires whole { IsTrue (is_whole config.now) }
     requires tables { AreNewTables tables.old.entries.items config.now }
     requires at { at < length tables.old.entries.items }
     requires size { (configured : Configured) → Makes config.now configured → length (M.state media.old).content ≡ medium_len configured }
     ensures keeps { Keeps (M.state media.old) (M.state media.new) }
-    ensures later { (S.faults input.old ≤ S.faults input.new) × (K.faults out.old ≤ K.faults out.new) }
-    ensures read { result ≡ ToolStatus.InputRead → Rose (S.faults input.old) (S.faults input.new) }
-    ensures write { result ≡ ToolStatus.OutWrite → Rose (K.faults out.old) (K.faults out.new) }
-    ensures statuses { IsOfMounted result }
-    ensures ended { (plan : Plan) (text : List ℕ) → slice_get config.now.plans at ≡ Some plan → S.left input.old ≡ Some text → EndedAs (length plan.columns) (has_var plan) text (S.left input.new) result }
+    ensures causes { HasCauses (length tables.old.entries.items) (M.state media.old).faults (M.state media.new).faults (S.faults input.old) (S.faults input.new) (K.faults out.old) (K.faults out.new) result.kept result.status }
+    ensures unread { (table : ℕ) → result.status ≡ ToolStatus.BadImage table → (input.new ≡ input.old) × (out.new ≡ out.old) }
+    ensures ended { (plan : Plan) (text : List ℕ) → slice_get config.now.plans at ≡ Some plan → S.left input.old ≡ Some text → EndedOver (length plan.columns) (has_var plan) text (S.left input.new) result.status }
     ensures ends { (configured : Configured) (ts : List model.Table) (name text : List ℕ) → IsTrue (M.state media.old).tells → Makes config.now configured → IsImage configured (M.state media.old).content ts
         → IsNamed tables.old.entries.items name at → S.left input.old ≡ Some text
-        → EndsOver configured ts name text (told_of (K.written out.old) (K.written out.new) (S.left input.new)) (M.state media.old) (M.state media.new) result }
+        → EndsOver configured ts name text (told_of (K.written out.old) (K.written out.new) (S.left input.new)) (M.state media.old) (M.state media.new) result.kept result.status }
 {
     // Its call tells the proof how few tables there are.
     let _tables = config.tables();
@@ -125,25 +121,26 @@ fn import_at<M: Media, S: Source, K: Sink>(
     let blocks = config.blocks();
     let form = form_at(tables, at);
     let Ok(mut lines) = Lines::new(alloc) else {
-        return ToolStatus::NoMemory;
+        return JobEnd::of(ToolStatus::NoMemory);
     };
     let Ok(mut page) = PageBuf::new(alloc, geometry.page) else {
-        return ToolStatus::NoMemory;
+        return JobEnd::of(ToolStatus::NoMemory);
     };
     let Ok(room) = FlashRoom::new(alloc, geometry, blocks) else {
-        return ToolStatus::NoMemory;
+        return JobEnd::of(ToolStatus::NoMemory);
     };
     let mut flash = SimFlash::with_room(media, geometry, blocks, HEADER as u64, room);
-    let status = import_on(
+    let end = import_on(
         alloc, form, tables, at, &mut flash, &mut page, &mut lines, input, out,
     );
     let _media = flash.into_media();
-    status
+    end
 }
 
 /// Puts the records of an input into a table of the image on a medium. The first line of the input names the fields, and each
 /// line below it is a record of CSV, which is put, or refused and told of; the last line that is written tells how many
-/// were. All tables are mounted before, in their order, and repaired as a mount repairs them, and the table is flushed behind
+/// were. A put may push out the oldest records of the table, also some of this input; how many it holds at the end is handed
+/// up. All tables are mounted before, in their order, and repaired as a mount repairs them, and the table is flushed behind
 /// the last line that is taken.
 pub fn import_image<M: Media, S: Source, K: Sink>(
     alloc: Global,
@@ -151,32 +148,39 @@ pub fn import_image<M: Media, S: Source, K: Sink>(
     media: &mut M,
     input: &mut S,
     out: &mut K,
-) -> ToolStatus
+) -> JobEnd
     // Over an image that stands for tables the lines are put in turn, and the table is flushed; what is refused is told. The
     // medium stands at the end for the tables that this leaves.
     ensures ends { (config : Configured) (tables : List model.Table) (text : List ℕ) → IsTrue (M.state media.old).tells → IsMade config → IsImage config (M.state media.old).content tables → S.left input.old ≡ Some text →
-        ImportEnds config tables name text (told_of (K.written out.old) (K.written out.new) (S.left input.new)) (M.state media.old).faults (M.state media.new).faults (M.state media.old).content (M.state media.new).content result }
+        ImportEnds config tables name text (told_of (K.written out.old) (K.written out.new) (S.left input.new)) (M.state media.old).faults (M.state media.new).faults (M.state media.old).content (M.state media.new).content result.kept result.status }
 
-    // Statuses have their causes, over any bytes.
-    ensures fits { IsTrue (M.state media.old).tells → StatusFits (M.state media.old).content name (S.left input.old) (S.left input.new) result }
-    ensures untouched { (result ≡ ToolStatus.NotImage) ⊎ (result ≡ ToolStatus.NoTable) → OnlyLooksAt (M.state media.old) (M.state media.new) × (input.new ≡ input.old) × (out.new ≡ out.old) }
-    ensures read { result ≡ ToolStatus.InputRead → Rose (S.faults input.old) (S.faults input.new) }
-    ensures write { result ≡ ToolStatus.OutWrite → Rose (K.faults out.old) (K.faults out.new) }
+    // Rows are told exactly where it is done.
+    ensures kept { is_some result.kept ≡ is_done result.status }
+
+    // Statuses have their causes, over any bytes, and a medium that doesn't tell them.
+    ensures fits { IsTrue (M.state media.old).tells → StatusFits (M.state media.old).content name (S.left input.old) (S.left input.new) result.status }
+    ensures device { result.status ≡ ToolStatus.Device → Rose (M.state media.old).faults (M.state media.new).faults }
+    ensures known { result.status ≡ ToolStatus.Unsound → ⊥ }
+    ensures untouched { (result.status ≡ ToolStatus.NotImage) ⊎ (result.status ≡ ToolStatus.NoTable) → OnlyLooksAt (M.state media.old) (M.state media.new) × (input.new ≡ input.old) × (out.new ≡ out.old) }
+    ensures unread { (table : ℕ) → result.status ≡ ToolStatus.BadImage table → (input.new ≡ input.old) × (out.new ≡ out.old) }
+    ensures changes { IsTrue (M.state media.old).tells → IsImageWith (M.state media.old).content name true ⊎ ((M.state media.new).content ≡ (M.state media.old).content) }
+    ensures read { result.status ≡ ToolStatus.InputRead → Rose (S.faults input.old) (S.faults input.new) }
+    ensures write { result.status ≡ ToolStatus.OutWrite → Rose (K.faults out.old) (K.faults out.new) }
     ensures later { (S.faults input.old ≤ S.faults input.new) × (K.faults out.old ≤ K.faults out.new) }
     ensures keeps { Keeps (M.state media.old) (M.state media.new) }
 {
     let Ok(mut lines) = LineRoom::new(alloc) else {
-        return ToolStatus::NoMemory;
+        return JobEnd::of(ToolStatus::NoMemory);
     };
     let config = match config_of_image(media, &mut lines) {
         Ok(config) => config,
-        Err(status) => return status,
+        Err(status) => return JobEnd::of(status),
     };
     let Ok(mut tables) = Tables::plan(alloc, &config) else {
-        return ToolStatus::NoMemory;
+        return JobEnd::of(ToolStatus::NoMemory);
     };
     let Some(at) = tables.find(name) else {
-        return ToolStatus::NoTable;
+        return JobEnd::of(ToolStatus::NoTable);
     };
     import_at(alloc, &config, &mut tables, at, media, input, out)
 }

@@ -9,22 +9,22 @@ ghost use Rattle.fl_model.specs.Record.{Plan};
 ghost use Rattle.fl_model.specs.Table as model;
 ghost use Rattle.fl_model.specs.Work.{Device};
 ghost use Rattle.fl_ring.specs.Step.{IsWatched};
-ghost use Rattle.fl_table.specs.Causes.{RefusedSame, put_breaks};
+ghost use Rattle.fl_table.specs.Causes.{PutCausedBy, RefusedSame};
 ghost use Rattle.fl_table.specs.Memory.{is_running, IsSamePlan, LiesOn};
 ghost use Rattle.fl_table.specs.Mounting.{OutsideStands};
 ghost use Rattle.fl_table.specs.Outcomes.{PutEnds};
 ghost use Rattle.fl_table.specs.Standing.{Stands};
 ghost use Rattle.fl_words.specs.Grammar as grammar;
 ghost use Rattle.fl_import.specs.Lines.{meaning};
-ghost use Rattle.fl_import.specs.Steps.{IsFormOf, IsOfLine, LineEnds, Works, by_told, is_unread};
+ghost use Rattle.fl_import.specs.Steps.{IsFormOf, IsOfLine, LineEnds, Works, by_told, fault_in, is_unread};
 
 use crate::form::Form;
 use crate::names::without_return;
 use crate::report::{tell_reason, tell_refusal};
 use fl_base::{Sink, SinkFailed};
 use fl_csv::{CsvPut, CsvRefusal, read_record};
-use fl_flash::Flash;
-use fl_jobs::ToolStatus;
+use fl_flash::{Flash, FlashFault};
+use fl_jobs::{ToolStatus, flash_status};
 use fl_table::PutRefusal;
 use fl_tables::Table;
 use std::alloc::Global;
@@ -37,6 +37,7 @@ fn put_record<F: Flash>(table: &mut Table, flash: &mut F, put: &CsvPut) -> Resul
     ensures lies { LiesOn table.new (F.state flash.new) }
     ensures ends { (first : ℕ) → (plan : Plan) → (t : model.Table) → (rose : Bool) → (device : Device) → IsWatched (F.state flash.old) (F.state flash.new) rose device
         → Stands table.old (F.state flash.old) first plan t → PutEnds first plan (put_view put.now) t rose device result table.new (F.state flash.old) (F.state flash.new) }
+    ensures cause { IfErr result (λ e. PutCausedBy (F.state flash.old) e (F.state flash.new)) }
     ensures refused { IfErr result (λ e. RefusedSame table.old (F.state flash.old) e table.new (F.state flash.new)) }
     ensures outside { IsTrue (F.state flash.old).media.tells → OutsideStands table.old (page_at (F.state flash.old)) (page_at (F.state flash.new)) }
 {
@@ -54,11 +55,14 @@ fn is_unread(refusal: &CsvRefusal) -> bool
     matches!(refusal, CsvRefusal::NoMemory)
 }
 
-/// Whether an operation failed in a put.
-fn breaks(outcome: &Result<(), PutRefusal>) -> bool
-    ensures { result ≡ put_breaks outcome.now }
+/// The fault of the flash in a put, where an operation failed in it.
+fn fault_in(outcome: &Result<(), PutRefusal>) -> Option<FlashFault>
+    ensures { result ≡ fault_in outcome.now }
 {
-    matches!(outcome, Err(PutRefusal::Flash(_)))
+    match outcome {
+        Err(PutRefusal::Flash(fault)) => Some(*fault),
+        _ => None,
+    }
 }
 
 /// A line that is refused, once that is told.
@@ -89,10 +93,11 @@ pub(crate) fn put_line<F: Flash, K: Sink>(
     ensures lies { LiesOn table.new (F.state flash.new) }
     ensures outside { IsTrue (F.state flash.old).media.tells → OutsideStands table.old (page_at (F.state flash.old)) (page_at (F.state flash.new)) }
     ensures later { K.faults out.old ≤ K.faults out.new }
+    ensures device { result ≡ Err ToolStatus.Device → Rose (F.state flash.old).media.faults (F.state flash.new).media.faults }
     ensures write { result ≡ Err ToolStatus.OutWrite → Rose (K.faults out.old) (K.faults out.new) }
     ensures statuses { IfErr result (λ status. IsOfLine status) }
     ensures ends { (first : ℕ) (plan : Plan) (t : model.Table) → IsFormOf form plan → Works table.old (F.state flash.old) first plan t
-        → LineEnds first plan t number (meaning form.columns form.blobs line.now) table.new (F.state flash.old) (F.state flash.new) (K.written out.old) (K.written out.new) result }
+        → LineEnds first plan t number (meaning form.columns form.blobs line.now) table.new (F.state flash.new) (K.written out.old) (K.written out.new) result }
 {
     let put = match read_record(alloc, without_return(line), form.columns, form.blobs) {
         Ok(put) => put,
@@ -100,8 +105,8 @@ pub(crate) fn put_line<F: Flash, K: Sink>(
         Err(refusal) => return refused(tell_reason(number, refusal, out)),
     };
     let outcome = put_record(table, flash, &put);
-    if breaks(&outcome) {
-        return Err(ToolStatus::Device);
+    if let Some(fault) = fault_in(&outcome) {
+        return Err(flash_status(fault));
     }
     match outcome {
         Ok(()) => Ok(true),

@@ -41,6 +41,7 @@ pub(crate) fn put_lines<F: Flash, S: Source, K: Sink>(
     ensures lies { LiesOn table.new (F.state flash.new) }
     ensures outside { IsTrue (F.state flash.old).media.tells → OutsideStands table.old (page_at (F.state flash.old)) (page_at (F.state flash.new)) }
     ensures later { (S.faults input.old ≤ S.faults input.new) × (K.faults out.old ≤ K.faults out.new) }
+    ensures device { result ≡ Err ToolStatus.Device → Rose (F.state flash.old).media.faults (F.state flash.new).media.faults }
     ensures read { result ≡ Err ToolStatus.InputRead → Rose (S.faults input.old) (S.faults input.new) }
     ensures write { result ≡ Err ToolStatus.OutWrite → Rose (K.faults out.old) (K.faults out.new) }
     ensures statuses { IfErr result (λ status. IsOfLines status) }
@@ -48,7 +49,7 @@ pub(crate) fn put_lines<F: Flash, S: Source, K: Sink>(
         → Ended form.columns form.blobs text (S.left input.new) (status_of result) }
     ensures ends { (text : List ℕ) (names : List ℕ) (first : ℕ) (plan : Plan) (t : model.Table) → TakesSoFar form.columns form.blobs text (names ∷ []) lines.old (S.left input.old)
         → IsFormOf form plan → Works table.old (F.state flash.old) first plan t
-        → AllEnds first plan t text table.new (F.state flash.old) (F.state flash.new) (K.written out.old) (K.written out.new) (S.left input.new) result }
+        → AllEnds first plan t text table.new (F.state flash.new) (K.written out.old) (K.written out.new) (S.left input.new) result }
 {
     let mut counts = Counts {
         accepted: 0,

@@ -9,7 +9,7 @@ ghost use Rattle.fl_model.specs.Table as model;
 ghost use Rattle.fl_table.specs.Memory.{IsSamePlan, LiesOn};
 ghost use Rattle.fl_table.specs.Mounting.{OutsideStands};
 ghost use Rattle.fl_import.specs.Images.{told_of};
-ghost use Rattle.fl_import.specs.Steps.{AllEnds, IsFormOf, IsOfLines, IsOfTable, TableEnds, TellsCounts, Works, is_broken, status_of};
+ghost use Rattle.fl_import.specs.Steps.{AllEnds, IsFormOf, IsOfLines, IsOfTable, TableEnds, TellsCounts, Works, flush_status, is_broken, status_of};
 ghost use Rattle.fl_import.specs.Taking.{Ended, EndedAs};
 
 use crate::counts::Counts;
@@ -18,9 +18,10 @@ use crate::lines::put_lines;
 use crate::report::tell_counts;
 use crate::taking::take_names;
 use fl_base::{Sink, Source};
-use fl_flash::Flash;
-use fl_jobs::ToolStatus;
+use fl_flash::{Flash, FlashFault};
+use fl_jobs::{ToolStatus, flash_status};
 use fl_lines::Lines;
+use fl_table::FlushFault;
 use fl_tables::Table;
 use std::alloc::Global;
 
@@ -43,12 +44,13 @@ fn take_lines<F: Flash, S: Source, K: Sink>(
     ensures lies { LiesOn table.new (F.state flash.new) }
     ensures outside { IsTrue (F.state flash.old).media.tells → OutsideStands table.old (page_at (F.state flash.old)) (page_at (F.state flash.new)) }
     ensures later { (S.faults input.old ≤ S.faults input.new) × (K.faults out.old ≤ K.faults out.new) }
+    ensures device { result ≡ Err ToolStatus.Device → Rose (F.state flash.old).media.faults (F.state flash.new).media.faults }
     ensures read { result ≡ Err ToolStatus.InputRead → Rose (S.faults input.old) (S.faults input.new) }
     ensures write { result ≡ Err ToolStatus.OutWrite → Rose (K.faults out.old) (K.faults out.new) }
     ensures statuses { IfErr result (λ status. IsOfLines status) }
     ensures ended { (text : List ℕ) → S.left input.old ≡ Some text → Ended form.columns form.blobs text (S.left input.new) (status_of result) }
     ensures ends { (text : List ℕ) (first : ℕ) (plan : Plan) (t : model.Table) → S.left input.old ≡ Some text → IsFormOf form plan → Works table.old (F.state flash.old) first plan t
-        → AllEnds first plan t text table.new (F.state flash.old) (F.state flash.new) (K.written out.old) (K.written out.new) (S.left input.new) result }
+        → AllEnds first plan t text table.new (F.state flash.new) (K.written out.old) (K.written out.new) (S.left input.new) result }
 {
     take_names(lines, input, form)?;
     put_lines(alloc, form, table, flash, lines, input, out)
@@ -59,6 +61,16 @@ fn is_broken(taken: &Result<Counts, ToolStatus>) -> bool
     ensures { result ≡ is_broken taken.now }
 {
     matches!(taken, Err(ToolStatus::Device))
+}
+
+/// The status of an import whose table isn't flushed. A table is stopped where the power was lost in a put.
+fn flush_status(fault: FlushFault) -> ToolStatus
+    ensures { result ≡ flush_status fault }
+{
+    match fault {
+        FlushFault::Flash(fault) => flash_status(fault),
+        FlushFault::Stopped => flash_status(FlashFault::PowerLost),
+    }
 }
 
 /// The status of an import whose table was flushed, once it is told what was put.
@@ -95,12 +107,13 @@ pub(crate) fn import_table<F: Flash, S: Source, K: Sink>(
     ensures same { IsSamePlan table.old table.new }
     ensures outside { IsTrue (F.state flash.old).media.tells → OutsideStands table.old (page_at (F.state flash.old)) (page_at (F.state flash.new)) }
     ensures later { (S.faults input.old ≤ S.faults input.new) × (K.faults out.old ≤ K.faults out.new) }
+    ensures device { result ≡ ToolStatus.Device → Rose (F.state flash.old).media.faults (F.state flash.new).media.faults }
     ensures read { result ≡ ToolStatus.InputRead → Rose (S.faults input.old) (S.faults input.new) }
     ensures write { result ≡ ToolStatus.OutWrite → Rose (K.faults out.old) (K.faults out.new) }
     ensures statuses { IsOfTable result }
     ensures ended { (text : List ℕ) → S.left input.old ≡ Some text → EndedAs form.columns form.blobs text (S.left input.new) result }
     ensures ends { (text : List ℕ) (first : ℕ) (plan : Plan) (t : model.Table) → S.left input.old ≡ Some text → IsFormOf form plan → Works table.old (F.state flash.old) first plan t
-        → TableEnds first plan t text (F.state flash.old) (F.state flash.new) (told_of (K.written out.old) (K.written out.new) (S.left input.new)) result }
+        → TableEnds first plan t text table.new (F.state flash.new) (told_of (K.written out.old) (K.written out.new) (S.left input.new)) result }
 {
     let taken = take_lines(alloc, form, table, flash, lines, input, out);
     if is_broken(&taken) {
@@ -108,6 +121,6 @@ pub(crate) fn import_table<F: Flash, S: Source, K: Sink>(
     }
     match table.flush(flash) {
         Ok(()) => told(taken, out),
-        Err(_) => ToolStatus::Device,
+        Err(fault) => flush_status(fault),
     }
 }

@@ -4,7 +4,7 @@ use fl_base::{KeyRange, MemSink, MemSource, Name, NoMemory};
 use fl_export::export_image;
 use fl_flash::MemMedia;
 use fl_import::import_image;
-use fl_jobs::ToolStatus;
+use fl_jobs::{JobEnd, ToolStatus};
 use std::alloc::Global;
 use std::test::Fail;
 
@@ -18,7 +18,7 @@ const WITH_BLOBS: &str = "device 64 2\ntable t 8 i32 3 0 3 8 0 10 1 30\n";
 
 const BLOB_BYTES: u16 = 768;
 
-// Imports a text into table t, into a sink with so much room, and tells the status. A call of the source may fail.
+// Imports a text into a table, into a sink with so much room, and tells how it ended. A call of the source may fail.
 fn import(
     alloc: Global,
     media: &mut MemMedia,
@@ -26,14 +26,14 @@ fn import(
     text: &[u8],
     failing: &[u64],
     room: usize,
-) -> Result<(ToolStatus, MemSink), NoMemory> {
+) -> Result<(JobEnd, MemSink), NoMemory> {
     let Some(name) = Name::of(name) else {
         return Err(NoMemory);
     };
     let mut input = MemSource::new(text.to_vec(alloc)?, failing.to_vec(alloc)?);
     let mut out = MemSink::new(alloc, room, Vec::new(alloc))?;
-    let status = import_image(alloc, name, media, &mut input, &mut out);
-    Ok((status, out))
+    let end = import_image(alloc, name, media, &mut input, &mut out);
+    Ok((end, out))
 }
 
 // The records of table t.
@@ -59,34 +59,68 @@ fn empty(alloc: Global, lines: &str, pages: u16) -> Result<MemMedia, NoMemory> {
 
 #[test]
 fn lines_are_put_or_told(rt: HostRuntime) -> Result<(), Fail> {
-    let cases: [(&str, &str, &str); 6] = [
+    let cases: [(&str, &str, &str, u64); 6] = [
         (
             "key,c1\n1,-25\n2\n2,x\n1,4\n\"2\",-5\n",
             "line 3 fields 2\nline 4 number 2\nline 5 refused key 1\nimported 2 refused 3\n",
             "key,c1\n1,-25\n2,-5\n",
+            2,
         ),
-        ("key,c1\n", "imported 0 refused 0\n", "key,c1\n"),
-        ("key,c1", "imported 0 refused 0\n", "key,c1\n"),
+        ("key,c1\n", "imported 0 refused 0\n", "key,c1\n", 0),
+        ("key,c1", "imported 0 refused 0\n", "key,c1\n", 0),
         (
             "key,c1\r\n9,1\r\n",
             "imported 1 refused 0\n",
             "key,c1\n9,1\n",
+            1,
         ),
-        ("key,c1\n9,1\r", "imported 1 refused 0\n", "key,c1\n9,1\n"),
+        (
+            "key,c1\n9,1\r",
+            "imported 1 refused 0\n",
+            "key,c1\n9,1\n",
+            1,
+        ),
         (
             "key,c1\n\n9,2147483648\n7,8",
             "line 2 csv\nline 3 refused value 1\nimported 1 refused 2\n",
             "key,c1\n7,8\n",
+            1,
         ),
     ];
-    for (text, told, kept) in cases {
+    for (text, told, records_now, rows) in cases {
         let mut media = empty(rt.alloc(), PLAIN, PLAIN_BYTES)?;
-        let (status, out) = import(rt.alloc(), &mut media, b"t", text.as_bytes(), &[], 100)?;
-        assert_eq!(rt; status, ToolStatus::Done, "{text}");
+        let (end, out) = import(rt.alloc(), &mut media, b"t", text.as_bytes(), &[], 100)?;
+        assert_eq!(rt; end.status, ToolStatus::Done, "{text}");
+        assert_eq!(rt; end.kept, Some(rows), "{text}");
         assert_eq!(rt; out.bytes(), told.as_bytes(), "{text}");
         let out = records(rt.alloc(), &mut media)?;
-        assert_eq!(rt; out.bytes(), kept.as_bytes(), "{text}");
+        assert_eq!(rt; out.bytes(), records_now.as_bytes(), "{text}");
     }
+    Ok(())
+}
+
+#[test]
+fn older_records_are_pushed_out(rt: HostRuntime) -> Result<(), Fail> {
+    // A page holds eight of these rows, and the ring keeps two of its three blocks, of four pages each, at least.
+    let mut text = b"key,c1\n".to_vec(rt.alloc())?;
+    for key in 10..110u8 {
+        text.extend_from_slice(&[b'0' + key / 100, b'0' + key / 10 % 10, b'0' + key % 10])?;
+        text.extend_from_slice(b",1\n")?;
+    }
+    let mut media = empty(rt.alloc(), PLAIN, PLAIN_BYTES)?;
+    let (end, out) = import(rt.alloc(), &mut media, b"t", &text, &[], 100)?;
+    assert_eq!(rt; out.bytes(), "imported 100 refused 0\n".as_bytes());
+    assert_eq!(rt;
+        end,
+        JobEnd {
+            status: ToolStatus::Done,
+            kept: Some(68)
+        }
+    );
+    // The block of the last page has room for one more, so nothing is given up.
+    let (end, out) = import(rt.alloc(), &mut media, b"t", b"key,c1\n200,1\n", &[], 100)?;
+    assert_eq!(rt; out.bytes(), "imported 1 refused 0\n".as_bytes());
+    assert_eq!(rt; end.kept, Some(69));
     Ok(())
 }
 
@@ -94,8 +128,8 @@ fn lines_are_put_or_told(rt: HostRuntime) -> Result<(), Fail> {
 fn blobs_are_put(rt: HostRuntime) -> Result<(), Fail> {
     let text = "key,c1,blob\n1,-25,\n2,-5,00ABff\n3,0,-\n4,7,gone\n5,1,0g\n";
     let mut media = empty(rt.alloc(), WITH_BLOBS, BLOB_BYTES)?;
-    let (status, out) = import(rt.alloc(), &mut media, b"t", text.as_bytes(), &[], 100)?;
-    assert_eq!(rt; status, ToolStatus::Done);
+    let (end, out) = import(rt.alloc(), &mut media, b"t", text.as_bytes(), &[], 100)?;
+    assert_eq!(rt; end.status, ToolStatus::Done);
     let told = "line 5 number 3\nline 6 number 3\nimported 3 refused 2\n";
     assert_eq!(rt; out.bytes(), told.as_bytes());
     let out = records(rt.alloc(), &mut media)?;
@@ -155,8 +189,9 @@ fn statuses_have_their_causes(rt: HostRuntime) -> Result<(), Fail> {
     ];
     for (text, name, room, wanted, kept) in cases {
         let mut media = empty(rt.alloc(), PLAIN, PLAIN_BYTES)?;
-        let (status, _out) = import(rt.alloc(), &mut media, name, text.as_bytes(), &[], room)?;
-        assert_eq!(rt; status, wanted, "{text}");
+        let (end, _out) = import(rt.alloc(), &mut media, name, text.as_bytes(), &[], room)?;
+        assert_eq!(rt; end.status, wanted, "{text}");
+        assert_eq!(rt; end.kept.is_some(), wanted == ToolStatus::Done, "{text}");
         let out = records(rt.alloc(), &mut media)?;
         assert_eq!(rt; out.bytes(), kept.as_bytes(), "{text}");
     }
@@ -177,14 +212,14 @@ fn with_line(alloc: Global, len: usize) -> Result<Vec<u8>, NoMemory> {
 fn a_line_has_at_most_4096_bytes(rt: HostRuntime) -> Result<(), Fail> {
     let text = with_line(rt.alloc(), 4096)?;
     let mut media = empty(rt.alloc(), PLAIN, PLAIN_BYTES)?;
-    let (status, out) = import(rt.alloc(), &mut media, b"t", &text, &[], 100)?;
-    assert_eq!(rt; status, ToolStatus::Done);
+    let (end, out) = import(rt.alloc(), &mut media, b"t", &text, &[], 100)?;
+    assert_eq!(rt; end.status, ToolStatus::Done);
     let told = "line 3 fields 2\nimported 2 refused 1\n";
     assert_eq!(rt; out.bytes(), told.as_bytes());
     let text = with_line(rt.alloc(), 4097)?;
     let mut media = empty(rt.alloc(), PLAIN, PLAIN_BYTES)?;
-    let (status, out) = import(rt.alloc(), &mut media, b"t", &text, &[], 100)?;
-    assert_eq!(rt; status, ToolStatus::BadInput { line: 3 });
+    let (end, out) = import(rt.alloc(), &mut media, b"t", &text, &[], 100)?;
+    assert_eq!(rt; end.status, ToolStatus::BadInput { line: 3 });
     assert_eq!(rt; out.bytes().len(), 0);
     let out = records(rt.alloc(), &mut media)?;
     assert_eq!(rt; out.bytes(), "key,c1\n1,2\n".as_bytes());
@@ -200,8 +235,8 @@ fn a_source_that_fails_is_told(rt: HostRuntime) -> Result<(), Fail> {
     ];
     for (call, text, kept) in cases {
         let mut media = empty(rt.alloc(), PLAIN, PLAIN_BYTES)?;
-        let (status, out) = import(rt.alloc(), &mut media, b"t", text.as_bytes(), &[call], 100)?;
-        assert_eq!(rt; status, ToolStatus::InputRead);
+        let (end, out) = import(rt.alloc(), &mut media, b"t", text.as_bytes(), &[call], 100)?;
+        assert_eq!(rt; end.status, ToolStatus::InputRead);
         assert_eq!(rt; out.bytes().len(), 0);
         let out = records(rt.alloc(), &mut media)?;
         assert_eq!(rt; out.bytes(), kept.as_bytes());
@@ -216,12 +251,12 @@ fn a_medium_that_fails_is_told(rt: HostRuntime) -> Result<(), Fail> {
     for call in 1..200 {
         let mut media = empty(rt.alloc(), PLAIN, PLAIN_BYTES)?;
         media.fail_call(call);
-        let (status, out) = import(rt.alloc(), &mut media, b"t", b"key,c1\n1,2\n", &[], 100)?;
-        if status == ToolStatus::Done {
+        let (end, out) = import(rt.alloc(), &mut media, b"t", b"key,c1\n1,2\n", &[], 100)?;
+        if end.status == ToolStatus::Done {
             done = true;
             break;
         }
-        assert_eq!(rt; status, ToolStatus::Device);
+        assert_eq!(rt; end.status, ToolStatus::Device);
         assert_eq!(rt; out.bytes().len(), 0);
     }
     assert!(rt; done);
@@ -239,8 +274,8 @@ fn an_input_has_at_most_16777216_bytes(rt: HostRuntime) -> Result<(), Fail> {
         text.extend_from_slice(&line)?;
     }
     let mut media = empty(rt.alloc(), PLAIN, PLAIN_BYTES)?;
-    let (status, _out) = import(rt.alloc(), &mut media, b"t", &text, &[], 100_000)?;
-    assert_eq!(rt; status, ToolStatus::InputLong);
+    let (end, _out) = import(rt.alloc(), &mut media, b"t", &text, &[], 100_000)?;
+    assert_eq!(rt; end.status, ToolStatus::InputLong);
     let out = records(rt.alloc(), &mut media)?;
     assert_eq!(rt; out.bytes(), "key,c1\n1,2\n".as_bytes());
     Ok(())
@@ -253,10 +288,13 @@ fn a_bad_image_is_told(rt: HostRuntime) -> Result<(), Fail> {
     let bytes = image(rt.alloc(), PLAIN, PLAIN_BYTES, &pieces)?;
     let len = bytes.len();
     let mut media = MemMedia::new(rt.alloc(), bytes, len)?;
-    let (status, _out) = import(rt.alloc(), &mut media, b"t", b"key,c1\n", &[], 100)?;
-    assert_eq!(rt; status, ToolStatus::BadImage { table: 0 });
+    let (end, _out) = import(rt.alloc(), &mut media, b"t", b"key,c1\n", &[], 100)?;
+    assert_eq!(rt; end, JobEnd::of(ToolStatus::BadImage { table: 0 }));
+    // It isn't mounted where no table has the name.
+    let (end, _out) = import(rt.alloc(), &mut media, b"s", b"key,c1\n", &[], 100)?;
+    assert_eq!(rt; end, JobEnd::of(ToolStatus::NoTable));
     let mut media = empty(rt.alloc(), PLAIN, 1535)?;
-    let (status, _out) = import(rt.alloc(), &mut media, b"t", b"key,c1\n", &[], 100)?;
-    assert_eq!(rt; status, ToolStatus::NotImage);
+    let (end, _out) = import(rt.alloc(), &mut media, b"t", b"key,c1\n", &[], 100)?;
+    assert_eq!(rt; end.status, ToolStatus::NotImage);
     Ok(())
 }

@@ -1,4 +1,5 @@
 pub mod Number
+pub mod Status
 pub mod Words
 pub mod Report
 pub mod Header

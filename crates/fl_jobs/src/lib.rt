@@ -7,6 +7,7 @@ mod checker;
 mod finding;
 mod header;
 mod image;
+mod job_end;
 mod report;
 mod rings;
 mod status;
@@ -17,9 +18,10 @@ pub use check::check_image;
 pub use checker::CheckTable;
 pub use header::{HEADER, config_of_header};
 pub use image::config_of_image;
+pub use job_end::JobEnd;
 pub use report::write_finding;
 pub use rings::RingChecker;
-pub use status::ToolStatus;
+pub use status::{ToolStatus, flash_status};
 pub use words::{ToolJob, tool_of};
 
 #[cfg(test)]

@@ -1,39 +1,53 @@
-use Rattle.std.proofs.Common.{◌≡◌, IsTrue, Some, length, refl, sym, subst, arith}
+use Rattle.std.proofs.Common.{◌≡◌, false, IsTrue, Some, length, refl, sym, subst, arith}
 use Rattle.std.specs.List.{slice_get}
+use Rattle.std.proofs.lemmas.Option.{slice_get_within}
 use Rattle.fl_export.specs.Ends.{at_rest}
+use Rattle.fl_export.proofs.Locating.{stands-there}
 use Rattle.fl_export.proofs.Risen.{has_risen, watched}
 use Rattle.fl_tables.specs.Tables.{first_of}
-use Rattle.fl_tables.proofs.Going.{goes-on}
+use Rattle.fl_tables.proofs.Going.{goes-on, rose-back}
 use Rattle.fl_tables.proofs.TablesChanged.{item-there}
+use Rattle.fl_import.specs.Images.{EndsOn, HasCauses, told_of}
+use Rattle.fl_import.specs.Taking.{EndedOver}
 use Rattle.fl_import.proofs.Importing.{unmounted, own, own-works, imported}
-use Rattle.fl_import.proofs.Closing.{mount-ended, mount-of, mount-read, mount-write, of-mounted}
+use Rattle.fl_import.proofs.Closing.{as-end, mount-causes, mount-ended, of-mounted, table-bad, table-ended}
 use Rattle.fl_import.proofs.import.import_on.Goals as goal
+
+pub mount_status-requires : goal.mount_status-requires
+mount_status-requires g c = omega (arith, slice_get_within c.mount.new.self.entries.items c.in-Err.bad.at c.in-Err.ensures.stops.entry c.in-Err.ensures.stops.here, c.mount.ensures.as_many, c.requires.few)
 
 pub returns-in-Err-clause-ends : goal.returns-in-Err-clause-ends
 returns-in-Err-clause-ends g c = λ plans ts name text tells on calm stand named forms is.
     let f = g.F.Flash.state c.args.flash.now in
     let m = g.F.Flash.state c.mount.new.flash in
     let breaks = c.in-Err.ensures.ends plans ts (has_risen f m) at_rest (watched f m at_rest tells on calm) stand in
-    unmounted plans ts name text f m (g.K.Sink.written c.args.out.now) (g.S.Source.left c.args.input.now) c.mount.new.self.entries.items c.in-Err.bad c.mount_status.result breaks c.mount_status.ensures.flash
+    let has = stands-there f (λ i. false) plans c.args.tables.now.entries.items ts name c.args.at stand named in
+    as-end (λ kept status. EndsOn plans ts name text (told_of (g.K.Sink.written c.args.out.now) (g.K.Sink.written c.args.out.now) (g.S.Source.left c.args.input.now)) f m c.mount.new.self.entries.items kept status) c.of.result _ _ c.of.ensures c.mount_status.ensures
+    (unmounted plans ts name text f m (g.K.Sink.written c.args.out.now) (g.S.Source.left c.args.input.now) c.mount.new.self.entries.items has c.in-Err.bad.fault c.in-Err.bad.at breaks is)
 
 pub returns-in-Err-clause-ended : goal.returns-in-Err-clause-ended
-returns-in-Err-clause-ended g c = λ text is. mount-ended c.args.form.columns c.args.form.blobs text (g.S.Source.left c.args.input.now) c.mount_status.result c.mount_status.ensures.statuses
+returns-in-Err-clause-ended g c = λ text is.
+    as-end (λ kept status. EndedOver c.args.form.columns c.args.form.blobs text (g.S.Source.left c.args.input.now) status) c.of.result _ _ c.of.ensures c.mount_status.ensures
+    (mount-ended c.args.form.columns c.args.form.blobs text (g.S.Source.left c.args.input.now) c.in-Err.bad.fault c.in-Err.bad.at is)
 
-pub returns-in-Err-clause-statuses : goal.returns-in-Err-clause-statuses
-returns-in-Err-clause-statuses g c = mount-of c.mount_status.result c.mount_status.ensures.statuses
+pub returns-in-Err-clause-causes : goal.returns-in-Err-clause-causes
+returns-in-Err-clause-causes g c =
+    let f = g.F.Flash.state c.args.flash.now in
+    let m = g.F.Flash.state c.mount.new.flash in
+    let source = g.S.Source.faults c.args.input.now in
+    let sink = g.K.Sink.faults c.args.out.now in
+    as-end (λ kept status. HasCauses (length c.args.tables.now.entries.items) f.media.faults m.media.faults source source sink sink kept status) c.of.result _ _ c.of.ensures c.mount_status.ensures
+    (mount-causes f m (length c.args.tables.now.entries.items) source sink c.in-Err.bad.fault c.in-Err.bad.at
+    (omega (arith, slice_get_within c.mount.new.self.entries.items c.in-Err.bad.at c.in-Err.ensures.stops.entry c.in-Err.ensures.stops.here, c.mount.ensures.as_many)) c.in-Err.ensures.cause)
 
-pub returns-in-Err-clause-read : goal.returns-in-Err-clause-read
-returns-in-Err-clause-read g c = mount-read c.mount_status.result c.mount_status.ensures.statuses
-
-pub returns-in-Err-clause-write : goal.returns-in-Err-clause-write
-returns-in-Err-clause-write g c = mount-write c.mount_status.result c.mount_status.ensures.statuses
+pub returns-in-Err-clause-unread : goal.returns-in-Err-clause-unread
+returns-in-Err-clause-unread g c = λ table is. (refl, refl)
 
 pub index_mut-requires : goal.index_mut-requires
 index_mut-requires g c = omega (arith, c.requires.at, c.mount.ensures.as_many, c.mount.new.self.entries.ok.0)
 
-pub import_table-requires-clause-lies : goal.import_table-requires-clause-lies
-import_table-requires-clause-lies g c =
-    let now = c.mount.new.self.entries.items in
+pub import_table-status-requires-clause-lies : goal.import_table-status-requires-clause-lies
+import_table-status-requires-clause-lies g c =
     let here : slice_get c.mount.new.self.entries.items c.args.at ≡ Some c.index_mut.result.now =
     item-there c.mount.new.self.entries.items (length c.mount.new.self.entries.items) c.args.at c.index_mut.result.now refl (omega (arith, c.requires.at, c.mount.ensures.as_many)) c.index_mut.ensures.value in
     c.mount.ensures.lie c.args.at c.index_mut.result.now here
@@ -45,29 +59,40 @@ returns-clause-ends g c = λ plans ts name text tells on calm stand named forms 
     item-there c.mount.new.self.entries.items (length c.mount.new.self.entries.items) c.args.at c.index_mut.result.now refl (omega (arith, c.requires.at, c.mount.ensures.as_many)) c.index_mut.ensures.value in
     let f = g.F.Flash.state c.args.flash.now in
     let m = g.F.Flash.state c.mount.new.flash in
-    let h = g.F.Flash.state c.import_table.new.flash in
+    let h = g.F.Flash.state c.import_table-status.new.flash in
     let told = g.K.Sink.written c.args.out.now in
-    let told_now = g.K.Sink.written c.import_table.new.out in
-    let rest = g.S.Source.left c.import_table.new.input in
+    let told_now = g.K.Sink.written c.import_table-status.new.out in
+    let rest = g.S.Source.left c.import_table-status.new.input in
     let mounted = c.in_default.ensures.ends plans ts (has_risen f m) at_rest (watched f m at_rest tells on calm) stand in
     let tell : IsTrue m.media.tells = subst IsTrue (sym c.mount.ensures.goes.tells) tells in
-    let e = c.import_table.ensures in
-    let place = own plans ts name text f m h told told_now rest c.args.tables.now.entries.items now c.args.at c.index_mut.result.now c.import_table.new.table c.mount.ensures.goes.faults e.goes e.same e.outside tell stand named here mounted in
-    let works = own-works plans ts name text f m h told told_now rest c.args.tables.now.entries.items now c.args.at c.index_mut.result.now c.import_table.new.table c.mount.ensures.goes.faults e.goes e.same e.outside tell stand named here mounted in
-    imported plans ts name text f m h told told_now rest c.args.tables.now.entries.items now c.args.at c.index_mut.result.now c.import_table.new.table c.mount.ensures.goes.faults e.goes e.same e.outside tell stand named here mounted c.import_table.result
+    let e = c.import_table-status.ensures in
+    let entries = c.args.tables.now.entries.items in
+    let entry = c.index_mut.result.now in
+    let u = c.import_table-status.new.table in
+    let place = own plans ts name text f m h told told_now rest entries now c.args.at entry u c.mount.ensures.goes.faults e.goes e.same e.outside tell stand named here mounted in
+    let works = own-works plans ts name text f m h told told_now rest entries now c.args.at entry u c.mount.ensures.goes.faults e.goes e.same e.outside tell stand named here mounted in
+    imported plans ts name text f m h told told_now rest entries now c.args.at entry u c.mount.ensures.goes.faults e.goes e.same e.outside tell stand named here mounted c.kept_rows-kept.result c.import_table-status.result
+    (λ device. rose-back f.media.faults m.media.faults h.media.faults c.mount.ensures.goes.faults (e.device device)) c.kept_rows-kept.ensures.rows
     (e.ends text (first_of plans c.args.at) place.plan place.table is (forms place.plan place.plan_is) works)
 
 pub returns-clause-ended : goal.returns-clause-ended
-returns-clause-ended g c = c.import_table.ensures.ended
+returns-clause-ended g c = λ text is. table-ended c.args.form.columns c.args.form.blobs text (g.S.Source.left c.import_table-status.new.input) c.import_table-status.result c.import_table-status.ensures.statuses (c.import_table-status.ensures.ended text is)
 
-pub returns-clause-statuses : goal.returns-clause-statuses
-returns-clause-statuses g c = of-mounted c.import_table.result c.import_table.ensures.statuses
+pub returns-clause-causes : goal.returns-clause-causes
+returns-clause-causes g c =
+    let e = c.import_table-status.ensures in
+    record {
+      known = of-mounted c.import_table-status.result e.statuses;
+      device = λ is. rose-back (g.F.Flash.state c.args.flash.now).media.faults (g.F.Flash.state c.mount.new.flash).media.faults (g.F.Flash.state c.import_table-status.new.flash).media.faults c.mount.ensures.goes.faults (e.device is);
+      bad = λ table is. absurd (table-bad c.import_table-status.result table e.statuses is);
+      read = e.read;
+      write = e.write;
+      later = e.later;
+      kept_is = c.kept_rows-kept.ensures.some;
+    }
 
-pub returns-clause-read : goal.returns-clause-read
-returns-clause-read g c = c.import_table.ensures.read
-
-pub returns-clause-write : goal.returns-clause-write
-returns-clause-write g c = c.import_table.ensures.write
+pub returns-clause-unread : goal.returns-clause-unread
+returns-clause-unread g c = λ table is. absurd (table-bad c.import_table-status.result table c.import_table-status.ensures.statuses is)
 
 pub returns-clause-goes : goal.returns-clause-goes
-returns-clause-goes g c = goes-on _ _ _ c.mount.ensures.goes c.import_table.ensures.goes
+returns-clause-goes g c = goes-on _ _ _ c.mount.ensures.goes c.import_table-status.ensures.goes

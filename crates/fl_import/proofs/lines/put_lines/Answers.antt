@@ -64,7 +64,7 @@ returns-in_err-put_line-clause-ends g c = λ text names first plan t takes is wo
     let p = err_from_is_err_and c.from_residual-in_err-put_line.result c.from_residual-in_err-put_line.ensures.1 in
     let far = c.lines.invariant.far text names takes in
     rw (p.1, p.2) (far-stops c.args.form text c.args.table.now (g.F.Flash.state c.args.flash.now) c.lines.table (g.F.Flash.state c.lines.flash) (g.K.Sink.written c.args.out.now) (g.K.Sink.written c.lines.out) c.lines.lines c.next_line.new.lines (g.S.Source.left c.lines.input) (g.S.Source.left c.next_line.new.input) _ _ c.lines.counts.accepted c.lines.counts.refused
-    far c.put_line.new.table (g.F.Flash.state c.put_line.new.flash) (g.K.Sink.written c.put_line.new.out) c.in_err-put_line.field-0.0 (rw c.if-not-branch.false at c.in_ok-next_line.ensures) (λ first' plan' t' is' works'. subst (λ (l : List ℕ). LineEnds first' plan' t' (c.lines.counts.accepted + c.lines.counts.refused + 2) (meaning c.args.form.columns c.args.form.blobs l) c.put_line.new.table (g.F.Flash.state c.lines.flash) (g.F.Flash.state c.put_line.new.flash) (g.K.Sink.written c.lines.out) (g.K.Sink.written c.put_line.new.out) (Err c.in_err-put_line.field-0.0)) c.line.ensures (c.in_err-put_line.ensures.ends first' plan' t' is' works')) c.lines.invariant.goes.faults first plan t is works)
+    far c.put_line.new.table (g.F.Flash.state c.put_line.new.flash) (g.K.Sink.written c.put_line.new.out) c.in_err-put_line.field-0.0 (rw c.if-not-branch.false at c.in_ok-next_line.ensures) (λ first' plan' t' is' works'. subst (λ (l : List ℕ). LineEnds first' plan' t' (c.lines.counts.accepted + c.lines.counts.refused + 2) (meaning c.args.form.columns c.args.form.blobs l) c.put_line.new.table (g.F.Flash.state c.put_line.new.flash) (g.K.Sink.written c.lines.out) (g.K.Sink.written c.put_line.new.out) (Err c.in_err-put_line.field-0.0)) c.line.ensures (c.in_err-put_line.ensures.ends first' plan' t' is' works')) first plan t is works)
 
 pub lines-preserved-then-branch : goal.lines-preserved-then-branch
 lines-preserved-then-branch g c =

@@ -2,30 +2,34 @@ use Rattle.std.proofs.Common.{◌≡◌, false, IsTrue, Err, sym, ◌∙◌, sub
 use Rattle.fl_flash.specs.Flash.{page_at}
 use Rattle.fl_jobs.specs.declared.status.ToolStatus.TheVariants.{Device}
 use Rattle.fl_table.proofs.Outsides.{outside-then}
-use Rattle.fl_tables.proofs.Going.{goes-on, same-on}
-use Rattle.fl_import.specs.Steps.{is_broken}
-use Rattle.fl_import.proofs.Flushing.{failed-ends, broken-is, flush-broken, lines, all-ends, all-ended, all-of, all-read, all-write}
+use Rattle.fl_tables.proofs.Going.{goes-on, rose-back, same-on}
+use Rattle.fl_import.specs.Steps.{IsOfTable, is_broken}
+use Rattle.fl_import.proofs.Flushing.{failed-ends, broken-is, flush-broken, flush-ended, flush-of, flush-read, flush-rose, flush-write, lines, all-ends, all-ended, all-of, all-read, all-rose, all-write}
 use Rattle.fl_import.proofs.OneLine.{works-watched}
 use Rattle.fl_import.proofs.table.import_table.Goals as goal
 
 pub returns-then-is_broken-clause-ends : goal.returns-then-is_broken-clause-ends
 returns-then-is_broken-clause-ends g c = λ text first plan t is form works.
     let e : c.take_lines-taken.result ≡ Err Device = broken-is c.take_lines-taken.result (sym c.is_broken.ensures ∙ c.if-is_broken.true) in
-    failed-ends first plan t text c.take_lines-taken.new.table (g.F.Flash.state c.args.flash.now) (g.F.Flash.state c.take_lines-taken.new.flash) (g.K.Sink.written c.args.out.now) (g.K.Sink.written c.take_lines-taken.new.out) (g.S.Source.left c.take_lines-taken.new.input)
+    failed-ends first plan t text c.take_lines-taken.new.table (g.F.Flash.state c.take_lines-taken.new.flash) (g.K.Sink.written c.args.out.now) (g.K.Sink.written c.take_lines-taken.new.out) (g.S.Source.left c.take_lines-taken.new.input)
     (rw e at (c.take_lines-taken.ensures.ends text first plan t is form works))
 
 pub returns-then-is_broken-clause-ended : goal.returns-then-is_broken-clause-ended
-returns-then-is_broken-clause-ended g c = λ text is. tt
+returns-then-is_broken-clause-ended g c = λ text is.
+    let e : c.take_lines-taken.result ≡ Err Device = broken-is c.take_lines-taken.result (sym c.is_broken.ensures ∙ c.if-is_broken.true) in
+    rw e at (c.take_lines-taken.ensures.ended text is)
+
+pub returns-then-is_broken-clause-device : goal.returns-then-is_broken-clause-device
+returns-then-is_broken-clause-device g c = λ is. c.take_lines-taken.ensures.device (broken-is c.take_lines-taken.result (sym c.is_broken.ensures ∙ c.if-is_broken.true))
 
 pub returns-in-Ok-clause-ends : goal.returns-in-Ok-clause-ends
 returns-in-Ok-clause-ends g c = λ text first plan t is form works.
-    let f = g.F.Flash.state c.args.flash.now in
     let m = g.F.Flash.state c.take_lines-taken.new.flash in
     let h = g.F.Flash.state c.flush.new.flash in
     let other : is_broken c.take_lines-taken.result ≡ false = sym c.is_broken.ensures ∙ c.if-is_broken.false in
     let ends = c.take_lines-taken.ensures.ends text first plan t is form works in
-    let going = lines first plan t text c.take_lines-taken.new.table c.flush.new.self f m h (g.K.Sink.written c.args.out.now) (g.K.Sink.written c.take_lines-taken.new.out) (g.K.Sink.written c.told.new.out) (g.S.Source.left c.take_lines-taken.new.input) c.take_lines-taken.result other ends in
-    all-ends g.K.Sink.written g.K.Sink.faults c.args.out.now c.take_lines-taken.new.out c.told.new.out c.told.result first plan t text c.take_lines-taken.new.table c.flush.new.self f m h (g.S.Source.left c.take_lines-taken.new.input) c.take_lines-taken.result other ends
+    let going = lines first plan t text c.take_lines-taken.new.table c.flush.new.self m h (g.K.Sink.written c.args.out.now) (g.K.Sink.written c.take_lines-taken.new.out) (g.K.Sink.written c.told.new.out) (g.S.Source.left c.take_lines-taken.new.input) c.take_lines-taken.result other ends in
+    all-ends g.K.Sink.written g.K.Sink.faults c.args.out.now c.take_lines-taken.new.out c.told.new.out c.told.result first plan t text c.take_lines-taken.new.table c.flush.new.self m h (g.S.Source.left c.take_lines-taken.new.input) c.take_lines-taken.result other ends
     c.take_lines-taken.ensures.statuses c.told.ensures.none c.told.ensures.counts c.flush.ensures.goes
     (rw c.in-Ok.is at (c.flush.ensures.ends first plan _ _ going.works.device (works-watched first plan _ c.take_lines-taken.new.table c.flush.new.self m h going.works) going.works.stands))
 
@@ -33,6 +37,10 @@ pub returns-in-Ok-clause-ended : goal.returns-in-Ok-clause-ended
 returns-in-Ok-clause-ended g c = λ text is.
     all-ended g.K.Sink.written g.K.Sink.faults c.args.out.now c.take_lines-taken.new.out c.told.new.out c.told.result c.args.form.columns c.args.form.blobs text (g.S.Source.left c.take_lines-taken.new.input) c.take_lines-taken.result
     c.take_lines-taken.ensures.statuses c.told.ensures.none c.told.ensures.counts (c.take_lines-taken.ensures.ended text is)
+
+pub returns-in-Ok-clause-device : goal.returns-in-Ok-clause-device
+returns-in-Ok-clause-device g c = λ is.
+    all-rose g.K.Sink.written g.K.Sink.faults c.args.out.now c.take_lines-taken.new.out c.told.new.out c.told.result _ _ c.take_lines-taken.result c.told.ensures.none c.told.ensures.counts (sym c.is_broken.ensures ∙ c.if-is_broken.false) is
 
 pub returns-in-Ok-clause-statuses : goal.returns-in-Ok-clause-statuses
 returns-in-Ok-clause-statuses g c =
@@ -59,7 +67,6 @@ returns-in-Ok-clause-same g c = same-on _ _ _ c.take_lines-taken.ensures.same c.
 
 pub returns-in-Err-clause-ends : goal.returns-in-Err-clause-ends
 returns-in-Err-clause-ends g c = λ text first plan t is form works.
-    let f = g.F.Flash.state c.args.flash.now in
     let m = g.F.Flash.state c.take_lines-taken.new.flash in
     let h = g.F.Flash.state c.flush.new.flash in
     let other : is_broken c.take_lines-taken.result ≡ false = sym c.is_broken.ensures ∙ c.if-is_broken.false in
@@ -67,12 +74,27 @@ returns-in-Err-clause-ends g c = λ text first plan t is form works.
     let told = g.K.Sink.written c.args.out.now in
     let mid = g.K.Sink.written c.take_lines-taken.new.out in
     let rest = g.S.Source.left c.take_lines-taken.new.input in
-    let going = lines first plan t text c.take_lines-taken.new.table c.flush.new.self f m h told mid mid rest c.take_lines-taken.result other ends in
-    flush-broken first plan t text c.take_lines-taken.new.table c.flush.new.self f m h told mid mid rest c.take_lines-taken.result other ends c.in-Err.field-0 c.take_lines-taken.ensures.goes.faults
-    (rw c.in-Err.is at (c.flush.ensures.ends first plan _ _ going.works.device (works-watched first plan _ c.take_lines-taken.new.table c.flush.new.self m h going.works) going.works.stands))
+    let going = lines first plan t text c.take_lines-taken.new.table c.flush.new.self m h told mid mid rest c.take_lines-taken.result other ends in
+    rw c.flush_status.ensures (flush-broken first plan t text c.take_lines-taken.new.table c.flush.new.self m h told mid mid rest c.take_lines-taken.result other ends c.in-Err.fault
+    (rw c.in-Err.is at (c.flush.ensures.ends first plan _ _ going.works.device (works-watched first plan _ c.take_lines-taken.new.table c.flush.new.self m h going.works) going.works.stands)))
 
 pub returns-in-Err-clause-ended : goal.returns-in-Err-clause-ended
-returns-in-Err-clause-ended g c = λ text is. tt
+returns-in-Err-clause-ended g c = λ text is.
+    rw c.flush_status.ensures (flush-ended c.args.form.columns c.args.form.blobs text (g.S.Source.left c.take_lines-taken.new.input) c.take_lines-taken.result c.in-Err.fault (c.take_lines-taken.ensures.ended text is))
+
+pub returns-in-Err-clause-device : goal.returns-in-Err-clause-device
+returns-in-Err-clause-device g c = λ is.
+    rose-back (g.F.Flash.state c.args.flash.now).media.faults (g.F.Flash.state c.take_lines-taken.new.flash).media.faults (g.F.Flash.state c.flush.new.flash).media.faults c.take_lines-taken.ensures.goes.faults
+    (flush-rose (g.F.Flash.state c.take_lines-taken.new.flash) (g.F.Flash.state c.flush.new.flash) c.in-Err.fault (rw c.in-Err.is at c.flush.ensures.cause) (sym c.flush_status.ensures ∙ is))
+
+pub returns-in-Err-clause-read : goal.returns-in-Err-clause-read
+returns-in-Err-clause-read g c = λ is. absurd (flush-read c.in-Err.fault (sym c.flush_status.ensures ∙ is))
+
+pub returns-in-Err-clause-write : goal.returns-in-Err-clause-write
+returns-in-Err-clause-write g c = λ is. absurd (flush-write c.in-Err.fault (sym c.flush_status.ensures ∙ is))
+
+pub returns-in-Err-clause-statuses : goal.returns-in-Err-clause-statuses
+returns-in-Err-clause-statuses g c = subst IsOfTable (sym c.flush_status.ensures) (flush-of c.in-Err.fault)
 
 pub returns-in-Err-clause-outside : goal.returns-in-Err-clause-outside
 returns-in-Err-clause-outside g c = λ tells.
