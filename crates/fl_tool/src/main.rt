@@ -4,44 +4,23 @@
 //! into a table.
 #![tactic(auto)]
 
-ghost use Rattle.std.specs.Prelude.{◌≡◌, OnOk, OnErr};
-
-mod jobs;
-mod told;
-
-use fl_base::SinkFailed;
-use fl_edge::{FileMedia, ReplyBuffer, StandardInput, StandardOutput};
-use fl_jobs::tool_of;
+use fl_command::{Exit, tool};
+use fl_edge::{Access, FileMedia, ReplyBuffer, StandardDescriptors, StandardInput, StandardOutput};
+use fl_jobs::{ToolJob, tool_of};
 use fl_session::{Status, image_of, run};
 use std::alloc::Global;
 use std::cell::RefCell;
 use std::env::Env;
+use std::fs::File;
 use std::io;
-use std::os::unix::fs::FileExt;
-use std::process::ExitCode;
 use std::rt::Files;
 
-fn main(rt: HostRuntime) -> ExitCode {
-    let Some(words) = words_of(&rt) else {
-        return end_run(&rt, Status::NoMemory);
-    };
-    match tool_of(&words) {
-        Some(job) => {
-            let status = jobs::do_job(&rt, job, &words);
-            told::tell_job(&rt, status);
-            ExitCode::from(status.number())
-        }
-        None => {
-            let status = run_words(&rt, &words);
-            end_run(&rt, status)
-        }
+fn main(rt: HostRuntime) -> Exit {
+    let _streams = StandardDescriptors::taken(&rt);
+    match words_of(&rt) {
+        Some(words) => exit_of(&rt, &words),
+        None => Exit::Run(Status::NoMemory),
     }
-}
-
-/// Tells how a run ended.
-fn end_run<R: Eprint>(rt: &R, status: Status) -> ExitCode {
-    told::tell(rt, status);
-    ExitCode::from(status.number())
 }
 
 /// The words behind the program's name; none where the system can't hand them out.
@@ -55,32 +34,41 @@ fn words_of<R: Env + Alloc<A = Global>>(rt: &R) -> Option<Vec<String>> {
     Some(words)
 }
 
-/// Runs the script over the image that the words name. Other words leave every file alone.
-fn run_words<R: Alloc<A = Global> + Files + Input + Print>(rt: &R, words: &[String]) -> Status
-where
-    R::File: FileExt,
-{
-    let Some(image) = image_of(words) else {
-        return Status::Usage;
-    };
-    let Ok(replies) = ReplyBuffer::new(rt.alloc(), io::writer(rt)) else {
-        return Status::NoMemory;
-    };
-    let replies = RefCell::new(replies);
-    let mut media = FileMedia::open(rt, image);
-    let mut script = StandardInput::new(rt.reader(), &replies);
-    let mut out = StandardOutput::new(&replies);
-    let status = run(rt.alloc(), words, &mut media, &mut script, &mut out);
-    status_behind(status, out.hand_out())
+/// How the image of a job is opened, or that of a run, where there is no job.
+fn access_of(job: Option<ToolJob>) -> Access {
+    match job {
+        None => Access::Make,
+        Some(ToolJob::Check) => Access::Read,
+        Some(ToolJob::Export { .. }) => Access::Repair,
+        Some(ToolJob::Import { .. }) => Access::Write,
+    }
 }
 
-/// The status of a run whose last replies were handed out, or couldn't be.
-fn status_behind(status: Status, handed: Result<(), SinkFailed>) -> Status
-    ensures handed { OnOk handed (result ≡ status) }
-    ensures failed { OnErr handed (result ≡ Status.OutWrite) }
-{
-    match handed {
-        Ok(()) => status,
-        Err(_) => Status::OutWrite,
-    }
+/// Does what the words say over the image that they name, and hands out what was written. Other words leave every file alone.
+fn exit_of<R: Alloc<A = Global> + Files<File = File> + Input + Print>(
+    rt: &R,
+    words: &[String],
+) -> Exit {
+    let job = tool_of(words);
+    let named = match job {
+        Some(_) => Some(words[1].as_str()),
+        None => image_of(words),
+    };
+    let Some(image) = named else {
+        return Exit::Run(Status::Usage);
+    };
+    let Ok(replies) = ReplyBuffer::new(rt.alloc(), io::writer(rt)) else {
+        return Exit::Run(Status::NoMemory);
+    };
+    let Ok(mut media) = FileMedia::open_image(rt, image, access_of(job)) else {
+        return Exit::InUse;
+    };
+    let replies = RefCell::new(replies);
+    let mut input = StandardInput::new(rt.reader(), &replies);
+    let mut out = StandardOutput::new(&replies);
+    let exit = match job {
+        Some(job) => Exit::Job(tool(rt.alloc(), job, &mut media, &mut input, &mut out)),
+        None => Exit::Run(run(rt.alloc(), words, &mut media, &mut input, &mut out)),
+    };
+    exit.behind(out.hand_out())
 }

@@ -1,0 +1,88 @@
+-- How a job ends: just as the call that does it says, with the name and the range that the words have.
+use Rattle.std.specs.Prelude.{◌≡◌, ◌⊎◌, ℕ, ◌≤◌, IsTrue, true, Option, Some, None, is_some, List}
+use Rattle.fl_base.specs.Causes.{Rose}
+use Rattle.fl_base.specs.declared.types.KeyRange.{KeyRange}
+use Rattle.fl_check.specs.Whole.{IsFinding}
+use Rattle.fl_export.specs.Ends.{AreRepaired, ExportEnds, IsImageWith, Keeps, StatusFits as ExportFits}
+use Rattle.fl_export.specs.Tables.{told_of as export_told}
+use Rattle.fl_flash.specs.Flash.{page_at}
+use Rattle.fl_flash.specs.Media.{MediaState}
+use Rattle.fl_import.specs.Ends.{ImportEnds, StatusFits as ImportFits}
+use Rattle.fl_import.specs.Images.{told_of as import_told}
+use Rattle.fl_jobs.specs.Checking.{CheckEnds}
+use Rattle.fl_jobs.specs.Header.{IsMade}
+use Rattle.fl_jobs.specs.Image.{OnlyLooksAt}
+use Rattle.fl_jobs.specs.Status.{is_done}
+use Rattle.fl_jobs.specs.declared.job_end.JobEnd.{JobEnd}
+use Rattle.fl_jobs.specs.declared.status.ToolStatus.TheVariants.{InputRead, OutWrite, NotImage, Device, BadImage, NoTable, Unsound}
+use Rattle.fl_jobs.specs.declared.words.ToolJob.{ToolJob}
+use Rattle.fl_jobs.specs.declared.words.ToolJob.TheVariants.{Check, Export, Import}
+use Rattle.fl_model.specs.Record.{Config}
+use Rattle.fl_model.specs.Table.{Table}
+use Rattle.fl_words.specs.Medium.{IsImage}
+
+-- What a job reads and writes: the medium of its image; its input, with the bytes that are left of it, where it tells them; and
+-- its output, with the bytes that it has taken; and how often each of these two failed.
+pub record Ends (S K : Type 0) : Type 0 where
+  pub media : MediaState
+  pub input : S
+  pub left : Option (List ℕ)
+  pub input_faults : ℕ
+  pub out : K
+  pub written : Option (List ℕ)
+  pub out_faults : ℕ
+
+abbrev pub ends_of : {S K : Type 0} → MediaState → S → Option (List ℕ) → ℕ → K → Option (List ℕ) → ℕ → Ends S K
+ends_of media input left input_faults out written out_faults =
+    record { media = media; input = input; left = left; input_faults = input_faults; out = out; written = written; out_faults = out_faults }
+
+-- A check: what is written of the tables, up to the first that isn't sound, is what the rules of their rings find. Nothing is
+-- changed, and the input isn't read.
+pub record Checks {S K : Type 0} (old new : Ends S K) (end : JobEnd) : Type 0 where
+  pub ends : IsTrue old.media.tells → CheckEnds (λ config f finding. IsFinding config (page_at f) finding) old.media.content old.written new.written end.status
+  pub looks : OnlyLooksAt old.media new.media
+  pub device : end.status ≡ Device → Rose old.media.faults new.media.faults
+  pub write : end.status ≡ OutWrite → Rose old.out_faults new.out_faults
+  pub kept : end.kept ≡ None
+  pub unread : new.input ≡ old.input
+  pub later : old.out_faults ≤ new.out_faults
+
+-- An export of the table with the name: over an image that stands for tables its records whose keys are in the range are
+-- written, or a front of their text, and the medium stands for the tables that a mount leaves. The input isn't read.
+pub record Exports {S K : Type 0} (name : List ℕ) (range : KeyRange) (old new : Ends S K) (end : JobEnd) : Type 0 where
+  pub ends : (config : Config) (tables : List Table) → IsTrue old.media.tells → IsMade config → IsImage config old.media.content tables
+      → ExportEnds config tables name range (export_told old.media new.media old.written new.written) old.media.content new.media.content end.status
+  pub repairs : (config : Config) (tables : List Table) → IsTrue old.media.tells → IsMade config → IsImage config old.media.content tables → (end.status ≡ Device → ⊥)
+      → AreRepaired config old.media.content new.media.content
+  pub fits : IsTrue old.media.tells → ExportFits old.media.content name end.status
+  pub device : end.status ≡ Device → Rose old.media.faults new.media.faults
+  pub known : end.status ≡ Unsound → ⊥
+  pub untouched : (end.status ≡ NotImage) ⊎ (end.status ≡ NoTable) → OnlyLooksAt old.media new.media × (new.out ≡ old.out)
+  pub changes : IsTrue old.media.tells → IsImageWith old.media.content name true ⊎ (new.media.content ≡ old.media.content)
+  pub write : end.status ≡ OutWrite → Rose old.out_faults new.out_faults
+  pub kept : end.kept ≡ None
+  pub unread : new.input ≡ old.input
+  pub later : old.out_faults ≤ new.out_faults
+  pub keeps : Keeps old.media new.media
+
+-- An import into the table with the name: over an image that stands for tables the lines of the input are put in turn, and
+-- the table is flushed; what is refused is told. The medium stands for the tables that this leaves.
+pub record Imports {S K : Type 0} (name : List ℕ) (old new : Ends S K) (end : JobEnd) : Type 0 where
+  pub ends : (config : Config) (tables : List Table) (text : List ℕ) → IsTrue old.media.tells → IsMade config → IsImage config old.media.content tables → old.left ≡ Some text
+      → ImportEnds config tables name text (import_told old.written new.written new.left) old.media.faults new.media.faults old.media.content new.media.content end.kept end.status
+  pub kept : is_some end.kept ≡ is_done end.status
+  pub fits : IsTrue old.media.tells → ImportFits old.media.content name old.left new.left end.status
+  pub device : end.status ≡ Device → Rose old.media.faults new.media.faults
+  pub known : end.status ≡ Unsound → ⊥
+  pub untouched : (end.status ≡ NotImage) ⊎ (end.status ≡ NoTable) → OnlyLooksAt old.media new.media × (new.input ≡ old.input) × (new.out ≡ old.out)
+  pub unread : (table : ℕ) → end.status ≡ BadImage table → (new.input ≡ old.input) × (new.out ≡ old.out)
+  pub changes : IsTrue old.media.tells → IsImageWith old.media.content name true ⊎ (new.media.content ≡ old.media.content)
+  pub read : end.status ≡ InputRead → Rose old.input_faults new.input_faults
+  pub write : end.status ≡ OutWrite → Rose old.out_faults new.out_faults
+  pub later : (old.input_faults ≤ new.input_faults) × (old.out_faults ≤ new.out_faults)
+  pub keeps : Keeps old.media new.media
+
+abbrev pub ToolEnds : {S K : Type 0} → ToolJob → Ends S K → Ends S K → JobEnd → Type 0
+ToolEnds Check old new end = Checks old new end
+ToolEnds (Export name range) old new end = Exports name range old new end
+ToolEnds (Import name) old new end = Imports name old new end
