@@ -1,7 +1,7 @@
 -- The text that standard error has of an exit.
 use Rattle.std.specs.Prelude.{ℕ, ◌==◌, Option, Some, None, List, [], ◌++◌, codes, decimal, if◌then◌else◌}
 use Rattle.fl_command.specs.declared.exit.Exit.{Exit}
-use Rattle.fl_command.specs.declared.exit.Exit.TheVariants.{Run, Job, InUse}
+use Rattle.fl_command.specs.declared.exit.Exit.TheVariants.{Run, Job, Words, InUse}
 use Rattle.fl_jobs.specs.Number.{number_of}
 use Rattle.fl_jobs.specs.declared.job_end.JobEnd.{JobEnd}
 use Rattle.fl_jobs.specs.declared.status.ToolStatus.{ToolStatus}
@@ -13,18 +13,10 @@ use Rattle.fl_session.specs.declared.status.Status.TheVariants.{Done, Usage, Lin
 abbrev pub line_of : List ℕ → List ℕ
 line_of words = codes "flashts: " ++ words
 
--- a form of the command line, below the first
-abbrev pub form_of : List ℕ → List ℕ
-form_of words = codes "                flashts " ++ words
-
--- the forms of the command line
-abbrev pub usage : List ℕ
-usage = line_of (codes "usage: flashts run IMAGE\n") ++ form_of (codes "check IMAGE\n") ++ form_of (codes "export IMAGE NAME LOW HIGH\n") ++ form_of (codes "import IMAGE NAME\n")
-
 -- of a run: nothing where it is done
 abbrev pub run_text : Status → List ℕ
 run_text Done = []
-run_text Usage = usage
+run_text Usage = line_of (codes "usage: flashts run IMAGE\n")
 run_text (Line n) = line_of (codes "line " ++ decimal n ++ codes " is not a command\n")
 run_text ScriptRead = line_of (codes "the script cannot be read\n")
 run_text OutWrite = line_of (codes "the replies cannot be written\n")
@@ -51,7 +43,15 @@ status_text status kept = line_of (codes "status " ++ decimal (number_of status)
 abbrev pub job_text : JobEnd → List ℕ
 job_text end = status_text end.status end.kept
 
+-- the forms of the command line, below that of a run
+abbrev pub form_of : List ℕ → List ℕ
+form_of words = codes "                flashts " ++ words
+
+abbrev pub forms_text : List ℕ
+forms_text = run_text Usage ++ form_of (codes "check IMAGE\n") ++ form_of (codes "export IMAGE NAME LOW HIGH\n") ++ form_of (codes "import IMAGE NAME\n")
+
 abbrev pub exit_text : Exit → List ℕ
 exit_text (Run status) = run_text status
 exit_text (Job end) = job_text end
+exit_text Words = forms_text
 exit_text InUse = line_of (codes "another program uses the image\n")

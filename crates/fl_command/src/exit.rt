@@ -3,7 +3,7 @@ ghost use Rattle.std.specs.Prelude.{◌≡◌, OnOk, OnErr};
 ghost use Rattle.std.specs.Process.{exit_status};
 ghost use Rattle.fl_command.specs.Number.{number_of, unwritten};
 
-use crate::lines::{JobLines, RunLines};
+use crate::lines::{Forms, JobLines, RunLines};
 use fl_base::SinkFailed;
 use fl_jobs::{JobEnd, ToolStatus};
 use fl_session::Status;
@@ -13,10 +13,12 @@ use std::process::{ExitCode, Termination};
 /// How the program ends: its status is the number, and standard error has the text.
 #[derive(Clone, Copy, Debug, PartialEq, Eq)]
 pub enum Exit {
-    /// A run of a script ended so; other words end as `Status::Usage`.
+    /// A run of a script ended so, or its words don't name an image.
     Run(Status),
     /// A job over an image ended so.
     Job(JobEnd),
+    /// The words name neither a run nor a job, and no file was looked at.
+    Words,
     /// Another program uses the image, and nothing was read or changed.
     InUse,
 }
@@ -29,6 +31,7 @@ impl Exit {
         match self {
             Exit::Run(status) => status.number(),
             Exit::Job(end) => end.status.number(),
+            Exit::Words => 1,
             Exit::InUse => 20,
         }
     }
@@ -42,7 +45,7 @@ impl Exit {
             (Ok(()), exit) => exit,
             (Err(_), Exit::Run(_)) => Exit::Run(Status::OutWrite),
             (Err(_), Exit::Job(_)) => Exit::Job(JobEnd::of(ToolStatus::OutWrite)),
-            (Err(_), Exit::InUse) => Exit::InUse,
+            (Err(_), exit) => exit,
         }
     }
 }
@@ -58,6 +61,7 @@ impl Display for Exit {
         match self {
             Exit::Run(status) => RunLines(*status).fmt(f),
             Exit::Job(end) => JobLines(*end).fmt(f),
+            Exit::Words => Forms.fmt(f),
             Exit::InUse => f.write_str("flashts: another program uses the image\n"),
         }
     }

@@ -1,14 +1,7 @@
-// What standard error says of a run and of a job.
+// What standard error says of a run, of a job, and of words that name neither.
 use fl_jobs::{JobEnd, ToolStatus};
 use fl_session::Status;
 use std::fmt::{self, Display};
-
-/// The forms of the command line.
-const USAGE: &str = "flashts: usage: flashts run IMAGE
-                flashts check IMAGE
-                flashts export IMAGE NAME LOW HIGH
-                flashts import IMAGE NAME
-";
 
 /// The lines of a run that ended so; none where the script was read to its end.
 #[derive(Drop)]
@@ -23,7 +16,7 @@ impl Display for RunLines {
     fn fmt<W: fmt::Write>(&self, f: &mut fmt::Formatter<W>) -> fmt::Result {
         match self.0 {
             Status::Done => Ok(()),
-            Status::Usage => f.write_str(USAGE),
+            Status::Usage => f.write_str("flashts: usage: flashts run IMAGE\n"),
             Status::Line { line } => writeln!(f, "flashts: line {line} is not a command"),
             Status::ScriptRead => f.write_str("flashts: the script cannot be read\n"),
             Status::OutWrite => f.write_str("flashts: the replies cannot be written\n"),
@@ -75,5 +68,23 @@ impl Display for JobLines {
                 writeln!(f, "flashts: status {number}")
             }
         }
+    }
+}
+
+/// The forms of the command line, a line each.
+#[derive(Drop)]
+pub(crate) struct Forms;
+
+impl Display for Forms {
+    ghost use Rattle.std.specs.Prelude.{Some};
+    ghost use Rattle.fl_command.specs.Text.{forms_text};
+
+    ghost output = { λ _. Some forms_text };
+
+    fn fmt<W: fmt::Write>(&self, f: &mut fmt::Formatter<W>) -> fmt::Result {
+        RunLines(Status::Usage).fmt(f)?;
+        f.write_str("                flashts check IMAGE\n")?;
+        f.write_str("                flashts export IMAGE NAME LOW HIGH\n")?;
+        f.write_str("                flashts import IMAGE NAME\n")
     }
 }

@@ -34,6 +34,14 @@ fn words_of<R: Env + Alloc<A = Global>>(rt: &R) -> Option<Vec<String>> {
     Some(words)
 }
 
+/// How words end that name no image: a run is told its form, and others all forms.
+fn usage_of(words: &[String]) -> Exit {
+    match words.first() {
+        Some(word) if word.as_str() == "run" => Exit::Run(Status::Usage),
+        _ => Exit::Words,
+    }
+}
+
 /// How the image of a job is opened, or that of a run, where there is no job.
 fn access_of(job: Option<ToolJob>) -> Access {
     match job {
@@ -55,7 +63,7 @@ fn exit_of<R: Alloc<A = Global> + Files<File = File> + Input + Print>(
         None => image_of(words),
     };
     let Some(image) = named else {
-        return Exit::Run(Status::Usage);
+        return usage_of(words);
     };
     let Ok(replies) = ReplyBuffer::new(rt.alloc(), io::writer(rt)) else {
         return Exit::Run(Status::NoMemory);
