@@ -74,8 +74,8 @@ fn exit_of<R: Alloc<A = Global> + Files<File = File> + Input + Print>(
     let replies = RefCell::new(replies);
     let mut input = StandardInput::new(rt.reader(), &replies);
     let mut out = StandardOutput::new(&replies);
-    let exit = match job {
-        Some(job) => Exit::Job(tool(rt.alloc(), job, &mut media, &mut input, &mut out)),
+    let exit = match &job {
+        Some(job) => Exit::Job(tool(rt.alloc(), *job, &mut media, &mut input, &mut out)),
         None => Exit::Run(run(rt.alloc(), words, &mut media, &mut input, &mut out)),
     };
     exit.behind(out.hand_out())
