@@ -17,7 +17,7 @@ run() {
     REFUSE=$1 LD_PRELOAD="$folder/refuse.so" "$program" run "$folder/image" < "$2" > "$folder/replies" 2> "$folder/error" 9> "$folder/told"
 }
 
-for script in "$here"/../examples/*.script; do
+for script in "$here"/../examples/*/*.script; do
     run 0 "$script" || { echo "$script: status $?"; status=1; }
     read -r calls _ < "$folder/told"
     number=1
