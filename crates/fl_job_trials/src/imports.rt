@@ -99,14 +99,23 @@ fn lines_are_put_or_told(rt: HostRuntime) -> Result<(), Fail> {
     Ok(())
 }
 
+// A record for each key from 10 to 109.
+fn hundred_lines(alloc: Global) -> Result<Vec<u8>, NoMemory> {
+    let mut text = b"key,c1\n".to_vec(alloc)?;
+    for tens in ["1", "2", "3", "4", "5", "6", "7", "8", "9", "10"] {
+        for ones in ["0", "1", "2", "3", "4", "5", "6", "7", "8", "9"] {
+            text.extend_from_slice(tens.as_bytes())?;
+            text.extend_from_slice(ones.as_bytes())?;
+            text.extend_from_slice(b",1\n")?;
+        }
+    }
+    Ok(text)
+}
+
 #[test]
 fn older_records_are_pushed_out(rt: HostRuntime) -> Result<(), Fail> {
     // A page holds eight of these rows, and the ring keeps two of its three blocks, of four pages each, at least.
-    let mut text = b"key,c1\n".to_vec(rt.alloc())?;
-    for key in 10..110u8 {
-        text.extend_from_slice(&[b'0' + key / 100, b'0' + key / 10 % 10, b'0' + key % 10])?;
-        text.extend_from_slice(b",1\n")?;
-    }
+    let text = hundred_lines(rt.alloc())?;
     let mut media = empty(rt.alloc(), PLAIN, PLAIN_BYTES)?;
     let (end, out) = import(rt.alloc(), &mut media, b"t", &text, &[], 100)?;
     assert_eq!(rt; out.bytes(), "imported 100 refused 0\n".as_bytes());
