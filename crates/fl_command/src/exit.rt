@@ -67,7 +67,8 @@ impl Display for Exit {
     }
 }
 
-/// `main` returns the exit, so that each of its ends prints the lines and has the number.
+/// `main` returns the exit, so that each of its ends has the number. The lines are printed before; that standard error takes them
+/// no clause can say.
 impl Termination for Exit {
     fn report<R: Eprint>(self, rt: &R) -> ExitCode
         ensures { exit_status result ≡ number_of self }

@@ -1,6 +1,7 @@
 // A file as a medium.
-ghost use Rattle.std.specs.Prelude.{◌≡◌, ◌≤◌, ◌<◌, ◌+◌, ◌^◌, false, max, length, IfOk, OnOk, OnErr};
+ghost use Rattle.std.specs.Prelude.{◌≡◌, ◌≤◌, ◌<◌, ◌+◌, ◌^◌, ◌⊎◌, ◌<ℤ◌, pos, false, max, length, None, IfOk, IfSome, OnOk, OnErr};
 ghost use Rattle.fl_base.specs.Causes.{HasCause};
+ghost use Rattle.fl_edge.specs.Image.{file_of};
 
 use crate::image_file::{Access, ImageFile, ImageInUse, open_locked};
 use crate::read_ahead::ReadAhead;
@@ -44,6 +45,7 @@ impl<F: ImageFile + Drop> FileMedia<F> {
         name: &str,
         access: Access,
     ) -> Result<FileMedia<F>, ImageInUse>
+        ensures no_stream { IfOk result (λ media. IfSome (file_of media) (λ file. IfSome (F.raw_fd file) (λ fd. pos 2 <ℤ fd))) }
         ensures untold { IfOk result (λ media. (⟦<FileMedia<F> as Media>⟧.state media).tells ≡ false) }
         ensures no_fault { IfOk result (λ media. (⟦<FileMedia<F> as Media>⟧.state media).faults ≡ 0) }
         ensures no_read { IfOk result (λ media. (⟦<FileMedia<F> as Media>⟧.state media).reads ≡ 0) }
@@ -53,6 +55,7 @@ impl<F: ImageFile + Drop> FileMedia<F> {
 
     // The medium of a file, or of none.
     fn of(file: Option<F>) -> FileMedia<F>
+        ensures file { (file_of result ≡ file) ⊎ (file_of result ≡ None) }
         ensures untold { (⟦<FileMedia<F> as Media>⟧.state result).tells ≡ false }
         ensures no_fault { (⟦<FileMedia<F> as Media>⟧.state result).faults ≡ 0 }
         ensures no_read { (⟦<FileMedia<F> as Media>⟧.state result).reads ≡ 0 }

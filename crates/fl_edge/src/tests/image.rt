@@ -1,9 +1,8 @@
 // The image of a job, against files of the system.
 
-use crate::{Access, FileMedia, StandardDescriptors};
+use crate::{Access, FileMedia};
 use fl_flash::{Media, MediaFailed, PairFailed};
 use std::fs;
-use std::os::fd::AsRawFd;
 use std::test::Fail;
 
 mod sealed;
@@ -139,13 +138,5 @@ fn what_was_read_ahead_is_read_as_it_was_written_since(rt: HostRuntime) -> Resul
         assert_eq!(rt; byte_at(&mut media, at), Some(want));
     }
     fs::remove_file(&rt, name)?;
-    Ok(())
-}
-
-#[test]
-fn the_descriptors_of_the_streams_are_taken(rt: HostRuntime) -> Result<(), Fail> {
-    let _taken = StandardDescriptors::taken(&rt);
-    let next = fs::open(&rt, ".")?;
-    assert!(rt; next.as_raw_fd() > 2);
     Ok(())
 }
