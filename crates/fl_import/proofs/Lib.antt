@@ -8,3 +8,4 @@ mod Flushing
 mod Mounted
 mod Importing
 mod Closing
+mod Others

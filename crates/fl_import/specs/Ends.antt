@@ -1,5 +1,5 @@
 -- How an import ends, by its status.
-use Rattle.std.specs.Prelude.{◌≡◌, ◌⊎◌, ℕ, ◌+◌, ◌≤◌, IsTrue, Bool, false, Option, None, Some, Result, Ok, List, [], ◌∷◌, ◌++◌, length, map, find}
+use Rattle.std.specs.Prelude.{◌≡◌, ◌⊎◌, ℕ, ◌+◌, ◌*◌, ◌<◌, ◌≤◌, IsTrue, Bool, false, Option, None, Some, Result, Ok, List, [], ◌∷◌, ◌++◌, length, map, find, slice_get}
 use Rattle.fl_base.specs.Causes.{Rose, Appends, AppendsFront, IsFront}
 use Rattle.fl_csv.specs.declared.record.CsvRefusal.{CsvRefusal}
 use Rattle.fl_export.specs.Ends as export
@@ -9,11 +9,14 @@ use Rattle.fl_jobs.specs.Image.{IsImageOf}
 use Rattle.fl_jobs.specs.declared.status.ToolStatus.{ToolStatus}
 use Rattle.fl_jobs.specs.declared.status.ToolStatus.TheVariants.{Done, InputRead, OutWrite, InputLong, NoMemory, NotImage, Device, BadImage, NoTable, BadInput, Unsound}
 use Rattle.fl_machine.specs.Step.{Located, located_from, all_ready}
+use Rattle.fl_model.specs.Image.{page_bytes}
 use Rattle.fl_model.specs.Mount.{Mounts, Mounted, rings_from}
-use Rattle.fl_model.specs.Record.{Record, Plan, Config, has_var, bytes_equal}
+use Rattle.fl_model.specs.Record.{Record, Plan, Config, blocks_of, has_var, bytes_equal}
 use Rattle.fl_model.specs.Table.{Table, refusal_of, put_seals, table_seals, flushed, lose}
 use Rattle.fl_model.specs.Within.{with_table}
 use Rattle.fl_model.specs.Work.{Progress}
+use Rattle.fl_tables.specs.Repaired.{IsRepaired}
+use Rattle.fl_tables.specs.Tables.{first_of}
 use Rattle.fl_words.specs.Config.{Lines}
 use Rattle.fl_words.specs.Medium.{IsImage}
 use Rattle.fl_import.specs.Lines.{meaning, meanings, Takes}
@@ -152,6 +155,22 @@ ImportEnds config tables name text told faults faults_now content content_now ke
     (Rose faults faults_now × IsUnbegun content content_now text told faults faults_now)
     ⊎ TablesEnd config.plans tables name text told faults faults_now (IsImage config content_now) kept Device
 ImportEnds config tables name text told faults faults_now content content_now kept status = TablesEnd config.plans tables name text told faults faults_now (IsImage config content_now) kept status
+
+-- ---- what an import of an image leaves of the other tables
+
+-- a page of the rings of a table that has another name
+pub record IsOfOther (plans : List Plan) (name : List ℕ) (block page : ℕ) : Type 0 where
+  pub at : ℕ
+  pub plan : Plan
+  pub here : slice_get plans at ≡ Some plan
+  pub other : plan.name ≡ name → ⊥
+  pub from : first_of plans at * block ≤ page
+  pub upto : page < (first_of plans at + blocks_of plan) * block
+
+-- each page of the rings of the other tables stands, or was torn and is void now, or is erased
+abbrev pub OthersAreRepaired : Config → List ℕ → List ℕ → List ℕ → Type 0
+OthersAreRepaired config name content content_now =
+    (page : ℕ) → IsOfOther config.plans name config.geometry.block page → IsRepaired config.geometry.page (page_bytes config content page) (page_bytes config content_now page)
 
 -- ---- the causes of statuses, over any bytes
 

@@ -3,7 +3,7 @@ ghost use Rattle.std.specs.Prelude.{◌≡◌, ◌⊎◌, ◌≤◌, ◌<◌, �
 ghost use Rattle.fl_base.specs.Causes.{Rose};
 ghost use Rattle.fl_config.specs.Whole.{is_whole, Makes};
 ghost use Rattle.fl_export.specs.Ends.{at_rest, IsImageWith, Keeps};
-ghost use Rattle.fl_flash.specs.Flash.{FlashState, Goes};
+ghost use Rattle.fl_flash.specs.Flash.{FlashState, Goes, page_at};
 ghost use Rattle.fl_jobs.specs.Header.{IsMade};
 ghost use Rattle.fl_jobs.specs.Image.{OnlyLooksAt};
 ghost use Rattle.fl_jobs.specs.Status.{is_done};
@@ -13,10 +13,11 @@ ghost use Rattle.fl_model.specs.Record.{Config as Configured, Plan, has_var};
 ghost use Rattle.fl_model.specs.Table as model;
 ghost use Rattle.fl_ring.specs.Device.{SameDevice};
 ghost use Rattle.fl_table.specs.Standing.{Stands};
+ghost use Rattle.fl_tables.specs.Repaired.{IsRepaired};
 ghost use Rattle.fl_tables.specs.Tables.{AreNewTables, IsNamed, LieOn, TablesStand};
 ghost use Rattle.fl_words.specs.Config as words;
 ghost use Rattle.fl_words.specs.Medium.{IsImage};
-ghost use Rattle.fl_import.specs.Ends.{ImportEnds, StatusFits};
+ghost use Rattle.fl_import.specs.Ends.{ImportEnds, IsOfOther, OthersAreRepaired, StatusFits};
 ghost use Rattle.fl_import.specs.Images.{EndsOn, EndsOver, FormsAt, HasCauses, told_of};
 ghost use Rattle.fl_import.specs.Taking.{EndedOver};
 
@@ -69,6 +70,9 @@ fn import_on<F: Flash, S: Source, K: Sink>(
     ensures ends { (plans : List Plan) (ts : List model.Table) (name text : List ℕ) → IsTrue (F.state flash.old).media.tells → (F.state flash.old).is_on ≡ true → SameDevice (F.state flash.old) at_rest
         → TablesStand (F.state flash.old) (λ i. false) plans tables.old.entries.items ts → IsNamed tables.old.entries.items name at → FormsAt form plans at → S.left input.old ≡ Some text
         → EndsOn plans ts name text (told_of (K.written out.old) (K.written out.new) (S.left input.new)) (F.state flash.old) (F.state flash.new) tables.new.entries.items result.kept result.status }
+    ensures repairs { (plans : List Plan) (ts : List model.Table) (name : List ℕ) → IsTrue (F.state flash.old).media.tells → (F.state flash.old).is_on ≡ true → SameDevice (F.state flash.old) at_rest
+        → TablesStand (F.state flash.old) (λ i. false) plans tables.old.entries.items ts → IsNamed tables.old.entries.items name at → (result.status ≡ ToolStatus.Device → ⊥)
+        → (page : ℕ) → IsOfOther plans name (F.state flash.old).geometry.block page → IsRepaired (F.state flash.old).geometry.page (page_at (F.state flash.old) page) (page_at (F.state flash.new) page) }
 {
     if let Err(bad) = tables.mount(flash, room) {
         return JobEnd::of(mount_status(bad));
@@ -114,6 +118,8 @@ fn import_at<M: Media, S: Source, K: Sink>(
     ensures ends { (configured : Configured) (ts : List model.Table) (name text : List ℕ) → IsTrue (M.state media.old).tells → Makes config.now configured → IsImage configured (M.state media.old).content ts
         → IsNamed tables.old.entries.items name at → S.left input.old ≡ Some text
         → EndsOver configured ts name text (told_of (K.written out.old) (K.written out.new) (S.left input.new)) (M.state media.old) (M.state media.new) result.kept result.status }
+    ensures repairs { (configured : Configured) (ts : List model.Table) (name : List ℕ) → IsTrue (M.state media.old).tells → Makes config.now configured → IsImage configured (M.state media.old).content ts
+        → IsNamed tables.old.entries.items name at → (result.status ≡ ToolStatus.Device → ⊥) → OthersAreRepaired configured name (M.state media.old).content (M.state media.new).content }
 {
     // Its call tells the proof how few tables there are.
     let _tables = config.tables();
@@ -153,6 +159,10 @@ pub fn import_image<M: Media, S: Source, K: Sink>(
     // medium stands at the end for the tables that this leaves.
     ensures ends { (config : Configured) (tables : List model.Table) (text : List ℕ) → IsTrue (M.state media.old).tells → IsMade config → IsImage config (M.state media.old).content tables → S.left input.old ≡ Some text →
         ImportEnds config tables name text (told_of (K.written out.old) (K.written out.new) (S.left input.new)) (M.state media.old).faults (M.state media.new).faults (M.state media.old).content (M.state media.new).content result.kept result.status }
+
+    // Nothing changes in the pages of other tables but what a mount repairs, where the medium doesn't fail.
+    ensures repairs { (config : Configured) (tables : List model.Table) → IsTrue (M.state media.old).tells → IsMade config → IsImage config (M.state media.old).content tables → (result.status ≡ ToolStatus.Device → ⊥) →
+        OthersAreRepaired config name (M.state media.old).content (M.state media.new).content }
 
     // Rows are told exactly where it is done.
     ensures kept { is_some result.kept ≡ is_done result.status }

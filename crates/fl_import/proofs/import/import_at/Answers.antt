@@ -8,6 +8,7 @@ use Rattle.fl_import.specs.Images.{EndsOver, HasCauses, told_of}
 use Rattle.fl_import.specs.Taking.{EndedOver}
 use Rattle.fl_model.specs.Record.{has_var}
 use Rattle.fl_import.proofs.Closing.{as-end, flash-causes, flash-ends, no-causes, no-room, formed-ended}
+use Rattle.fl_import.proofs.Others.{flash-others, others-still}
 use Rattle.fl_import.proofs.import.import_at.Goals as goal
 
 pub with_room-flash-requires-clause-reach : goal.with_room-flash-requires-clause-reach
@@ -120,3 +121,18 @@ returns-clause-ends g c = λ configured ts name text tells makes image named is.
     flash-ends configured c.args.config.now ts name text _ _ _ _ c.geometry-geometry.result c.blocks-blocks.result _ _ c.args.tables.now.entries.items c.import_on-end.new.tables.entries.items c.args.at c.import_on-end.result.kept c.import_on-end.result.status
     c.with_room-flash.ensures (e ∙ c.into_media-media.ensures.state) c.import_on-end.ensures.goes c.geometry-geometry.ensures.device tells makes image c.requires.tables named c.form_at-form.result (c.form_at-form.ensures.form c.args.config.now c.requires.tables)
     (λ plans ts' asked tell on calm stand named' forms. c.import_on-end.ensures.ends plans ts' asked text tell on calm stand named' forms is)
+
+pub returns-in_default-clause-repairs : goal.returns-in_default-clause-repairs
+returns-in_default-clause-repairs g c = λ configured ts name tells makes image named well. others-still configured name _ _ refl
+
+pub returns-in_default-new-clause-repairs : goal.returns-in_default-new-clause-repairs
+returns-in_default-new-clause-repairs g c = λ configured ts name tells makes image named well. others-still configured name _ _ refl
+
+pub returns-in_default-new-2-clause-repairs : goal.returns-in_default-new-2-clause-repairs
+returns-in_default-new-2-clause-repairs g c = λ configured ts name tells makes image named well. others-still configured name _ _ refl
+
+pub returns-clause-repairs : goal.returns-clause-repairs
+returns-clause-repairs g c = λ configured ts name tells makes image named well.
+    let e : g.M.Media.state c.media-1.given.0 ≡ g.M.Media.state c.into_media-media.result.now = search rules in
+    flash-others configured c.args.config.now ts name _ _ _ _ c.geometry-geometry.result c.blocks-blocks.result _ c.args.tables.now.entries.items c.args.at c.import_on-end.result.status
+    c.with_room-flash.ensures (e ∙ c.into_media-media.ensures.state) c.import_on-end.ensures.goes c.geometry-geometry.ensures.device tells makes image c.requires.tables named well c.import_on-end.ensures.repairs

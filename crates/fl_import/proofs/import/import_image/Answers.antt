@@ -11,6 +11,7 @@ use Rattle.fl_import.specs.Ends.{ImportEnds, StatusFits}
 use Rattle.fl_import.specs.Images.{told_of}
 use Rattle.fl_import.proofs.OneLine.{not-device}
 use Rattle.fl_import.proofs.Closing.{IsEarly, as-end, early-ends, early-of, early-undone, fits-early, fits-table, memory-ends, nameless-ends, not-early, not-nameless, not-unsound, over-ends}
+use Rattle.fl_import.proofs.Others.{others-after, others-still}
 use Rattle.fl_import.proofs.import.import_image.Goals as goal
 
 pub returns-in_default-clause-ends : goal.returns-in_default-clause-ends
@@ -236,3 +237,23 @@ returns-clause-later g c = c.import_at.ensures.causes.later
 
 pub returns-clause-keeps : goal.returns-clause-keeps
 returns-clause-keeps g c = keeps-then _ _ _ c.in-Ok-config_of_image.ensures.looks c.import_at.ensures.keeps
+
+pub returns-in_default-clause-repairs : goal.returns-in_default-clause-repairs
+returns-in_default-clause-repairs g c = λ config tables tells made image well. others-still config c.args.name _ _ refl
+
+pub returns-in-Err-clause-repairs : goal.returns-in-Err-clause-repairs
+returns-in-Err-clause-repairs g c = λ config tables tells made image well. others-still config c.args.name _ _ c.in-Err.ensures.looks.content
+
+pub returns-in_default-plan-clause-repairs : goal.returns-in_default-plan-clause-repairs
+returns-in_default-plan-clause-repairs g c = λ config tables tells made image well. others-still config c.args.name _ _ c.in-Ok-config_of_image.ensures.looks.content
+
+pub returns-in_default-find-clause-repairs : goal.returns-in_default-find-clause-repairs
+returns-in_default-find-clause-repairs g c = λ config tables tells made image well. others-still config c.args.name _ _ c.in-Ok-config_of_image.ensures.looks.content
+
+pub returns-clause-repairs : goal.returns-clause-repairs
+returns-clause-repairs g c = λ config tables tells made image well.
+    let looks = c.in-Ok-config_of_image.ensures.looks in
+    let found = c.in-Ok-config_of_image.ensures.image tells in
+    let makes = same-lines config made (g.M.Media.state c.args.media.now).content tables c.in-Ok-config_of_image.config image found.0 found.1 in
+    others-after config c.args.name _ _ _ looks.content
+    (c.import_at.ensures.repairs config tables c.args.name (subst IsTrue (sym looks.tells) tells) makes (subst (λ (l : List ℕ). IsImage config l tables) (sym looks.content) image) c.in-Some.ensures well)

@@ -1,9 +1,11 @@
-use Rattle.std.proofs.Common.{◌≡◌, false, IsTrue, Some, length, refl, sym, subst, arith}
+use Rattle.std.proofs.Common.{◌≡◌, false, IsTrue, Some, length, refl, sym, ◌∙◌, subst, arith}
 use Rattle.std.specs.List.{slice_get}
 use Rattle.std.proofs.lemmas.Option.{slice_get_within}
 use Rattle.fl_export.specs.Ends.{at_rest}
 use Rattle.fl_export.proofs.Locating.{stands-there}
 use Rattle.fl_export.proofs.Risen.{has_risen, watched}
+use Rattle.fl_export.proofs.Unmounted as export
+use Rattle.fl_jobs.specs.declared.status.ToolStatus.TheVariants.{Device}
 use Rattle.fl_tables.specs.Tables.{first_of}
 use Rattle.fl_tables.proofs.Going.{goes-on, rose-back}
 use Rattle.fl_tables.proofs.TablesChanged.{item-there}
@@ -11,6 +13,7 @@ use Rattle.fl_import.specs.Images.{EndsOn, HasCauses, told_of}
 use Rattle.fl_import.specs.Taking.{EndedOver}
 use Rattle.fl_import.proofs.Importing.{unmounted, own, own-works, imported}
 use Rattle.fl_import.proofs.Closing.{as-end, mount-causes, mount-ended, of-mounted, table-bad, table-ended}
+use Rattle.fl_import.proofs.Others.{others-repaired}
 use Rattle.fl_import.proofs.import.import_on.Goals as goal
 
 pub mount_status-requires : goal.mount_status-requires
@@ -96,3 +99,23 @@ returns-clause-unread g c = λ table is. absurd (table-bad c.import_table-status
 
 pub returns-clause-goes : goal.returns-clause-goes
 returns-clause-goes g c = goes-on _ _ _ c.mount.ensures.goes c.import_table-status.ensures.goes
+
+pub returns-in-Err-clause-repairs : goal.returns-in-Err-clause-repairs
+returns-in-Err-clause-repairs g c = λ plans ts name tells on calm stand named well.
+    let f = g.F.Flash.state c.args.flash.now in
+    let m = g.F.Flash.state c.mount.new.flash in
+    let breaks = c.in-Err.ensures.ends plans ts (has_risen f m) at_rest (watched f m at_rest tells on calm) stand in
+    let has = stands-there f (λ i. false) plans c.args.tables.now.entries.items ts name c.args.at stand named in
+    let device = (export.unmounted plans ts name f m (g.K.Sink.written c.args.out.now) c.mount.new.self.entries.items has c.in-Err.bad.fault c.in-Err.bad.at breaks).0 in
+    absurd (well (as-end (λ kept status. status ≡ Device) c.of.result _ _ c.of.ensures (c.mount_status.ensures ∙ device) refl))
+
+pub returns-clause-repairs : goal.returns-clause-repairs
+returns-clause-repairs g c = λ plans ts name tells on calm stand named well.
+    let here : slice_get c.mount.new.self.entries.items c.args.at ≡ Some c.index_mut.result.now =
+    item-there c.mount.new.self.entries.items (length c.mount.new.self.entries.items) c.args.at c.index_mut.result.now refl (omega (arith, c.requires.at, c.mount.ensures.as_many)) c.index_mut.ensures.value in
+    let f = g.F.Flash.state c.args.flash.now in
+    let m = g.F.Flash.state c.mount.new.flash in
+    let h = g.F.Flash.state c.import_table-status.new.flash in
+    let mounted = c.in_default.ensures.ends plans ts (has_risen f m) at_rest (watched f m at_rest tells on calm) stand in
+    others-repaired plans ts _ name f m h c.args.tables.now.entries.items c.mount.new.self.entries.items c.args.at c.index_mut.result.now stand named mounted.stand here
+    (c.import_table-status.ensures.outside (subst IsTrue (sym c.mount.ensures.goes.tells) tells)) (c.in_default.ensures.repaired tells plans ts stand)
