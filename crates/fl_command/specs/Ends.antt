@@ -7,7 +7,7 @@ use Rattle.fl_export.specs.Ends.{AreRepaired, ExportEnds, IsImageWith, Keeps, St
 use Rattle.fl_export.specs.Tables.{told_of as export_told}
 use Rattle.fl_flash.specs.Flash.{page_at}
 use Rattle.fl_flash.specs.Media.{MediaState}
-use Rattle.fl_import.specs.Ends.{ImportEnds, StatusFits as ImportFits}
+use Rattle.fl_import.specs.Ends.{ImportEnds, OthersAreRepaired, StatusFits as ImportFits}
 use Rattle.fl_import.specs.Images.{told_of as import_told}
 use Rattle.fl_jobs.specs.Checking.{CheckEnds}
 use Rattle.fl_jobs.specs.Header.{IsMade}
@@ -70,6 +70,8 @@ pub record Exports {S K : Type 0} (name : List ℕ) (range : KeyRange) (old new 
 pub record Imports {S K : Type 0} (name : List ℕ) (old new : Ends S K) (end : JobEnd) : Type 0 where
   pub ends : (config : Config) (tables : List Table) (text : List ℕ) → IsTrue old.media.tells → IsMade config → IsImage config old.media.content tables → old.left ≡ Some text
       → ImportEnds config tables name text (import_told old.written new.written new.left) old.media.faults new.media.faults old.media.content new.media.content end.kept end.status
+  pub repairs : (config : Config) (tables : List Table) → IsTrue old.media.tells → IsMade config → IsImage config old.media.content tables → (end.status ≡ Device → ⊥)
+      → OthersAreRepaired config name old.media.content new.media.content
   pub kept : is_some end.kept ≡ is_done end.status
   pub fits : IsTrue old.media.tells → ImportFits old.media.content name old.left new.left end.status
   pub device : end.status ≡ Device → Rose old.media.faults new.media.faults

@@ -10,6 +10,7 @@ returns-in-Import g c =
     let did = c.import_image.ensures in
     let imports : Imports c.in-Import.name old new c.import_image.result = record {
       ends = did.ends;
+      repairs = did.repairs;
       kept = did.kept;
       fits = did.fits;
       device = did.device;
