@@ -14,6 +14,7 @@ chmod 755 "$folder" && cp "$1" "$folder/flashts" && chmod 755 "$folder/flashts" 
 . "$here/statuses.sh"
 . "$here/jobs.sh"
 . "$here/streams.sh"
+. "$here/forged.sh"
 . "$here/files.sh"
 . "$here/shared.sh"
 
