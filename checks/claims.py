@@ -9,7 +9,7 @@ import re
 import sys
 
 ROOT = pathlib.Path(__file__).resolve().parent.parent
-ITEM = re.compile(r"^( *)(?:pub(?:\(crate\))? )?(?:const )?fn (\w+)", re.M)
+ITEM = re.compile(r"^( *)(?:pub(?:\(crate\))? )?(?:const )?(?:extern \S+ )?fn (\w+)", re.M)
 OWNER = re.compile(r"^(?:impl|trait|pub trait)\b[^\n{]*", re.M)
 
 

@@ -27,6 +27,7 @@ import tempfile
 ROOT = pathlib.Path(__file__).resolve().parent.parent
 FENCE = re.compile(r"^```(.*)$")
 TWO_COLUMNS = re.compile(r"^(.*?\S)   +(\S.*)$")
+NEW_IMAGE = "flashts: a new image was made"
 UNSEEN = re.compile(r"^(device \d|table \w+ [48] |\$ |\./flashts|flashts )")
 
 
@@ -62,6 +63,11 @@ def shell(folder, command, stdin=None):
     done = subprocess.run(["sh", "-c", command], cwd=folder, input=stdin, stdin=None if stdin is not None else subprocess.DEVNULL,
                           stdout=subprocess.PIPE, stderr=subprocess.STDOUT, text=True, timeout=60)
     return done.stdout.splitlines()
+
+
+def run(folder, image, script):
+    """The replies to a script, without the note that the image was made, which pages show where they show the command."""
+    return [line for line in shell(folder, f"./flashts run {image}", script) if line != NEW_IMAGE]
 
 
 def commands(lines):
@@ -114,10 +120,10 @@ def run_script(folder, image, rows):
             trial.unlink(missing_ok=True)
             if image.exists():
                 shutil.copy(image, trial)
-            answered = shell(folder, "./flashts run trial.img", script)
+            answered = run(folder, "trial.img", script)
             if not matches(shown, answered):
                 return shown, answered
-    return shown, shell(folder, f"./flashts run {image.name}", script)
+    return shown, run(folder, image.name, script)
 
 
 def is_file(script, name):
@@ -150,7 +156,8 @@ def run_block(folder, page, block):
         yield f"{where}: a fence that isn't closed"
     elif form == "config":
         script = "".join(line + "\n" for line in block.lines if line.startswith(("device ", "table ")))
-        told = shell(folder, "rm -f config.img; ./flashts run config.img", script)
+        (pathlib.Path(folder) / "config.img").unlink(missing_ok=True)
+        told = run(folder, "config.img", script)
         if told:
             yield difference(f"{where}: the configuration", [], told)
     elif any(UNSEEN.match(line) for line in block.lines):

@@ -11,7 +11,7 @@ refuses() {
         flashts $words < input
         case $words in
             run*) ends "$words" 5 '' $'flashts: the image cannot be made or read\n' ;;
-            *) ends "$words" 11 '' $'flashts: status 11\n' ;;
+            *) ends "$words" 11 '' "$status11" ;;
         esac
     done
 }
@@ -28,14 +28,14 @@ for words in 'check new' 'export new t 0 9' 'import new t'; do
     # shellcheck disable=SC2086
     flashts $words < /dev/null
     [ $status != 11 ] || ! [ -e new ] || status="11, but the file was made"
-    ends "a missing file: $words" 11 '' $'flashts: status 11\n'
+    ends "a missing file: $words" 11 '' "$status11"
 done
 ln -s new dangling
 for words in 'check dangling' 'export dangling t 0 9' 'import dangling t'; do
     # shellcheck disable=SC2086
     flashts $words < /dev/null
     [ $status != 11 ] || ! [ -e new ] || status="11, but the file was made"
-    ends "a link that leads nowhere: $words" 11 '' $'flashts: status 11\n'
+    ends "a link that leads nowhere: $words" 11 '' "$status11"
 done
 
 # as_reader WORDS..: calls the program as one who may not write `image`
@@ -58,12 +58,12 @@ else
     as_reader export image t 0 9
     leaves "an export of an image that may only be read" 0 $'key,c1\n1,0\n' ''
     as_reader import image t <<< $'key,c1\n2,0'
-    leaves "an import into an image that may only be read" 11 '' $'flashts: status 11\n'
+    leaves "an import into an image that may only be read" 11 '' "$status11"
     as_reader run image <<< "$configuration"
     leaves "a run over an image that may only be read" 5 '' $'flashts: the image cannot be made or read\n'
     chmod 644 image
     image torn
     as_reader export image t 0 9
-    leaves "an export that has to repair an image that may only be read" 12 '' $'flashts: status 12\n'
+    leaves "an export that has to repair an image that may only be read" 12 '' "$status12"
     chmod 644 image
 fi

@@ -34,3 +34,22 @@ flush t"
 make large 'device 512 16
 table t 8 i32 60 0 0 8 0 10 1 0
 mount'
+
+# what standard error has of the statuses that say their number
+status11="flashts: status 11"$'\n'"flashts: the file is no image, is missing, or can't be opened: look at its name and its rights"$'\n'
+status12="flashts: status 12"$'\n'"flashts: the image can't be read or written: look for room and for its rights, and call again"$'\n'
+status13="flashts: status 13"$'\n'"flashts: no run has left what the pages of table 0, counted from 0, have: flashts check IMAGE tells which"$'\n'
+status14="flashts: status 14"$'\n'"flashts: no table has this name: flashts check IMAGE tells the names"$'\n'
+status16="flashts: status 16"$'\n'"flashts: a table isn't sound: the last line says which, in which ring and page, and the rule (docs/CHECK.md)"$'\n'
+
+# status15 LINE: the same of 15
+status15() {
+    echo "flashts: status 15"
+    echo "flashts: line $1 of the input has more than 4096 bytes, or is the first and not the one that an export begins with"
+    [ "$1" != 1 ] || echo "flashts: the first line has to be key and c1 to c1, joined by commas"
+}
+
+# taken ROWS LINE: how far an import came that ended early
+taken() {
+    echo "flashts: $1 rows were put, and line $2 was the last one that was taken"
+}

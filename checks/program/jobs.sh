@@ -23,21 +23,42 @@ ends "an export repairs a torn page" 0 $'key,c1\n1,0\n' ''
 flashts check image
 ends "a check of the repaired image" 0 $'sound t rows 1 pages 2 voids 1\n' ''
 
+# all of an image, and of a table
+cp image before
+flashts check image all
+leaves "a check of all tables" 0 $'sound t rows 1 pages 2 voids 1\n' ''
+flashts export image t
+leaves "an export of all records" 0 $'key,c1\n1,0\n' ''
+flashts salvage image t
+leaves "a salvage of a sound image" 0 $'key,c1\n1,0\n' $'flashts: pages passed over: missing 0, torn 0, void 1, misplaced 0, unformed 0\n'
+flashts map image
+leaves "a map of it" 0 $'t data first 0 last 0 rows 1 waiting 0\n>#v.. .... ....\neach letter a page: . blank  # committed  v void  x torn  ! breaks a rule; > before the head\n' ''
+flashts map image svg
+tell "a picture of it" "$([ $status = 0 ] && [ "$(head -c 5 out)" = '<svg ' ] && [ "$(tail -n 1 out)" = '</svg>' ] || echo "status $status")"
+flashts salvage image u
+leaves "a salvage of no such table" 14 '' "$status14"
+
 # damaged images: a byte of the first data page is another one (docs/CHECK.md)
 image flushed
 byte 1024 05
 cp image before
 flashts check image
-leaves "a check of an image whose first page has another number" 16 $'fault t data 0 3\n' $'flashts: status 16\n'
+leaves "a check of an image whose first page has another number" 16 $'fault t data 0 3\n' "$status16"
+flashts check image all
+leaves "a check of all its tables" 16 $'fault t data 0 3 number\n' "$status16"
 flashts export image t 0 9
-ends "an export of it" 13 '' $'flashts: status 13\n'
+ends "an export of it" 13 '' "$status13"
 flashts import image t <<< $'key,c1\n2,0'
-ends "an import into it" 13 '' $'flashts: status 13\n'
+ends "an import into it" 13 '' "$status13"
+flashts salvage image t
+leaves "a salvage of it" 0 $'key,c1\n' $'flashts: pages passed over: missing 0, torn 0, void 0, misplaced 1, unformed 0\n'
+flashts map image
+leaves "a map of it" 0 $'t data first 5 last 5 rows 1 waiting 0\n>!... .... ....\nfault: t data page 0 rule 3\neach letter a page: . blank  # committed  v void  x torn  ! breaks a rule; > before the head\n' ''
 image flushed
 byte 1032 02
 cp image before
 flashts check image
-leaves "a check of an image whose first page has another bitmap" 16 $'fault t data 0 4\n' $'flashts: status 16\n'
+leaves "a check of an image whose first page has another bitmap" 16 $'fault t data 0 4\n' "$status16"
 image flushed
 byte 1040 02
 cp image before
@@ -49,23 +70,23 @@ cp image before
 for words in 'check image' 'export image t 0 9' 'import image t'; do
     # shellcheck disable=SC2086
     flashts $words <<< $'key,c1\n2,0'
-    leaves "no image: $words" 11 '' $'flashts: status 11\n'
+    leaves "no image: $words" 11 '' "$status11"
 done
 image flushed
 for words in 'export image u 0 9' 'import image u'; do
     # shellcheck disable=SC2086
     flashts $words <<< $'key,c1\n2,0'
-    leaves "no such table: $words" 14 '' $'flashts: status 14\n'
+    leaves "no such table: $words" 14 '' "$status14"
 done
 flashts import image t < .
 leaves "an import whose input can't be read" 3 '' $'flashts: the script cannot be read\n'
 flashts import image t <<< $'key,c2\n2,0'
-leaves "an import whose first line names other fields" 15 '' $'flashts: status 15\n'
+leaves "an import whose first line names other fields" 15 '' "$(status15 1)"$'\n'
 flashts import image t < /dev/null
-leaves "an import of nothing" 15 '' $'flashts: status 15\n'
+leaves "an import of nothing" 15 '' "$(status15 1)"$'\n'
 { printf 'key,c1\n2,7\n'; head -c 4097 /dev/zero | tr '\0' 1; } > input
 flashts import image t < input
-ends "an import with a line that is too long" 15 '' $'flashts: status 15\n'
+ends "an import with a line that is too long" 15 '' "$(status15 3; taken 1 2)"$'\n'
 flashts export image t 0 9
 ends "the lines before it were put" 0 $'key,c1\n1,0\n2,7\n' ''
 image flushed
@@ -73,12 +94,12 @@ image flushed
 call import image t < input > out 2> err
 status=$?
 : > out
-ends "an import that is too long" 8 '' $'flashts: the script is longer than 16777216 bytes\n'
+ends "an import that is too long" 8 '' $'flashts: the script is longer than 16777216 bytes\n'"$(taken 1 4806)"$'\n'
 image flushed
 (trap '' XFSZ; ulimit -f 1; call import image t <<< $'key,c1\n2,7' > out 2> err)
 status=$?
-leaves "an import into an image that fails" 12 '' $'flashts: status 12\n'
+leaves "an import into an image that fails" 12 '' "$status12$(taken 1 2)"$'\n'
 image torn
 (trap '' XFSZ; ulimit -f 1; call export image t 0 9 > out 2> err)
 status=$?
-leaves "an export whose repair fails" 12 '' $'flashts: status 12\n'
+leaves "an export whose repair fails" 12 '' "$status12"

@@ -1,5 +1,5 @@
 # Several programs over one image, and programs that are killed.
-in_use=$'flashts: another program uses the image\n'
+in_use=$'flashts: another program uses the image\nflashts: it is left as it is; call again if that one has ended\n'
 
 # await NUMBER COMMAND..: waits until the command holds, or the program with this number has ended
 await() {

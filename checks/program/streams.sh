@@ -46,7 +46,7 @@ for which in 1 2 12; do
     closed import image t <<< $'key,c1\n2,7'
     cp imported before
     case $which in
-        1) leaves "import image t with $which closed" 4 '' $'flashts: the replies cannot be written\n' ;;
+        1) leaves "import image t with $which closed" 4 '' $'flashts: the replies cannot be written\n'"$(taken 1 2)"$'\n' ;;
         2) leaves "import image t with $which closed" 0 $'imported 1 refused 0\n' '' ;;
         12) leaves "import image t with $which closed" 4 '' '' ;;
     esac
@@ -62,7 +62,7 @@ done
 rm -f new
 which=012
 closed run new
-tell "a run with all closed leaves a new image empty" "$(head -c 100 new)"
+tell "a run with all closed leaves a new image empty" "$(head -c 100 new 2> /dev/null)"
 
 # full ones
 image flushed
@@ -75,7 +75,9 @@ for words in 'run image' 'check image' 'export image t 0 9' 'import image t'; do
     call $words < input > /dev/full 2> err
     status=$?
     : > out
-    leaves "$words over a full standard output" 4 '' $'flashts: the replies cannot be written\n'
+    told=$'flashts: the replies cannot be written\n'
+    case $words in import*) told+="$(taken 0 2)"$'\n' ;; esac
+    leaves "$words over a full standard output" 4 '' "$told"
 done
 call export image u 0 9 > out 2> /dev/full
 status=$?

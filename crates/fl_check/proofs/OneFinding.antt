@@ -8,7 +8,7 @@ use Rattle.fl_check.specs.Entries.{HasEntries, HaveEntries, EntriesBreak}
 use Rattle.fl_check.specs.Marks.{kept_page}
 use Rattle.fl_check.specs.References.{PageLeads, ReferencesBreak}
 use Rattle.fl_check.specs.RingRules.{IsRingSound, BreaksRing}
-use Rattle.fl_check.specs.Whole.{OfRing, shape_in, rows_shape, layout_in, indexing, index_end, tally_in, rule_number, IsIndexForm, IsRowsForm, IsVarForm, IsIndexSound, AreRowsSound, IsVarSound, AreRingsSound, AreEntriesSound, AreReferencesSound, IsSound, IsFirstFault, IsFinding}
+use Rattle.fl_check.specs.Whole.{OfRing, shape_in, rows_shape, layout_in, indexing, index_end, tally_in, IsIndexForm, IsRowsForm, IsVarForm, IsIndexSound, AreRowsSound, IsVarSound, AreRingsSound, AreEntriesSound, AreReferencesSound, IsSound, IsFirstFault, IsFinding}
 use Rattle.fl_check.specs.declared.entries.Indexing.{Indexing}
 use Rattle.fl_check.specs.declared.finding.Finding.{Finding}
 use Rattle.fl_check.specs.declared.finding.Finding.TheVariants.{Sound, Fault}
@@ -240,9 +240,8 @@ module _ (config : TableConfig) (page : ℕ → List ℕ) where
       let tally = h.1.tally_is ∙ ap (λ (t : TableNumbers). tally_in config page t.rows) same ∙ sym k.1.tally_is in
       let kept : pages ≡ pages' = h.1.kept_is ∙ ap (λ (t : TableNumbers). t.rows.marks.kept) same ∙ sym k.1.kept_is in
       ap (λ (n : ℕ). Sound n pages voids) (ap (λ (x : Tally). x.rows) tally) ∙ ap (λ (n : ℕ). Sound rows' n voids) kept ∙ ap (λ (n : ℕ). Sound rows' pages' n) (ap (λ (x : Tally). x.voids) tally)
-  one_finding (Sound rows pages voids) (Fault ring p rule) h k = absurd (table_decided.either h.1.t (fault_at ring p k.0) h.1.sound k.2)
-  one_finding (Fault ring p rule) (Sound rows pages voids) h k = absurd (table_decided.either k.1.t (fault_at ring p h.0) k.1.sound h.2)
+  one_finding (Sound rows pages voids) (Fault ring p rule) h k = absurd (table_decided.either h.1.t (fault_at ring p rule) h.1.sound k)
+  one_finding (Fault ring p rule) (Sound rows pages voids) h k = absurd (table_decided.either k.1.t (fault_at ring p rule) k.1.sound h)
   one_finding (Fault ring p rule) (Fault ring' p' rule') h k =
-      let same = table_decided.first (fault_at ring p h.0) (fault_at ring' p' k.0) h.2 k.2 in
-      let number : rule ≡ rule' = h.1 ∙ ap (λ (x : halt.Fault). rule_number x.rule) same ∙ sym k.1 in
-      ap (λ (n : RingName). Fault n p rule) (ap (λ (x : halt.Fault). x.ring) same) ∙ ap (λ (n : ℕ). Fault ring' n rule) (ap (λ (x : halt.Fault). x.page) same) ∙ ap (λ (n : ℕ). Fault ring' p' n) number
+      let same = table_decided.first (fault_at ring p rule) (fault_at ring' p' rule') h k in
+      ap (λ (n : RingName). Fault n p rule) (ap (λ (x : halt.Fault). x.ring) same) ∙ ap (λ (n : ℕ). Fault ring' n rule) (ap (λ (x : halt.Fault). x.page) same) ∙ ap (λ (n : Rule). Fault ring' p' n) (ap (λ (x : halt.Fault). x.rule) same)

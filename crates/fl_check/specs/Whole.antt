@@ -203,4 +203,4 @@ pub record Holds (config : TableConfig) (page : ℕ → List ℕ) (tally : Tally
 
 abbrev pub IsFinding : TableConfig → (ℕ → List ℕ) → Finding → Type 0
 IsFinding config page (Sound rows pages voids) = (blob_end : ℕ) × Holds config page (record { rows = rows; voids = voids; blob_end = blob_end }) pages
-IsFinding config page (Fault ring p rule) = (broken : Rule) × (rule ≡ rule_number broken) × IsFirstFault config page ring p broken
+IsFinding config page (Fault ring p rule) = IsFirstFault config page ring p rule

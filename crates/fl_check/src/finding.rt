@@ -1,4 +1,5 @@
 // What a check finds of a table.
+use crate::rule::Rule;
 use fl_base::NoMemory;
 use fl_flash::FlashFault;
 
@@ -15,8 +16,16 @@ pub enum RingName {
 /// rule that doesn't hold, with the page of the flash that breaks it first.
 #[derive(Clone, Copy, Debug, PartialEq, Eq)]
 pub enum Finding {
-    Sound { rows: u64, pages: u32, voids: u32 },
-    Fault { ring: RingName, page: u32, rule: u8 },
+    Sound {
+        rows: u64,
+        pages: u32,
+        voids: u32,
+    },
+    Fault {
+        ring: RingName,
+        page: u32,
+        rule: Rule,
+    },
 }
 
 /// Why a check finds nothing.

@@ -40,4 +40,4 @@ pub use numbering::{Numbering, check_numbering};
 pub use rest::check_rest;
 pub use rising::check_keys;
 pub use rule::{Breach, Rule, Stop};
-pub use whole::{TableNumbers, check_table};
+pub use whole::{TableNumbers, check_table, schema_of};

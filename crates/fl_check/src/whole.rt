@@ -338,8 +338,8 @@ fn found(ring: RingName, rule: Rule, broken: Option<u32>) -> Result<(), Halt>
     }
 }
 
-/// The schema of a configuration that isn't refused.
-fn schema_of(config: &TableConfig) -> Schema<8>
+/// The schema of the rows of a table whose configuration isn't refused.
+pub fn schema_of(config: &TableConfig) -> Schema<8>
     requires fits { config_fault config.now ≡ None }
     requires limits { IsWithinLimits config.now }
     ensures layout { layout_of result ≡ layout_in config.now }
@@ -390,7 +390,7 @@ pub fn check_table<F: Flash>(
         Err(Halt::Found(fault)) => Ok(Finding::Fault {
             ring: fault.ring,
             page: fault.page,
-            rule: fault.rule.number(),
+            rule: fault.rule,
         }),
     }
 }

@@ -1,24 +1,35 @@
 -- How a job ends: just as the call that does it says, with the name and the range that the words have.
-use Rattle.std.specs.Prelude.{◌≡◌, ◌⊎◌, ℕ, ◌≤◌, IsTrue, true, Option, Some, None, is_some, List}
+use Rattle.std.specs.Prelude.{◌≡◌, ◌⊎◌, ℕ, ◌≤◌, IsTrue, true, Option, Some, IfSome, is_some, List}
 use Rattle.fl_base.specs.Causes.{Rose}
 use Rattle.fl_base.specs.declared.types.KeyRange.{KeyRange}
 use Rattle.fl_check.specs.Whole.{IsFinding}
+use Rattle.fl_command.specs.declared.exit.Exit.{Exit}
+use Rattle.fl_command.specs.declared.exit.Exit.TheVariants as ending
+use Rattle.fl_csv.specs.declared.record.GoneBlobs.{GoneBlobs}
 use Rattle.fl_export.specs.Ends.{AreRepaired, ExportEnds, IsImageWith, Keeps, StatusFits as ExportFits}
 use Rattle.fl_export.specs.Tables.{told_of as export_told}
 use Rattle.fl_flash.specs.Flash.{page_at}
 use Rattle.fl_flash.specs.Media.{MediaState}
-use Rattle.fl_import.specs.Ends.{ImportEnds, OthersAreRepaired, StatusFits as ImportFits}
+use Rattle.fl_import.specs.Ends.{ImportEnds, IsFormIn, OthersAreRepaired, StatusFits as ImportFits}
 use Rattle.fl_import.specs.Images.{told_of as import_told}
-use Rattle.fl_jobs.specs.Checking.{CheckEnds}
+use Rattle.fl_jobs.specs.Checking.{CheckedTo}
 use Rattle.fl_jobs.specs.Header.{IsMade}
 use Rattle.fl_jobs.specs.Image.{OnlyLooksAt}
 use Rattle.fl_jobs.specs.Status.{is_done}
+use Rattle.fl_jobs.specs.Taken.{end_of}
 use Rattle.fl_jobs.specs.declared.job_end.JobEnd.{JobEnd}
-use Rattle.fl_jobs.specs.declared.status.ToolStatus.TheVariants.{InputRead, OutWrite, NotImage, Device, BadImage, NoTable, Unsound}
+use Rattle.fl_jobs.specs.declared.status.ToolStatus.TheVariants.{Done, InputRead, OutWrite, NotImage, Device, BadImage, NoTable, BadInput, Unsound}
+use Rattle.fl_jobs.specs.declared.drawing.Drawing.{Drawing}
+use Rattle.fl_jobs.specs.declared.extent.Extent.{Extent}
+use Rattle.fl_jobs.specs.declared.extent.Extent.TheVariants.{FirstFault, AllTables}
 use Rattle.fl_jobs.specs.declared.words.ToolJob.{ToolJob}
-use Rattle.fl_jobs.specs.declared.words.ToolJob.TheVariants.{Check, Export, Import}
+use Rattle.fl_jobs.specs.declared.words.ToolJob.TheVariants.{Check, CheckAll, Map, Export, Import, Salvage}
 use Rattle.fl_model.specs.Record.{Config}
 use Rattle.fl_model.specs.Table.{Table}
+use Rattle.fl_map.specs.Map.{MapEnds}
+use Rattle.fl_salvage.specs.Ends.{SalvageEnds}
+use Rattle.fl_salvage.specs.Pages.{none_passed}
+use Rattle.fl_salvage.specs.declared.salvage.SalvageEnd.{SalvageEnd}
 use Rattle.fl_words.specs.Medium.{IsImage}
 
 -- What a job reads and writes: the medium of its image; its input, with the bytes that are left of it, where it tells them; and
@@ -36,14 +47,24 @@ abbrev pub ends_of : {S K : Type 0} → MediaState → S → Option (List ℕ) �
 ends_of media input left input_faults out written out_faults =
     record { media = media; input = input; left = left; input_faults = input_faults; out = out; written = written; out_faults = out_faults }
 
--- A check: what is written of the tables, up to the first that isn't sound, is what the rules of their rings find. Nothing is
--- changed, and the input isn't read.
-pub record Checks {S K : Type 0} (old new : Ends S K) (end : JobEnd) : Type 0 where
-  pub ends : IsTrue old.media.tells → CheckEnds (λ config f finding. IsFinding config (page_at f) finding) old.media.content old.written new.written end.status
+-- A check: what is written of the tables, up to the first that isn't sound or of all, is what the rules of their rings find.
+-- Nothing is changed, and the input isn't read.
+pub record Checks {S K : Type 0} (extent : Extent) (old new : Ends S K) (end : JobEnd) : Type 0 where
+  pub ends : IsTrue old.media.tells → CheckedTo extent (λ config f finding. IsFinding config (page_at f) finding) old.media.content old.written new.written end.status
   pub looks : OnlyLooksAt old.media new.media
   pub device : end.status ≡ Device → Rose old.media.faults new.media.faults
   pub write : end.status ≡ OutWrite → Rose old.out_faults new.out_faults
-  pub kept : end.kept ≡ None
+  pub plain : end ≡ end_of end.status
+  pub unread : new.input ≡ old.input
+  pub later : old.out_faults ≤ new.out_faults
+
+-- A map: what is written is the map of the image's bytes. Nothing is changed, and the input isn't read.
+pub record Maps {S K : Type 0} (drawing : Drawing) (old new : Ends S K) (end : JobEnd) : Type 0 where
+  pub ends : IsTrue old.media.tells → MapEnds drawing old.media.content old.written new.written end.status
+  pub looks : OnlyLooksAt old.media new.media
+  pub device : end.status ≡ Device → Rose old.media.faults new.media.faults
+  pub write : end.status ≡ OutWrite → Rose old.out_faults new.out_faults
+  pub plain : end ≡ end_of end.status
   pub unread : new.input ≡ old.input
   pub later : old.out_faults ≤ new.out_faults
 
@@ -60,19 +81,21 @@ pub record Exports {S K : Type 0} (name : List ℕ) (range : KeyRange) (old new 
   pub untouched : (end.status ≡ NotImage) ⊎ (end.status ≡ NoTable) → OnlyLooksAt old.media new.media × (new.out ≡ old.out)
   pub changes : IsTrue old.media.tells → IsImageWith old.media.content name true ⊎ (new.media.content ≡ old.media.content)
   pub write : end.status ≡ OutWrite → Rose old.out_faults new.out_faults
-  pub kept : end.kept ≡ None
+  pub plain : end ≡ end_of end.status
   pub unread : new.input ≡ old.input
   pub later : old.out_faults ≤ new.out_faults
   pub keeps : Keeps old.media new.media
 
 -- An import into the table with the name: over an image that stands for tables the lines of the input are put in turn, and
 -- the table is flushed; what is refused is told. The medium stands for the tables that this leaves.
-pub record Imports {S K : Type 0} (name : List ℕ) (old new : Ends S K) (end : JobEnd) : Type 0 where
+pub record Imports {S K : Type 0} (name : List ℕ) (gone : GoneBlobs) (old new : Ends S K) (end : JobEnd) : Type 0 where
   pub ends : (config : Config) (tables : List Table) (text : List ℕ) → IsTrue old.media.tells → IsMade config → IsImage config old.media.content tables → old.left ≡ Some text
-      → ImportEnds config tables name text (import_told old.written new.written new.left) old.media.faults new.media.faults old.media.content new.media.content end.kept end.status
+      → ImportEnds config tables name text (import_told gone end.taken old.written new.written new.left) old.media.faults new.media.faults old.media.content new.media.content end.kept end.status
   pub repairs : (config : Config) (tables : List Table) → IsTrue old.media.tells → IsMade config → IsImage config old.media.content tables → (end.status ≡ Device → ⊥)
       → OthersAreRepaired config name old.media.content new.media.content
   pub kept : is_some end.kept ≡ is_done end.status
+  pub form : IsTrue old.media.tells → IfSome end.form (λ form. IsFormIn old.media.content name form)
+  pub formed : (line : ℕ) → end.status ≡ BadInput line → is_some end.form ≡ true
   pub fits : IsTrue old.media.tells → ImportFits old.media.content name old.left new.left end.status
   pub device : end.status ≡ Device → Rose old.media.faults new.media.faults
   pub known : end.status ≡ Unsound → ⊥
@@ -84,7 +107,25 @@ pub record Imports {S K : Type 0} (name : List ℕ) (old new : Ends S K) (end : 
   pub later : (old.input_faults ≤ new.input_faults) × (old.out_faults ≤ new.out_faults)
   pub keeps : Keeps old.media new.media
 
-abbrev pub ToolEnds : {S K : Type 0} → ToolJob → Ends S K → Ends S K → JobEnd → Type 0
-ToolEnds Check old new end = Checks old new end
-ToolEnds (Export name range) old new end = Exports name range old new end
-ToolEnds (Import name) old new end = Imports name old new end
+-- A salvage of the table with the name: what is written is what the image's bytes still hold of it. Nothing is changed, and the
+-- input is read only where these are no image.
+pub record Salvages {S K : Type 0} (name : List ℕ) (old new : Ends S K) (end : SalvageEnd) : Type 0 where
+  pub ends : IsTrue old.media.tells → SalvageEnds old.media.content old.left name old.written new.written end.passed_over end.status
+  pub counts : (end.status ≡ Done) ⊎ (end.passed_over ≡ none_passed)
+  pub device : end.status ≡ Device → Rose old.media.faults new.media.faults
+  pub read : end.status ≡ InputRead → Rose old.input_faults new.input_faults
+  pub write : end.status ≡ OutWrite → Rose old.out_faults new.out_faults
+  pub later : (old.input_faults ≤ new.input_faults) × (old.out_faults ≤ new.out_faults)
+  pub looks : OnlyLooksAt old.media new.media
+
+-- the program ends by a job whose end is so
+abbrev pub ByJob : (JobEnd → Type 0) → Exit → Type 0
+ByJob Holds exit = (end : JobEnd) × (exit ≡ ending.Job end) × Holds end
+
+abbrev pub ToolEnds : {S K : Type 0} → ToolJob → Ends S K → Ends S K → Exit → Type 0
+ToolEnds Check old new exit = ByJob (Checks FirstFault old new) exit
+ToolEnds CheckAll old new exit = ByJob (Checks AllTables old new) exit
+ToolEnds (Map drawing) old new exit = ByJob (Maps drawing old new) exit
+ToolEnds (Export name range) old new exit = ByJob (Exports name range old new) exit
+ToolEnds (Import name gone) old new exit = ByJob (Imports name gone old new) exit
+ToolEnds (Salvage name) old new exit = (end : SalvageEnd) × (exit ≡ ending.Salvage end) × Salvages name old new end

@@ -1,7 +1,7 @@
 -- The number of an exit, and the exit of what couldn't be handed out.
 use Rattle.std.specs.Prelude.{ℕ, None}
 use Rattle.fl_command.specs.declared.exit.Exit.{Exit}
-use Rattle.fl_command.specs.declared.exit.Exit.TheVariants.{Run, Job, Words, InUse}
+use Rattle.fl_command.specs.declared.exit.Exit.TheVariants.{Run, Job, Salvage, Words, Help, InUse}
 use Rattle.fl_jobs.specs.Number as job
 use Rattle.fl_jobs.specs.declared.status.ToolStatus.TheVariants as job_status
 use Rattle.fl_session.specs.Number as run
@@ -11,12 +11,16 @@ use Rattle.fl_session.specs.declared.status.Status.TheVariants as run_status
 abbrev pub number_of : Exit → ℕ
 number_of (Run status) = run.number_of status
 number_of (Job end) = job.number_of end.status
+number_of (Salvage end) = job.number_of end.status
 number_of Words = 1
+number_of Help = 0
 number_of InUse = 20
 
 -- the replies can't be written
 abbrev pub unwritten : Exit → Exit
 unwritten (Run status) = Run run_status.OutWrite
-unwritten (Job end) = Job (record { status = job_status.OutWrite; kept = None })
+unwritten (Job end) = Job (record end { status = job_status.OutWrite; kept = None })
+unwritten (Salvage end) = Salvage (record end { status = job_status.OutWrite })
 unwritten Words = Words
+unwritten Help = Run run_status.OutWrite
 unwritten InUse = InUse

@@ -1,9 +1,13 @@
 -- The text that standard error has of an exit.
 use Rattle.std.specs.Prelude.{ℕ, ◌==◌, Option, Some, None, List, [], ◌++◌, codes, decimal, if◌then◌else◌}
 use Rattle.fl_command.specs.declared.exit.Exit.{Exit}
-use Rattle.fl_command.specs.declared.exit.Exit.TheVariants.{Run, Job, Words, InUse}
+use Rattle.fl_command.specs.declared.exit.Exit.TheVariants.{Run, Job, Salvage, Words, Help, InUse}
 use Rattle.fl_jobs.specs.Number.{number_of}
+use Rattle.fl_csv.specs.declared.record.LineForm.{LineForm}
 use Rattle.fl_jobs.specs.declared.job_end.JobEnd.{JobEnd}
+use Rattle.fl_jobs.specs.declared.job_end.LinesTaken.{LinesTaken}
+use Rattle.fl_salvage.specs.declared.passed_over.PassedOver.{PassedOver}
+use Rattle.fl_salvage.specs.declared.salvage.SalvageEnd.{SalvageEnd}
 use Rattle.fl_jobs.specs.declared.status.ToolStatus.{ToolStatus}
 use Rattle.fl_jobs.specs.declared.status.ToolStatus.TheVariants as job
 use Rattle.fl_session.specs.declared.status.Status.{Status}
@@ -21,7 +25,9 @@ run_text (Line n) = line_of (codes "line " ++ decimal n ++ codes " is not a comm
 run_text ScriptRead = line_of (codes "the script cannot be read\n")
 run_text OutWrite = line_of (codes "the replies cannot be written\n")
 run_text MediaMake = line_of (codes "the image cannot be made or read\n")
-run_text (Config n) = line_of (if n == 0 then codes "the configuration is incomplete\n" else codes "configuration line " ++ decimal n ++ codes " is refused\n")
+run_text (Config n) =
+    if n == 0 then line_of (codes "the configuration is incomplete\n") ++ line_of (codes "a script begins with a device line and one to four table lines\n")
+    else line_of (codes "configuration line " ++ decimal n ++ codes " is refused\n")
 run_text (OtherConfig wanted found at) = line_of (codes "the image has another configuration\n")
 run_text ScriptLong = line_of (codes "the script is longer than 16777216 bytes\n")
 run_text NoMemory = line_of (codes "no memory\n")
@@ -31,6 +37,18 @@ abbrev pub kept_text : Option ℕ → List ℕ
 kept_text (Some rows) = line_of (codes "the table holds " ++ decimal rows ++ codes " rows\n")
 kept_text None = []
 
+-- what a status means that has a number alone, and what to do
+abbrev pub meaning_text : ToolStatus → List ℕ
+meaning_text job.NotImage = line_of (codes "the file is no image, is missing, or can't be opened: look at its name and its rights\n")
+meaning_text job.Device = line_of (codes "the image can't be read or written: look for room and for its rights, and call again\n")
+meaning_text (job.BadImage table) =
+    line_of (codes "no run has left what the pages of table " ++ decimal table ++ codes ", counted from 0, have: flashts check IMAGE tells which\n")
+meaning_text job.NoTable = line_of (codes "no table has this name: flashts check IMAGE tells the names\n")
+meaning_text (job.BadInput line) =
+    line_of (codes "line " ++ decimal line ++ codes " of the input has more than 4096 bytes, or is the first and not the one that an export begins with\n")
+meaning_text job.Unsound = line_of (codes "a table isn't sound: the last line says which, in which ring and page, and the rule (docs/CHECK.md)\n")
+meaning_text other = []
+
 -- of a job: the words of the same statuses of a run, and the number of the others
 abbrev pub status_text : ToolStatus → Option ℕ → List ℕ
 status_text job.Done kept = kept_text kept
@@ -38,20 +56,54 @@ status_text job.InputRead kept = run_text ScriptRead
 status_text job.OutWrite kept = run_text OutWrite
 status_text job.InputLong kept = run_text ScriptLong
 status_text job.NoMemory kept = run_text NoMemory
-status_text status kept = line_of (codes "status " ++ decimal (number_of status) ++ codes "\n")
+status_text status kept = line_of (codes "status " ++ decimal (number_of status) ++ codes "\n") ++ meaning_text status
+
+-- what the first line of an import has to be, where it isn't that
+abbrev pub names_text : Option LineForm → List ℕ
+names_text (Some form) =
+    if form.blobs then line_of (codes "the first line has to be key, c1 to c" ++ decimal form.columns ++ codes " and blob, joined by commas\n")
+    else line_of (codes "the first line has to be key and c1 to c" ++ decimal form.columns ++ codes ", joined by commas\n")
+names_text None = []
+
+abbrev pub first_text : ToolStatus → Option LineForm → List ℕ
+first_text (job.BadInput line) form = if line == 1 then names_text form else []
+first_text status form = []
+
+-- how far the lines of an import were taken that ended early
+abbrev pub taken_text : ToolStatus → LinesTaken → List ℕ
+taken_text job.Done taken = []
+taken_text status taken =
+    if taken.line == 0 then [] else line_of (decimal taken.rows ++ codes " rows were put, and line " ++ decimal taken.line ++ codes " was the last one that was taken\n")
 
 abbrev pub job_text : JobEnd → List ℕ
-job_text end = status_text end.status end.kept
+job_text end = status_text end.status end.kept ++ first_text end.status end.form ++ taken_text end.status end.taken
+
+-- how many pages a salvage passed over, by the reason
+abbrev pub passed_text : PassedOver → List ℕ
+passed_text passed =
+    line_of (codes "pages passed over: missing " ++ decimal passed.missing ++ codes ", torn " ++ decimal passed.torn ++ codes ", void " ++ decimal passed.void
+    ++ codes ", misplaced " ++ decimal passed.misplaced ++ codes ", unformed " ++ decimal passed.unformed ++ codes "\n")
+
+abbrev pub passed_over_text : ToolStatus → PassedOver → List ℕ
+passed_over_text job.Done passed = passed_text passed
+passed_over_text status passed = []
+
+abbrev pub salvage_text : SalvageEnd → List ℕ
+salvage_text end = status_text end.status None ++ passed_over_text end.status end.passed_over
 
 -- the forms of the command line, below that of a run
 abbrev pub form_of : List ℕ → List ℕ
 form_of words = codes "                flashts " ++ words
 
 abbrev pub forms_text : List ℕ
-forms_text = run_text Usage ++ form_of (codes "check IMAGE\n") ++ form_of (codes "export IMAGE NAME LOW HIGH\n") ++ form_of (codes "import IMAGE NAME\n")
+forms_text =
+    run_text Usage ++ form_of (codes "check IMAGE [all]\n") ++ form_of (codes "map IMAGE [svg]\n") ++ form_of (codes "export IMAGE NAME [LOW HIGH]\n")
+    ++ form_of (codes "import IMAGE NAME [gone]\n") ++ form_of (codes "salvage IMAGE NAME\n") ++ form_of (codes "help\n")
 
 abbrev pub exit_text : Exit → List ℕ
 exit_text (Run status) = run_text status
 exit_text (Job end) = job_text end
+exit_text (Salvage end) = salvage_text end
 exit_text Words = forms_text
-exit_text InUse = line_of (codes "another program uses the image\n")
+exit_text Help = []
+exit_text InUse = line_of (codes "another program uses the image\n") ++ line_of (codes "it is left as it is; call again if that one has ended\n")

@@ -1,14 +1,13 @@
 // How the program ends.
 ghost use Rattle.std.specs.Prelude.{◌≡◌, OnOk, OnErr};
-ghost use Rattle.std.specs.Process.{exit_status};
 ghost use Rattle.fl_command.specs.Number.{number_of, unwritten};
 
-use crate::lines::{Forms, JobLines, RunLines};
+use crate::lines::{Forms, JobLines, RunLines, SalvageLines};
 use fl_base::SinkFailed;
 use fl_jobs::{JobEnd, ToolStatus};
+use fl_salvage::SalvageEnd;
 use fl_session::Status;
 use std::fmt::{self, Display};
-use std::process::{ExitCode, Termination};
 
 /// How the program ends: its status is the number, and standard error has the text.
 #[derive(Clone, Copy, Debug, PartialEq, Eq)]
@@ -17,8 +16,12 @@ pub enum Exit {
     Run(Status),
     /// A job over an image ended so.
     Job(JobEnd),
+    /// The salvage of a table ended so.
+    Salvage(SalvageEnd),
     /// The words name neither a run nor a job, and no file was looked at.
     Words,
+    /// The jobs were asked for, and told.
+    Help,
     /// Another program uses the image, and nothing was read or changed.
     InUse,
 }
@@ -31,7 +34,9 @@ impl Exit {
         match self {
             Exit::Run(status) => status.number(),
             Exit::Job(end) => end.status.number(),
+            Exit::Salvage(end) => end.status.number(),
             Exit::Words => 1,
+            Exit::Help => 0,
             Exit::InUse => 20,
         }
     }
@@ -44,7 +49,16 @@ impl Exit {
         match (handed, self) {
             (Ok(()), exit) => exit,
             (Err(_), Exit::Run(_)) => Exit::Run(Status::OutWrite),
-            (Err(_), Exit::Job(_)) => Exit::Job(JobEnd::of(ToolStatus::OutWrite)),
+            (Err(_), Exit::Job(end)) => Exit::Job(JobEnd {
+                status: ToolStatus::OutWrite,
+                kept: None,
+                ..end
+            }),
+            (Err(_), Exit::Salvage(end)) => Exit::Salvage(SalvageEnd {
+                status: ToolStatus::OutWrite,
+                ..end
+            }),
+            (Err(_), Exit::Help) => Exit::Run(Status::OutWrite),
             (Err(_), exit) => exit,
         }
     }
@@ -61,19 +75,12 @@ impl Display for Exit {
         match self {
             Exit::Run(status) => RunLines(*status).fmt(f),
             Exit::Job(end) => JobLines(*end).fmt(f),
+            Exit::Salvage(end) => SalvageLines(*end).fmt(f),
             Exit::Words => Forms.fmt(f),
-            Exit::InUse => f.write_str("flashts: another program uses the image\n"),
+            Exit::Help => Ok(()),
+            Exit::InUse => f.write_str(
+                "flashts: another program uses the image\nflashts: it is left as it is; call again if that one has ended\n",
+            ),
         }
-    }
-}
-
-/// `main` returns the exit, so that each of its ends has the number. The lines are printed before; that standard error takes them
-/// no clause can say.
-impl Termination for Exit {
-    fn report<R: Eprint>(self, rt: &R) -> ExitCode
-        ensures { exit_status result ≡ number_of self }
-    {
-        let _ = eprint!(rt; "{self}");
-        ExitCode::from(self.number())
     }
 }

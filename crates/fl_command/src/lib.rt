@@ -2,9 +2,15 @@
 //! status and the text on standard error.
 #![tactic(auto)]
 
+mod ending;
 mod exit;
+mod help;
 mod jobs;
 mod lines;
+mod reason;
 
+pub use ending::Ending;
 pub use exit::Exit;
+pub use help::Help;
 pub use jobs::tool;
+pub use reason::reason_of;

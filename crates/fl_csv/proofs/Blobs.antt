@@ -7,7 +7,9 @@ use Rattle.hex.specs.Hex.{decode_of, decode_pairs, digit_or_error, hex_digit_val
 use Rattle.hex.specs.declared.error.FromHexError.{FromHexError}
 use Rattle.hex.specs.declared.error.FromHexError.TheVariants as hex
 use Rattle.fl_model.specs.Record.{bytes_equal}
-use Rattle.fl_csv.specs.Lines.{blob_of, formed_blob}
+use Rattle.fl_csv.specs.Lines.{blob_of, formed_blob, is_left_out}
+use Rattle.fl_csv.specs.declared.record.GoneBlobs.{GoneBlobs}
+use Rattle.fl_csv.specs.declared.record.GoneBlobs.TheVariants.{Refused, LeftOut}
 use Rattle.fl_csv.specs.declared.record.CsvRefusal.{CsvRefusal}
 use Rattle.fl_csv.specs.declared.record.CsvRefusal.TheVariants.{Number, NoMemory}
 use Rattle.fl_words.specs.Reply.{hex_digit, hex_text}
@@ -111,3 +113,14 @@ no-dash byte bytes =
 pub blob-written : (place : ℕ) (bytes : List ℕ) → AllByRecursion (λ byte. byte < 256) bytes → blob_of place (bytes_field bytes) ≡ Ok (Some bytes)
 blob-written place [] h = refl
 blob-written place (byte ∷ bytes) h = rw (no-dash byte bytes, digits-bytes (byte ∷ bytes) h) refl
+
+-- digits and a dash don't say that a blob is gone
+pub never-left : (gone : GoneBlobs) (bytes : List ℕ) → AllByRecursion (λ byte. byte < 256) bytes → is_left_out gone (bytes_field bytes) ≡ false
+never-left Refused bytes h = refl
+never-left LeftOut [] h = refl
+never-left LeftOut (byte ∷ bytes) h =
+    let other : eqb (hex_digit (byte / 16)) 103 ≡ false = digit (byte / 16) (omega (arith, h.0)) in
+    rw other refl
+  where
+    digit : (n : ℕ) → n < 16 → eqb (hex_digit n) 103 ≡ false
+    digit n lt = grind (arith, nat_tests, lt)

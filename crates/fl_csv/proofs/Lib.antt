@@ -2,6 +2,7 @@ pub mod Reading
 pub mod Blobs
 pub mod Numbers
 pub mod Fields
+pub mod Names
 pub mod Plain
 pub mod Sends
 pub mod Gathers

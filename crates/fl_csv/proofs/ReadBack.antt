@@ -12,10 +12,12 @@ use Rattle.std.proofs.lemmas.Str.Parse.{digit_from_value}
 use Rattle.std.proofs.Math.Seq.{take-append_seam}
 use Rattle.fl_model.specs.Record.{Record}
 use Rattle.fl_csv.specs.Text.{blob_fields, entry_fields, joined}
-use Rattle.fl_csv.specs.Lines.{blob_of, fields_put, line_fields, record_put, values_from, wanted_fields}
+use Rattle.fl_csv.specs.Lines.{blob_in, fields_put, line_fields, record_put, values_from, wanted_fields}
 use Rattle.fl_csv.specs.Laws.{Fits, IsBlob, IsValue, LinesReadBack, blob_told, entry_of}
 use Rattle.fl_csv.specs.declared.record.CsvRefusal.TheVariants as refusal
-use Rattle.fl_csv.proofs.Blobs.{blob-written}
+use Rattle.fl_csv.specs.declared.record.GoneBlobs.{GoneBlobs}
+use Rattle.fl_csv.specs.declared.record.GoneBlobs.TheVariants.{Refused, LeftOut}
+use Rattle.fl_csv.proofs.Blobs.{blob-written, never-left}
 use Rattle.fl_csv.proofs.Numbers.{decimal-number, signed-written}
 use Rattle.fl_csv.proofs.Plain.{ArePlain, IsPlain, blob-plain, decimal-plain, values-plain}
 use Rattle.fl_csv.proofs.Splitting.{only-joined}
@@ -44,15 +46,16 @@ blob-count true None h columns = omega arith
 blob-count true (Some bytes) h columns = omega arith
 blob-count false blob h columns = omega arith
 
-blob-back : (blobs : Bool) (blob : Option (List ℕ)) → IsBlob blobs blob → (place : ℕ)
-    → (if blobs then blob_of place (get_or (blob_fields (blob_told blobs blob)) 0 []) else Ok None) ≡ Ok blob
-blob-back true None h place = refl
-blob-back true (Some bytes) h place = blob-written place bytes h
-blob-back false None h place = refl
-blob-back false (Some bytes) h place = absurd h
+blob-back : (gone : GoneBlobs) (blobs : Bool) (blob : Option (List ℕ)) → IsBlob blobs blob → (place : ℕ)
+    → (if blobs then blob_in gone place (get_or (blob_fields (blob_told blobs blob)) 0 []) else Ok None) ≡ Ok blob
+blob-back Refused true None h place = refl
+blob-back LeftOut true None h place = refl
+blob-back gone true (Some bytes) h place = rw (never-left gone bytes h) (blob-written place bytes h)
+blob-back gone false None h place = refl
+blob-back gone false (Some bytes) h place = absurd h
 
-put-back : (columns : ℕ) (blobs : Bool) (stored : Record) → Fits columns blobs stored → fields_put columns blobs (entry_fields (entry_of blobs stored)) ≡ Ok stored
-put-back columns blobs stored fits =
+put-back : (gone : GoneBlobs) (columns : ℕ) (blobs : Bool) (stored : Record) → Fits columns blobs stored → fields_put gone columns blobs (entry_fields (entry_of blobs stored)) ≡ Ok stored
+put-back gone columns blobs stored fits =
     let words = map signed_decimal stored.values in
     let last = blob_fields (blob_told blobs stored.blob) in
     let count : length words ≡ columns = length-map stored.values signed_decimal ∙ fits.count in
@@ -62,11 +65,11 @@ put-back columns blobs stored fits =
     let at : get_or (words ++ last) columns [] ≡ get_or last 0 [] = rw (← count) (ap (λ n. get_or (words ++ last) n []) (sym (add-zero (length words))) ∙ get_or-append-add words last 0 []) in
     let next : columns + 1 ≡ suc columns = omega arith in
     let behind : get_or (decimal stored.key ∷ (words ++ last)) (columns + 1) [] ≡ get_or last 0 [] = rw next at in
-    let blob = blob-back blobs stored.blob fits.blob (columns + 2) in
+    let blob = blob-back gone blobs stored.blob fits.blob (columns + 2) in
     rw (key, front, values, behind, blob) refl
 
 pub line-back : LinesReadBack
-line-back columns blobs stored fits =
+line-back gone columns blobs stored fits =
     let words = map signed_decimal stored.values in
     let last = blob_fields (blob_told blobs stored.blob) in
     let numeral = decimal_is_IsNumeral stored.key fits.key in
@@ -74,6 +77,6 @@ line-back columns blobs stored fits =
     (values-plain stored.values last (all-fit stored.values fits.values) (blob-plain (blob_told blobs stored.blob))) in
     let count : length (decimal stored.key ∷ (words ++ last)) ≡ wanted_fields columns blobs =
     ap suc (length-append words last ∙ ap (λ n. n + length last) (length-map stored.values signed_decimal ∙ fits.count)) ∙ blob-count blobs stored.blob fits.blob columns in
-    ap (record_put columns blobs) only
-    ∙ ap (λ t. if t then fields_put columns blobs (decimal stored.key ∷ (words ++ last)) else Err (refusal.Fields (wanted_fields columns blobs))) (eq-eqb _ _ count)
-    ∙ put-back columns blobs stored fits
+    ap (record_put gone columns blobs) only
+    ∙ ap (λ t. if t then fields_put gone columns blobs (decimal stored.key ∷ (words ++ last)) else Err (refusal.Fields (wanted_fields columns blobs))) (eq-eqb _ _ count)
+    ∙ put-back gone columns blobs stored fits

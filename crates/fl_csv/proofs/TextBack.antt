@@ -1,5 +1,5 @@
 -- The text of records that fit means those records.
-use Rattle.std.proofs.Common.{◌≡◌, ℕ, ◌+◌, ◌<◌, ◌≤◌, zero, suc, Bool, true, false, eqb, List, [], ◌∷◌, ◌++◌, length, drop, map, Ok, codes, refl, ◌∙◌, ap, arith, append_assoc}
+use Rattle.std.proofs.Common.{◌≡◌, ℕ, ◌+◌, ◌<◌, ◌≤◌, zero, suc, Bool, true, false, eqb, List, [], ◌∷◌, ◌++◌, length, drop, map, Ok, codes, refl, ◌∙◌, ap, arith, append_assoc, if◌then◌else◌}
 use Rattle.std.specs.Prelude.{All}
 use Rattle.std.specs.List.{AllByRecursion, flat_map, slice_split}
 use Rattle.std.proofs.lemmas.Bool.Decides.{nat_tests}
@@ -9,9 +9,11 @@ use Rattle.fl_model.specs.Record.{Record}
 use Rattle.fl_words.specs.Grammar.{lines_of, no_empty_last, without_return}
 use Rattle.fl_csv.specs.Text.{column_names, entry_fields, entry_text, header_fields, joined, blob_fields}
 use Rattle.fl_csv.specs.Lines.{line_put}
-use Rattle.fl_csv.specs.Laws.{Fits, TextsReadBack, blob_told, entry_of}
+use Rattle.fl_csv.specs.Laws.{Fits, HeadersReadBack, TextsReadBack, blob_told, entry_of}
+use Rattle.fl_csv.specs.declared.record.GoneBlobs.TheVariants.{Refused}
 use Rattle.fl_csv.proofs.Plain.{ArePlain, IsPlain, blob-plain, decimal-plain, values-plain}
 use Rattle.fl_csv.proofs.ReadBack.{all-fit, line-back}
+use Rattle.fl_csv.proofs.Splitting.{only-joined}
 
 -- a line of bytes that are no control bytes
 abbrev IsLine : List ℕ → Type 0
@@ -69,24 +71,29 @@ header-plain : (columns : ℕ) (blobs : Bool) → columns ≤ 8 → ArePlain (he
 header-plain columns true le = (key-plain, names-plain 1 columns (omega (arith, le)) (codes "blob" ∷ []) ((omega arith, (omega arith, (omega arith, (omega arith, tt)))), tt))
 header-plain columns false le = (key-plain, names-plain 1 columns (omega (arith, le)) [] tt)
 
+pub header-back : HeadersReadBack
+header-back columns blobs le =
+    let plain = header-plain columns blobs le in
+    only-joined 107 (codes "ey") (column_names 1 columns ++ (if blobs then codes "blob" ∷ [] else [])) (omega arith) plain.0 plain.1
+
 -- the lines of the records
 entry-plain : (columns : ℕ) (blobs : Bool) (stored : Record) → Fits columns blobs stored → ArePlain (entry_fields (entry_of blobs stored))
 entry-plain columns blobs stored fits =
     (decimal-plain stored.key fits.key, values-plain stored.values (blob_fields (blob_told blobs stored.blob)) (all-fit stored.values fits.values) (blob-plain (blob_told blobs stored.blob)))
 
 records-back : (columns : ℕ) (blobs : Bool) (stored : List Record) → AllByRecursion (Fits columns blobs) stored
-    → map (λ line. line_put columns blobs (without_return line)) (lines_of (flat_map entry_text (map (entry_of blobs) stored))) ≡ map Ok stored
+    → map (λ line. line_put Refused columns blobs (without_return line)) (lines_of (flat_map entry_text (map (entry_of blobs) stored))) ≡ map Ok stored
 records-back columns blobs [] h = refl
 records-back columns blobs (first ∷ stored) h =
     let line = joined (entry_fields (entry_of blobs first)) in
     let rest = flat_map entry_text (map (entry_of blobs) stored) in
     let is = joined-line (entry_fields (entry_of blobs first)) (entry-plain columns blobs first h.0) in
-    ap (map (λ line. line_put columns blobs (without_return line))) (first-line line rest is)
-    ∙ rw (same-line line is, line-back columns blobs first h.0, records-back columns blobs stored h.1) refl
+    ap (map (λ line. line_put Refused columns blobs (without_return line))) (first-line line rest is)
+    ∙ rw (same-line line is, line-back Refused columns blobs first h.0, records-back columns blobs stored h.1) refl
 
 pub text-back : TextsReadBack
 text-back columns blobs stored few fits =
     let header = joined (header_fields columns blobs) in
     let rest = flat_map entry_text (map (entry_of blobs) stored) in
-    ap (λ lines. map (λ line. line_put columns blobs (without_return line)) (drop 1 lines)) (first-line header rest (joined-line (header_fields columns blobs) (header-plain columns blobs few)))
+    ap (λ lines. map (λ line. line_put Refused columns blobs (without_return line)) (drop 1 lines)) (first-line header rest (joined-line (header_fields columns blobs) (header-plain columns blobs few)))
     ∙ records-back columns blobs stored fits

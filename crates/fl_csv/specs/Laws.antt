@@ -6,8 +6,9 @@ use Rattle.csv.specs.Reading.{default_config, strip_bom}
 use Rattle.csv.specs.declared.parser.State.{State}
 use Rattle.csv.specs.declared.parser.State.TheVariants as st
 use Rattle.fl_model.specs.Record.{Record}
-use Rattle.fl_csv.specs.Text.{Blob, Absent, Nothing, Bytes, Entry, entry_fields, joined, csv_text}
-use Rattle.fl_csv.specs.Lines.{is_bare, is_open, line_fields, line_put, parts_of, text_puts}
+use Rattle.fl_csv.specs.Text.{Blob, Absent, Nothing, Bytes, Entry, entry_fields, header_fields, joined, csv_text}
+use Rattle.fl_csv.specs.Lines.{IsHeader, is_bare, is_open, line_fields, line_put, parts_of, text_puts}
+use Rattle.fl_csv.specs.declared.record.GoneBlobs.{GoneBlobs}
 
 -- a number of 64 bits with a sign
 abbrev pub IsValue : ℤ → Type 0
@@ -36,10 +37,14 @@ blob_told true (Some bytes) = Bytes bytes
 abbrev pub entry_of : Bool → Record → Entry
 entry_of blobs stored = record { key = stored.key; values = stored.values; blob = blob_told blobs stored.blob }
 
--- the line of a record that fits, without its newline, means that record
+-- the line of a record that fits, without its newline, means that record, whatever becomes of blobs that are gone
 abbrev pub LinesReadBack : Type 0
-LinesReadBack = (columns : ℕ) (blobs : Bool) (stored : Record) → Fits columns blobs stored
-    → line_put columns blobs (joined (entry_fields (entry_of blobs stored))) ≡ Ok stored
+LinesReadBack = (gone : GoneBlobs) (columns : ℕ) (blobs : Bool) (stored : Record) → Fits columns blobs stored
+    → line_put gone columns blobs (joined (entry_fields (entry_of blobs stored))) ≡ Ok stored
+
+-- the line of the names is read as such
+abbrev pub HeadersReadBack : Type 0
+HeadersReadBack = (columns : ℕ) (blobs : Bool) → columns ≤ 8 → IsHeader columns blobs (joined (header_fields columns blobs))
 
 -- the text of records that fit means those records, in turn
 abbrev pub TextsReadBack : Type 0

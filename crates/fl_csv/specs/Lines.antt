@@ -1,11 +1,14 @@
 -- What a line means: the record that it is, or why it is none.
-use Rattle.std.specs.Prelude.{ℕ, ◌+◌, ℤ, Bool, true, false, not, ◌==◌, ◌&&◌, ◌||◌, Option, Some, None, Result, Ok, Err, List, [], ◌∷◌, length, take, drop, get_or, map, if◌then◌else◌}
+use Rattle.std.specs.Prelude.{◌≡◌, ℕ, ◌+◌, ℤ, Bool, true, false, not, ◌==◌, ◌&&◌, ◌||◌, Option, Some, None, Result, Ok, Err, List, [], ◌∷◌, length, take, drop, get_or, map, codes, if◌then◌else◌}
 use Rattle.std.specs.List.{fold, list_all, slice_split}
-use Rattle.fl_model.specs.Record.{Record}
+use Rattle.fl_model.specs.Record.{Record, bytes_equal}
 use Rattle.fl_words.specs.Grammar as grammar
 use Rattle.csv.specs.Reading.{default_config, records, strip_bom}
 use Rattle.fl_csv.specs.declared.quotes.Place.{Place}
 use Rattle.fl_csv.specs.declared.quotes.Place.TheVariants.{Edge, Bare, Quoted}
+use Rattle.fl_csv.specs.Text.{header_fields}
+use Rattle.fl_csv.specs.declared.record.GoneBlobs.{GoneBlobs}
+use Rattle.fl_csv.specs.declared.record.GoneBlobs.TheVariants.{Refused, LeftOut}
 use Rattle.fl_csv.specs.declared.record.CsvRefusal.{CsvRefusal}
 use Rattle.fl_csv.specs.declared.record.CsvRefusal.TheVariants.{Csv, Fields, Number}
 
@@ -73,14 +76,27 @@ abbrev pub blob_of : ℕ → List ℕ → Result (Option (List ℕ)) CsvRefusal
 blob_of place [] = Ok None
 blob_of place (byte ∷ bytes) = formed_blob place (grammar.blob_word (byte ∷ bytes))
 
+-- a field says that the blob is gone, where such a blob is left out
+abbrev pub is_left_out : GoneBlobs → List ℕ → Bool
+is_left_out Refused field = false
+is_left_out LeftOut field = bytes_equal field (codes "gone")
+
+-- .. and then there is none
+abbrev pub blob_in : GoneBlobs → ℕ → List ℕ → Result (Option (List ℕ)) CsvRefusal
+blob_in gone place field = if is_left_out gone field then Ok None else blob_of place field
+
 -- the first field is the key, the next ones are the values, and the last is the blob where there are blobs; the first
 -- field that hasn't its form is told
-abbrev pub fields_put : ℕ → Bool → List (List ℕ) → Result Record CsvRefusal
-fields_put columns blobs fields = do
+abbrev pub fields_put : GoneBlobs → ℕ → Bool → List (List ℕ) → Result Record CsvRefusal
+fields_put gone columns blobs fields = do
   key ← formed 1 (grammar.number (get_or fields 0 []))
   values ← values_from 2 (take columns (drop 1 fields))
-  blob ← if blobs then blob_of (columns + 2) (get_or fields (columns + 1) []) else Ok None
+  blob ← if blobs then blob_in gone (columns + 2) (get_or fields (columns + 1) []) else Ok None
   Ok (record { key = key; values = values; blob = blob })
+
+-- the record of these fields is one whose blob is left out
+abbrev pub lack_blob : GoneBlobs → ℕ → Bool → List (List ℕ) → Bool
+lack_blob gone columns blobs fields = if blobs then is_left_out gone (get_or fields (columns + 1) []) else false
 
 abbrev pub wanted_fields : ℕ → Bool → ℕ
 wanted_fields columns blobs = if blobs then columns + 2 else columns + 1
@@ -94,16 +110,28 @@ only_record other = None
 abbrev pub line_fields : List ℕ → Option (List (List ℕ))
 line_fields line = if is_open line then None else only_record (records_of line)
 
-abbrev pub record_put : ℕ → Bool → Option (List (List ℕ)) → Result Record CsvRefusal
-record_put columns blobs None = Err Csv
-record_put columns blobs (Some fields) =
-    if length fields == wanted_fields columns blobs then fields_put columns blobs fields else Err (Fields (wanted_fields columns blobs))
+abbrev pub record_put : GoneBlobs → ℕ → Bool → Option (List (List ℕ)) → Result Record CsvRefusal
+record_put gone columns blobs None = Err Csv
+record_put gone columns blobs (Some fields) =
+    if length fields == wanted_fields columns blobs then fields_put gone columns blobs fields else Err (Fields (wanted_fields columns blobs))
+
+abbrev pub lacks_in : GoneBlobs → ℕ → Bool → Option (List (List ℕ)) → Bool
+lacks_in gone columns blobs None = false
+lacks_in gone columns blobs (Some fields) = lack_blob gone columns blobs fields
 
 -- what a line without its newline means
-abbrev pub line_put : ℕ → Bool → List ℕ → Result Record CsvRefusal
-line_put columns blobs line = record_put columns blobs (line_fields line)
+abbrev pub line_put : GoneBlobs → ℕ → Bool → List ℕ → Result Record CsvRefusal
+line_put gone columns blobs line = record_put gone columns blobs (line_fields line)
+
+-- .. and whether a blob is left out of the record that it is
+abbrev pub lacks_blob : GoneBlobs → ℕ → Bool → List ℕ → Bool
+lacks_blob gone columns blobs line = lacks_in gone columns blobs (line_fields line)
 
 -- what the lines of a text below the first one mean, in turn
 abbrev pub text_puts : ℕ → Bool → List ℕ → List (Result Record CsvRefusal)
 text_puts columns blobs text =
-    map (λ line. line_put columns blobs (grammar.without_return line)) (drop 1 (grammar.lines_of text))
+    map (λ line. line_put Refused columns blobs (grammar.without_return line)) (drop 1 (grammar.lines_of text))
+
+-- a line is that of the names: these are its fields
+abbrev pub IsHeader : ℕ → Bool → List ℕ → Type 0
+IsHeader columns blobs line = line_fields line ≡ Some (header_fields columns blobs)

@@ -1,10 +1,11 @@
 // The fields of a record: each is of its form or isn't.
 ghost use Rattle.std.specs.Prelude.{◌≡◌, ◌≢◌, ◌⊎◌, MatchOption, MatchResult, Ok, Err};
 ghost use Rattle.fl_words.specs.Grammar as grammar;
+ghost use Rattle.fl_csv.specs.Lines as lines;
 ghost use Rattle.fl_csv.specs.Lines.{blob_of};
 ghost use Rattle.hex.specs.declared.error.FromHexError.{FromHexError};
 
-use crate::{BlobBytes, CsvRefusal};
+use crate::{BlobBytes, CsvRefusal, GoneBlobs};
 use hex::FromHexError;
 use std::alloc::Global;
 use std::str;
@@ -29,6 +30,16 @@ pub(crate) fn signed(field: &[u8]) -> Option<i64>
     match field {
         [b'-', digits @ ..] => 0_i64.checked_sub_unsigned(number(digits)?),
         _ => i64::try_from(number(field)?).ok(),
+    }
+}
+
+/// Whether a field says that the blob is gone, where such a blob is left out.
+pub(crate) fn is_left_out(gone: GoneBlobs, field: &[u8]) -> bool
+    ensures { result ≡ lines.is_left_out gone field.now }
+{
+    match gone {
+        GoneBlobs::Refused => false,
+        GoneBlobs::LeftOut => field == b"gone".as_slice(),
     }
 }
 

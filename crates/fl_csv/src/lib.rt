@@ -1,10 +1,11 @@
 //! Records as lines of CSV, both ways: a line of the columns' names, and a line for each record.
 #![tactic(auto)]
 
-ghost use Rattle.fl_csv.specs.Laws.{BareLines, LinesReadBack, QuotesAsCsv, TextsReadBack};
+ghost use Rattle.fl_csv.specs.Laws.{BareLines, HeadersReadBack, LinesReadBack, QuotesAsCsv, TextsReadBack};
 
 mod bare;
 mod field;
+mod header;
 mod quotes;
 mod read;
 mod record;
@@ -13,13 +14,19 @@ mod row;
 mod tests;
 mod write;
 
+pub use header::is_header;
 pub use read::read_record;
-pub use record::{BlobBytes, CsvBlob, CsvFault, CsvPut, CsvRefusal};
+pub use record::{BlobBytes, CsvBlob, CsvFault, CsvPut, CsvRefusal, GoneBlobs, LineForm};
 pub use write::{header_line, write_record};
 
 /// What is written of a record that fits is read back as that record.
 pub fn lines_read_back()
     ensures { LinesReadBack }
+{}
+
+/// The line of the names is read as such.
+pub fn headers_read_back()
+    ensures { HeadersReadBack }
 {}
 
 /// The text of records that fit is read back, line by line, as these records.

@@ -58,6 +58,26 @@ pub struct CsvPut {
     pub values: ArrayVec<i64, 8>,
     /// The blob, where the record has one.
     pub blob: Option<BlobBytes>,
+    /// Whether it had one that is gone, and is read without it.
+    pub gone: bool,
+}
+
+/// What becomes of a line whose blob's field is `gone`.
+#[derive(Clone, Copy, Debug, PartialEq, Eq)]
+pub enum GoneBlobs {
+    /// It is refused, as that field isn't of its form.
+    Refused,
+    /// It is a record without a blob.
+    LeftOut,
+}
+
+/// The form of the lines of a table.
+#[derive(Clone, Copy, Debug, PartialEq, Eq)]
+pub struct LineForm {
+    /// How many columns the table has.
+    pub columns: usize,
+    /// Whether its records have blobs.
+    pub blobs: bool,
 }
 
 /// Why a record wasn't written.

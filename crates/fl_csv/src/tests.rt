@@ -1,6 +1,9 @@
 // What no contract says: that memory is found; and lines of the format from outside.
 use crate::CsvRefusal::{Csv, Fields, Number};
-use crate::{CsvBlob, CsvFault, CsvPut, CsvRefusal, header_line, read_record, write_record};
+use crate::{
+    CsvBlob, CsvFault, CsvPut, CsvRefusal, GoneBlobs, header_line, is_header, read_record,
+    write_record,
+};
 use fl_base::{MemSink, SinkFailed};
 use std::process::Abort;
 use std::test::Fail;
@@ -88,7 +91,13 @@ fn a_line_is_a_record(rt: HostRuntime) -> Result<(), Fail> {
         ("1,2,\"aF09\"", true, 1, &[2], Some(&[175, 9])),
     ];
     for (line, blobs, key, values, blob) in lines {
-        let read = read_record(rt.alloc(), line.as_bytes(), values.len(), blobs);
+        let read = read_record(
+            rt.alloc(),
+            line.as_bytes(),
+            values.len(),
+            blobs,
+            GoneBlobs::Refused,
+        );
         is_put(&rt, read, key, values, blob);
     }
     Ok(())
@@ -130,8 +139,45 @@ fn the_first_fault_is_told(rt: HostRuntime) -> Result<(), Fail> {
         ("1,2,gone", true, Number { field: 3 }),
     ];
     for (line, blobs, fault) in lines {
-        let read = read_record(rt.alloc(), line.as_bytes(), 1, blobs);
+        let read = read_record(rt.alloc(), line.as_bytes(), 1, blobs, GoneBlobs::Refused);
         assert_eq!(rt; read.err(), Some(fault), "{line}");
+    }
+    Ok(())
+}
+
+#[test]
+fn a_blob_that_is_gone_is_left_out(rt: HostRuntime) -> Result<(), Fail> {
+    for (line, gone) in [("1,2,gone", true), ("1,2,\"gone\"", true), ("1,2,", false)] {
+        let read = read_record(rt.alloc(), line.as_bytes(), 1, true, GoneBlobs::LeftOut);
+        let put = read.expect(&rt, "a record");
+        assert_eq!(rt; put.gone, gone, "{line}");
+        assert_eq!(rt; put.key, 1, "{line}");
+        assert!(rt; put.blob.is_none(), "{line}");
+    }
+    for line in ["1,2,Gone", "1,2, gone", "1,2,gone "] {
+        let read = read_record(rt.alloc(), line.as_bytes(), 1, true, GoneBlobs::LeftOut);
+        assert_eq!(rt; read.err(), Some(Number { field: 3 }), "{line}");
+    }
+    Ok(())
+}
+
+#[test]
+fn the_line_of_the_names_is_read(rt: HostRuntime) -> Result<(), Fail> {
+    let cases = [
+        ("key,c1,blob", 1, true, true),
+        ("key,c1", 1, true, false),
+        ("key,c1,blob", 1, false, false),
+        ("\u{feff}key,c1", 1, false, true),
+        ("\"key\",\"c1\"", 1, false, true),
+        ("\"key,c1\"", 1, false, false),
+        ("key,\"c1", 1, false, false),
+        ("key,c1,c2,c3,c4,c5,c6,c7,c8,blob", 8, true, true),
+        ("key,c1,c2,c3,c4,c5,c6,c7,c8,blob,c9", 8, true, false),
+        ("", 1, false, false),
+    ];
+    for (line, columns, blobs, wanted) in cases {
+        let is = is_header(rt.alloc(), line.as_bytes(), columns, blobs)?;
+        assert_eq!(rt; is, wanted, "{line}");
     }
     Ok(())
 }

@@ -21,10 +21,6 @@ use Rattle.fl_table.specs.declared.table.Table.{Table}
 use Rattle.fl_export.specs.Records.{field_of}
 use Rattle.fl_export.specs.Text.{told_blob, said_of}
 
-pub length-values_in : (columns : List Column) (bytes : List ℕ) → length (values_in columns bytes) ≡ length columns
-length-values_in [] bytes = refl
-length-values_in (column ∷ columns) bytes = ap suc (length-values_in columns (drop column.width bytes))
-
 -- a table has blobs where its plan has variable data
 pub blobs-as : (t : Table 64 64) (f : FlashState) (first : ℕ) (plan : Plan) (table : model.Table) → Stands t f first plan table → has_blobs t ≡ has_var plan
 blobs-as t f first plan table h = sym t.has_blobs ∙ sym (ap (λ (l : RowLayout). l.blobs) h.planned.layout)

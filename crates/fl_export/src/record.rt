@@ -21,26 +21,13 @@ ghost use Rattle.fl_export.specs.Writing.{IfSink, IfUnread, Writes};
 use crate::blob::read_blob;
 use crate::fault::ExportFault;
 use crate::rooms::BlobRoom;
-use arrayvec::ArrayVec;
 use fl_base::{BlobRef, Sink};
 use fl_csv::{CsvBlob, write_record};
 use fl_flash::Flash;
+use fl_jobs::values_of;
 use fl_schema::RowRef;
 use fl_tables::Table;
 use std::alloc::Global;
-
-/// The values of a row.
-fn values_of(row: &RowRef<'_>, columns: usize) -> ArrayVec<i64, 8>
-    requires columns { columns ≡ length (layout_of_row row.now).columns }
-    requires few { columns ≤ 8 }
-    ensures { result.items ≡ (row_of row.now).values }
-{
-    let mut values = ArrayVec::new();
-    for i in 0..columns {
-        values.push(row.value(i));
-    }
-    values
-}
 
 /// What is told of the blob that a row names, whose bytes stand in the room where they aren't gone.
 #[derive(Clone, Copy)]

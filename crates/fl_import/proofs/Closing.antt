@@ -1,5 +1,5 @@
 -- How an import of an image ends, from how one over its flash does.
-use Rattle.std.proofs.Common.{◌≡◌, ℕ, zero, suc, ◌<◌, ◌⊎◌, inl, inr, Bool, true, false, IsTrue, Option, Some, None, List, [], ◌∷◌, length, refl, sym, ◌∙◌, ap, subst, arith}
+use Rattle.std.proofs.Common.{◌≡◌, ℕ, zero, suc, ◌<◌, ◌⊎◌, inl, inr, Bool, true, false, IsTrue, IfSome, Option, Some, None, List, [], ◌∷◌, length, refl, sym, ◌∙◌, ap, subst, arith}
 use Rattle.std.specs.Prelude.{find}
 use Rattle.std.specs.List.{slice_get}
 use Rattle.std.proofs.lemmas.Option.{slice_get_within}
@@ -20,7 +20,10 @@ use Rattle.fl_flash.specs.Flash.{FlashState, Goes}
 use Rattle.fl_flash.specs.Media.{MediaState}
 use Rattle.fl_flash.specs.Sim.{on_medium}
 use Rattle.fl_flash.specs.declared.flash.FlashFault.TheVariants.{PowerLost, Media}
+use Rattle.fl_csv.specs.declared.record.GoneBlobs.{GoneBlobs}
+use Rattle.fl_csv.specs.declared.record.LineForm.{LineForm}
 use Rattle.fl_jobs.specs.Header.{IsAccepted, IsMade}
+use Rattle.fl_jobs.specs.Taken.{end_of, none_taken}
 use Rattle.fl_jobs.specs.Image.{IsImageOf, OnlyLooksAt}
 use Rattle.fl_jobs.specs.Status.{is_done}
 use Rattle.fl_jobs.specs.declared.job_end.JobEnd.{JobEnd}
@@ -42,12 +45,11 @@ use Rattle.fl_tables.proofs.Naming.{bytes_equal-own}
 use Rattle.fl_tables.proofs.TablesChanged.{some-is}
 use Rattle.fl_words.specs.Config.{Lines}
 use Rattle.fl_words.specs.Medium.{IsImage}
-use Rattle.fl_import.specs.Ends.{Told, Imports, TablesEnd, IsUnbegun, ImportEnds, IsImageFor, MayTake, StatusFits, of_mount}
+use Rattle.fl_import.specs.Ends.{Told, Imports, TablesEnd, IsUnbegun, ImportEnds, IsFormIn, IsImageFor, MayTake, StatusFits, of_mount}
 use Rattle.fl_import.specs.Images.{EndsOn, EndsOver, FormsAt, HasCauses, IsOfMounted, told_of}
 use Rattle.fl_import.specs.Reading.{TakesSome}
 use Rattle.fl_import.specs.Steps.{IsOfTable, IsFormOf}
 use Rattle.fl_import.specs.Taking.{EndedAs, EndedOver}
-use Rattle.fl_import.specs.declared.form.Form.{Form}
 
 -- ---- what stands at the end in other words, and faults that are counted from an earlier moment on
 
@@ -72,15 +74,15 @@ module _ (plans : List Plan) (tables : List Table) (name text : List ℕ) (told 
   ends-seen kept (BadInput n) h = imports-seen _ h
   ends-seen kept Unsound h = imports-seen _ h
 
--- an end of which no rows are told
-pub as-end : (P : Option ℕ → ToolStatus → Type 0) (end : JobEnd) (given status : ToolStatus) → end ≡ record { status = given; kept = None } → given ≡ status → P None status → P end.kept end.status
-as-end P end given status is same h = subst (λ (e : JobEnd). P e.kept e.status) (sym is) (subst (P None) (sym same) h)
+-- an end of which nothing is counted
+pub as-end : (P : JobEnd → Type 0) (end : JobEnd) (given status : ToolStatus) → end ≡ end_of given → given ≡ status → P (end_of status) → P end
+as-end P end given status is same h = subst P (sym is) (subst (λ (s : ToolStatus). P (end_of s)) (sym same) h)
 
 -- ---- over a flash that was made on the medium
 
 pub flash-ends : (config : Config) (lines : Lines) (tables : List Table) (name text : List ℕ) (f g : FlashState) (old new : MediaState) (geometry : Geometry) (blocks : ℕ) (origin : GName) (told : Told) (entries now : List Entry) (at : ℕ) (kept : Option ℕ) (status : ToolStatus) →
     f ≡ on_medium geometry blocks 1024 origin true None 0 (record { reads = 0; programs = 0; erases = 0 }) old → new ≡ g.media → Goes f g → lines.device ≡ Some geometry → IsTrue old.tells → Makes lines config → IsImage config old.content tables → AreNewTables entries lines →
-    IsNamed entries name at → (form : Form) → FormsAt form lines.plans at →
+    IsNamed entries name at → (form : LineForm) → FormsAt form lines.plans at →
     ((plans : List Plan) (ts : List Table) (asked : List ℕ) → IsTrue f.media.tells → f.is_on ≡ true → SameDevice f at_rest → TablesStand f (λ i. false) plans entries ts → IsNamed entries asked at → FormsAt form plans at → EndsOn plans ts asked text told f g now kept status) →
     EndsOver config tables name text told old new kept status
 flash-ends config lines tables name text f g old new geometry blocks origin told entries now at kept status is media goes device tells makes image made named form forms ends =
@@ -100,8 +102,8 @@ flash-ends config lines tables name text f g old new geometry blocks origin told
     (inr (ends-seen config.plans tables name text told old.faults old.faults g.media.faults (TablesStand g (λ i. false) config.plans now) (IsImage config g.media.content) seen (λ r. r) kept status here))
 
 -- there was no room for it
-pub no-room : (config : Config) (tables : List Table) (name text : List ℕ) (medium : MediaState) (told rest : Option (List ℕ)) → rest ≡ Some text → EndsOver config tables name text (told_of told told rest) medium medium None NoMemory
-no-room config tables name text medium told rest is = inl (refl, (record { same = refl; nothing = appends-none told }, is))
+pub no-room : (gone : GoneBlobs) (config : Config) (tables : List Table) (name text : List ℕ) (medium : MediaState) (told rest : Option (List ℕ)) → rest ≡ Some text → EndsOver config tables name text (told_of gone none_taken told told rest) medium medium None NoMemory
+no-room gone config tables name text medium told rest is = inl (refl, (record { same = refl; nothing = appends-none told }, (is, refl)))
 
 -- .. and it has its causes
 pub flash-causes : (f g : FlashState) (old new : MediaState) (geometry : Geometry) (blocks : ℕ) (origin : GName) (tables source source_now sink sink_now : ℕ) (kept : Option ℕ) (status : ToolStatus) →
@@ -111,10 +113,15 @@ flash-causes f g old new geometry blocks origin tables source source_now sink si
     subst (λ (n : ℕ). HasCauses tables n new.faults source source_now sink sink_now kept status) (ap (λ (x : FlashState). x.media.faults) is)
     (subst (λ (n : ℕ). HasCauses tables f.media.faults n source source_now sink sink_now kept status) (sym (ap (λ (m : MediaState). m.faults) media)) h)
 
+-- .. and the form that was handed up is that of the table
+pub form-then : (o : Option LineForm) (form : LineForm) (P : LineForm → Type 0) → IfSome o (λ given. given ≡ form) → P form → IfSome o P
+form-then None form P is h = tt
+form-then (Some given) form P is h = subst P (sym is) h
+
 -- ---- over the medium, whose header was read before
 
-pub untouched : (text : List ℕ) (old new : MediaState) (told rest : Option (List ℕ)) → rest ≡ Some text → OnlyLooksAt old new → IsUnbegun old.content new.content text (told_of told told rest) old.faults new.faults
-untouched text old new told rest is looks = (record { same = looks.content; nothing = appends-none told }, is)
+pub untouched : (gone : GoneBlobs) (text : List ℕ) (old new : MediaState) (told rest : Option (List ℕ)) → rest ≡ Some text → OnlyLooksAt old new → IsUnbegun old.content new.content text (told_of gone none_taken told told rest) old.faults new.faults
+untouched gone text old new told rest is looks = (record { same = looks.content; nothing = appends-none told }, (is, refl))
 
 table-ends : (config : Config) (tables : List Table) (name text : List ℕ) (told : Told) (a b : ℕ) (content content_now : List ℕ) (kept : Option ℕ) (status : ToolStatus) → IsOfMounted status → TablesEnd config.plans tables name text told a b (IsImage config content_now) kept status →
     ImportEnds config tables name text told a b content content_now kept status
@@ -139,24 +146,24 @@ over-ends config tables name text old mid new told kept status of looks (inr h) 
     table-ends config tables name text told old.faults new.faults old.content new.content kept status of
     (ends-seen config.plans tables name text told old.faults mid.faults new.faults (IsImage config new.content) (IsImage config new.content) (λ ts i. i) (λ rose. omega (arith, looks.later, rose)) kept status h)
 
-pub memory-ends : (config : Config) (tables : List Table) (name text : List ℕ) (old new : MediaState) (told rest : Option (List ℕ)) → rest ≡ Some text → OnlyLooksAt old new →
-    ImportEnds config tables name text (told_of told told rest) old.faults new.faults old.content new.content None NoMemory
-memory-ends config tables name text old new told rest is looks = inl (untouched text old new told rest is looks)
+pub memory-ends : (gone : GoneBlobs) (config : Config) (tables : List Table) (name text : List ℕ) (old new : MediaState) (told rest : Option (List ℕ)) → rest ≡ Some text → OnlyLooksAt old new →
+    ImportEnds config tables name text (told_of gone none_taken told told rest) old.faults new.faults old.content new.content None NoMemory
+memory-ends gone config tables name text old new told rest is looks = inl (untouched gone text old new told rest is looks)
 
-pub early-ends : (config : Config) (tables : List Table) (name text : List ℕ) (old new : MediaState) (told rest : Option (List ℕ)) (status : ToolStatus) → rest ≡ Some text → IsMade config → IsImage config old.content tables → OnlyLooksAt old new →
+pub early-ends : (gone : GoneBlobs) (config : Config) (tables : List Table) (name text : List ℕ) (old new : MediaState) (told rest : Option (List ℕ)) (status : ToolStatus) → rest ≡ Some text → IsMade config → IsImage config old.content tables → OnlyLooksAt old new →
     (status ≡ NotImage) ⊎ (status ≡ Device) → (status ≡ NotImage → (lines : Lines) → IsAccepted lines → IsImageOf old.content lines → ⊥) → (status ≡ Device → Rose old.faults new.faults) →
-    ImportEnds config tables name text (told_of told told rest) old.faults new.faults old.content new.content None status
-early-ends config tables name text old new told rest status whole made image looks (inl is) none device = absurd (none is made.lines made.accepted (made-image config made old.content tables image))
-early-ends config tables name text old new told rest status whole made image looks (inr is) none device =
-    subst (λ (s : ToolStatus). ImportEnds config tables name text (told_of told told rest) old.faults new.faults old.content new.content None s) (sym is) (inl (device is, untouched text old new told rest whole looks))
+    ImportEnds config tables name text (told_of gone none_taken told told rest) old.faults new.faults old.content new.content None status
+early-ends gone config tables name text old new told rest status whole made image looks (inl is) none device = absurd (none is made.lines made.accepted (made-image config made old.content tables image))
+early-ends gone config tables name text old new told rest status whole made image looks (inr is) none device =
+    subst (λ (s : ToolStatus). ImportEnds config tables name text (told_of gone none_taken told told rest) old.faults new.faults old.content new.content None s) (sym is) (inl (device is, untouched gone text old new told rest whole looks))
 
-pub nameless-ends : (config : Config) (tables : List Table) (name text : List ℕ) (old new : MediaState) (told rest : Option (List ℕ)) (lines : Lines) (entries : List Entry) → rest ≡ Some text → IsMade config → IsImage config old.content tables → OnlyLooksAt old new →
-    IsAccepted lines → IsImageOf old.content lines → AreNewTables entries lines → Names entries name None → ImportEnds config tables name text (told_of told told rest) old.faults new.faults old.content new.content None NoTable
-nameless-ends config tables name text old new told rest lines entries whole made image looks accepted is fresh none =
+pub nameless-ends : (gone : GoneBlobs) (config : Config) (tables : List Table) (name text : List ℕ) (old new : MediaState) (told rest : Option (List ℕ)) (lines : Lines) (entries : List Entry) → rest ≡ Some text → IsMade config → IsImage config old.content tables → OnlyLooksAt old new →
+    IsAccepted lines → IsImageOf old.content lines → AreNewTables entries lines → Names entries name None → ImportEnds config tables name text (told_of gone none_taken told told rest) old.faults new.faults old.content new.content None NoTable
+nameless-ends gone config tables name text old new told rest lines entries whole made image looks accepted is fresh none =
     let makes = same-lines config made old.content tables lines image accepted is in
     let others = none-named lines.plans entries (new-named entries lines fresh) name none in
     let plans_are = (made-by lines config makes).plans_are in
-    (located-none config.plans tables 0 name (subst (λ (ps : List Plan). (i : ℕ) (other : Plan) → slice_get ps i ≡ Some other → other.name ≡ name → ⊥) plans_are others), untouched text old new told rest whole looks)
+    (located-none config.plans tables 0 name (subst (λ (ps : List Plan). (i : ℕ) (other : Plan) → slice_get ps i ≡ Some other → other.name ≡ name → ⊥) plans_are others), untouched gone text old new told rest whole looks)
 
 -- a status of the table isn't one of those before it
 pub not-early : {P : Type 0} (status : ToolStatus) → IsOfMounted status → (status ≡ NotImage) ⊎ (status ≡ NoTable) → P
@@ -235,6 +242,21 @@ module _ (bytes name : List ℕ) (text rest : Option (List ℕ)) (lines : Lines)
         takes = h;
       }
 
+  pub form-own : (o : Option LineForm) → IfSome o (λ form. FormsAt form lines.plans at) → IfSome o (λ form. IsFormIn bytes name form)
+  form-own None h = tt
+  form-own (Some form) h =
+      let own = first-named lines.plans entries (new-named entries lines new) name at named at-plan.0 at-plan.1 in
+      let is = h at-plan.0 at-plan.1 in
+      record {
+        lines = lines;
+        accepted = accepted;
+        image = image;
+        plan = at-plan.0;
+        named = find-first lines.plans at name at-plan.0 at-plan.1 own.0 (λ i other lt e k. own.1 i other lt e k);
+        columns = is.columns;
+        blobs = is.blobs;
+      }
+
   -- some lines were taken, or none
   may-take : ((l : List ℕ) → text ≡ Some l → (rest ≡ Some l) ⊎ TakesSome (length at-plan.0.columns) (has_var at-plan.0) l rest) → MayTake bytes name text rest
   may-take h = by-text text refl
@@ -308,6 +330,9 @@ mount-causes f g tables source sink bad at few cause = record {
     undone (mount.BadIndex end next) at = refl
     undone (mount.BadBlob page next) at = refl
 
+pub mount-unread : (bad : MountFault) (at line : ℕ) → mount_status bad at ≡ BadInput line → ⊥
+mount-unread bad at line is = subst export.IsOfTable is (of-mount bad at)
+
 -- there was no memory
 pub no-causes : (tables flash source sink : ℕ) → HasCauses tables flash flash source source sink sink None NoMemory
 no-causes tables flash source sink = record {
@@ -357,5 +382,5 @@ formed t first plan columns blobs planned many has = record {
   blobs = has ∙ (sym t.has_blobs ∙ sym (ap (λ (l : RowLayout). l.blobs) planned.layout));
 }
 
-pub formed-ended : (form : Form) (plan : Plan) (text : List ℕ) (rest : Option (List ℕ)) (status : ToolStatus) → IsFormOf form plan → EndedOver form.columns form.blobs text rest status → EndedOver (length plan.columns) (has_var plan) text rest status
+pub formed-ended : (form : LineForm) (plan : Plan) (text : List ℕ) (rest : Option (List ℕ)) (status : ToolStatus) → IsFormOf form plan → EndedOver form.columns form.blobs text rest status → EndedOver (length plan.columns) (has_var plan) text rest status
 formed-ended form plan text rest status is h = subst (λ b. EndedOver (length plan.columns) b text rest status) is.blobs (subst (λ n. EndedOver n form.blobs text rest status) is.columns h)

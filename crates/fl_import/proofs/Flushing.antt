@@ -2,6 +2,8 @@
 use Rattle.std.proofs.Common.{◌≡◌, ℕ, ◌-◌, ◌≤◌, ◌==◌, ◌&&◌, inl, inr, Bool, true, false, nat_lt, if◌then◌else◌, IfOk, IfErr, Option, Result, Ok, Err, List, [], ◌∷◌, ◌++◌, length, length-take, refl, sym, ◌∙◌, ap, subst, arith}
 use Rattle.std.proofs.lemmas.Bool.{eqb-true}
 use Rattle.fl_base.specs.Causes.{Rose, Appends, AppendsFront}
+use Rattle.fl_csv.specs.declared.record.GoneBlobs.{GoneBlobs}
+use Rattle.fl_jobs.specs.declared.job_end.LinesTaken.{LinesTaken}
 use Rattle.fl_export.proofs.Risen.{has_risen}
 use Rattle.fl_flash.specs.Flash.{FlashState, Goes}
 use Rattle.fl_flash.specs.declared.flash.FlashFault.TheVariants.{PowerLost, Media}
@@ -20,15 +22,13 @@ use Rattle.fl_table.specs.declared.faults.FlushFault.{FlushFault}
 use Rattle.fl_table.specs.declared.faults.FlushFault.TheVariants as flush
 use Rattle.fl_tables.proofs.Going.{rose-back}
 use Rattle.fl_tables.proofs.TablesChanged.{off-rests}
-use Rattle.fl_import.specs.Ends.{Leaves, Flushes, puts_of, table_after}
+use Rattle.fl_import.specs.Counting.{count_text}
+use Rattle.fl_import.specs.Ends.{Leaves, Flushes, table_after}
 use Rattle.fl_import.specs.Images.{told_of}
-use Rattle.fl_import.specs.Puts.{put_count}
 use Rattle.fl_import.specs.Reading.{TakesSome, TakesUntil}
-use Rattle.fl_import.specs.Report.{count_line, counts_of}
-use Rattle.fl_import.specs.Steps.{AllEnds, LinesEnd, LinesDone, IsOfLines, IsOfTable, TableEnds, TellsCounts, flush_status, is_broken, status_of}
+use Rattle.fl_import.specs.Steps.{AllEnds, LinesEnd, IsOfLines, IsOfTable, TableEnds, TellsCounts, flush_status, is_broken, status_of}
 use Rattle.fl_import.specs.Taking.{Ended, EndedAs}
-use Rattle.fl_import.specs.declared.counts.Counts.{Counts}
-use Rattle.fl_import.proofs.OneLine.{not-device, works-done, works-broken, works-uncut}
+use Rattle.fl_import.proofs.OneLine.{no-false, not-device, works-done, works-broken, works-uncut}
 
 not-done : Device ≡ Done → ⊥
 not-done e = cc
@@ -63,15 +63,15 @@ flushed-whole plan table =
 
 -- ---- a put that failed stops the import
 
-pub failed-ends : (first : ℕ) (plan : Plan) (table : model.Table) (text : List ℕ) (u : Table 64 64) (g : FlashState) (told told_now rest : Option (List ℕ)) → AllEnds first plan table text u g told told_now rest (Err Device) →
-    TableEnds first plan table text u g (told_of told told_now rest) Device
-failed-ends first plan table text u g told told_now rest fails = record { after = fails.after; leaves = inl fails.fails; rests = fails.rests; stands = λ e. absurd (not-done e) }
+pub failed-ends : (gone : GoneBlobs) (counts : LinesTaken) (first : ℕ) (plan : Plan) (table : model.Table) (text : List ℕ) (u : Table 64 64) (g : FlashState) (told told_now rest : Option (List ℕ)) → AllEnds gone counts first plan table text u g told told_now rest (Err Device) →
+    TableEnds first plan table text u g (told_of gone counts told told_now rest) Device
+failed-ends gone counts first plan table text u g told told_now rest fails = record { after = fails.after; leaves = inl fails.fails; rests = fails.rests; stands = λ e. absurd (not-done e) }
 
-module _ (first : ℕ) (plan : Plan) (table : model.Table) (text : List ℕ) (u v : Table 64 64) (g h : FlashState) (told told_mid told_now rest : Option (List ℕ)) where
+module _ (gone : GoneBlobs) (counts : LinesTaken) (first : ℕ) (plan : Plan) (table : model.Table) (text : List ℕ) (u v : Table 64 64) (g h : FlashState) (told told_mid told_now rest : Option (List ℕ)) where
   -- the table goes on behind the lines
-  abbrev pub goes-on : (taken : Result Counts ToolStatus) → is_broken taken ≡ false → AllEnds first plan table text u g told told_mid rest taken → LinesEnd first plan table text u g told told_mid rest (status_of taken)
-  goes-on (Ok counts) other ends = ends.ends
-  goes-on (Err Device) other ends = cc
+  abbrev pub goes-on : (taken : Result (Unit {0}) ToolStatus) → is_broken taken ≡ false → AllEnds gone counts first plan table text u g told told_mid rest taken → LinesEnd gone counts first plan table text u g told told_mid rest (status_of taken)
+  goes-on (Ok all) other ends = ends
+  goes-on (Err Device) other ends = absurd (no-false other)
   goes-on (Err Done) other ends = ends
   goes-on (Err InputRead) other ends = ends
   goes-on (Err OutWrite) other ends = ends
@@ -83,14 +83,14 @@ module _ (first : ℕ) (plan : Plan) (table : model.Table) (text : List ℕ) (u 
   goes-on (Err (BadInput n)) other ends = ends
   goes-on (Err Unsound) other ends = ends
 
-  module _ (taken : Result Counts ToolStatus) (other : is_broken taken ≡ false) (ends : AllEnds first plan table text u g told told_mid rest taken) where
-    abbrev pub lines : LinesEnd first plan table text u g told told_mid rest (status_of taken)
+  module _ (taken : Result (Unit {0}) ToolStatus) (other : is_broken taken ≡ false) (ends : AllEnds gone counts first plan table text u g told told_mid rest taken) where
+    abbrev pub lines : LinesEnd gone counts first plan table text u g told told_mid rest (status_of taken)
     lines = goes-on taken other ends
 
     abbrev pub then_table : model.Table
-    then_table = table_after plan table lines.puts.taken
+    then_table = table_after gone plan table lines.puts.taken
 
-    pub flush-broken : (fault : FlushFault) → FlushEnds first plan then_table (has_risen g h) lines.works.device (Err fault) v g h → TableEnds first plan table text v h (told_of told told_mid rest) (flush_status fault)
+    pub flush-broken : (fault : FlushFault) → FlushEnds first plan then_table (has_risen g h) lines.works.device (Err fault) v g h → TableEnds first plan table text v h (told_of gone counts told told_mid rest) (flush_status fault)
     flush-broken (flush.Flash Media) flushes =
         let b = works-broken first plan then_table u v g h lines.works (table_seals plan then_table) Media flushes in
         record { after = b.after; leaves = inr (record { status = status_of taken; puts = lines.puts; fails = b.fails }); rests = b.rests; stands = λ e. absurd (not-done e) }
@@ -106,51 +106,46 @@ module _ (first : ℕ) (plan : Plan) (table : model.Table) (text : List ℕ) (u 
     pub rested : Goes g h → FlushEnds first plan then_table (has_risen g h) lines.works.device (Ok tt) v g h → Rests h first plan (lose after)
     rested goes flushes = off-rests v h first plan after true (stood goes flushes)
 
-  counts-are : (counts : Counts) (d : LinesDone first plan table text u g told told_mid rest counts) → count_line counts.accepted counts.refused ≡ counts_of plan table (puts_of plan d.ends.puts.taken)
-  counts-are counts d =
-      let n : counts.refused ≡ length (puts_of plan d.ends.puts.taken) - put_count plan table (puts_of plan d.ends.puts.taken) = omega (arith, d.accepted, d.all) in
-      ap (λ a. count_line a counts.refused) d.accepted ∙ ap (λ r. count_line (put_count plan table (puts_of plan d.ends.puts.taken)) r) n
-
-  pub flush-told : (counts : Counts) (d : AllEnds first plan table text u g told told_mid rest (Ok counts)) → Goes g h → FlushEnds first plan (then_table (Ok counts) refl d) (has_risen g h) (lines (Ok counts) refl d).works.device (Ok tt) v g h →
-      (faults faults_now : ℕ) (status : ToolStatus) → TellsCounts counts told_mid told_now faults faults_now status → TableEnds first plan table text v h (told_of told told_now rest) status
-  flush-told counts d goes flushes faults faults_now Done tells = record {
-    after = after (Ok counts) refl d;
-    leaves = record { written_then = told_mid; puts = d.ends.puts; after_is = refl; counts = subst (λ l. Appends told_mid told_now l) (counts-are counts d) tells };
-    rests = rested (Ok counts) refl d goes flushes;
-    stands = λ e. stood (Ok counts) refl d goes flushes;
+  pub flush-told : (done : Unit {0}) (d : AllEnds gone counts first plan table text u g told told_mid rest (Ok done)) → Goes g h → FlushEnds first plan (then_table (Ok done) refl d) (has_risen g h) (lines (Ok done) refl d).works.device (Ok tt) v g h →
+      (faults faults_now : ℕ) (status : ToolStatus) → TellsCounts gone counts told_mid told_now faults faults_now status → TableEnds first plan table text v h (told_of gone counts told told_now rest) status
+  flush-told done d goes flushes faults faults_now Done tells = record {
+    after = after (Ok done) refl d;
+    leaves = record { written_then = told_mid; puts = d.puts; after_is = refl; counts = subst (λ c. Appends told_mid told_now (count_text gone c)) d.puts.counted tells };
+    rests = rested (Ok done) refl d goes flushes;
+    stands = λ e. stood (Ok done) refl d goes flushes;
   }
-  flush-told counts d goes flushes faults faults_now OutWrite tells = record {
-    after = after (Ok counts) refl d;
-    leaves = inr (record { written_then = told_mid; puts = d.ends.puts; after_is = refl; counts = subst (λ l. AppendsFront told_mid told_now l) (counts-are counts d) tells.0 });
-    rests = rested (Ok counts) refl d goes flushes;
+  flush-told done d goes flushes faults faults_now OutWrite tells = record {
+    after = after (Ok done) refl d;
+    leaves = inr (record { written_then = told_mid; puts = d.puts; after_is = refl; counts = subst (λ c. AppendsFront told_mid told_now (count_text gone c)) d.puts.counted tells.0 });
+    rests = rested (Ok done) refl d goes flushes;
     stands = λ e. absurd (not-written e);
   }
-  flush-told counts d goes flushes faults faults_now InputRead tells = absurd tells
-  flush-told counts d goes flushes faults faults_now InputLong tells = absurd tells
-  flush-told counts d goes flushes faults faults_now NoMemory tells = absurd tells
-  flush-told counts d goes flushes faults faults_now NotImage tells = absurd tells
-  flush-told counts d goes flushes faults faults_now Device tells = absurd tells
-  flush-told counts d goes flushes faults faults_now (BadImage n) tells = absurd tells
-  flush-told counts d goes flushes faults faults_now NoTable tells = absurd tells
-  flush-told counts d goes flushes faults faults_now (BadInput n) tells = absurd tells
-  flush-told counts d goes flushes faults faults_now Unsound tells = absurd tells
+  flush-told done d goes flushes faults faults_now InputRead tells = absurd tells
+  flush-told done d goes flushes faults faults_now InputLong tells = absurd tells
+  flush-told done d goes flushes faults faults_now NoMemory tells = absurd tells
+  flush-told done d goes flushes faults faults_now NotImage tells = absurd tells
+  flush-told done d goes flushes faults faults_now Device tells = absurd tells
+  flush-told done d goes flushes faults faults_now (BadImage n) tells = absurd tells
+  flush-told done d goes flushes faults faults_now NoTable tells = absurd tells
+  flush-told done d goes flushes faults faults_now (BadInput n) tells = absurd tells
+  flush-told done d goes flushes faults faults_now Unsound tells = absurd tells
 
 -- the lines weren't taken to their end
-pub flush-status : (first : ℕ) (plan : Plan) (table : model.Table) (text : List ℕ) (u v : Table 64 64) (g h : FlashState) (told told_now rest : Option (List ℕ)) (status : ToolStatus) → IsOfLines status → (other : is_broken (Err status) ≡ false) →
-    (ends : AllEnds first plan table text u g told told_now rest (Err status)) → Goes g h →
-    FlushEnds first plan (then_table first plan table text u v g h told told_now told_now rest (Err status) other ends) (has_risen g h) (lines first plan table text u v g h told told_now told_now rest (Err status) other ends).works.device (Ok tt) v g h →
-    TableEnds first plan table text v h (told_of told told_now rest) status
-flush-status first plan table text u v g h told told_now rest status of other ends goes flushes = record {
-  after = after first plan table text u v g h told told_now told_now rest (Err status) other ends;
-  leaves = by-status status of (λ e. not-broken e) (record { puts = (lines first plan table text u v g h told told_now told_now rest (Err status) other ends).puts; after_is = refl });
-  rests = rested first plan table text u v g h told told_now told_now rest (Err status) other ends goes flushes;
+pub flush-status : (gone : GoneBlobs) (counts : LinesTaken) (first : ℕ) (plan : Plan) (table : model.Table) (text : List ℕ) (u v : Table 64 64) (g h : FlashState) (told told_now rest : Option (List ℕ)) (status : ToolStatus) → IsOfLines status → (other : is_broken (Err status) ≡ false) →
+    (ends : AllEnds gone counts first plan table text u g told told_now rest (Err status)) → Goes g h →
+    FlushEnds first plan (then_table gone counts first plan table text u v g h told told_now told_now rest (Err status) other ends) (has_risen g h) (lines gone counts first plan table text u v g h told told_now told_now rest (Err status) other ends).works.device (Ok tt) v g h →
+    TableEnds first plan table text v h (told_of gone counts told told_now rest) status
+flush-status gone counts first plan table text u v g h told told_now rest status of other ends goes flushes = record {
+  after = after gone counts first plan table text u v g h told told_now told_now rest (Err status) other ends;
+  leaves = by-status status of (λ e. not-broken e) (record { puts = (lines gone counts first plan table text u v g h told told_now told_now rest (Err status) other ends).puts; after_is = refl });
+  rests = rested gone counts first plan table text u v g h told told_now told_now rest (Err status) other ends goes flushes;
   stands = λ e. absurd (subst IsOfLines e of);
 }
   where
     not-broken : status ≡ Device → ⊥
     not-broken e = let no = sym other ∙ ap (λ (s : ToolStatus). is_broken (Err s)) e in cc
 
-    by-status : (status : ToolStatus) {x : model.Table} → IsOfLines status → (status ≡ Device → ⊥) → Flushes plan table text (told_of told told_now rest) x status → Leaves plan table text (told_of told told_now rest) x status
+    by-status : (status : ToolStatus) {x : model.Table} → IsOfLines status → (status ≡ Device → ⊥) → Flushes plan table text (told_of gone counts told told_now rest) x status → Leaves plan table text (told_of gone counts told told_now rest) x status
     by-status InputRead of other l = l
     by-status OutWrite of other l = inl l
     by-status InputLong of other l = l
@@ -194,7 +189,7 @@ some-taken columns blobs text rest NoTable h = some-until columns blobs text res
 some-taken columns blobs text rest (BadInput n) h = some-until columns blobs text rest (BadInput n) h
 some-taken columns blobs text rest Unsound h = some-until columns blobs text rest Unsound h
 
-pub flush-ended : (columns : ℕ) (blobs : Bool) (text : List ℕ) (rest : Option (List ℕ)) (taken : Result Counts ToolStatus) (fault : FlushFault) → Ended columns blobs text rest (status_of taken) → EndedAs columns blobs text rest (flush_status fault)
+pub flush-ended : (columns : ℕ) (blobs : Bool) (text : List ℕ) (rest : Option (List ℕ)) (taken : Result (Unit {0}) ToolStatus) (fault : FlushFault) → Ended columns blobs text rest (status_of taken) → EndedAs columns blobs text rest (flush_status fault)
 flush-ended columns blobs text rest taken (flush.Flash Media) h = some-taken columns blobs text rest (status_of taken) h
 flush-ended columns blobs text rest taken (flush.Flash PowerLost) h = some-taken columns blobs text rest (status_of taken) h
 flush-ended columns blobs text rest taken flush.Stopped h = some-taken columns blobs text rest (status_of taken) h
@@ -220,18 +215,18 @@ flush-write (flush.Flash Media) is = cc is
 flush-write (flush.Flash PowerLost) is = cc is
 flush-write flush.Stopped is = cc is
 
-pub ended-told : (columns : ℕ) (blobs : Bool) (text : List ℕ) (rest told told_now : Option (List ℕ)) (faults faults_now : ℕ) (counts : Counts) (status : ToolStatus) → TellsCounts counts told told_now faults faults_now status → TakesUntil columns blobs text rest Done → EndedAs columns blobs text rest status
-ended-told columns blobs text rest told told_now faults faults_now counts Done tells h = h
-ended-told columns blobs text rest told told_now faults faults_now counts OutWrite tells h = inr h
-ended-told columns blobs text rest told told_now faults faults_now counts InputRead tells h = absurd tells
-ended-told columns blobs text rest told told_now faults faults_now counts InputLong tells h = absurd tells
-ended-told columns blobs text rest told told_now faults faults_now counts NoMemory tells h = absurd tells
-ended-told columns blobs text rest told told_now faults faults_now counts NotImage tells h = absurd tells
-ended-told columns blobs text rest told told_now faults faults_now counts Device tells h = absurd tells
-ended-told columns blobs text rest told told_now faults faults_now counts (BadImage n) tells h = absurd tells
-ended-told columns blobs text rest told told_now faults faults_now counts NoTable tells h = absurd tells
-ended-told columns blobs text rest told told_now faults faults_now counts (BadInput n) tells h = absurd tells
-ended-told columns blobs text rest told told_now faults faults_now counts Unsound tells h = absurd tells
+pub ended-told : (gone : GoneBlobs) (columns : ℕ) (blobs : Bool) (text : List ℕ) (rest told told_now : Option (List ℕ)) (faults faults_now : ℕ) (counts : LinesTaken) (status : ToolStatus) → TellsCounts gone counts told told_now faults faults_now status → TakesUntil columns blobs text rest Done → EndedAs columns blobs text rest status
+ended-told gone columns blobs text rest told told_now faults faults_now counts Done tells h = h
+ended-told gone columns blobs text rest told told_now faults faults_now counts OutWrite tells h = inr h
+ended-told gone columns blobs text rest told told_now faults faults_now counts InputRead tells h = absurd tells
+ended-told gone columns blobs text rest told told_now faults faults_now counts InputLong tells h = absurd tells
+ended-told gone columns blobs text rest told told_now faults faults_now counts NoMemory tells h = absurd tells
+ended-told gone columns blobs text rest told told_now faults faults_now counts NotImage tells h = absurd tells
+ended-told gone columns blobs text rest told told_now faults faults_now counts Device tells h = absurd tells
+ended-told gone columns blobs text rest told told_now faults faults_now counts (BadImage n) tells h = absurd tells
+ended-told gone columns blobs text rest told told_now faults faults_now counts NoTable tells h = absurd tells
+ended-told gone columns blobs text rest told told_now faults faults_now counts (BadInput n) tells h = absurd tells
+ended-told gone columns blobs text rest told told_now faults faults_now counts Unsound tells h = absurd tells
 
 -- the statuses of an import of a table
 pub of-lines : (status : ToolStatus) → IsOfLines status → IsOfTable status
@@ -247,21 +242,21 @@ of-lines (BadImage n) of = absurd of
 of-lines NoTable of = absurd of
 of-lines Unsound of = absurd of
 
-pub of-told : (told told_now : Option (List ℕ)) (faults faults_now : ℕ) (counts : Counts) (status : ToolStatus) → TellsCounts counts told told_now faults faults_now status → IsOfTable status
-of-told told told_now faults faults_now counts Done tells = tt
-of-told told told_now faults faults_now counts OutWrite tells = tt
-of-told told told_now faults faults_now counts InputRead tells = tt
-of-told told told_now faults faults_now counts InputLong tells = tt
-of-told told told_now faults faults_now counts NoMemory tells = tt
-of-told told told_now faults faults_now counts Device tells = tt
-of-told told told_now faults faults_now counts (BadInput n) tells = tt
-of-told told told_now faults faults_now counts NotImage tells = absurd tells
-of-told told told_now faults faults_now counts (BadImage n) tells = absurd tells
-of-told told told_now faults faults_now counts NoTable tells = absurd tells
-of-told told told_now faults faults_now counts Unsound tells = absurd tells
+pub of-told : (gone : GoneBlobs) (told told_now : Option (List ℕ)) (faults faults_now : ℕ) (counts : LinesTaken) (status : ToolStatus) → TellsCounts gone counts told told_now faults faults_now status → IsOfTable status
+of-told gone told told_now faults faults_now counts Done tells = tt
+of-told gone told told_now faults faults_now counts OutWrite tells = tt
+of-told gone told told_now faults faults_now counts InputRead tells = tt
+of-told gone told told_now faults faults_now counts InputLong tells = tt
+of-told gone told told_now faults faults_now counts NoMemory tells = tt
+of-told gone told told_now faults faults_now counts Device tells = tt
+of-told gone told told_now faults faults_now counts (BadInput n) tells = tt
+of-told gone told told_now faults faults_now counts NotImage tells = absurd tells
+of-told gone told told_now faults faults_now counts (BadImage n) tells = absurd tells
+of-told gone told told_now faults faults_now counts NoTable tells = absurd tells
+of-told gone told told_now faults faults_now counts Unsound tells = absurd tells
 
-pub broken-is : (taken : Result Counts ToolStatus) → is_broken taken ≡ true → taken ≡ Err Device
-broken-is (Ok counts) is = cc
+pub broken-is : (taken : Result (Unit {0}) ToolStatus) → is_broken taken ≡ true → taken ≡ Err Device
+broken-is (Ok all) is = cc
 broken-is (Err Device) is = refl
 broken-is (Err Done) is = cc
 broken-is (Err InputRead) is = cc
@@ -279,42 +274,42 @@ no-broken e = cc
 
 -- ---- the table was flushed, and it was told how many lines were put, where they were taken to their end
 
-module _ {X : Type 0} (written : X → Option (List ℕ)) (faults : X → ℕ) (start mid now : X) (result : ToolStatus) where
+module _ {X : Type 0} (gone : GoneBlobs) (counts : LinesTaken) (written : X → Option (List ℕ)) (faults : X → ℕ) (start mid now : X) (result : ToolStatus) where
   abbrev pub Untold : ToolStatus → Type 0
   Untold status = (result ≡ status) × (now ≡ mid)
 
-  abbrev pub Told? : Counts → Type 0
-  Told? counts = TellsCounts counts (written mid) (written now) (faults mid) (faults now) result
+  abbrev pub Told? : Unit {0} → Type 0
+  Told? all = TellsCounts gone counts (written mid) (written now) (faults mid) (faults now) result
 
-  pub all-ends : (first : ℕ) (plan : Plan) (table : model.Table) (text : List ℕ) (u v : Table 64 64) (g h : FlashState) (rest : Option (List ℕ)) (taken : Result Counts ToolStatus) (other : is_broken taken ≡ false) (ends : AllEnds first plan table text u g (written start) (written mid) rest taken) →
+  pub all-ends : (first : ℕ) (plan : Plan) (table : model.Table) (text : List ℕ) (u v : Table 64 64) (g h : FlashState) (rest : Option (List ℕ)) (taken : Result (Unit {0}) ToolStatus) (other : is_broken taken ≡ false) (ends : AllEnds gone counts first plan table text u g (written start) (written mid) rest taken) →
       IfErr taken IsOfLines → IfErr taken Untold → IfOk taken Told? → Goes g h →
-      FlushEnds first plan (then_table first plan table text u v g h (written start) (written mid) (written now) rest taken other ends) (has_risen g h) (lines first plan table text u v g h (written start) (written mid) (written now) rest taken other ends).works.device (Ok tt) v g h →
-      TableEnds first plan table text v h (told_of (written start) (written now) rest) result
-  all-ends first plan table text u v g h rest (Ok counts) other ends of none tells goes flushes =
-      flush-told first plan table text u v g h (written start) (written mid) (written now) rest counts ends goes flushes (faults mid) (faults now) result tells
+      FlushEnds first plan (then_table gone counts first plan table text u v g h (written start) (written mid) (written now) rest taken other ends) (has_risen g h) (lines gone counts first plan table text u v g h (written start) (written mid) (written now) rest taken other ends).works.device (Ok tt) v g h →
+      TableEnds first plan table text v h (told_of gone counts (written start) (written now) rest) result
+  all-ends first plan table text u v g h rest (Ok done) other ends of none tells goes flushes =
+      flush-told gone counts first plan table text u v g h (written start) (written mid) (written now) rest done ends goes flushes (faults mid) (faults now) result tells
   all-ends first plan table text u v g h rest (Err status) other ends of none tells goes flushes =
-      subst (λ (s : ToolStatus). TableEnds first plan table text v h (told_of (written start) (written now) rest) s) (sym none.0)
-      (subst (λ (x : X). TableEnds first plan table text v h (told_of (written start) (written x) rest) status) (sym none.1)
-      (flush-status first plan table text u v g h (written start) (written mid) rest status of other ends goes flushes))
+      subst (λ (s : ToolStatus). TableEnds first plan table text v h (told_of gone counts (written start) (written now) rest) s) (sym none.0)
+      (subst (λ (x : X). TableEnds first plan table text v h (told_of gone counts (written start) (written x) rest) status) (sym none.1)
+      (flush-status gone counts first plan table text u v g h (written start) (written mid) rest status of other ends goes flushes))
 
-  pub all-ended : (columns : ℕ) (blobs : Bool) (text : List ℕ) (rest : Option (List ℕ)) (taken : Result Counts ToolStatus) → IfErr taken IsOfLines → IfErr taken Untold → IfOk taken Told? → Ended columns blobs text rest (status_of taken) → EndedAs columns blobs text rest result
-  all-ended columns blobs text rest (Ok counts) of none tells ended = ended-told columns blobs text rest (written mid) (written now) (faults mid) (faults now) counts result tells ended
+  pub all-ended : (columns : ℕ) (blobs : Bool) (text : List ℕ) (rest : Option (List ℕ)) (taken : Result (Unit {0}) ToolStatus) → IfErr taken IsOfLines → IfErr taken Untold → IfOk taken Told? → Ended columns blobs text rest (status_of taken) → EndedAs columns blobs text rest result
+  all-ended columns blobs text rest (Ok all) of none tells ended = ended-told gone columns blobs text rest (written mid) (written now) (faults mid) (faults now) counts result tells ended
   all-ended columns blobs text rest (Err status) of none tells ended = subst (λ (s : ToolStatus). EndedAs columns blobs text rest s) (sym none.0) (ended-as columns blobs text rest status of ended)
 
-  pub all-of : (taken : Result Counts ToolStatus) → IfErr taken IsOfLines → IfErr taken Untold → IfOk taken Told? → IsOfTable result
-  all-of (Ok counts) of none tells = of-told (written mid) (written now) (faults mid) (faults now) counts result tells
+  pub all-of : (taken : Result (Unit {0}) ToolStatus) → IfErr taken IsOfLines → IfErr taken Untold → IfOk taken Told? → IsOfTable result
+  all-of (Ok all) of none tells = of-told gone (written mid) (written now) (faults mid) (faults now) counts result tells
   all-of (Err status) of none tells = subst IsOfTable (sym none.0) (of-lines status of)
 
-  pub all-rose : (f g : ℕ) → (taken : Result Counts ToolStatus) → IfErr taken Untold → IfOk taken Told? → is_broken taken ≡ false → result ≡ Device → Rose f g
-  all-rose f g (Ok counts) none tells other is = absurd (subst (λ (s : ToolStatus). TellsCounts counts (written mid) (written now) (faults mid) (faults now) s) is tells)
+  pub all-rose : (f g : ℕ) → (taken : Result (Unit {0}) ToolStatus) → IfErr taken Untold → IfOk taken Told? → is_broken taken ≡ false → result ≡ Device → Rose f g
+  all-rose f g (Ok all) none tells other is = absurd (subst (λ (s : ToolStatus). TellsCounts gone counts (written mid) (written now) (faults mid) (faults now) s) is tells)
   all-rose f g (Err status) none tells other is = let no = sym other ∙ ap (λ (s : ToolStatus). is_broken (Err s)) (sym none.0 ∙ is) in absurd (no-broken no)
 
-  pub all-read : {P : Type 0} (taken : Result Counts ToolStatus) → IfErr taken Untold → IfOk taken Told? → (taken ≡ Err InputRead → P) → result ≡ InputRead → P
-  all-read (Ok counts) none tells read is = absurd (subst (λ (s : ToolStatus). TellsCounts counts (written mid) (written now) (faults mid) (faults now) s) is tells)
+  pub all-read : {P : Type 0} (taken : Result (Unit {0}) ToolStatus) → IfErr taken Untold → IfOk taken Told? → (taken ≡ Err InputRead → P) → result ≡ InputRead → P
+  all-read (Ok all) none tells read is = absurd (subst (λ (s : ToolStatus). TellsCounts gone counts (written mid) (written now) (faults mid) (faults now) s) is tells)
   all-read (Err status) none tells read is = read (ap (λ (s : ToolStatus). Err s) (sym none.0 ∙ is))
 
-  pub all-write : (taken : Result Counts ToolStatus) → IfErr taken Untold → IfOk taken Told? → faults start ≤ faults mid → (taken ≡ Err OutWrite → Rose (faults start) (faults mid)) → result ≡ OutWrite → Rose (faults start) (faults now)
-  all-write (Ok counts) none tells later write is =
-      let t = subst (λ (s : ToolStatus). TellsCounts counts (written mid) (written now) (faults mid) (faults now) s) is tells in
+  pub all-write : (taken : Result (Unit {0}) ToolStatus) → IfErr taken Untold → IfOk taken Told? → faults start ≤ faults mid → (taken ≡ Err OutWrite → Rose (faults start) (faults mid)) → result ≡ OutWrite → Rose (faults start) (faults now)
+  all-write (Ok all) none tells later write is =
+      let t = subst (λ (s : ToolStatus). TellsCounts gone counts (written mid) (written now) (faults mid) (faults now) s) is tells in
       rose-back (faults start) (faults mid) (faults now) later t.1
   all-write (Err status) none tells later write is = subst (λ (x : X). Rose (faults start) (faults x)) (sym none.1) (write (ap (λ (s : ToolStatus). Err s) (sym none.0 ∙ is)))

@@ -11,6 +11,9 @@ use Rattle.fl_export.proofs.Locating.{located-first, stand-named, first-named}
 use Rattle.fl_export.proofs.Risen.{has_risen, risen-rose}
 use Rattle.fl_export.proofs.Unmounted as export
 use Rattle.fl_flash.specs.Flash.{FlashState, Goes, page_at}
+use Rattle.fl_csv.specs.declared.record.GoneBlobs.{GoneBlobs}
+use Rattle.fl_jobs.specs.Taken.{none_taken}
+use Rattle.fl_jobs.specs.declared.job_end.LinesTaken.{LinesTaken}
 use Rattle.fl_jobs.specs.declared.status.ToolStatus.{ToolStatus}
 use Rattle.fl_jobs.specs.declared.status.ToolStatus.TheVariants.{Done, InputRead, OutWrite, InputLong, NoMemory, NotImage, Device, BadImage, NoTable, BadInput, Unsound}
 use Rattle.fl_machine.specs.Step.{all_ready}
@@ -38,15 +41,15 @@ use Rattle.fl_import.proofs.Flushing.{flushed-whole}
 use Rattle.fl_import.proofs.Mounted.{mounts-unarmed}
 
 -- the tables aren't mounted, and no byte was read
-pub unmounted : (plans : List Plan) (tables : List model.Table) (name text : List ℕ) (f g : FlashState) (told rest : Option (List ℕ)) (now : List Entry) → has_name name plans ≡ true → (bad : MountFault) (at : ℕ) → MountBreaks plans tables (has_risen f g) at_rest bad now g → rest ≡ Some text →
-    EndsOn plans tables name text (told_of told told rest) f g now None (mount_status bad at)
-unmounted plans tables name text f g told rest now has bad at ends is =
+pub unmounted : (gone : GoneBlobs) (plans : List Plan) (tables : List model.Table) (name text : List ℕ) (f g : FlashState) (told rest : Option (List ℕ)) (now : List Entry) → has_name name plans ≡ true → (bad : MountFault) (at : ℕ) → MountBreaks plans tables (has_risen f g) at_rest bad now g → rest ≡ Some text →
+    EndsOn plans tables name text (told_of gone none_taken told told rest) f g now None (mount_status bad at)
+unmounted gone plans tables name text f g told rest now has bad at ends is =
     let u = export.unmounted plans tables name f g told now has bad at ends in
-    subst (λ (s : ToolStatus). EndsOn plans tables name text (told_of told told rest) f g now None s) (sym u.0) (u.1.0, inl (u.1.1, is))
+    subst (λ (s : ToolStatus). EndsOn plans tables name text (told_of gone none_taken told told rest) f g now None s) (sym u.0) (u.1.0, inl (u.1.1, (is, refl)))
 
 -- ---- the tables are mounted, and one of them was imported into
 
-module _ (plans : List Plan) (tables : List model.Table) (name text : List ℕ) (f m h : FlashState) (told told_now rest : Option (List ℕ)) (entries now : List Entry) (at : ℕ) (entry : Entry) (u : Table 64 64)
+module _ (plans : List Plan) (tables : List model.Table) (name text : List ℕ) (f m h : FlashState) (gone : GoneBlobs) (counts : LinesTaken) (told told_now rest : Option (List ℕ)) (entries now : List Entry) (at : ℕ) (entry : Entry) (u : Table 64 64)
     (earlier : f.media.faults ≤ m.media.faults) (goes : Goes m h) (same : IsSamePlan entry.table u) (outside : IsTrue m.media.tells → OutsideStands entry.table (page_at m) (page_at h)) (tells : IsTrue m.media.tells)
     (stood : TablesStand f (λ i. false) plans entries tables) (named : IsNamed entries name at) (here : slice_get now at ≡ Some entry) (mt : TablesMounted plans tables (has_risen f m) at_rest now m) where
   abbrev pub ready_tables : List model.Table
@@ -87,7 +90,7 @@ module _ (plans : List Plan) (tables : List model.Table) (name text : List ℕ) 
         (λ i plan e x other k. entry-off e h true (first_of plans i) plan x k)
 
   imports : (Left : Plan → model.Table → model.Table → Type 0) (after : model.Table) → Left own.plan own.table after → Rests h (first_of plans at) own.plan (lose after) →
-      Imports plans tables name (told_of told told_now rest) f.media.faults h.media.faults (TablesStand h (λ i. false) plans (entries_with now at entry u)) Left
+      Imports plans tables name (told_of gone counts told told_now rest) f.media.faults h.media.faults (TablesStand h (λ i. false) plans (entries_with now at entry u)) Left
   imports Left after left rests =
       let own_name = first-named plans entries (stand-named f (λ i. false) plans entries tables stood) name at named own.plan own.plan_is in
       record {
@@ -104,23 +107,23 @@ module _ (plans : List Plan) (tables : List model.Table) (name text : List ℕ) 
       }
 
   abbrev pub Ends : ToolStatus → Type 0
-  Ends status = TableEnds (first_of plans at) own.plan own.table text u h (told_of told told_now rest) status
+  Ends status = TableEnds (first_of plans at) own.plan own.table text u h (told_of gone counts told told_now rest) status
 
   imports-so : (status : ToolStatus) → Ends status →
-      Imports plans tables name (told_of told told_now rest) f.media.faults h.media.faults (TablesStand h (λ i. false) plans (entries_with now at entry u)) (λ plan table after. Leaves plan table text (told_of told told_now rest) after status)
-  imports-so status ends = imports (λ plan table after. Leaves plan table text (told_of told told_now rest) after status) ends.after ends.leaves ends.rests
+      Imports plans tables name (told_of gone counts told told_now rest) f.media.faults h.media.faults (TablesStand h (λ i. false) plans (entries_with now at entry u)) (λ plan table after. Leaves plan table text (told_of gone counts told told_now rest) after status)
+  imports-so status ends = imports (λ plan table after. Leaves plan table text (told_of gone counts told told_now rest) after status) ends.after ends.leaves ends.rests
 
   -- `kept` are the rows of the table in memory, where it is done
   pub imported : (kept : Option ℕ) (status : ToolStatus) → (status ≡ Device → Rose f.media.faults h.media.faults) →
       ((g : FlashState) (first : ℕ) (plan : Plan) (t : model.Table) → status ≡ Done → Stands u g first plan t → kept ≡ Some (length t.entries)) → Ends status →
-      EndsOn plans tables name text (told_of told told_now rest) f h (entries_with now at entry u) kept status
+      EndsOn plans tables name text (told_of gone counts told told_now rest) f h (entries_with now at entry u) kept status
   imported kept Device rises rows ends = (rises refl, inr (imports-so Device ends))
   imported kept Done rises rows ends =
-      imports (λ plan table after. Leaves plan table text (told_of told told_now rest) after Done × (kept ≡ Some (length (lose after).entries))) ends.after
+      imports (λ plan table after. Leaves plan table text (told_of gone counts told told_now rest) after Done × (kept ≡ Some (length (lose after).entries))) ends.after
       (ends.leaves, rows h (first_of plans at) own.plan ends.after refl (ends.stands refl) ∙ ap (λ n. Some n) (sym (whole ends.after ends.leaves))) ends.rests
     where
-      whole : (after : model.Table) → Leaves own.plan own.table text (told_of told told_now rest) after Done → length (lose after).entries ≡ length after.entries
-      whole after leaves = subst (λ (t : model.Table). length (lose t).entries ≡ length t.entries) (sym leaves.after_is) (flushed-whole own.plan (table_after own.plan own.table leaves.puts.taken))
+      whole : (after : model.Table) → Leaves own.plan own.table text (told_of gone counts told told_now rest) after Done → length (lose after).entries ≡ length after.entries
+      whole after leaves = subst (λ (t : model.Table). length (lose t).entries ≡ length t.entries) (sym leaves.after_is) (flushed-whole own.plan (table_after gone own.plan own.table leaves.puts.taken))
   imported kept InputRead rises rows ends = imports-so InputRead ends
   imported kept OutWrite rises rows ends = imports-so OutWrite ends
   imported kept InputLong rises rows ends = imports-so InputLong ends

@@ -1,4 +1,3 @@
-mod Header
 mod Putting
 mod Taken
 mod Failing

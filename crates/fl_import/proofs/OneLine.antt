@@ -2,6 +2,7 @@
 use Rattle.std.proofs.Common.{None, ◌≡◌, ℕ, ◌⊎◌, inl, inr, Bool, true, false, IsTrue, IsErr, IfErr, Option, Some, Result, Ok, Err, List, [], ◌++◌, refl, sym, ◌∙◌, ap, subst}
 use Rattle.fl_base.specs.Causes.{Rose, HasCause, Appends, AppendsFront}
 use Rattle.fl_base.specs.declared.stream.SinkFailed.{SinkFailed}
+use Rattle.fl_csv.specs.declared.record.GoneBlobs.{GoneBlobs}
 use Rattle.fl_csv.specs.declared.record.CsvRefusal.{CsvRefusal}
 use Rattle.fl_csv.specs.declared.record.CsvRefusal.TheVariants as unread
 use Rattle.fl_export.proofs.Lines.{appends-none, front-behind, front-more}
@@ -32,14 +33,16 @@ use Rattle.fl_tables.specs.Replies.{put_reply}
 use Rattle.fl_words.specs.Reply.{Reply, text}
 use Rattle.fl_words.specs.Grammar.{without_return}
 use Rattle.fl_csv.specs.Lines.{line_put}
+use Rattle.fl_import.specs.Counting.{put_end}
 use Rattle.fl_import.specs.Lines.{meaning}
 use Rattle.fl_import.specs.Puts.{FailsIn}
 use Rattle.fl_import.specs.Report.{number_text, reason_line}
 use Rattle.fl_import.specs.Steps.{IsOfLine, LineEnds, Works, by_told, fault_in, is_unread}
+use Rattle.fl_import.specs.declared.line_end.LineEnd.{LineEnd}
 use Rattle.fl_import.proofs.Failing.{calm}
 
 -- two answers are two
-no-false : true ≡ false → ⊥
+pub no-false : true ≡ false → ⊥
 no-false e = cc
 
 no-fault : (fault : FlashFault) → None ≡ Some fault → ⊥
@@ -75,7 +78,7 @@ pub fault-unwritten : {P : Type 0} (fault : FlashFault) → flash_status fault �
 fault-unwritten Media is = absurd (cc is)
 fault-unwritten PowerLost is = absurd (cc is)
 
-pub one-status : (a b : ToolStatus) → ◌≡◌ {A = Result Bool ToolStatus} (Err a) (Err b) → a ≡ b
+pub one-status : (a b : ToolStatus) → ◌≡◌ {A = Result LineEnd ToolStatus} (Err a) (Err b) → a ≡ b
 one-status a b e = cc
 
 -- ---- two texts, one behind the other
@@ -89,9 +92,9 @@ told-behind a b c (Err failed) first then written reply is wrote same more = fro
 
 -- ---- a line that is refused
 
-pub means-either : (columns : ℕ) (blobs : Bool) (line read : List ℕ) (why : CsvRefusal) → read ≡ without_return line → (why ≡ unread.NoMemory) ⊎ (line_put columns blobs read ≡ Err why) → (why ≡ unread.NoMemory) ⊎ (meaning columns blobs line ≡ Err why)
-means-either columns blobs line read why is (inl none) = inl none
-means-either columns blobs line read why is (inr means) = inr (ap (line_put columns blobs) (sym is) ∙ means)
+pub means-either : (gone : GoneBlobs) (columns : ℕ) (blobs : Bool) (line read : List ℕ) (why : CsvRefusal) → read ≡ without_return line → (why ≡ unread.NoMemory) ⊎ (line_put gone columns blobs read ≡ Err why) → (why ≡ unread.NoMemory) ⊎ (meaning gone columns blobs line ≡ Err why)
+means-either gone columns blobs line read why is (inl none) = inl none
+means-either gone columns blobs line read why is (inr means) = inr (ap (line_put gone columns blobs) (sym is) ∙ means)
 
 pub told-write : (a b : ℕ) (told : Result (Unit {0}) SinkFailed) → HasCause a b told → by_told told ≡ Err OutWrite → Rose a b
 told-write a b (Ok done) cause is = cc
@@ -144,41 +147,41 @@ module _ (first : ℕ) (plan : Plan) (table : model.Table) (t u : Table 64 64) (
   works-same : u ≡ t → g ≡ f → Works u g first plan table
   works-same e k = subst (λ (x : FlashState). Works u x first plan table) (sym k) (subst (λ (x : Table 64 64). Works x f first plan table) (sym e) works)
 
-  module _ (number : ℕ) (told told_now : Option (List ℕ)) where
+  module _ (lacking : Bool) (number : ℕ) (told told_now : Option (List ℕ)) where
     -- the line is no record
-    pub ends-reason : (put : Result Record CsvRefusal) (why : CsvRefusal) → is_unread why ≡ false → (why ≡ unread.NoMemory) ⊎ (put ≡ Err why) → u ≡ t → g ≡ f → (wrote : Result (Unit {0}) SinkFailed) → Written told told_now wrote (reason_line number why) → LineEnds first plan table number put u g told told_now (by_told wrote)
+    pub ends-reason : (put : Result Record CsvRefusal) (why : CsvRefusal) → is_unread why ≡ false → (why ≡ unread.NoMemory) ⊎ (put ≡ Err why) → u ≡ t → g ≡ f → (wrote : Result (Unit {0}) SinkFailed) → Written told told_now wrote (reason_line number why) → LineEnds lacking first plan table number put u g told told_now (by_told wrote)
     ends-reason put why other (inl none) e k wrote written = absurd (no-false (sym (ap is_unread none) ∙ other))
     ends-reason put why other (inr is) e k (Ok done) written =
         rw is (refl, works-same e k, written)
     ends-reason put why other (inr is) e k (Err fault) written =
         rw is (works-same e k, written)
 
-    pub ends-memory : (put : Result Record CsvRefusal) → u ≡ t → g ≡ f → told_now ≡ told → LineEnds first plan table number put u g told told_now (Err NoMemory)
+    pub ends-memory : (put : Result Record CsvRefusal) → u ≡ t → g ≡ f → told_now ≡ told → LineEnds lacking first plan table number put u g told told_now (Err NoMemory)
     ends-memory put e k same = (works-same e k, subst (λ (o : Option (List ℕ)). Appends told o []) (sym same) (appends-none told))
 
     -- the table refuses it
     ends-refused : (put : Result Record CsvRefusal) (item : Record) (why : Refusal) (reply : Reply) → put ≡ Ok item → refusal_of plan table item ≡ Some why → reply ≡ refused why → u ≡ t → g ≡ f → (wrote : Result (Unit {0}) SinkFailed) →
-        Written told told_now wrote (number_text number ++ text reply) → LineEnds first plan table number put u g told told_now (by_told wrote)
+        Written told told_now wrote (number_text number ++ text reply) → LineEnds lacking first plan table number put u g told told_now (by_told wrote)
     ends-refused put item why reply is by same e k (Ok done) written =
         rw (is, by) (refl, works-same e k, subst (λ (r : Reply). Appends told told_now (number_text number ++ text r)) same written)
     ends-refused put item why reply is by same e k (Err fault) written =
         rw (is, by) (works-same e k, subst (λ (r : Reply). AppendsFront told told_now (number_text number ++ text r)) same written)
 
     module _ (put : Result Record CsvRefusal) (item : Record) (is : put ≡ Ok item) where
-      pub ends-put : Goes f g → told_now ≡ told → PutEnds first plan item table (has_risen f g) works.device (Ok tt) u f g → LineEnds first plan table number put u g told told_now (Ok true)
+      pub ends-put : Goes f g → told_now ≡ told → PutEnds first plan item table (has_risen f g) works.device (Ok tt) u f g → LineEnds lacking first plan table number put u g told told_now (Ok (put_end lacking))
       ends-put goes same ends =
           let done = works-done goes (put_seals plan item table) (put_record plan item table) ends.1 in
           rw (is, ends.0) (refl, done, subst (λ (o : Option (List ℕ)). Appends told o []) (sym same) (appends-none told))
 
       broken-by : (fault : FlashFault) → told_now ≡ told → refusal_of plan table item ≡ None → Breaks first plan (seals_within plan (put_seals plan item table) table) table (has_risen f g) works.device fault g →
-          LineEnds first plan table number put u g told told_now (Err (flash_status fault))
+          LineEnds lacking first plan table number put u g told told_now (Err (flash_status fault))
       broken-by Media same accepted ends =
           let b = works-broken (put_seals plan item table) Media ends in
           (subst (λ (o : Option (List ℕ)). Appends told o []) (sym same) (appends-none told), (item, is, accepted, (b.after, b.fails, b.rests)))
       broken-by PowerLost same accepted ends = absurd (works-uncut (put_seals plan item table) ends)
 
       pub ends-broken : (outcome : Result (Unit {0}) PutRefusal) (fault : FlashFault) → fault_in outcome ≡ Some fault → told_now ≡ told → PutEnds first plan item table (has_risen f g) works.device outcome u f g →
-          LineEnds first plan table number put u g told told_now (Err (flash_status fault))
+          LineEnds lacking first plan table number put u g told told_now (Err (flash_status fault))
       ends-broken (Ok done) fault breaks same ends = absurd (no-fault fault breaks)
       ends-broken (Err (refusal.Key last)) fault breaks same ends = absurd (no-fault fault breaks)
       ends-broken (Err (refusal.Columns wanted)) fault breaks same ends = absurd (no-fault fault breaks)
@@ -187,10 +190,10 @@ module _ (first : ℕ) (plan : Plan) (table : model.Table) (t u : Table 64 64) (
       ends-broken (Err refusal.Spent) fault breaks same ends = absurd (no-fault fault breaks)
       ends-broken (Err refusal.Stopped) fault breaks same ends = absurd (no-fault fault breaks)
       ends-broken (Err (refusal.Flash own)) fault breaks same ends =
-          subst (λ (x : FlashFault). LineEnds first plan table number put u g told told_now (Err (flash_status x))) (one-fault own fault breaks) (broken-by own same ends.0 ends.1)
+          subst (λ (x : FlashFault). LineEnds lacking first plan table number put u g told told_now (Err (flash_status x))) (one-fault own fault breaks) (broken-by own same ends.0 ends.1)
 
       pub ends-told : (why : PutRefusal) → fault_in (Err why) ≡ None → PutEnds first plan item table (has_risen f g) works.device (Err why) u f g → RefusedSame t f why u g →
-          (wrote : Result (Unit {0}) SinkFailed) → Written told told_now wrote (number_text number ++ text (put_reply (Err why))) → LineEnds first plan table number put u g told told_now (by_told wrote)
+          (wrote : Result (Unit {0}) SinkFailed) → Written told told_now wrote (number_text number ++ text (put_reply (Err why))) → LineEnds lacking first plan table number put u g told told_now (by_told wrote)
       ends-told (refusal.Flash fault) other ends same wrote written = absurd (no-fault fault (sym other))
       ends-told (refusal.Key last) other ends same wrote written = ends-refused put item (BadKey last) (put_reply (Err (refusal.Key last))) is ends refl same.0 same.1 wrote written
       ends-told (refusal.Columns wanted) other ends same wrote written = ends-refused put item (BadColumns wanted) (put_reply (Err (refusal.Columns wanted))) is ends refl same.0 same.1 wrote written

@@ -2,6 +2,7 @@
 use Rattle.std.proofs.Common.{◌≡◌, ℕ, ◌+◌, ◌^◌, ◌<◌, ◌≤◌, ◌⊎◌, inl, inr, Bool, true, false, Option, Some, Result, Ok, Err, List, [], ◌∷◌, ◌++◌, length, refl, sym, ◌∙◌, ap, subst, append_assoc, append-nil, arith}
 use Rattle.std.proofs.lemmas.Bool.{lt-ltb}
 use Rattle.std.specs.List.{AllByRecursion}
+use Rattle.fl_csv.specs.Lines.{IsHeader}
 use Rattle.fl_jobs.specs.declared.status.ToolStatus.{ToolStatus}
 use Rattle.fl_jobs.specs.declared.status.ToolStatus.TheVariants.{Done, InputRead, OutWrite, InputLong, NoMemory, NotImage, Device, BadImage, NoTable, BadInput, Unsound}
 use Rattle.fl_lines.specs.Given.{Given}
@@ -12,7 +13,7 @@ use Rattle.fl_lines.specs.declared.lines.LinesFault.{LinesFault}
 use Rattle.fl_lines.specs.declared.lines.LinesFault.TheVariants.{Failed, Long}
 use Rattle.fl_lines.proofs.Reading.{IsTooLong, given-none, given-line, given-last, given-all, given-few, given-most, given-over, given-part, given-taken, given-too_long}
 use Rattle.fl_words.specs.Grammar.{without_return}
-use Rattle.fl_import.specs.Lines.{names_line, IsHeaded, Takes, IsBad}
+use Rattle.fl_import.specs.Lines.{IsHeaded, Takes, IsBad}
 use Rattle.fl_import.specs.Taking.{NextOf, TakesSoFar, TakesThese}
 
 abbrev IsShort : List ℕ → Type 0
@@ -23,7 +24,7 @@ short-more [] line h short = (short, tt)
 short-more (first ∷ taken) line h short = (h.0, short-more taken line h.1 short)
 
 -- the line of the names is the first one
-headed-more : (columns : ℕ) (blobs : Bool) (taken : List (List ℕ)) (line : List ℕ) → IsHeaded columns blobs taken → ((taken ≡ []) → without_return line ≡ names_line columns blobs) → IsHeaded columns blobs (taken ++ line ∷ [])
+headed-more : (columns : ℕ) (blobs : Bool) (taken : List (List ℕ)) (line : List ℕ) → IsHeaded columns blobs taken → ((taken ≡ []) → IsHeader columns blobs (without_return line)) → IsHeaded columns blobs (taken ++ line ∷ [])
 headed-more columns blobs [] line h names = names refl
 headed-more columns blobs (first ∷ taken) line h names = h
 
@@ -85,7 +86,7 @@ module _ (columns : ℕ) (blobs : Bool) (text : List ℕ) (taken : List (List �
       by-given (Err Long) l gives ahead = given-part most_bytes text taken old.closed old.most (old.ahead ++ h.rest) ahead.0 l (begin_behind taken + 4097) h.given ahead.1 (omega (arith, h.given.size, ahead.2, gives.2, gives.1.short))
 
   -- the next one is taken
-  pub taken-next : Given? (Ok true) → length new.line ≤ 4096 → (taken ≡ [] → without_return new.line ≡ names_line columns blobs) → TakesSoFar columns blobs text (taken ++ new.line ∷ []) new left_now
+  pub taken-next : Given? (Ok true) → length new.line ≤ 4096 → (taken ≡ [] → IsHeader columns blobs (without_return new.line)) → TakesSoFar columns blobs text (taken ++ new.line ∷ []) new left_now
   taken-next advances short names =
       let g = goes (Ok true) advances in
       by-line g.0 g.1 (given-next text taken old new (old.ahead ++ h.rest) g.0 h.given g.2)
@@ -184,7 +185,14 @@ module _ (columns : ℕ) (blobs : Bool) (text : List ℕ) (taken : List (List �
 
 -- the first line isn't that of the names
 pub stops-other : (columns : ℕ) (blobs : Bool) (text : List ℕ) (old new : LinesState) (left left_now : Option (List ℕ)) (faults faults_now : ℕ) → TakesSoFar columns blobs text [] old left → Advances old left faults (Ok true) new left_now faults_now →
-    length new.line ≤ 4096 → (without_return new.line ≡ names_line columns blobs → ⊥) → TakesThese columns blobs text [] left_now (BadInput 1)
+    length new.line ≤ 4096 → (IsHeader columns blobs (without_return new.line) → ⊥) → TakesThese columns blobs text [] left_now (BadInput 1)
 stops-other columns blobs text old new left left_now faults faults_now h advances short other =
     let s = shows-next columns blobs text [] old new left left_now faults faults_now h advances short in
     record { left = new.line ∷ s.others; takes = s.takes_not; few = s.few; stops = (refl, inr other) }
+
+-- .. or there is no memory to read it
+pub stops-unread : (columns : ℕ) (blobs : Bool) (text : List ℕ) (old new : LinesState) (left left_now : Option (List ℕ)) (faults faults_now : ℕ) → TakesSoFar columns blobs text [] old left → Advances old left faults (Ok true) new left_now faults_now →
+    length new.line ≤ 4096 → TakesThese columns blobs text [] left_now NoMemory
+stops-unread columns blobs text old new left left_now faults faults_now h advances short =
+    let s = shows-next columns blobs text [] old new left left_now faults faults_now h advances short in
+    record { left = new.line ∷ s.others; takes = s.takes_not; few = s.few; stops = omega arith }

@@ -1,11 +1,15 @@
 -- How an import ends, by its status.
 use Rattle.std.specs.Prelude.{◌≡◌, ◌⊎◌, ℕ, ◌+◌, ◌*◌, ◌<◌, ◌≤◌, IsTrue, Bool, false, Option, None, Some, Result, Ok, List, [], ◌∷◌, ◌++◌, length, map, find, slice_get}
 use Rattle.fl_base.specs.Causes.{Rose, Appends, AppendsFront, IsFront}
+use Rattle.fl_csv.specs.declared.record.GoneBlobs.{GoneBlobs}
 use Rattle.fl_csv.specs.declared.record.CsvRefusal.{CsvRefusal}
+use Rattle.fl_csv.specs.declared.record.LineForm.{LineForm}
 use Rattle.fl_export.specs.Ends as export
 use Rattle.fl_export.specs.Ends.{IsImageOver, IsImageWith, IsUntouched, MountFails, at_rest}
 use Rattle.fl_jobs.specs.Header.{IsAccepted}
 use Rattle.fl_jobs.specs.Image.{IsImageOf}
+use Rattle.fl_jobs.specs.Taken.{none_taken}
+use Rattle.fl_jobs.specs.declared.job_end.LinesTaken.{LinesTaken}
 use Rattle.fl_jobs.specs.declared.status.ToolStatus.{ToolStatus}
 use Rattle.fl_jobs.specs.declared.status.ToolStatus.TheVariants.{Done, InputRead, OutWrite, InputLong, NoMemory, NotImage, Device, BadImage, NoTable, BadInput, Unsound}
 use Rattle.fl_machine.specs.Step.{Located, located_from, all_ready}
@@ -19,14 +23,18 @@ use Rattle.fl_tables.specs.Repaired.{IsRepaired}
 use Rattle.fl_tables.specs.Tables.{first_of}
 use Rattle.fl_words.specs.Config.{Lines}
 use Rattle.fl_words.specs.Medium.{IsImage}
+use Rattle.fl_import.specs.Counting.{count_text, counts_of}
 use Rattle.fl_import.specs.Lines.{meaning, meanings, Takes}
 use Rattle.fl_import.specs.Puts.{after_puts, FailsIn}
 use Rattle.fl_import.specs.Reading.{Stops, TakesSome, TakesUntil}
 use Rattle.fl_lines.specs.Taken.{TakesFew}
-use Rattle.fl_import.specs.Report.{told_line, told_lines, counts_of}
+use Rattle.fl_import.specs.Report.{told_line, told_lines}
 
--- what is written, before and after, and what the source has left
+-- What becomes of blobs that are gone; how far the lines were taken; what is written, before and after; and what the source
+-- has left.
 pub record Told : Type 0 where
+  pub gone : GoneBlobs
+  pub taken : LinesTaken
   pub written : Option (List ℕ)
   pub written_now : Option (List ℕ)
   pub left_now : Option (List ℕ)
@@ -34,39 +42,40 @@ pub record Told : Type 0 where
 -- ---- what an import does to its table, once that is mounted
 
 -- what the lines that were taken mean for the table of this plan
-abbrev pub puts_of : Plan → List (List ℕ) → List (Result Record CsvRefusal)
-puts_of plan taken = meanings (length plan.columns) (has_var plan) taken
+abbrev pub puts_of : GoneBlobs → Plan → List (List ℕ) → List (Result Record CsvRefusal)
+puts_of gone plan taken = meanings gone (length plan.columns) (has_var plan) taken
 
-abbrev pub table_after : Plan → Table → List (List ℕ) → Table
-table_after plan table taken = after_puts plan table (puts_of plan taken)
+abbrev pub table_after : GoneBlobs → Plan → Table → List (List ℕ) → Table
+table_after gone plan table taken = after_puts plan table (puts_of gone plan taken)
 
-abbrev pub told_of_lines : Plan → Table → List (List ℕ) → List ℕ
-told_of_lines plan table taken = told_lines plan 2 table (puts_of plan taken)
+abbrev pub told_of_lines : GoneBlobs → Plan → Table → List (List ℕ) → List ℕ
+told_of_lines gone plan table taken = told_lines plan 2 table (puts_of gone plan taken)
 
 -- what is told of the line that comes next
-abbrev pub told_next : Plan → Table → List (List ℕ) → List ℕ → List ℕ
-told_next plan table taken line =
-    told_line plan (length taken + 1) (table_after plan table taken) (meaning (length plan.columns) (has_var plan) line)
+abbrev pub told_next : GoneBlobs → Plan → Table → List (List ℕ) → List ℕ → List ℕ
+told_next gone plan table taken line =
+    told_line plan (length taken + 1) (table_after gone plan table taken) (meaning gone (length plan.columns) (has_var plan) line)
 
 -- it was told of the lines that were taken; and where the sink failed, by a front of what is told of the next one
-abbrev pub Reports : Plan → Table → List (List ℕ) → ToolStatus → List (List ℕ) → Option (List ℕ) → Option (List ℕ) → Type 0
-Reports plan table taken OutWrite [] told told_now = ⊥
-Reports plan table taken OutWrite (line ∷ left) told told_now =
-    (front : List ℕ) × IsFront front (told_next plan table taken line) × Appends told told_now (told_of_lines plan table taken ++ front)
-Reports plan table taken status left told told_now = Appends told told_now (told_of_lines plan table taken)
+abbrev pub Reports : GoneBlobs → Plan → Table → List (List ℕ) → ToolStatus → List (List ℕ) → Option (List ℕ) → Option (List ℕ) → Type 0
+Reports gone plan table taken OutWrite [] told told_now = ⊥
+Reports gone plan table taken OutWrite (line ∷ left) told told_now =
+    (front : List ℕ) × IsFront front (told_next gone plan table taken line) × Appends told told_now (told_of_lines gone plan table taken ++ front)
+Reports gone plan table taken status left told told_now = Appends told told_now (told_of_lines gone plan table taken)
 
--- The lines that were taken were put and told, and no more are taken. At most 4,097 bytes were read from the first byte of the
--- next one on.
-pub record Puts (plan : Plan) (table : Table) (text : List ℕ) (told told_now rest : Option (List ℕ)) (status : ToolStatus) : Type 0 where
+-- The lines that were taken were put and told, so many as are counted, and no more are taken. At most 4,097 bytes were read from
+-- the first byte of the next one on.
+pub record Puts (gone : GoneBlobs) (counts : LinesTaken) (plan : Plan) (table : Table) (text : List ℕ) (told told_now rest : Option (List ℕ)) (status : ToolStatus) : Type 0 where
   pub taken : List (List ℕ)
   pub left : List (List ℕ)
   pub takes : Takes (length plan.columns) (has_var plan) text taken left
   pub few : TakesFew text taken rest
   pub stops : Stops (length plan.columns) (has_var plan) text taken left rest status
-  pub reports : Reports plan table taken status left told told_now
+  pub reports : Reports gone plan table taken status left told told_now
+  pub counted : counts ≡ counts_of gone plan table taken
 
 -- .. but an operation failed in the put of the next one.
-pub record PutFails (plan : Plan) (table : Table) (text : List ℕ) (told told_now rest : Option (List ℕ)) (after : Table) : Type 0 where
+pub record PutFails (gone : GoneBlobs) (counts : LinesTaken) (plan : Plan) (table : Table) (text : List ℕ) (told told_now rest : Option (List ℕ)) (after : Table) : Type 0 where
   pub taken : List (List ℕ)
   pub line : List ℕ
   pub left : List (List ℕ)
@@ -74,28 +83,29 @@ pub record PutFails (plan : Plan) (table : Table) (text : List ℕ) (told told_n
   pub few : TakesFew text taken rest
   pub some : 1 ≤ length taken
   pub item : Record
-  pub means : meaning (length plan.columns) (has_var plan) line ≡ Ok item
-  pub accepted : refusal_of plan (table_after plan table taken) item ≡ None
-  pub fails : FailsIn plan (put_seals plan item (table_after plan table taken)) (table_after plan table taken) after
-  pub reports : Appends told told_now (told_of_lines plan table taken)
+  pub means : meaning gone (length plan.columns) (has_var plan) line ≡ Ok item
+  pub accepted : refusal_of plan (table_after gone plan table taken) item ≡ None
+  pub fails : FailsIn plan (put_seals plan item (table_after gone plan table taken)) (table_after gone plan table taken) after
+  pub reports : Appends told told_now (told_of_lines gone plan table taken)
+  pub counted : counts ≡ counts_of gone plan table taken
 
 -- .. and then the table was flushed,
 pub record Flushes (plan : Plan) (table : Table) (text : List ℕ) (told : Told) (after : Table) (status : ToolStatus) : Type 0 where
-  pub puts : Puts plan table text told.written told.written_now told.left_now status
-  pub after_is : after ≡ flushed plan (table_after plan table puts.taken)
+  pub puts : Puts told.gone told.taken plan table text told.written told.written_now told.left_now status
+  pub after_is : after ≡ flushed plan (table_after told.gone plan table puts.taken)
 
 -- or an operation failed in the flush.
 pub record FlushFails (plan : Plan) (table : Table) (text : List ℕ) (told : Told) (after : Table) : Type 0 where
   pub status : ToolStatus
-  pub puts : Puts plan table text told.written told.written_now told.left_now status
-  pub fails : FailsIn plan (table_seals plan (table_after plan table puts.taken)) (table_after plan table puts.taken) after
+  pub puts : Puts told.gone told.taken plan table text told.written told.written_now told.left_now status
+  pub fails : FailsIn plan (table_seals plan (table_after told.gone plan table puts.taken)) (table_after told.gone plan table puts.taken) after
 
 -- All lines were put, the table was flushed, and it was told how many were put: `Wrote` says what was written of that.
 pub record Counts (plan : Plan) (table : Table) (text : List ℕ) (told : Told) (after : Table) (Wrote : Option (List ℕ) → Option (List ℕ) → List ℕ → Type 0) : Type 0 where
   pub written_then : Option (List ℕ)
-  pub puts : Puts plan table text told.written written_then told.left_now Done
-  pub after_is : after ≡ flushed plan (table_after plan table puts.taken)
-  pub counts : Wrote written_then told.written_now (counts_of plan table (puts_of plan puts.taken))
+  pub puts : Puts told.gone told.taken plan table text told.written written_then told.left_now Done
+  pub after_is : after ≡ flushed plan (table_after told.gone plan table puts.taken)
+  pub counts : Wrote written_then told.written_now (count_text told.gone (counts_of told.gone plan table puts.taken))
 
 -- the table after an import that ended so
 abbrev pub Leaves : Plan → Table → List ℕ → Told → Table → ToolStatus → Type 0
@@ -105,13 +115,17 @@ Leaves plan table text told after InputRead = Flushes plan table text told after
 Leaves plan table text told after InputLong = Flushes plan table text told after InputLong
 Leaves plan table text told after (BadInput number) = Flushes plan table text told after (BadInput number)
 Leaves plan table text told after NoMemory = Flushes plan table text told after NoMemory
-Leaves plan table text told after Device = PutFails plan table text told.written told.written_now told.left_now after ⊎ FlushFails plan table text told after
+Leaves plan table text told after Device = PutFails told.gone told.taken plan table text told.written told.written_now told.left_now after ⊎ FlushFails plan table text told after
 Leaves plan table text told after NotImage = ⊥
 Leaves plan table text told after (BadImage number) = ⊥
 Leaves plan table text told after NoTable = ⊥
 Leaves plan table text told after Unsound = ⊥
 
 -- ---- how an import of an image of tables ends
+
+-- no byte was read, and no line was taken
+abbrev pub IsUnread : List ℕ → Told → Type 0
+IsUnread text told = (told.left_now ≡ Some text) × (told.taken ≡ none_taken)
 
 -- what is told of the mount alone
 abbrev pub of_mount : Told → ℕ → ℕ → export.Told
@@ -134,7 +148,7 @@ pub record Imports (plans : List Plan) (tables : List Table) (name : List ℕ) (
 abbrev pub TablesEnd : List Plan → List Table → List ℕ → List ℕ → Told → ℕ → ℕ → (List Table → Type 0) → Option ℕ → ToolStatus → Type 0
 TablesEnd plans tables name text told faults faults_now Holds kept Device =
     Rose faults faults_now
-    × ((MountFails plans tables name (of_mount told faults faults_now) Holds × (told.left_now ≡ Some text))
+    × ((MountFails plans tables name (of_mount told faults faults_now) Holds × IsUnread text told)
     ⊎ Imports plans tables name told faults faults_now Holds (λ plan table after. Leaves plan table text told after Device))
 TablesEnd plans tables name text told faults faults_now Holds kept Done =
     Imports plans tables name told faults faults_now Holds (λ plan table after. Leaves plan table text told after Done × (kept ≡ Some (length (lose after).entries)))
@@ -143,7 +157,7 @@ TablesEnd plans tables name text told faults faults_now Holds kept status =
 
 -- nothing was mounted, written or read
 abbrev pub IsUnbegun : List ℕ → List ℕ → List ℕ → Told → ℕ → ℕ → Type 0
-IsUnbegun content content_now text told faults faults_now = IsUntouched content content_now (of_mount told faults faults_now) × (told.left_now ≡ Some text)
+IsUnbegun content content_now text told faults faults_now = IsUntouched content content_now (of_mount told faults faults_now) × IsUnread text told
 
 -- how it ends over a medium that stands for tables
 abbrev pub ImportEnds : Config → List Table → List ℕ → List ℕ → Told → ℕ → ℕ → List ℕ → List ℕ → Option ℕ → ToolStatus → Type 0
@@ -182,6 +196,16 @@ pub record IsImageFor (bytes : List ℕ) (name : List ℕ) (text : Option (List 
   pub plan : Plan
   pub named : find (λ plan. bytes_equal plan.name name) lines.plans ≡ Some plan
   pub takes : (l : List ℕ) → text ≡ Some l → Until (length plan.columns) (has_var plan) l
+
+-- The bytes are an image, and the first table of it with the name has lines of this form.
+pub record IsFormIn (bytes : List ℕ) (name : List ℕ) (form : LineForm) : Type 0 where
+  pub lines : Lines
+  pub accepted : IsAccepted lines
+  pub image : IsImageOf bytes lines
+  pub plan : Plan
+  pub named : find (λ plan. bytes_equal plan.name name) lines.plans ≡ Some plan
+  pub columns : form.columns ≡ length plan.columns
+  pub blobs : form.blobs ≡ has_var plan
 
 abbrev pub EndsLines : Option (List ℕ) → ToolStatus → ℕ → Bool → List ℕ → Type 0
 EndsLines rest status columns blobs text = TakesUntil columns blobs text rest status

@@ -1,9 +1,12 @@
 -- How an import ends over a flash on which the tables of an image lie, and over its medium.
 use Rattle.std.specs.Prelude.{◌≡◌, ◌⊎◌, ◌<◌, ◌≤◌, ℕ, false, is_some, Option, Some, List, slice_get}
 use Rattle.fl_base.specs.Causes.{Rose}
+use Rattle.fl_csv.specs.declared.record.GoneBlobs.{GoneBlobs}
+use Rattle.fl_csv.specs.declared.record.LineForm.{LineForm}
 use Rattle.fl_flash.specs.Flash.{FlashState}
 use Rattle.fl_flash.specs.Media.{MediaState}
 use Rattle.fl_jobs.specs.Status.{is_done}
+use Rattle.fl_jobs.specs.declared.job_end.LinesTaken.{LinesTaken}
 use Rattle.fl_jobs.specs.declared.status.ToolStatus.{ToolStatus}
 use Rattle.fl_jobs.specs.declared.status.ToolStatus.TheVariants.{InputRead, OutWrite, NoMemory, Device, BadImage}
 use Rattle.fl_model.specs.Record.{Plan, Config}
@@ -13,7 +16,6 @@ use Rattle.fl_tables.specs.declared.tables.Entry.{Entry}
 use Rattle.fl_words.specs.Medium.{IsImage}
 use Rattle.fl_import.specs.Ends.{Told, TablesEnd, IsUnbegun}
 use Rattle.fl_import.specs.Steps.{IsFormOf, IsOfTable}
-use Rattle.fl_import.specs.declared.form.Form.{Form}
 
 -- a status that comes once the table is found
 abbrev pub IsOfMounted : ToolStatus → Type 0
@@ -31,11 +33,11 @@ pub record HasCauses (tables flash flash_now source source_now sink sink_now : �
   pub kept_is : is_some kept ≡ is_done status
 
 -- the form of the lines of the table at a place
-abbrev pub FormsAt : Form → List Plan → ℕ → Type 0
+abbrev pub FormsAt : LineForm → List Plan → ℕ → Type 0
 FormsAt form plans at = (plan : Plan) → slice_get plans at ≡ Some plan → IsFormOf form plan
 
-abbrev pub told_of : Option (List ℕ) → Option (List ℕ) → Option (List ℕ) → Told
-told_of told told_now rest = record { written = told; written_now = told_now; left_now = rest }
+abbrev pub told_of : GoneBlobs → LinesTaken → Option (List ℕ) → Option (List ℕ) → Option (List ℕ) → Told
+told_of gone taken told told_now rest = record { gone = gone; taken = taken; written = told; written_now = told_now; left_now = rest }
 
 -- how it ends over a flash: that stands for the tables afterwards
 abbrev pub EndsOn : List Plan → List Table → List ℕ → List ℕ → Told → FlashState → FlashState → List Entry → Option ℕ → ToolStatus → Type 0

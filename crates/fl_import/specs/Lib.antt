@@ -1,5 +1,6 @@
 pub mod Lines
 pub mod Puts
+pub mod Counting
 pub mod Report
 pub mod Reading
 pub mod Ends

@@ -29,9 +29,9 @@ Stops columns blobs text taken left rest (BadInput number) = (number ≡ length 
 Stops columns blobs text taken left rest InputLong = (left ≡ []) × (is_long text ≡ true) × HasTaken text (most_bytes + 1) rest
 -- the source failed
 Stops columns blobs text taken left rest InputRead = FailsBehind text taken rest
--- the next one was given, and then the sink failed, or there was no memory
+-- the next one was given, and then the sink failed, or there was no memory, also for the first one
 Stops columns blobs text taken left rest OutWrite = HasNext taken left
-Stops columns blobs text taken left rest NoMemory = HasNext taken left
+Stops columns blobs text taken left rest NoMemory = 1 ≤ length left
 Stops columns blobs text taken left rest NotImage = ⊥
 Stops columns blobs text taken left rest Device = ⊥
 Stops columns blobs text taken left rest (BadImage table) = ⊥

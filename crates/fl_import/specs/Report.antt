@@ -1,12 +1,12 @@
 -- The lines that an import writes.
-use Rattle.std.specs.Prelude.{ℕ, ◌+◌, ◌-◌, Result, Ok, Err, List, [], ◌∷◌, ◌++◌, length, codes, decimal, option_map, unwrap_or}
+use Rattle.std.specs.Prelude.{ℕ, ◌+◌, Result, Ok, Err, List, [], ◌∷◌, ◌++◌, codes, decimal, option_map, unwrap_or}
 use Rattle.fl_csv.specs.declared.record.CsvRefusal.{CsvRefusal}
 use Rattle.fl_csv.specs.declared.record.CsvRefusal.TheVariants.{Csv, Fields, Number, NoMemory}
 use Rattle.fl_machine.specs.Step.{refused}
 use Rattle.fl_model.specs.Record.{Record, Plan}
 use Rattle.fl_model.specs.Table.{Table, Refusal, refusal_of}
 use Rattle.fl_words.specs.Reply.{text}
-use Rattle.fl_import.specs.Puts.{after_put, put_count}
+use Rattle.fl_import.specs.Puts.{after_put}
 
 -- why a line is no record; want of memory is no reason
 abbrev pub reason : CsvRefusal → List ℕ
@@ -33,10 +33,3 @@ told_line plan number table (Ok item) = unwrap_or (option_map (refused_line numb
 abbrev pub told_lines : Plan → ℕ → Table → List (Result Record CsvRefusal) → List ℕ
 told_lines plan number table [] = []
 told_lines plan number table (put ∷ puts) = told_line plan number table put ++ told_lines plan (number + 1) (after_put plan table put) puts
-
--- the last line: how many were put, and how many refused
-abbrev pub count_line : ℕ → ℕ → List ℕ
-count_line accepted rejected = codes "imported " ++ decimal accepted ++ codes " refused " ++ decimal rejected ++ 10 ∷ []
-
-abbrev pub counts_of : Plan → Table → List (Result Record CsvRefusal) → List ℕ
-counts_of plan table puts = count_line (put_count plan table puts) (length puts - put_count plan table puts)

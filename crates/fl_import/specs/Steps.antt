@@ -1,13 +1,16 @@
 -- How the steps of an import of a table end.
-use Rattle.std.specs.Prelude.{◌≡◌, ℕ, ◌+◌, IsTrue, Bool, true, false, Option, None, Some, Result, Ok, Err, List, [], length}
+use Rattle.std.specs.Prelude.{◌≡◌, ℕ, IsTrue, Bool, true, false, Option, None, Some, Result, Ok, Err, List, [], length}
 use Rattle.fl_base.specs.Causes.{Rose, Appends, AppendsFront}
 use Rattle.fl_base.specs.declared.stream.SinkFailed.{SinkFailed}
+use Rattle.fl_csv.specs.declared.record.GoneBlobs.{GoneBlobs}
+use Rattle.fl_csv.specs.declared.record.LineForm.{LineForm}
 use Rattle.fl_csv.specs.declared.record.CsvRefusal.{CsvRefusal}
 use Rattle.fl_csv.specs.declared.record.CsvRefusal.TheVariants as unread
 use Rattle.fl_flash.specs.Flash.{FlashState}
 use Rattle.fl_flash.specs.declared.flash.FlashFault.{FlashFault}
 use Rattle.fl_flash.specs.declared.flash.FlashFault.TheVariants.{PowerLost}
 use Rattle.fl_jobs.specs.Status.{flash_status}
+use Rattle.fl_jobs.specs.declared.job_end.LinesTaken.{LinesTaken}
 use Rattle.fl_jobs.specs.declared.status.ToolStatus.{ToolStatus}
 use Rattle.fl_jobs.specs.declared.status.ToolStatus.TheVariants.{Done, InputRead, OutWrite, InputLong, NoMemory, NotImage, Device, BadImage, NoTable, BadInput, Unsound}
 use Rattle.fl_model.specs.Record.{Record, Plan, has_var}
@@ -22,11 +25,12 @@ use Rattle.fl_table.specs.declared.faults.FlushFault.{FlushFault}
 use Rattle.fl_table.specs.declared.faults.FlushFault.TheVariants as flush
 use Rattle.fl_table.specs.declared.faults.PutRefusal.{PutRefusal}
 use Rattle.fl_table.specs.declared.faults.PutRefusal.TheVariants as refusal
-use Rattle.fl_import.specs.Ends.{Told, Puts, PutFails, Leaves, puts_of, table_after}
-use Rattle.fl_import.specs.Puts.{is_put, after_put, put_count, FailsIn}
-use Rattle.fl_import.specs.Report.{told_line, count_line}
-use Rattle.fl_import.specs.declared.counts.Counts.{Counts}
-use Rattle.fl_import.specs.declared.form.Form.{Form}
+use Rattle.fl_import.specs.Ends.{Told, Puts, PutFails, Leaves, table_after}
+use Rattle.fl_import.specs.Counting.{count_text, end_of}
+use Rattle.fl_import.specs.Puts.{after_put, FailsIn}
+use Rattle.fl_import.specs.Report.{told_line}
+use Rattle.fl_import.specs.declared.line_end.LineEnd.{LineEnd}
+use Rattle.fl_import.specs.declared.line_end.LineEnd.TheVariants.{Refused}
 
 -- a table that is mounted over a flash that tells its bytes, with the power on and no cut armed
 pub record Works (t : Table 64 64) (f : FlashState) (first : ℕ) (plan : Plan) (table : model.Table) : Type 0 where
@@ -38,7 +42,7 @@ pub record Works (t : Table 64 64) (f : FlashState) (first : ℕ) (plan : Plan) 
   pub unarmed : device.armed ≡ None
 
 -- the lines of a plan's records
-pub record IsFormOf (form : Form) (plan : Plan) : Type 0 where
+pub record IsFormOf (form : LineForm) (plan : Plan) : Type 0 where
   pub columns : form.columns ≡ length plan.columns
   pub blobs : form.blobs ≡ has_var plan
 
@@ -50,8 +54,8 @@ is_unread unread.NoMemory = true
 is_unread refusal = false
 
 -- a line that is refused, once that is told
-abbrev pub by_told : Result (Unit {0}) SinkFailed → Result Bool ToolStatus
-by_told (Ok done) = Ok false
+abbrev pub by_told : Result (Unit {0}) SinkFailed → Result LineEnd ToolStatus
+by_told (Ok done) = Ok Refused
 by_told (Err failed) = Err OutWrite
 
 -- the fault of the flash in a put
@@ -66,15 +70,15 @@ IsOfLine NoMemory = Unit {0}
 IsOfLine Device = Unit {0}
 IsOfLine status = ⊥
 
-abbrev pub LineEnds : ℕ → Plan → model.Table → ℕ → Result Record CsvRefusal → Table 64 64 → FlashState → Option (List ℕ) → Option (List ℕ) → Result Bool ToolStatus → Type 0
-LineEnds first plan table number put t g told told_now (Ok accepted) =
-    (accepted ≡ is_put plan table put) × Works t g first plan (after_put plan table put) × Appends told told_now (told_line plan number table put)
-LineEnds first plan table number put t g told told_now (Err OutWrite) = Works t g first plan table × AppendsFront told told_now (told_line plan number table put)
-LineEnds first plan table number put t g told told_now (Err NoMemory) = Works t g first plan table × Appends told told_now []
-LineEnds first plan table number put t g told told_now (Err Device) =
+abbrev pub LineEnds : Bool → ℕ → Plan → model.Table → ℕ → Result Record CsvRefusal → Table 64 64 → FlashState → Option (List ℕ) → Option (List ℕ) → Result LineEnd ToolStatus → Type 0
+LineEnds lacking first plan table number put t g told told_now (Ok end) =
+    (end ≡ end_of plan table put lacking) × Works t g first plan (after_put plan table put) × Appends told told_now (told_line plan number table put)
+LineEnds lacking first plan table number put t g told told_now (Err OutWrite) = Works t g first plan table × AppendsFront told told_now (told_line plan number table put)
+LineEnds lacking first plan table number put t g told told_now (Err NoMemory) = Works t g first plan table × Appends told told_now []
+LineEnds lacking first plan table number put t g told told_now (Err Device) =
     Appends told told_now []
     × ((item : Record) × (put ≡ Ok item) × (refusal_of plan table item ≡ None) × ((after : model.Table) × FailsIn plan (put_seals plan item table) table after × Rests g first plan (lose after)))
-LineEnds first plan table number put t g told told_now (Err status) = ⊥
+LineEnds lacking first plan table number put t g told told_now (Err status) = ⊥
 
 -- ---- all lines
 
@@ -89,43 +93,37 @@ IsOfLines (BadInput number) = Unit {0}
 IsOfLines status = ⊥
 
 -- no more are taken, and the table goes on
-pub record LinesEnd (first : ℕ) (plan : Plan) (table : model.Table) (text : List ℕ) (t : Table 64 64) (g : FlashState) (told told_now rest : Option (List ℕ)) (status : ToolStatus) : Type 0 where
-  pub puts : Puts plan table text told told_now rest status
-  pub works : Works t g first plan (table_after plan table puts.taken)
-
--- all were put
-pub record LinesDone (first : ℕ) (plan : Plan) (table : model.Table) (text : List ℕ) (t : Table 64 64) (g : FlashState) (told told_now rest : Option (List ℕ)) (counts : Counts) : Type 0 where
-  pub ends : LinesEnd first plan table text t g told told_now rest Done
-  pub accepted : counts.accepted ≡ put_count plan table (puts_of plan ends.puts.taken)
-  pub all : counts.accepted + counts.refused ≡ length (puts_of plan ends.puts.taken)
+pub record LinesEnd (gone : GoneBlobs) (counts : LinesTaken) (first : ℕ) (plan : Plan) (table : model.Table) (text : List ℕ) (t : Table 64 64) (g : FlashState) (told told_now rest : Option (List ℕ)) (status : ToolStatus) : Type 0 where
+  pub puts : Puts gone counts plan table text told told_now rest status
+  pub works : Works t g first plan (table_after gone plan table puts.taken)
 
 -- an operation failed in a put
-pub record LinesFail (first : ℕ) (plan : Plan) (table : model.Table) (text : List ℕ) (g : FlashState) (told told_now rest : Option (List ℕ)) : Type 0 where
+pub record LinesFail (gone : GoneBlobs) (counts : LinesTaken) (first : ℕ) (plan : Plan) (table : model.Table) (text : List ℕ) (g : FlashState) (told told_now rest : Option (List ℕ)) : Type 0 where
   pub after : model.Table
-  pub fails : PutFails plan table text told told_now rest after
+  pub fails : PutFails gone counts plan table text told told_now rest after
   pub rests : Rests g first plan (lose after)
 
-abbrev pub AllEnds : ℕ → Plan → model.Table → List ℕ → Table 64 64 → FlashState → Option (List ℕ) → Option (List ℕ) → Option (List ℕ) → Result Counts ToolStatus → Type 0
-AllEnds first plan table text t g told told_now rest (Ok counts) = LinesDone first plan table text t g told told_now rest counts
-AllEnds first plan table text t g told told_now rest (Err Device) = LinesFail first plan table text g told told_now rest
-AllEnds first plan table text t g told told_now rest (Err status) = LinesEnd first plan table text t g told told_now rest status
+abbrev pub AllEnds : GoneBlobs → LinesTaken → ℕ → Plan → model.Table → List ℕ → Table 64 64 → FlashState → Option (List ℕ) → Option (List ℕ) → Option (List ℕ) → Result (Unit {0}) ToolStatus → Type 0
+AllEnds gone counts first plan table text t g told told_now rest (Ok all) = LinesEnd gone counts first plan table text t g told told_now rest Done
+AllEnds gone counts first plan table text t g told told_now rest (Err Device) = LinesFail gone counts first plan table text g told told_now rest
+AllEnds gone counts first plan table text t g told told_now rest (Err status) = LinesEnd gone counts first plan table text t g told told_now rest status
 
 -- an operation failed in a put
-abbrev pub is_broken : Result Counts ToolStatus → Bool
+abbrev pub is_broken : Result (Unit {0}) ToolStatus → Bool
 is_broken (Err Device) = true
 is_broken taken = false
 
-abbrev pub status_of : Result Counts ToolStatus → ToolStatus
-status_of (Ok counts) = Done
+abbrev pub status_of : Result (Unit {0}) ToolStatus → ToolStatus
+status_of (Ok all) = Done
 status_of (Err status) = status
 
 -- ---- the table
 
 -- it is told how many lines were put
-abbrev pub TellsCounts : Counts → Option (List ℕ) → Option (List ℕ) → ℕ → ℕ → ToolStatus → Type 0
-TellsCounts counts told told_now faults faults_now Done = Appends told told_now (count_line counts.accepted counts.refused)
-TellsCounts counts told told_now faults faults_now OutWrite = AppendsFront told told_now (count_line counts.accepted counts.refused) × Rose faults faults_now
-TellsCounts counts told told_now faults faults_now status = ⊥
+abbrev pub TellsCounts : GoneBlobs → LinesTaken → Option (List ℕ) → Option (List ℕ) → ℕ → ℕ → ToolStatus → Type 0
+TellsCounts gone counts told told_now faults faults_now Done = Appends told told_now (count_text gone counts)
+TellsCounts gone counts told told_now faults faults_now OutWrite = AppendsFront told told_now (count_text gone counts) × Rose faults faults_now
+TellsCounts gone counts told told_now faults faults_now status = ⊥
 
 -- The status of an import whose table isn't flushed. A table is stopped where the power was lost in a put.
 abbrev pub flush_status : FlushFault → ToolStatus

@@ -46,12 +46,13 @@ Ended columns blobs text rest Device = TakesSome columns blobs text rest
 Ended columns blobs text rest NoMemory = TakesSome columns blobs text rest
 Ended columns blobs text rest status = TakesUntil columns blobs text rest status
 
--- a status of the lines alone
-abbrev pub IsOfReading : ToolStatus → Type 0
-IsOfReading InputRead = Unit {0}
-IsOfReading InputLong = Unit {0}
-IsOfReading (BadInput number) = Unit {0}
-IsOfReading status = ⊥
+-- a status of the first line
+abbrev pub IsOfNames : ToolStatus → Type 0
+IsOfNames InputRead = Unit {0}
+IsOfNames InputLong = Unit {0}
+IsOfNames NoMemory = Unit {0}
+IsOfNames (BadInput number) = Unit {0}
+IsOfNames status = ⊥
 
 -- the lines of a text were taken so, by the status of the import
 abbrev pub EndedAs : ℕ → Bool → List ℕ → Option (List ℕ) → ToolStatus → Type 0

@@ -1,5 +1,5 @@
 // The import of records into a table of an image.
-ghost use Rattle.std.specs.Prelude.{◌≡◌, ◌⊎◌, ◌≤◌, ◌<◌, ◌^◌, ℕ, false, true, is_some, Some, [], List, length, slice_get, IsTrue};
+ghost use Rattle.std.specs.Prelude.{◌≡◌, ◌⊎◌, ◌≤◌, ◌<◌, ◌^◌, ℕ, false, true, is_some, Some, [], List, length, slice_get, IsTrue, IfSome};
 ghost use Rattle.fl_base.specs.Causes.{Rose};
 ghost use Rattle.fl_config.specs.Whole.{is_whole, Makes};
 ghost use Rattle.fl_export.specs.Ends.{at_rest, IsImageWith, Keeps};
@@ -17,17 +17,17 @@ ghost use Rattle.fl_tables.specs.Repaired.{IsRepaired};
 ghost use Rattle.fl_tables.specs.Tables.{AreNewTables, IsNamed, LieOn, TablesStand};
 ghost use Rattle.fl_words.specs.Config as words;
 ghost use Rattle.fl_words.specs.Medium.{IsImage};
-ghost use Rattle.fl_import.specs.Ends.{ImportEnds, IsOfOther, OthersAreRepaired, StatusFits};
+ghost use Rattle.fl_import.specs.Ends.{ImportEnds, IsFormIn, IsOfOther, OthersAreRepaired, StatusFits};
 ghost use Rattle.fl_import.specs.Images.{EndsOn, EndsOver, FormsAt, HasCauses, told_of};
 ghost use Rattle.fl_import.specs.Taking.{EndedOver};
 
-use crate::form::Form;
 use crate::table::import_table;
 use fl_base::{Name, Sink, Source};
 use fl_config::Config;
+use fl_csv::{GoneBlobs, LineForm};
 use fl_export::mount_status;
 use fl_flash::{Flash, FlashRoom, Media, PageBuf, SimFlash};
-use fl_jobs::{HEADER, JobEnd, ToolStatus, config_of_image};
+use fl_jobs::{HEADER, JobEnd, LinesTaken, ToolStatus, config_of_image};
 use fl_lines::Lines;
 use fl_script::LineRoom;
 use fl_tables::{Table, Tables};
@@ -47,7 +47,8 @@ fn kept_rows(status: ToolStatus, table: &Table) -> Option<u64>
 /// Mounts the tables and imports the lines of an input into the one at this place.
 fn import_on<F: Flash, S: Source, K: Sink>(
     alloc: Global,
-    form: Form,
+    form: LineForm,
+    gone: GoneBlobs,
     tables: &mut Tables,
     at: usize,
     flash: &mut F,
@@ -69,7 +70,9 @@ fn import_on<F: Flash, S: Source, K: Sink>(
     ensures ended { (text : List ℕ) → S.left input.old ≡ Some text → EndedOver form.columns form.blobs text (S.left input.new) result.status }
     ensures ends { (plans : List Plan) (ts : List model.Table) (name text : List ℕ) → IsTrue (F.state flash.old).media.tells → (F.state flash.old).is_on ≡ true → SameDevice (F.state flash.old) at_rest
         → TablesStand (F.state flash.old) (λ i. false) plans tables.old.entries.items ts → IsNamed tables.old.entries.items name at → FormsAt form plans at → S.left input.old ≡ Some text
-        → EndsOn plans ts name text (told_of (K.written out.old) (K.written out.new) (S.left input.new)) (F.state flash.old) (F.state flash.new) tables.new.entries.items result.kept result.status }
+        → EndsOn plans ts name text (told_of gone result.taken (K.written out.old) (K.written out.new) (S.left input.new)) (F.state flash.old) (F.state flash.new) tables.new.entries.items result.kept result.status }
+    ensures form { IfSome result.form (λ given. given ≡ form) }
+    ensures formed { (line : ℕ) → result.status ≡ ToolStatus.BadInput line → is_some result.form ≡ true }
     ensures repairs { (plans : List Plan) (ts : List model.Table) (name : List ℕ) → IsTrue (F.state flash.old).media.tells → (F.state flash.old).is_on ≡ true → SameDevice (F.state flash.old) at_rest
         → TablesStand (F.state flash.old) (λ i. false) plans tables.old.entries.items ts → IsNamed tables.old.entries.items name at → (result.status ≡ ToolStatus.Device → ⊥)
         → (page : ℕ) → IsOfOther plans name (F.state flash.old).geometry.block page → IsRepaired (F.state flash.old).geometry.page (page_at (F.state flash.old) page) (page_at (F.state flash.new) page) }
@@ -78,20 +81,29 @@ fn import_on<F: Flash, S: Source, K: Sink>(
         return JobEnd::of(mount_status(bad));
     }
     let table = &mut tables.entries[at].table;
-    let status = import_table(alloc, form, table, flash, lines, input, out);
+    let mut taken = LinesTaken::none();
+    let status = import_table(
+        alloc, form, gone, table, flash, lines, input, out, &mut taken,
+    );
     let kept = kept_rows(status, table);
-    JobEnd { status, kept }
+    let form = Some(form);
+    JobEnd {
+        status,
+        kept,
+        taken,
+        form,
+    }
 }
 
 /// The form of the lines of the table at this place.
-fn form_at(tables: &Tables, at: usize) -> Form
+fn form_at(tables: &Tables, at: usize) -> LineForm
     requires at { at < length tables.now.entries.items }
     ensures some { 1 ≤ result.columns }
     ensures few { result.columns ≤ 8 }
     ensures form { (config : words.Lines) → AreNewTables tables.now.entries.items config → FormsAt result config.plans at }
 {
     let table = &tables.entries[at].table;
-    Form {
+    LineForm {
         columns: table.columns(),
         blobs: table.has_blobs(),
     }
@@ -103,6 +115,7 @@ fn import_at<M: Media, S: Source, K: Sink>(
     config: &Config,
     tables: &mut Tables,
     at: usize,
+    gone: GoneBlobs,
     media: &mut M,
     input: &mut S,
     out: &mut K,
@@ -117,7 +130,9 @@ fn import_at<M: Media, S: Source, K: Sink>(
     ensures ended { (plan : Plan) (text : List ℕ) → slice_get config.now.plans at ≡ Some plan → S.left input.old ≡ Some text → EndedOver (length plan.columns) (has_var plan) text (S.left input.new) result.status }
     ensures ends { (configured : Configured) (ts : List model.Table) (name text : List ℕ) → IsTrue (M.state media.old).tells → Makes config.now configured → IsImage configured (M.state media.old).content ts
         → IsNamed tables.old.entries.items name at → S.left input.old ≡ Some text
-        → EndsOver configured ts name text (told_of (K.written out.old) (K.written out.new) (S.left input.new)) (M.state media.old) (M.state media.new) result.kept result.status }
+        → EndsOver configured ts name text (told_of gone result.taken (K.written out.old) (K.written out.new) (S.left input.new)) (M.state media.old) (M.state media.new) result.kept result.status }
+    ensures form { IfSome result.form (λ form. FormsAt form config.now.plans at) }
+    ensures formed { (line : ℕ) → result.status ≡ ToolStatus.BadInput line → is_some result.form ≡ true }
     ensures repairs { (configured : Configured) (ts : List model.Table) (name : List ℕ) → IsTrue (M.state media.old).tells → Makes config.now configured → IsImage configured (M.state media.old).content ts
         → IsNamed tables.old.entries.items name at → (result.status ≡ ToolStatus.Device → ⊥) → OthersAreRepaired configured name (M.state media.old).content (M.state media.new).content }
 {
@@ -137,20 +152,22 @@ fn import_at<M: Media, S: Source, K: Sink>(
     };
     let mut flash = SimFlash::with_room(media, geometry, blocks, HEADER as u64, room);
     let end = import_on(
-        alloc, form, tables, at, &mut flash, &mut page, &mut lines, input, out,
+        alloc, form, gone, tables, at, &mut flash, &mut page, &mut lines, input, out,
     );
     let _media = flash.into_media();
     end
 }
 
 /// Puts the records of an input into a table of the image on a medium. The first line of the input names the fields, and each
-/// line below it is a record of CSV, which is put, or refused and told of; the last line that is written tells how many
-/// were. A put may push out the oldest records of the table, also some of this input; how many it holds at the end is handed
+/// line below it is a record of CSV, which is put, or refused and told of; one whose blob is gone is put without it, or refused.
+/// The last line that is written tells how many were. How far the lines were taken is handed up, and the form that those of this
+/// table have. A put may push out the oldest records of the table, also some of this input; how many it holds at the end is handed
 /// up. All tables are mounted before, in their order, and repaired as a mount repairs them, and the table is flushed behind
 /// the last line that is taken.
 pub fn import_image<M: Media, S: Source, K: Sink>(
     alloc: Global,
     name: Name,
+    gone: GoneBlobs,
     media: &mut M,
     input: &mut S,
     out: &mut K,
@@ -158,7 +175,7 @@ pub fn import_image<M: Media, S: Source, K: Sink>(
     // Over an image that stands for tables the lines are put in turn, and the table is flushed; what is refused is told. The
     // medium stands at the end for the tables that this leaves.
     ensures ends { (config : Configured) (tables : List model.Table) (text : List ℕ) → IsTrue (M.state media.old).tells → IsMade config → IsImage config (M.state media.old).content tables → S.left input.old ≡ Some text →
-        ImportEnds config tables name text (told_of (K.written out.old) (K.written out.new) (S.left input.new)) (M.state media.old).faults (M.state media.new).faults (M.state media.old).content (M.state media.new).content result.kept result.status }
+        ImportEnds config tables name text (told_of gone result.taken (K.written out.old) (K.written out.new) (S.left input.new)) (M.state media.old).faults (M.state media.new).faults (M.state media.old).content (M.state media.new).content result.kept result.status }
 
     // Nothing changes in the pages of other tables but what a mount repairs, where the medium doesn't fail.
     ensures repairs { (config : Configured) (tables : List model.Table) → IsTrue (M.state media.old).tells → IsMade config → IsImage config (M.state media.old).content tables → (result.status ≡ ToolStatus.Device → ⊥) →
@@ -166,6 +183,10 @@ pub fn import_image<M: Media, S: Source, K: Sink>(
 
     // Rows are told exactly where it is done.
     ensures kept { is_some result.kept ≡ is_done result.status }
+
+    // The form is that of the table's lines, also where one of them is bad.
+    ensures form { IsTrue (M.state media.old).tells → IfSome result.form (λ form. IsFormIn (M.state media.old).content name form) }
+    ensures formed { (line : ℕ) → result.status ≡ ToolStatus.BadInput line → is_some result.form ≡ true }
 
     // Statuses have their causes, over any bytes, and a medium that doesn't tell them.
     ensures fits { IsTrue (M.state media.old).tells → StatusFits (M.state media.old).content name (S.left input.old) (S.left input.new) result.status }
@@ -192,5 +213,5 @@ pub fn import_image<M: Media, S: Source, K: Sink>(
     let Some(at) = tables.find(name) else {
         return JobEnd::of(ToolStatus::NoTable);
     };
-    import_at(alloc, &config, &mut tables, at, media, input, out)
+    import_at(alloc, &config, &mut tables, at, gone, media, input, out)
 }

@@ -1,10 +1,9 @@
 //! The import of records into a table of an image: the lines of CSV that a source gives, each a put or a refusal.
 #![tactic(auto)]
 
-mod counts;
-mod form;
 mod import;
 mod line;
+mod line_end;
 mod lines;
 mod names;
 mod report;

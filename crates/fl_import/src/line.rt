@@ -15,14 +15,14 @@ ghost use Rattle.fl_table.specs.Mounting.{OutsideStands};
 ghost use Rattle.fl_table.specs.Outcomes.{PutEnds};
 ghost use Rattle.fl_table.specs.Standing.{Stands};
 ghost use Rattle.fl_words.specs.Grammar as grammar;
-ghost use Rattle.fl_import.specs.Lines.{meaning};
+ghost use Rattle.fl_import.specs.Lines.{lacks, meaning};
 ghost use Rattle.fl_import.specs.Steps.{IsFormOf, IsOfLine, LineEnds, Works, by_told, fault_in, is_unread};
 
-use crate::form::Form;
+use crate::line_end::{LineEnd, put_end};
 use crate::names::without_return;
 use crate::report::{tell_reason, tell_refusal};
 use fl_base::{Sink, SinkFailed};
-use fl_csv::{CsvPut, CsvRefusal, read_record};
+use fl_csv::{CsvPut, CsvRefusal, GoneBlobs, LineForm, read_record};
 use fl_flash::{Flash, FlashFault};
 use fl_jobs::{ToolStatus, flash_status};
 use fl_table::PutRefusal;
@@ -66,25 +66,26 @@ fn fault_in(outcome: &Result<(), PutRefusal>) -> Option<FlashFault>
 }
 
 /// A line that is refused, once that is told.
-fn refused(told: Result<(), SinkFailed>) -> Result<bool, ToolStatus>
+fn refused(told: Result<(), SinkFailed>) -> Result<LineEnd, ToolStatus>
     ensures { result ≡ by_told told }
 {
     match told {
-        Ok(()) => Ok(false),
+        Ok(()) => Ok(LineEnd::Refused),
         Err(_) => Err(ToolStatus::OutWrite),
     }
 }
 
-/// Puts the record that the line of this number is, and says whether it was put. A line that is refused is told of.
+/// Puts the record that the line of this number is, and says what became of it. A line that is refused is told of.
 pub(crate) fn put_line<F: Flash, K: Sink>(
     alloc: Global,
-    form: Form,
+    form: LineForm,
+    gone: GoneBlobs,
     number: u64,
     line: &[u8],
     table: &mut Table,
     flash: &mut F,
     out: &mut K,
-) -> Result<bool, ToolStatus>
+) -> Result<LineEnd, ToolStatus>
     requires some { 1 ≤ form.columns }
     requires few { form.columns ≤ 8 }
     requires lies { LiesOn table.old (F.state flash.old) }
@@ -97,9 +98,10 @@ pub(crate) fn put_line<F: Flash, K: Sink>(
     ensures write { result ≡ Err ToolStatus.OutWrite → Rose (K.faults out.old) (K.faults out.new) }
     ensures statuses { IfErr result (λ status. IsOfLine status) }
     ensures ends { (first : ℕ) (plan : Plan) (t : model.Table) → IsFormOf form plan → Works table.old (F.state flash.old) first plan t
-        → LineEnds first plan t number (meaning form.columns form.blobs line.now) table.new (F.state flash.new) (K.written out.old) (K.written out.new) result }
+        → LineEnds (lacks gone form.columns form.blobs line.now) first plan t number (meaning gone form.columns form.blobs line.now) table.new (F.state flash.new) (K.written out.old) (K.written out.new) result }
 {
-    let put = match read_record(alloc, without_return(line), form.columns, form.blobs) {
+    let text = without_return(line);
+    let put = match read_record(alloc, text, form.columns, form.blobs, gone) {
         Ok(put) => put,
         Err(refusal) if is_unread(&refusal) => return Err(ToolStatus::NoMemory),
         Err(refusal) => return refused(tell_reason(number, refusal, out)),
@@ -109,7 +111,7 @@ pub(crate) fn put_line<F: Flash, K: Sink>(
         return Err(flash_status(fault));
     }
     match outcome {
-        Ok(()) => Ok(true),
+        Ok(()) => Ok(put_end(put.gone)),
         Err(refusal) => refused(tell_refusal(number, refusal, out)),
     }
 }

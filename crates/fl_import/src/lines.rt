@@ -8,34 +8,60 @@ ghost use Rattle.fl_model.specs.Record.{Plan};
 ghost use Rattle.fl_model.specs.Table as model;
 ghost use Rattle.fl_table.specs.Memory.{IsSamePlan, LiesOn};
 ghost use Rattle.fl_table.specs.Mounting.{OutsideStands};
+ghost use Rattle.fl_import.specs.Counting.{after_end};
 ghost use Rattle.fl_import.specs.Steps.{AllEnds, IsFormOf, IsOfLines, Works, status_of};
 ghost use Rattle.fl_import.specs.Taking.{Ended, TakesSoFar};
 
-use crate::counts::Counts;
-use crate::form::Form;
 use crate::line::put_line;
+use crate::line_end::LineEnd;
 use crate::taking::next_line;
 use fl_base::{Sink, Source};
+use fl_csv::{GoneBlobs, LineForm};
 use fl_flash::Flash;
-use fl_jobs::ToolStatus;
+use fl_jobs::{LinesTaken, ToolStatus};
 use fl_lines::Lines;
 use fl_tables::Table;
 use std::alloc::Global;
 
+/// How far the lines were taken, after one more.
+fn after_end(taken: LinesTaken, end: LineEnd) -> LinesTaken
+    requires { (taken.line < 2 ^ 24) × (taken.rows < 2 ^ 24) × (taken.gone < 2 ^ 24) }
+    ensures { result ≡ after_end taken end }
+{
+    let line = taken.line + 1;
+    let rows = taken.rows;
+    let gone = taken.gone;
+    match end {
+        LineEnd::Refused => LinesTaken { line, rows, gone },
+        LineEnd::Put => {
+            let rows = rows + 1;
+            LinesTaken { line, rows, gone }
+        }
+        LineEnd::PutWithoutBlob => {
+            let rows = rows + 1;
+            let gone = gone + 1;
+            LinesTaken { line, rows, gone }
+        }
+    }
+}
+
 /// Puts the lines below the first one after another, until there are none, or one that can't be.
 pub(crate) fn put_lines<F: Flash, S: Source, K: Sink>(
     alloc: Global,
-    form: Form,
+    form: LineForm,
+    gone: GoneBlobs,
     table: &mut Table,
     flash: &mut F,
     lines: &mut Lines,
     input: &mut S,
     out: &mut K,
-) -> Result<Counts, ToolStatus>
+    taken: &mut LinesTaken,
+) -> Result<(), ToolStatus>
     requires some { 1 ≤ form.columns }
     requires few { form.columns ≤ 8 }
     requires lies { LiesOn table.old (F.state flash.old) }
     requires most { lines.old.most < 2 ^ 24 }
+    requires first { taken.old ≡ record { line = 1; rows = 0; gone = 0 } }
     ensures goes { Goes (F.state flash.old) (F.state flash.new) }
     ensures same { IsSamePlan table.old table.new }
     ensures lies { LiesOn table.new (F.state flash.new) }
@@ -49,21 +75,14 @@ pub(crate) fn put_lines<F: Flash, S: Source, K: Sink>(
         → Ended form.columns form.blobs text (S.left input.new) (status_of result) }
     ensures ends { (text : List ℕ) (names : List ℕ) (first : ℕ) (plan : Plan) (t : model.Table) → TakesSoFar form.columns form.blobs text (names ∷ []) lines.old (S.left input.old)
         → IsFormOf form plan → Works table.old (F.state flash.old) first plan t
-        → AllEnds first plan t text table.new (F.state flash.new) (K.written out.old) (K.written out.new) (S.left input.new) result }
+        → AllEnds gone taken.new first plan t text table.new (F.state flash.new) (K.written out.old) (K.written out.new) (S.left input.new) result }
 {
-    let mut counts = Counts {
-        accepted: 0,
-        refused: 0,
-    };
     'lines: loop {
-        let number = counts.accepted + counts.refused + 2;
+        let number = taken.line + 1;
         if !next_line(lines, input, number)? {
-            return Ok(counts);
+            return Ok(());
         }
-        if put_line(alloc, form, number, lines.line(), table, flash, out)? {
-            counts.accepted += 1;
-        } else {
-            counts.refused += 1;
-        }
+        let end = put_line(alloc, form, gone, number, lines.line(), table, flash, out)?;
+        *taken = after_end(*taken, end);
     }
 }

@@ -4,11 +4,12 @@ ghost use Rattle.fl_base.specs.Causes.{HasCause};
 ghost use Rattle.fl_script.specs.Written.{Written};
 ghost use Rattle.fl_tables.specs.Replies.{put_reply};
 ghost use Rattle.fl_words.specs.Reply.{text};
-ghost use Rattle.fl_import.specs.Report.{count_line, number_text, reason, reason_line};
+ghost use Rattle.fl_import.specs.Counting.{count_text};
+ghost use Rattle.fl_import.specs.Report.{number_text, reason, reason_line};
 
-use crate::counts::Counts;
 use fl_base::{Sink, SinkFailed};
-use fl_csv::CsvRefusal;
+use fl_csv::{CsvRefusal, GoneBlobs};
+use fl_jobs::LinesTaken;
 use fl_script::{TextLine, write_all, write_reply};
 use fl_table::PutRefusal;
 use fl_tables::put_reply;
@@ -66,13 +67,32 @@ pub(crate) fn tell_refusal<K: Sink>(
     write_reply(&put_reply(Err(refusal)), out)
 }
 
+/// How many were put and how many refused; and where blobs that are gone are left out, how many were put without theirs.
+fn add_counts(line: &mut TextLine, gone: GoneBlobs, taken: LinesTaken)
+    requires { line.old ≡ [] }
+    ensures { line.new ≡ count_text gone taken }
+{
+    let refused = taken.line.saturating_sub(1).saturating_sub(taken.rows);
+    line.add_number(b"imported ", taken.rows);
+    match gone {
+        GoneBlobs::Refused => line.end_with_number(b" refused ", refused),
+        GoneBlobs::LeftOut => {
+            line.add_number(b" refused ", refused);
+            line.end_with_number(b" gone ", taken.gone);
+        }
+    }
+}
+
 /// Tells how many lines were put, and how many refused.
-pub(crate) fn tell_counts<K: Sink>(counts: Counts, out: &mut K) -> Result<(), SinkFailed>
-    ensures text { Written (K.written out.old) (K.written out.new) result (count_line counts.accepted counts.refused) }
+pub(crate) fn tell_counts<K: Sink>(
+    gone: GoneBlobs,
+    taken: LinesTaken,
+    out: &mut K,
+) -> Result<(), SinkFailed>
+    ensures text { Written (K.written out.old) (K.written out.new) result (count_text gone taken) }
     ensures cause { HasCause (K.faults out.old) (K.faults out.new) result }
 {
     let mut line = TextLine::new();
-    line.add_number(b"imported ", counts.accepted);
-    line.end_with_number(b" refused ", counts.refused);
+    add_counts(&mut line, gone, taken);
     write_all(line.bytes(), out)
 }

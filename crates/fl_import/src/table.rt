@@ -2,6 +2,7 @@
 ghost use Rattle.std.specs.Prelude.{◌≡◌, ◌≤◌, ◌^◌, ℕ, false, List, [], IsTrue, IfErr, IfOk, Err, Some};
 ghost use Rattle.fl_base.specs.Causes.{Rose};
 ghost use Rattle.fl_flash.specs.Flash.{Goes, page_at};
+ghost use Rattle.fl_jobs.specs.Taken.{none_taken};
 ghost use Rattle.fl_jobs.specs.declared.status.ToolStatus.{ToolStatus};
 ghost use Rattle.fl_lines.specs.Stream.{LinesState};
 ghost use Rattle.fl_model.specs.Record.{Plan};
@@ -12,14 +13,13 @@ ghost use Rattle.fl_import.specs.Images.{told_of};
 ghost use Rattle.fl_import.specs.Steps.{AllEnds, IsFormOf, IsOfLines, IsOfTable, TableEnds, TellsCounts, Works, flush_status, is_broken, status_of};
 ghost use Rattle.fl_import.specs.Taking.{Ended, EndedAs};
 
-use crate::counts::Counts;
-use crate::form::Form;
 use crate::lines::put_lines;
 use crate::report::tell_counts;
 use crate::taking::take_names;
 use fl_base::{Sink, Source};
+use fl_csv::{GoneBlobs, LineForm};
 use fl_flash::{Flash, FlashFault};
-use fl_jobs::{ToolStatus, flash_status};
+use fl_jobs::{LinesTaken, ToolStatus, flash_status};
 use fl_lines::Lines;
 use fl_table::FlushFault;
 use fl_tables::Table;
@@ -28,17 +28,20 @@ use std::alloc::Global;
 /// Takes all lines of an input, of which none was taken: puts them, and tells of those that are refused.
 fn take_lines<F: Flash, S: Source, K: Sink>(
     alloc: Global,
-    form: Form,
+    form: LineForm,
+    gone: GoneBlobs,
     table: &mut Table,
     flash: &mut F,
     lines: &mut Lines,
     input: &mut S,
     out: &mut K,
-) -> Result<Counts, ToolStatus>
+    taken: &mut LinesTaken,
+) -> Result<(), ToolStatus>
     requires some { 1 ≤ form.columns }
     requires few { form.columns ≤ 8 }
     requires lies { LiesOn table.old (F.state flash.old) }
     requires new { lines.old ≡ record { line = []; ahead = []; most = 2 ^ 24; closed = false } }
+    requires none { taken.old ≡ none_taken }
     ensures goes { Goes (F.state flash.old) (F.state flash.new) }
     ensures same { IsSamePlan table.old table.new }
     ensures lies { LiesOn table.new (F.state flash.new) }
@@ -50,14 +53,15 @@ fn take_lines<F: Flash, S: Source, K: Sink>(
     ensures statuses { IfErr result (λ status. IsOfLines status) }
     ensures ended { (text : List ℕ) → S.left input.old ≡ Some text → Ended form.columns form.blobs text (S.left input.new) (status_of result) }
     ensures ends { (text : List ℕ) (first : ℕ) (plan : Plan) (t : model.Table) → S.left input.old ≡ Some text → IsFormOf form plan → Works table.old (F.state flash.old) first plan t
-        → AllEnds first plan t text table.new (F.state flash.new) (K.written out.old) (K.written out.new) (S.left input.new) result }
+        → AllEnds gone taken.new first plan t text table.new (F.state flash.new) (K.written out.old) (K.written out.new) (S.left input.new) result }
 {
-    take_names(lines, input, form)?;
-    put_lines(alloc, form, table, flash, lines, input, out)
+    take_names(alloc, lines, input, form)?;
+    taken.line = 1;
+    put_lines(alloc, form, gone, table, flash, lines, input, out, taken)
 }
 
 /// Whether an operation failed in a put.
-fn is_broken(taken: &Result<Counts, ToolStatus>) -> bool
+fn is_broken(taken: &Result<(), ToolStatus>) -> bool
     ensures { result ≡ is_broken taken.now }
 {
     matches!(taken, Err(ToolStatus::Device))
@@ -74,16 +78,20 @@ fn flush_status(fault: FlushFault) -> ToolStatus
 }
 
 /// The status of an import whose table was flushed, once it is told what was put.
-fn told<K: Sink>(taken: Result<Counts, ToolStatus>, out: &mut K) -> ToolStatus
+fn told<K: Sink>(
+    all: Result<(), ToolStatus>,
+    gone: GoneBlobs,
+    taken: LinesTaken,
+    out: &mut K,
+) -> ToolStatus
     ensures later { K.faults out.old ≤ K.faults out.new }
-    ensures none { IfErr taken (λ status. (result ≡ status) × (out.new ≡ out.old)) }
-    ensures counts { IfOk taken (λ counts. TellsCounts counts (K.written out.old) (K.written out.new) (K.faults out.old) (K.faults out.new) result) }
+    ensures none { IfErr all (λ status. (result ≡ status) × (out.new ≡ out.old)) }
+    ensures counts { IfOk all (λ done. TellsCounts gone taken (K.written out.old) (K.written out.new) (K.faults out.old) (K.faults out.new) result) }
 {
-    let counts = match taken {
-        Ok(counts) => counts,
-        Err(status) => return status,
-    };
-    match tell_counts(counts, out) {
+    if let Err(status) = all {
+        return status;
+    }
+    match tell_counts(gone, taken, out) {
         Ok(()) => ToolStatus::Done,
         Err(_) => ToolStatus::OutWrite,
     }
@@ -92,17 +100,20 @@ fn told<K: Sink>(taken: Result<Counts, ToolStatus>, out: &mut K) -> ToolStatus
 /// Imports the lines of an input into a table. It is flushed behind the last line that is taken, unless an operation failed.
 pub(crate) fn import_table<F: Flash, S: Source, K: Sink>(
     alloc: Global,
-    form: Form,
+    form: LineForm,
+    gone: GoneBlobs,
     table: &mut Table,
     flash: &mut F,
     lines: &mut Lines,
     input: &mut S,
     out: &mut K,
+    taken: &mut LinesTaken,
 ) -> ToolStatus
     requires some { 1 ≤ form.columns }
     requires few { form.columns ≤ 8 }
     requires lies { LiesOn table.old (F.state flash.old) }
     requires new { lines.old ≡ record { line = []; ahead = []; most = 2 ^ 24; closed = false } }
+    requires none { taken.old ≡ none_taken }
     ensures goes { Goes (F.state flash.old) (F.state flash.new) }
     ensures same { IsSamePlan table.old table.new }
     ensures outside { IsTrue (F.state flash.old).media.tells → OutsideStands table.old (page_at (F.state flash.old)) (page_at (F.state flash.new)) }
@@ -113,14 +124,14 @@ pub(crate) fn import_table<F: Flash, S: Source, K: Sink>(
     ensures statuses { IsOfTable result }
     ensures ended { (text : List ℕ) → S.left input.old ≡ Some text → EndedAs form.columns form.blobs text (S.left input.new) result }
     ensures ends { (text : List ℕ) (first : ℕ) (plan : Plan) (t : model.Table) → S.left input.old ≡ Some text → IsFormOf form plan → Works table.old (F.state flash.old) first plan t
-        → TableEnds first plan t text table.new (F.state flash.new) (told_of (K.written out.old) (K.written out.new) (S.left input.new)) result }
+        → TableEnds first plan t text table.new (F.state flash.new) (told_of gone taken.new (K.written out.old) (K.written out.new) (S.left input.new)) result }
 {
-    let taken = take_lines(alloc, form, table, flash, lines, input, out);
-    if is_broken(&taken) {
+    let all = take_lines(alloc, form, gone, table, flash, lines, input, out, taken);
+    if is_broken(&all) {
         return ToolStatus::Device;
     }
     match table.flush(flash) {
-        Ok(()) => told(taken, out),
+        Ok(()) => told(all, gone, *taken, out),
         Err(fault) => flush_status(fault),
     }
 }

@@ -1,7 +1,7 @@
 // Images made by hand, and what a check says of them: of sound ones, and of some that break each rule.
 use fl_base::{MemSink, NoMemory};
 use fl_flash::MemMedia;
-use fl_jobs::{RingChecker, check_image};
+use fl_jobs::{RingChecker, ToolStatus, check_all, check_image};
 use std::alloc::Global;
 use std::test::Fail;
 
@@ -374,5 +374,46 @@ fn a_blob_that_is_gone(rt: HostRuntime) -> Result<(), Fail> {
     let pieces: [Piece<'_>; 2] = [(0, &rows), (56, &SEAL)];
     let out = check(rt.alloc(), WITH_BLOBS, 768, &pieces)?;
     assert_eq!(rt; out.bytes(), ONE_ROW.as_bytes());
+    Ok(())
+}
+
+// Two tables of pages of 64 bytes, two a block, and rings of three blocks: pages 0 to 5, and 6 to 11.
+const TWO: &str = "device 64 2\ntable t 8 i32 3 0 0 8 0 10 1 0\ntable s 8 i32 3 0 0 8 0 10 1 0\n";
+
+#[test]
+fn all_tables_are_told(rt: HostRuntime) -> Result<(), Fail> {
+    let cases: [(&[Piece<'_>], ToolStatus, &str); 4] = [
+        (
+            &[],
+            ToolStatus::Done,
+            "sound t rows 0 pages 0 voids 0\nsound s rows 0 pages 0 voids 0\n",
+        ),
+        // A page that isn't kept is begun.
+        (
+            &[(256, &[0])],
+            ToolStatus::Unsound,
+            "fault t data 4 8 rest\nsound s rows 0 pages 0 voids 0\n",
+        ),
+        // Another bitmap, in the second table.
+        (
+            &[(384, &ROW), (392, &[2]), (440, &SEAL)],
+            ToolStatus::Unsound,
+            "sound t rows 0 pages 0 voids 0\nfault s data 6 4 body\n",
+        ),
+        (
+            &[(256, &[0]), (384, &ROW), (392, &[2]), (440, &SEAL)],
+            ToolStatus::Unsound,
+            "fault t data 4 8 rest\nfault s data 6 4 body\n",
+        ),
+    ];
+    for (pieces, status, wanted) in cases {
+        let bytes = image(rt.alloc(), TWO, 768, pieces)?;
+        let len = bytes.len();
+        let mut media = MemMedia::new(rt.alloc(), bytes, len)?;
+        let mut out = MemSink::new(rt.alloc(), 100, Vec::new(rt.alloc()))?;
+        let found = check_all(rt.alloc(), &mut RingChecker, &mut media, &mut out);
+        assert_eq!(rt; found, status, "{wanted}");
+        assert_eq!(rt; out.bytes(), wanted.as_bytes(), "{wanted}");
+    }
     Ok(())
 }

@@ -1,10 +1,11 @@
 // Imports into images made by hand: what is told, what the image then holds, and how they end.
 use crate::checks::{Piece, SEAL, image};
 use fl_base::{KeyRange, MemSink, MemSource, Name, NoMemory};
+use fl_csv::{GoneBlobs, LineForm};
 use fl_export::export_image;
 use fl_flash::MemMedia;
 use fl_import::import_image;
-use fl_jobs::{JobEnd, ToolStatus};
+use fl_jobs::{JobEnd, LinesTaken, ToolStatus};
 use std::alloc::Global;
 use std::test::Fail;
 
@@ -19,10 +20,11 @@ const WITH_BLOBS: &str = "device 64 2\ntable t 8 i32 3 0 3 8 0 10 1 30\n";
 const BLOB_BYTES: u16 = 768;
 
 // Imports a text into a table, into a sink with so much room, and tells how it ended. A call of the source may fail.
-fn import(
+fn import_with(
     alloc: Global,
     media: &mut MemMedia,
     name: &[u8],
+    gone: GoneBlobs,
     text: &[u8],
     failing: &[u64],
     room: usize,
@@ -32,8 +34,20 @@ fn import(
     };
     let mut input = MemSource::new(text.to_vec(alloc)?, failing.to_vec(alloc)?);
     let mut out = MemSink::new(alloc, room, Vec::new(alloc))?;
-    let end = import_image(alloc, name, media, &mut input, &mut out);
+    let end = import_image(alloc, name, gone, media, &mut input, &mut out);
     Ok((end, out))
+}
+
+// .. where a blob that is gone is no blob.
+fn import(
+    alloc: Global,
+    media: &mut MemMedia,
+    name: &[u8],
+    text: &[u8],
+    failing: &[u64],
+    room: usize,
+) -> Result<(JobEnd, MemSink), NoMemory> {
+    import_with(alloc, media, name, GoneBlobs::Refused, text, failing, room)
 }
 
 // The records of table t.
@@ -123,7 +137,16 @@ fn older_records_are_pushed_out(rt: HostRuntime) -> Result<(), Fail> {
         end,
         JobEnd {
             status: ToolStatus::Done,
-            kept: Some(68)
+            kept: Some(68),
+            taken: LinesTaken {
+                line: 101,
+                rows: 100,
+                gone: 0
+            },
+            form: Some(LineForm {
+                columns: 1,
+                blobs: false
+            }),
         }
     );
     // The block of the last page has room for one more, so nothing is given up.
@@ -144,6 +167,99 @@ fn blobs_are_put(rt: HostRuntime) -> Result<(), Fail> {
     let out = records(rt.alloc(), &mut media)?;
     let kept = "key,c1,blob\n1,-25,\n2,-5,00abff\n3,0,-\n";
     assert_eq!(rt; out.bytes(), kept.as_bytes());
+    Ok(())
+}
+
+#[test]
+fn blobs_that_are_gone_are_left_out(rt: HostRuntime) -> Result<(), Fail> {
+    // The row of line 4 isn't put, so that its blob isn't counted.
+    let text = "key,c1,blob\n4,7,gone\n5,1,\"gone\"\n5,2,gone\n6,gone,\n7,1,Gone\n";
+    let mut media = empty(rt.alloc(), WITH_BLOBS, BLOB_BYTES)?;
+    let (end, out) = import_with(
+        rt.alloc(),
+        &mut media,
+        b"t",
+        GoneBlobs::LeftOut,
+        text.as_bytes(),
+        &[],
+        200,
+    )?;
+    assert_eq!(rt; end.status, ToolStatus::Done);
+    let told =
+        "line 4 refused key 5\nline 5 number 2\nline 6 number 3\nimported 2 refused 3 gone 2\n";
+    assert_eq!(rt; out.bytes(), told.as_bytes());
+    let taken = LinesTaken {
+        line: 6,
+        rows: 2,
+        gone: 2,
+    };
+    assert_eq!(rt; end.taken, taken);
+    let out = records(rt.alloc(), &mut media)?;
+    let kept = "key,c1,blob\n4,7,\n5,1,\n";
+    assert_eq!(rt; out.bytes(), kept.as_bytes());
+    // Nothing is left out, and the last line says so.
+    let (_end, out) = import_with(
+        rt.alloc(),
+        &mut media,
+        b"t",
+        GoneBlobs::LeftOut,
+        b"key,c1,blob\n8,1,00\n",
+        &[],
+        200,
+    )?;
+    assert_eq!(rt; out.bytes(), "imported 1 refused 0 gone 0\n".as_bytes());
+    Ok(())
+}
+
+#[test]
+fn names_may_have_a_mark_and_quotes(rt: HostRuntime) -> Result<(), Fail> {
+    let bad = ToolStatus::BadInput { line: 1 };
+    let cases = [
+        ("\u{feff}key,c1\n1,2\n", ToolStatus::Done),
+        ("\u{feff}\"key\",\"c1\"\r\n1,2\n", ToolStatus::Done),
+        ("key,\"c\"1\n1,2\n", ToolStatus::Done),
+        ("key,\u{feff}c1\n", bad),
+        ("\u{feff}\u{feff}key,c1\n", bad),
+        ("\"key,c1\"\n", bad),
+        ("key,\"c1\n", bad),
+        ("key,c1,c2\n", bad),
+        ("key\n", bad),
+        ("key, c1\n", bad),
+        ("c1,key\n", bad),
+    ];
+    for (text, wanted) in cases {
+        let mut media = empty(rt.alloc(), PLAIN, PLAIN_BYTES)?;
+        let (end, _out) = import(rt.alloc(), &mut media, b"t", text.as_bytes(), &[], 100)?;
+        assert_eq!(rt; end.status, wanted, "{text}");
+    }
+    Ok(())
+}
+
+#[test]
+fn an_end_says_how_far_lines_were_taken(rt: HostRuntime) -> Result<(), Fail> {
+    // The status, how much room the sink has, the last line that was taken, and how many records were put.
+    let cases: [(&str, usize, u64, u64); 5] = [
+        ("", 100, 0, 0),
+        ("key,c2\n1,2\n", 100, 0, 0),
+        ("key,c1\n1,2\n3,4\n", 100, 3, 2),
+        ("key,c1\n1,2\nx\n3,4\n", 9, 2, 1),
+        ("key,c1\n1,2\n1,2\n3,4", 100, 4, 2),
+    ];
+    for (text, room, line, rows) in cases {
+        let mut media = empty(rt.alloc(), PLAIN, PLAIN_BYTES)?;
+        let (end, _out) = import(rt.alloc(), &mut media, b"t", text.as_bytes(), &[], room)?;
+        let taken = LinesTaken {
+            line,
+            rows,
+            gone: 0,
+        };
+        assert_eq!(rt; end.taken, taken, "{text}");
+        let form = LineForm {
+            columns: 1,
+            blobs: false,
+        };
+        assert_eq!(rt; end.form, Some(form), "{text}");
+    }
     Ok(())
 }
 

@@ -1,4 +1,4 @@
-//! Tests of checks, exports and imports, over images made by hand, through public calls. They stand above all that they call, so that
+//! Tests of checks, maps, salvages, exports and imports, over images made by hand, through public calls. They stand above all that they call, so that
 //! each crate below is proved once.
 #![tactic(auto)]
 
@@ -8,3 +8,7 @@ mod checks;
 mod exports;
 #[cfg(test)]
 mod imports;
+#[cfg(test)]
+mod maps;
+#[cfg(test)]
+mod salvages;

@@ -15,7 +15,9 @@ use Rattle.fl_config.specs.Whole.{is_whole, is_whole_of, Makes}
 use Rattle.fl_plan.specs.declared.table_config.TableConfig.{TableConfig}
 use Rattle.fl_jobs.specs.Header.{IsAccepted}
 use Rattle.fl_jobs.specs.Image.{IsImageOf}
-use Rattle.fl_jobs.specs.Checking.{IsOver, TablesEnd, ImageEnds, CheckEnds}
+use Rattle.fl_jobs.specs.Checking.{IsOver, ChecksBy, ImageChecked, TablesEndBy}
+use Rattle.fl_jobs.specs.declared.extent.Extent.{Extent}
+use Rattle.fl_jobs.specs.declared.extent.Extent.TheVariants.{FirstFault, AllTables}
 use Rattle.fl_check.specs.declared.finding.Finding.{Finding}
 use Rattle.fl_jobs.specs.declared.status.ToolStatus.{ToolStatus}
 use Rattle.fl_jobs.specs.declared.status.ToolStatus.TheVariants.{Done, InputRead, OutWrite, InputLong, NoMemory, NotImage, Device, BadImage, NoTable, BadInput, Unsound}
@@ -59,29 +61,35 @@ over-of lines geometry blocks origin work medium f is device all fits =
     })
 
 -- what was found over that flash was found in the bytes of the medium
-pub ends-over : (Finds : TableConfig → FlashState → Finding → Type 0) (lines : Lines) (bytes : List ℕ) (told told_now : Option (List ℕ)) (status : ToolStatus) (tells : Bool)
-    (geometry : Geometry) (blocks : ℕ) (origin : GName) (work : Work) (medium : MediaState) (f : FlashState) → f ≡ on_medium geometry blocks 1024 origin true None 0 work medium
-    → medium.content ≡ bytes → medium.tells ≡ tells → IsTrue tells → (IsTrue f.media.tells → TablesEnd Finds lines f.media.content told told_now status) → TablesEnd Finds lines bytes told told_now status
-ends-over Finds lines bytes told told_now status tells geometry blocks origin work medium f is same telling t ends =
-    let over : IsTrue medium.tells → TablesEnd Finds lines medium.content told told_now status = subst (λ (g : FlashState). IsTrue g.media.tells → TablesEnd Finds lines g.media.content told told_now status) is ends in
-    subst (λ (l : List ℕ). TablesEnd Finds lines l told told_now status) same (over (subst IsTrue (sym telling) t))
+pub ends-over : (Ends : List ℕ → ToolStatus → Type 0) (status : ToolStatus) (tells : Bool)
+    (geometry : Geometry) (blocks : ℕ) (origin : GName) (work : Work) (medium : MediaState) (f : FlashState) (bytes : List ℕ) → f ≡ on_medium geometry blocks 1024 origin true None 0 work medium
+    → medium.content ≡ bytes → medium.tells ≡ tells → IsTrue tells → (IsTrue f.media.tells → Ends f.media.content status) → Ends bytes status
+ends-over Ends status tells geometry blocks origin work medium f bytes is same telling t ends =
+    let over : IsTrue medium.tells → Ends medium.content status = subst (λ (g : FlashState). IsTrue g.media.tells → Ends g.media.content status) is ends in
+    subst (λ (l : List ℕ). Ends l status) same (over (subst IsTrue (sym telling) t))
 
--- the check ended in its tables
-pub image-ends : (Finds : TableConfig → FlashState → Finding → Type 0) (bytes : List ℕ) (told told_now : Option (List ℕ)) (status : ToolStatus) → ImageEnds Finds bytes told told_now status → CheckEnds Finds bytes told told_now status
-image-ends Finds bytes told told_now Done h = h
-image-ends Finds bytes told told_now Unsound h = h
-image-ends Finds bytes told told_now OutWrite h = h
-image-ends Finds bytes told told_now NoMemory h = inr h
-image-ends Finds bytes told told_now Device h = inr h
-image-ends Finds bytes told told_now NotImage h = absurd h.ends
-image-ends Finds bytes told told_now (BadImage table) h = absurd h.ends
-image-ends Finds bytes told told_now NoTable h = absurd h.ends
-image-ends Finds bytes told told_now InputRead h = absurd h.ends
-image-ends Finds bytes told told_now InputLong h = absurd h.ends
-image-ends Finds bytes told told_now (BadInput number) h = absurd h.ends
+module _ (Ends : Lines → ToolStatus → Type 0) (bytes : List ℕ) where
+  -- the check ended in its tables
+  pub image-ends : (told told_now : Option (List ℕ)) (status : ToolStatus) → (status ≡ NotImage → ⊥) → ImageChecked bytes (λ lines. Ends lines status) → ChecksBy Ends bytes told told_now status
+  image-ends told told_now Done other h = h
+  image-ends told told_now Unsound other h = h
+  image-ends told told_now OutWrite other h = h
+  image-ends told told_now NoMemory other h = inr h
+  image-ends told told_now Device other h = inr h
+  image-ends told told_now NotImage other h = absurd (other refl)
+  image-ends told told_now (BadImage table) other h = h
+  image-ends told told_now NoTable other h = h
+  image-ends told told_now InputRead other h = h
+  image-ends told told_now InputLong other h = h
+  image-ends told told_now (BadInput number) other h = h
 
--- .. or before the first
-pub early-ends : (Finds : TableConfig → FlashState → Finding → Type 0) (bytes : List ℕ) (told : Option (List ℕ)) (status : ToolStatus) → (status ≡ NotImage) ⊎ (status ≡ Device)
-    → (status ≡ NotImage → (lines : Lines) → IsAccepted lines → IsImageOf bytes lines → ⊥) → CheckEnds Finds bytes told told status
-early-ends Finds bytes told status (inl is) none = subst (λ (s : ToolStatus). CheckEnds Finds bytes told told s) (sym is) (none is, told-none told)
-early-ends Finds bytes told status (inr is) none = subst (λ (s : ToolStatus). CheckEnds Finds bytes told told s) (sym is) (inl (told-none told))
+  -- .. or before the first
+  pub early-ends : (told : Option (List ℕ)) (status : ToolStatus) → (status ≡ NotImage) ⊎ (status ≡ Device)
+      → (status ≡ NotImage → (lines : Lines) → IsAccepted lines → IsImageOf bytes lines → ⊥) → ChecksBy Ends bytes told told status
+  early-ends told status (inl is) none = subst (λ (s : ToolStatus). ChecksBy Ends bytes told told s) (sym is) (none is, told-none told)
+  early-ends told status (inr is) none = subst (λ (s : ToolStatus). ChecksBy Ends bytes told told s) (sym is) (inl (told-none told))
+
+-- a status of the tables isn't that of no image
+pub ends-known : (extent : Extent) (Finds : TableConfig → FlashState → Finding → Type 0) (lines : Lines) (bytes : List ℕ) (told told_now : Option (List ℕ)) → TablesEndBy extent Finds lines bytes told told_now NotImage → ⊥
+ends-known FirstFault Finds lines bytes told told_now h = h
+ends-known AllTables Finds lines bytes told told_now h = h

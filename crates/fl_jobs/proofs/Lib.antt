@@ -10,3 +10,4 @@ pub mod Found
 pub mod Telling
 pub mod Ending
 pub mod Ringed
+pub mod RowValues

@@ -1,5 +1,5 @@
 -- A check of the tables of an image.
-use Rattle.std.specs.Prelude.{◌≡◌, ◌⊎◌, ℕ, ◌+◌, ◌^◌, ◌<◌, ◌≤◌, true, false, Option, Some, None, IfSome, List, [], ◌∷◌, ◌++◌, length, take, sum_by, slice_get}
+use Rattle.std.specs.Prelude.{◌≡◌, ◌⊎◌, ℕ, ◌+◌, ◌^◌, ◌<◌, ◌≤◌, Bool, true, false, Option, Some, None, IfSome, List, [], ◌∷◌, ◌++◌, length, take, sum_by, slice_get}
 use Rattle.std.specs.List.{list_all}
 use Rattle.fl_base.specs.Causes.{Rose, Appends, AppendsFront}
 use Rattle.fl_flash.specs.Flash.{FlashState, Goes, pages}
@@ -12,7 +12,9 @@ use Rattle.fl_plan.specs.Plan.{IsConfigOf, blocks_in}
 use Rattle.fl_plan.specs.Refusal.{config_fault}
 use Rattle.fl_jobs.specs.Header.{IsAccepted}
 use Rattle.fl_jobs.specs.Image.{IsImageOf}
-use Rattle.fl_jobs.specs.Report.{is_sound, report_text}
+use Rattle.fl_jobs.specs.Report.{is_sound, report_lines, report_text}
+use Rattle.fl_jobs.specs.declared.extent.Extent.{Extent}
+use Rattle.fl_jobs.specs.declared.extent.Extent.TheVariants.{FirstFault, AllTables}
 use Rattle.fl_check.specs.declared.finding.Finding.{Finding}
 use Rattle.fl_check.specs.declared.finding.CheckFault.{CheckFault}
 use Rattle.fl_check.specs.declared.finding.CheckFault.TheVariants.{Flash, NoMemory as NoRoom}
@@ -71,13 +73,27 @@ abbrev pub AreFound : (TableConfig → FlashState → Finding → Type 0) → Li
 AreFound Finds lines bytes i [] = Unit {0}
 AreFound Finds lines bytes i (finding ∷ findings) = IsFound Finds lines bytes i finding × AreFound Finds lines bytes (i + 1) findings
 
--- the first n tables are sound, and each has its line
-pub record TellsSound (Finds : TableConfig → FlashState → Finding → Type 0) (lines : Lines) (bytes : List ℕ) (told told_now : Option (List ℕ)) (n : ℕ) : Type 0 where
+-- the first n tables have their lines, and all of these are sound, or not
+pub record Tells (extent : Extent) (Finds : TableConfig → FlashState → Finding → Type 0) (lines : Lines) (bytes : List ℕ) (told told_now : Option (List ℕ)) (n : ℕ) (all : Bool) : Type 0 where
   pub findings : List Finding
   pub count : length findings ≡ n
   pub are : AreFound Finds lines bytes 0 findings
-  pub sound : list_all is_sound findings ≡ true
-  pub text : Appends told told_now (report_text lines.plans findings)
+  pub sound : list_all is_sound findings ≡ all
+  pub text : Appends told told_now (report_lines extent lines.plans findings)
+
+-- .. or the line of the next wasn't written whole
+pub record TellsNext (extent : Extent) (Finds : TableConfig → FlashState → Finding → Type 0) (lines : Lines) (bytes : List ℕ) (told told_now : Option (List ℕ)) (all : Bool) : Type 0 where
+  pub findings : List Finding
+  pub next : Finding
+  pub are : AreFound Finds lines bytes 0 (findings ++ next ∷ [])
+  pub sound : list_all is_sound findings ≡ all
+  pub text : AppendsFront told told_now (report_lines extent lines.plans (findings ++ next ∷ []))
+
+-- ---- up to the first table that isn't sound
+
+-- the first n tables are sound, and each has its line
+abbrev pub TellsSound : (TableConfig → FlashState → Finding → Type 0) → Lines → List ℕ → Option (List ℕ) → Option (List ℕ) → ℕ → Type 0
+TellsSound Finds lines bytes told told_now n = Tells FirstFault Finds lines bytes told told_now n true
 
 -- .. and then one isn't, which has its line too
 pub record TellsFault (Finds : TableConfig → FlashState → Finding → Type 0) (lines : Lines) (bytes : List ℕ) (told told_now : Option (List ℕ)) : Type 0 where
@@ -89,12 +105,8 @@ pub record TellsFault (Finds : TableConfig → FlashState → Finding → Type 0
   pub text : Appends told told_now (report_text lines.plans (findings ++ fault ∷ []))
 
 -- .. or the line of the next wasn't written whole
-pub record TellsPart (Finds : TableConfig → FlashState → Finding → Type 0) (lines : Lines) (bytes : List ℕ) (told told_now : Option (List ℕ)) : Type 0 where
-  pub findings : List Finding
-  pub next : Finding
-  pub are : AreFound Finds lines bytes 0 (findings ++ next ∷ [])
-  pub sound : list_all is_sound findings ≡ true
-  pub text : AppendsFront told told_now (report_text lines.plans (findings ++ next ∷ []))
+abbrev pub TellsPart : (TableConfig → FlashState → Finding → Type 0) → Lines → List ℕ → Option (List ℕ) → Option (List ℕ) → Type 0
+TellsPart Finds lines bytes told told_now = TellsNext FirstFault Finds lines bytes told told_now true
 
 -- .. or nothing was found of the next
 abbrev pub TellsFew : (TableConfig → FlashState → Finding → Type 0) → Lines → List ℕ → Option (List ℕ) → Option (List ℕ) → Type 0
@@ -114,16 +126,56 @@ TablesEnd Finds lines bytes told told_now InputRead = ⊥
 TablesEnd Finds lines bytes told told_now InputLong = ⊥
 TablesEnd Finds lines bytes told told_now (BadInput number) = ⊥
 
--- the bytes are an image, whose tables were checked so far
-pub record ImageEnds (Finds : TableConfig → FlashState → Finding → Type 0) (bytes : List ℕ) (told told_now : Option (List ℕ)) (status : ToolStatus) : Type 0 where
+-- ---- over all tables
+
+-- some have their lines, and nothing was found of the next
+abbrev pub TellsSome : (TableConfig → FlashState → Finding → Type 0) → Lines → List ℕ → Option (List ℕ) → Option (List ℕ) → Type 0
+TellsSome Finds lines bytes told told_now = (n : ℕ) × (n < length lines.plans) × ((all : Bool) × Tells AllTables Finds lines bytes told told_now n all)
+
+-- how a check of all tables ends
+abbrev pub AllTablesEnd : (TableConfig → FlashState → Finding → Type 0) → Lines → List ℕ → Option (List ℕ) → Option (List ℕ) → ToolStatus → Type 0
+AllTablesEnd Finds lines bytes told told_now Done = Tells AllTables Finds lines bytes told told_now (length lines.plans) true
+AllTablesEnd Finds lines bytes told told_now Unsound = Tells AllTables Finds lines bytes told told_now (length lines.plans) false
+AllTablesEnd Finds lines bytes told told_now OutWrite = (all : Bool) × TellsNext AllTables Finds lines bytes told told_now all
+AllTablesEnd Finds lines bytes told told_now NoMemory = TellsSome Finds lines bytes told told_now
+AllTablesEnd Finds lines bytes told told_now Device = TellsSome Finds lines bytes told told_now
+AllTablesEnd Finds lines bytes told told_now NotImage = ⊥
+AllTablesEnd Finds lines bytes told told_now (BadImage table) = ⊥
+AllTablesEnd Finds lines bytes told told_now NoTable = ⊥
+AllTablesEnd Finds lines bytes told told_now InputRead = ⊥
+AllTablesEnd Finds lines bytes told told_now InputLong = ⊥
+AllTablesEnd Finds lines bytes told told_now (BadInput number) = ⊥
+
+abbrev pub TablesEndBy : Extent → (TableConfig → FlashState → Finding → Type 0) → Lines → List ℕ → Option (List ℕ) → Option (List ℕ) → ToolStatus → Type 0
+TablesEndBy FirstFault Finds lines bytes told told_now status = TablesEnd Finds lines bytes told told_now status
+TablesEndBy AllTables Finds lines bytes told told_now status = AllTablesEnd Finds lines bytes told told_now status
+
+-- ---- of an image
+
+-- the bytes are an image, whose tables were checked so
+pub record ImageChecked (bytes : List ℕ) (Ends : Lines → Type 0) : Type 0 where
   pub lines : Lines
   pub accepted : IsAccepted lines
   pub image : IsImageOf bytes lines
-  pub ends : TablesEnd Finds lines bytes told told_now status
+  pub ends : Ends lines
 
--- how a check of an image ends; where it ends before the first table nothing is written
+-- how a check of an image ends, by how that of its tables does; where it ends before the first table nothing is written
+abbrev pub ChecksBy : (Lines → ToolStatus → Type 0) → List ℕ → Option (List ℕ) → Option (List ℕ) → ToolStatus → Type 0
+ChecksBy Ends bytes told told_now NotImage = ((lines : Lines) → IsAccepted lines → IsImageOf bytes lines → ⊥) × Appends told told_now []
+ChecksBy Ends bytes told told_now NoMemory = Appends told told_now [] ⊎ ImageChecked bytes (λ lines. Ends lines NoMemory)
+ChecksBy Ends bytes told told_now Device = Appends told told_now [] ⊎ ImageChecked bytes (λ lines. Ends lines Device)
+ChecksBy Ends bytes told told_now status = ImageChecked bytes (λ lines. Ends lines status)
+
+-- up to the first table that isn't sound
+abbrev pub ImageEnds : (TableConfig → FlashState → Finding → Type 0) → List ℕ → Option (List ℕ) → Option (List ℕ) → ToolStatus → Type 0
+ImageEnds Finds bytes told told_now status = ImageChecked bytes (λ lines. TablesEnd Finds lines bytes told told_now status)
+
 abbrev pub CheckEnds : (TableConfig → FlashState → Finding → Type 0) → List ℕ → Option (List ℕ) → Option (List ℕ) → ToolStatus → Type 0
-CheckEnds Finds bytes told told_now NotImage = ((lines : Lines) → IsAccepted lines → IsImageOf bytes lines → ⊥) × Appends told told_now []
-CheckEnds Finds bytes told told_now NoMemory = Appends told told_now [] ⊎ ImageEnds Finds bytes told told_now NoMemory
-CheckEnds Finds bytes told told_now Device = Appends told told_now [] ⊎ ImageEnds Finds bytes told told_now Device
-CheckEnds Finds bytes told told_now status = ImageEnds Finds bytes told told_now status
+CheckEnds Finds bytes told told_now status = ChecksBy (λ lines status. TablesEnd Finds lines bytes told told_now status) bytes told told_now status
+
+-- .. or over all tables
+abbrev pub CheckAllEnds : (TableConfig → FlashState → Finding → Type 0) → List ℕ → Option (List ℕ) → Option (List ℕ) → ToolStatus → Type 0
+CheckAllEnds Finds bytes told told_now status = ChecksBy (λ lines status. AllTablesEnd Finds lines bytes told told_now status) bytes told told_now status
+
+abbrev pub CheckedTo : Extent → (TableConfig → FlashState → Finding → Type 0) → List ℕ → Option (List ℕ) → Option (List ℕ) → ToolStatus → Type 0
+CheckedTo extent Finds bytes told told_now status = ChecksBy (λ lines status. TablesEndBy extent Finds lines bytes told told_now status) bytes told told_now status

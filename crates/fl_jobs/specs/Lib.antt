@@ -1,5 +1,6 @@
 pub mod Number
 pub mod Status
+pub mod Taken
 pub mod Words
 pub mod Report
 pub mod Header

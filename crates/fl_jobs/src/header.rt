@@ -23,8 +23,8 @@ fn take_line(config: &mut Config, line: &[u8], room: &mut LineRoom) -> bool
     }
 }
 
-/// The configuration that the lines of a text make, if none of them is refused.
-fn config_of_lines(text: &[u8], room: &mut LineRoom) -> Option<Config>
+/// The configuration that the lines of a text make, if each of them is a command and none is refused.
+pub fn config_of_lines(text: &[u8], room: &mut LineRoom) -> Option<Config>
     ensures { result ≡ after_lines no_lines (parts_of text.now) }
 {
     let mut config = Config::new();

@@ -4,6 +4,8 @@
 
 mod check;
 mod checker;
+mod drawing;
+mod extent;
 mod finding;
 mod header;
 mod image;
@@ -12,16 +14,20 @@ mod report;
 mod rings;
 mod status;
 mod tables;
+mod values;
 mod words;
 
-pub use check::check_image;
+pub use check::{check_all, check_image};
 pub use checker::CheckTable;
-pub use header::{HEADER, config_of_header};
+pub use drawing::Drawing;
+pub use extent::Extent;
+pub use header::{HEADER, config_of_header, config_of_lines};
 pub use image::config_of_image;
-pub use job_end::JobEnd;
+pub use job_end::{JobEnd, LinesTaken};
 pub use report::write_finding;
 pub use rings::RingChecker;
 pub use status::{ToolStatus, flash_status};
+pub use values::values_of;
 pub use words::{ToolJob, tool_of};
 
 #[cfg(test)]

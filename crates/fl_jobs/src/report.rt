@@ -1,12 +1,15 @@
 // The lines of a check, written to a sink.
-ghost use Rattle.std.specs.Prelude.{◌≡◌, ◌+◌, ◌≤◌, ◌∷◌, ◌++◌, [], length};
+ghost use Rattle.std.specs.Prelude.{◌≡◌, ◌+◌, ◌≤◌, ◌∷◌, ◌++◌, [], length, codes, decimal};
+ghost use Rattle.fl_words.specs.Medium.{line_text};
 ghost use Rattle.fl_base.specs.Causes.{HasCause};
 ghost use Rattle.fl_script.specs.Written.{Written};
-ghost use Rattle.fl_jobs.specs.Report.{ring_name, finding_text};
+ghost use Rattle.fl_jobs.specs.Report.{ring_name, rule_name, finding_line, finding_text};
 ghost use Rattle.fl_check.specs.declared.finding.Finding.{Finding};
+ghost use Rattle.fl_jobs.specs.declared.extent.Extent.{Extent};
 
+use crate::Extent;
 use fl_base::{Name, Sink, SinkFailed};
-use fl_check::{Finding, RingName};
+use fl_check::{Finding, RingName, Rule};
 use fl_script::{LINE_BYTES, TextLine, write_all};
 
 fn ring_word(ring: RingName) -> &'static [u8]
@@ -18,6 +21,22 @@ fn ring_word(ring: RingName) -> &'static [u8]
         RingName::Data => b"data",
         RingName::Var => b"var",
         RingName::Log => b"log",
+    }
+}
+
+fn rule_word(rule: Rule) -> &'static [u8]
+    ensures text { result.now ≡ rule_name rule }
+    ensures short { length result.now ≤ 6 }
+{
+    match rule {
+        Rule::Head => b"head",
+        Rule::State => b"state",
+        Rule::Number => b"number",
+        Rule::Body => b"body",
+        Rule::Keys => b"keys",
+        Rule::Entry => b"entry",
+        Rule::Blob => b"blob",
+        Rule::Rest => b"rest",
     }
 }
 
@@ -41,9 +60,10 @@ fn add_sound(line: &mut TextLine, name: &Name, rows: u64, pages: u32, voids: u32
     line.end_with_number(b" voids ", voids);
 }
 
-fn add_fault(line: &mut TextLine, name: &Name, ring: RingName, page: u32, rule: u8)
+/// A fault of the rule with this number.
+fn add_numbered(line: &mut TextLine, name: &Name, ring: RingName, page: u32, rule: u8)
     requires { line.old ≡ [] }
-    ensures { line.new ≡ finding_text name.now (Finding.Fault ring page rule) }
+    ensures { line.new ≡ line_text (codes "fault" ∷ name.now ∷ ring_name ring ∷ decimal page ∷ decimal rule ∷ []) }
 {
     line.add(b"fault ");
     line.add(name.bytes());
@@ -52,22 +72,68 @@ fn add_fault(line: &mut TextLine, name: &Name, ring: RingName, page: u32, rule: 
     line.end_with_number(b" ", rule);
 }
 
-fn add_finding(line: &mut TextLine, name: &Name, finding: &Finding)
+/// A fault with the number of its rule.
+fn add_fault(line: &mut TextLine, name: &Name, ring: RingName, page: u32, rule: Rule)
     requires { line.old ≡ [] }
-    ensures { line.new ≡ finding_text name.now finding.now }
+    ensures { line.new ≡ finding_line Extent.FirstFault name.now (Finding.Fault ring page rule) }
+{
+    add_numbered(line, name, ring, page, rule.number());
+}
+
+/// A fault with the number of its rule and its name.
+fn add_named_fault(line: &mut TextLine, name: &Name, ring: RingName, page: u32, rule: Rule)
+    requires { line.old ≡ [] }
+    ensures { line.new ≡ finding_line Extent.AllTables name.now (Finding.Fault ring page rule) }
+{
+    line.add(b"fault ");
+    line.add(name.bytes());
+    add_word(line, ring_word(ring));
+    line.add_number(b" ", page);
+    line.add_number(b" ", rule.number());
+    add_word(line, rule_word(rule));
+    line.add(b"\n");
+}
+
+fn add_fault_of(
+    line: &mut TextLine,
+    name: &Name,
+    extent: Extent,
+    ring: RingName,
+    page: u32,
+    rule: Rule,
+)
+    requires { line.old ≡ [] }
+    ensures { line.new ≡ finding_line extent name.now (Finding.Fault ring page rule) }
+{
+    match extent {
+        Extent::FirstFault => add_fault(line, name, ring, page, rule),
+        Extent::AllTables => add_named_fault(line, name, ring, page, rule),
+    }
+}
+
+fn add_finding(line: &mut TextLine, name: &Name, extent: Extent, finding: &Finding)
+    requires { line.old ≡ [] }
+    ensures { line.new ≡ finding_line extent name.now finding.now }
 {
     match finding {
         Finding::Sound { rows, pages, voids } => add_sound(line, name, *rows, *pages, *voids),
-        Finding::Fault { ring, page, rule } => add_fault(line, name, *ring, *page, *rule),
+        Finding::Fault { ring, page, rule } => {
+            add_fault_of(line, name, extent, *ring, *page, *rule)
+        }
     }
 }
 
 /// Appends the line of what was found of a table. Where the sink fails a front of it was written.
-pub fn write_finding<K: Sink>(name: &Name, finding: &Finding, out: &mut K) -> Result<(), SinkFailed>
-    ensures text { Written (K.written out.old) (K.written out.new) result (finding_text name.now finding.now) }
+pub fn write_finding<K: Sink>(
+    name: &Name,
+    extent: Extent,
+    finding: &Finding,
+    out: &mut K,
+) -> Result<(), SinkFailed>
+    ensures text { Written (K.written out.old) (K.written out.new) result (finding_line extent name.now finding.now) }
     ensures cause { HasCause (K.faults out.old) (K.faults out.new) result }
 {
     let mut line = TextLine::new();
-    add_finding(&mut line, name, finding);
+    add_finding(&mut line, name, extent, finding);
     write_all(line.bytes(), out)
 }

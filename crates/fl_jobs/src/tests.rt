@@ -1,7 +1,7 @@
 // Checks of an image of two tables, by a checker that says what it is told to.
 use crate::{CheckTable, ToolStatus, check_image};
 use fl_base::{MemSink, NoMemory};
-use fl_check::{CheckFault, Finding, RingName};
+use fl_check::{CheckFault, Finding, RingName, Rule};
 use fl_flash::{Flash, MemMedia};
 use fl_plan::TableConfig;
 use std::alloc::Global;
@@ -19,7 +19,7 @@ const SOUND: Finding = Finding::Sound {
 const FAULT: Finding = Finding::Fault {
     ring: RingName::Data,
     page: 13,
-    rule: 4,
+    rule: Rule::Body,
 };
 
 /// Says the one of the table that begins at block 0, and the other of the next. There is no memory where it has nothing

@@ -2,38 +2,41 @@
 ghost use Rattle.std.specs.Prelude.{◌≡◌, ◌≤◌, ◌∷◌, [], length, map, string_bytes, codes, IfSome, MatchOption, true, false, Ok, Err, if◌then◌else◌, ◌&&◌, Some, None};
 ghost use Rattle.fl_model.specs.Record.{bytes_equal};
 ghost use Rattle.fl_words.specs.Grammar as grammar;
-ghost use Rattle.fl_jobs.specs.Words.{export_named, job_named, is_image_name};
+ghost use Rattle.fl_jobs.specs.Words.{alone_named, export_named, job_named, is_image_name, short_named, table_named};
+ghost use Rattle.fl_csv.specs.declared.record.GoneBlobs.{GoneBlobs};
 ghost use Rattle.fl_jobs.specs.declared.words.ToolJob.{ToolJob};
 
+use crate::Drawing;
 use fl_base::{KeyRange, Name};
+use fl_csv::GoneBlobs;
 
 /// A job over an image, whose name is the second word.
 #[derive(Clone, Copy, Debug, PartialEq, Eq)]
 pub enum ToolJob {
-    /// Tells whether each table of the image is sound.
+    /// Tells whether each table of the image is sound, up to the first that isn't.
     Check,
+    /// Tells it of all tables.
+    CheckAll,
     /// Writes the records of a table whose keys are in the range.
     Export { name: Name, range: KeyRange },
     /// Puts the records of an input into a table.
-    Import { name: Name },
+    Import { name: Name, gone: GoneBlobs },
+    /// Writes the records of a table that are still there, whatever else is damaged.
+    Salvage { name: Name },
+    /// Draws the pages of the image.
+    Map { drawing: Drawing },
 }
 
-fn is_check(word: &str) -> bool
-    ensures { result ≡ bytes_equal word.now (codes "check") }
-{
-    word == "check"
-}
+/// The range of all keys.
+const ALL_KEYS: KeyRange = KeyRange {
+    low: 0,
+    high: u64::MAX,
+};
 
-fn is_export(word: &str) -> bool
-    ensures { result ≡ bytes_equal word.now (codes "export") }
+fn is_word(word: &str, wanted: &str) -> bool
+    ensures { result ≡ bytes_equal word.now wanted.now }
 {
-    word == "export"
-}
-
-fn is_import(word: &str) -> bool
-    ensures { result ≡ bytes_equal word.now (codes "import") }
-{
-    word == "import"
+    word == wanted
 }
 
 fn names_image(word: &str) -> bool
@@ -73,33 +76,96 @@ fn export(name_word: &str, low: &str, high: &str) -> Option<ToolJob>
     Some(ToolJob::Export { name, range })
 }
 
-/// The check that the words name.
-fn check_of(words: &[String]) -> Option<ToolJob>
+/// The job over an image that a word alone names.
+fn alone_job(word: &str) -> Option<ToolJob>
+    ensures { result ≡ alone_named word.now }
+{
+    if is_word(word, "check") {
+        return Some(ToolJob::Check);
+    }
+    if is_word(word, "map") {
+        let drawing = Drawing::Text;
+        return Some(ToolJob::Map { drawing });
+    }
+    None
+}
+
+/// The job that two words name.
+fn alone_of(words: &[String]) -> Option<ToolJob>
     requires { length words.now ≡ 2 }
     ensures { result ≡ job_named (map (λ word. string_bytes word) words.now) }
 {
-    if !is_check(words[0].as_str()) {
-        return None;
-    }
     if !names_image(words[1].as_str()) {
         return None;
     }
-    Some(ToolJob::Check)
+    alone_job(words[0].as_str())
 }
 
-/// The import that the words name.
-fn import_of(words: &[String]) -> Option<ToolJob>
+/// The job over all that a table has, by its first word.
+fn table_job(word: &str, name: Name) -> Option<ToolJob>
+    ensures { result ≡ table_named word.now name }
+{
+    if is_word(word, "import") {
+        let gone = GoneBlobs::Refused;
+        return Some(ToolJob::Import { name, gone });
+    }
+    if is_word(word, "export") {
+        let range = ALL_KEYS;
+        return Some(ToolJob::Export { name, range });
+    }
+    if is_word(word, "salvage") {
+        return Some(ToolJob::Salvage { name });
+    }
+    None
+}
+
+/// The job that a first and a third word name.
+fn short_job(word: &str, last: &str) -> Option<ToolJob>
+    ensures { result ≡ short_named word.now last.now }
+{
+    if is_word(word, "check") {
+        return is_word(last, "all").then_some(ToolJob::CheckAll);
+    }
+    if is_word(word, "map") {
+        let drawing = Drawing::Svg;
+        return is_word(last, "svg").then_some(ToolJob::Map { drawing });
+    }
+    let name = name(last)?;
+    table_job(word, name)
+}
+
+/// The job that three words name.
+fn short_of(words: &[String]) -> Option<ToolJob>
     requires { length words.now ≡ 3 }
     ensures { result ≡ job_named (map (λ word. string_bytes word) words.now) }
 {
-    if !is_import(words[0].as_str()) {
+    if !names_image(words[1].as_str()) {
+        return None;
+    }
+    short_job(words[0].as_str(), words[2].as_str())
+}
+
+/// An import into the table with this name, without blobs that are gone.
+fn import(name_word: &str, last: &str) -> Option<ToolJob>
+    ensures { result ≡ (if grammar.is_name name_word.now && bytes_equal last.now (codes "gone") then Some (ToolJob.Import name_word.now GoneBlobs.LeftOut) else None) }
+{
+    let name = name(name_word)?;
+    let gone = GoneBlobs::LeftOut;
+    is_word(last, "gone").then_some(ToolJob::Import { name, gone })
+}
+
+/// The import without blobs that are gone, where the words name it.
+fn import_of(words: &[String]) -> Option<ToolJob>
+    requires { length words.now ≡ 4 }
+    ensures { result ≡ job_named (map (λ word. string_bytes word) words.now) }
+{
+    if !is_word(words[0].as_str(), "import") {
         return None;
     }
     if !names_image(words[1].as_str()) {
         return None;
     }
-    let name = name(words[2].as_str())?;
-    Some(ToolJob::Import { name })
+    import(words[2].as_str(), words[3].as_str())
 }
 
 /// The export that the words name.
@@ -107,7 +173,7 @@ fn export_of(words: &[String]) -> Option<ToolJob>
     requires { length words.now ≡ 5 }
     ensures { result ≡ job_named (map (λ word. string_bytes word) words.now) }
 {
-    if !is_export(words[0].as_str()) {
+    if !is_word(words[0].as_str(), "export") {
         return None;
     }
     if !names_image(words[1].as_str()) {
@@ -116,16 +182,18 @@ fn export_of(words: &[String]) -> Option<ToolJob>
     export(words[2].as_str(), words[3].as_str(), words[4].as_str())
 }
 
-/// The job that the words name: `check` and an image; `import`, an image and a table; or `export`, an image, a table, and the
-/// lowest and the greatest key. An image is a word that isn't empty and doesn't begin with a dash; names of tables and numbers
-/// are those of a script.
+/// The job that the words name: `check` and an image, and `all` for all of its tables; `map` and an image, and `svg` for a picture;
+/// `import`, an image and a table, and `gone` where blobs that are gone are left out; `salvage`, an image and a table; or
+/// `export`, an image and a table, and the lowest and the greatest key, without which all records are written. An image is a word that isn't empty and doesn't begin with a dash; names of tables and numbers are
+/// those of a script.
 pub fn tool_of(words: &[String]) -> Option<ToolJob>
     ensures exact { result ≡ job_named (map (λ word. string_bytes word) words.now) }
     ensures image { IfSome result (λ job. 2 ≤ length words.now) }
 {
     match words.len() {
-        2 => check_of(words),
-        3 => import_of(words),
+        2 => alone_of(words),
+        3 => short_of(words),
+        4 => import_of(words),
         5 => export_of(words),
         _ => None,
     }

@@ -1,25 +1,37 @@
 //! `flashts run IMAGE` runs the script on standard input over the image, and writes its replies on standard output.
-//! `flashts check IMAGE` tells there whether each table of the image is sound, `flashts export IMAGE NAME LOW HIGH` writes the
-//! records of a table there whose keys are in the range, and `flashts import IMAGE NAME` puts those that standard input has
-//! into a table.
+//! `flashts check IMAGE` tells there whether each table of the image is sound, `flashts map IMAGE` draws its pages, `flashts export
+//! IMAGE NAME LOW HIGH` writes the records of a table whose keys are in the range, `flashts salvage IMAGE NAME` those that a damaged
+//! image still holds, and `flashts import IMAGE NAME` puts those that standard input has into a table. `flashts help` tells the jobs.
 #![tactic(auto)]
 
-use fl_command::{Exit, tool};
-use fl_edge::{Access, FileMedia, ReplyBuffer, StandardDescriptors, StandardInput, StandardOutput};
+use fl_base::{Sink, Source};
+use fl_command::{Ending, Exit, Help, reason_of, tool};
+use fl_edge::{
+    Access, FileMedia, ReplyBuffer, StandardDescriptors, StandardInput, StandardOutput, is_missing,
+    remove_empty,
+};
+use fl_flash::Media;
 use fl_jobs::{ToolJob, tool_of};
+use fl_reason::{Tail, TailSource};
 use fl_session::{Status, image_of, run};
 use std::alloc::Global;
 use std::cell::RefCell;
 use std::env::Env;
 use std::fs::File;
 use std::io;
+use std::process::{ExitCode, Termination};
 use std::rt::Files;
 
-fn main(rt: HostRuntime) -> Exit {
+fn main(rt: HostRuntime) -> ExitCode {
     let _streams = StandardDescriptors::taken(&rt);
-    match words_of(&rt) {
-        Some(words) => exit_of(&rt, &words),
-        None => Exit::Run(Status::NoMemory),
+    ending(&rt).report(&rt)
+}
+
+/// Does what the words of the command line say.
+fn ending<R: Alloc<A = Global> + Env + Files<File = File> + Input + Print>(rt: &R) -> Ending {
+    match words_of(rt) {
+        Some(words) => ending_of(rt, &words),
+        None => Ending::of(Exit::Run(Status::NoMemory)),
     }
 }
 
@@ -34,11 +46,20 @@ fn words_of<R: Env + Alloc<A = Global>>(rt: &R) -> Option<Vec<String>> {
     Some(words)
 }
 
-/// How words end that name no image: a run is told its form, and others all forms.
-fn usage_of(words: &[String]) -> Exit {
+/// How words end that name no image: `help` tells the jobs, a run is told its form, and others all forms.
+fn usage_of<R: Print>(rt: &R, words: &[String]) -> Exit {
     match words.first() {
+        Some(word) if word.as_str() == "help" && words.len() == 1 => help(rt),
         Some(word) if word.as_str() == "run" => Exit::Run(Status::Usage),
         _ => Exit::Words,
+    }
+}
+
+/// Tells the jobs on standard output.
+fn help<R: Print>(rt: &R) -> Exit {
+    match print!(rt; "{}", Help) {
+        Ok(()) => Exit::Help,
+        Err(_) => Exit::Run(Status::OutWrite),
     }
 }
 
@@ -46,37 +67,67 @@ fn usage_of(words: &[String]) -> Exit {
 fn access_of(job: Option<ToolJob>) -> Access {
     match job {
         None => Access::Make,
-        Some(ToolJob::Check) => Access::Read,
+        Some(ToolJob::Check | ToolJob::CheckAll | ToolJob::Map { .. } | ToolJob::Salvage { .. }) =>
+            Access::Read,
         Some(ToolJob::Export { .. }) => Access::Repair,
         Some(ToolJob::Import { .. }) => Access::Write,
     }
 }
 
 /// Does what the words say over the image that they name, and hands out what was written. Other words leave every file alone.
-fn exit_of<R: Alloc<A = Global> + Files<File = File> + Input + Print>(
+/// A file that was made and into which nothing was written doesn't stay.
+fn ending_of<R: Alloc<A = Global> + Files<File = File> + Input + Print>(
     rt: &R,
     words: &[String],
-) -> Exit {
+) -> Ending {
     let job = tool_of(words);
     let named = match job {
         Some(_) => Some(words[1].as_str()),
         None => image_of(words),
     };
     let Some(image) = named else {
-        return usage_of(words);
+        return Ending::of(usage_of(rt, words));
     };
+    let was_missing = is_missing(rt, image);
     let Ok(replies) = ReplyBuffer::new(rt.alloc(), io::writer(rt)) else {
-        return Exit::Run(Status::NoMemory);
+        return Ending::of(Exit::Run(Status::NoMemory));
     };
     let Ok(mut media) = FileMedia::open_image(rt, image, access_of(job)) else {
-        return Exit::InUse;
+        return Ending::of(Exit::InUse);
     };
     let replies = RefCell::new(replies);
     let mut input = StandardInput::new(rt.reader(), &replies);
     let mut out = StandardOutput::new(&replies);
-    let exit = match &job {
-        Some(job) => Exit::Job(tool(rt.alloc(), *job, &mut media, &mut input, &mut out)),
-        None => Exit::Run(run(rt.alloc(), words, &mut media, &mut input, &mut out)),
+    let ending = match &job {
+        Some(job) => Ending::of(tool(rt.alloc(), *job, &mut media, &mut input, &mut out)),
+        None => run_told(rt.alloc(), words, &mut media, input, &mut out),
     };
-    exit.behind(out.hand_out())
+    if was_missing && media.len() == 0 {
+        remove_empty(rt, image);
+    }
+    Ending {
+        exit: ending.exit.behind(out.hand_out()),
+        ..ending
+    }
+}
+
+/// Runs the script over the image, and tells why it was refused, if it was, and whether the image was made.
+fn run_told<M: Media, S: Source + Drop, K: Sink>(
+    alloc: Global,
+    words: &[String],
+    media: &mut M,
+    script: S,
+    out: &mut K,
+) -> Ending {
+    let Ok(tail) = Tail::new(alloc) else {
+        return Ending::of(Exit::Run(Status::NoMemory));
+    };
+    let mut script = TailSource::new(script, tail);
+    let was_empty = media.len() == 0;
+    let status = run(alloc, words, media, &mut script, out);
+    Ending {
+        exit: Exit::Run(status),
+        reason: reason_of(alloc, status, script.tail(), media),
+        made: was_empty && media.len() > 0 && status != Status::MediaMake,
+    }
 }

@@ -1,13 +1,13 @@
-use Rattle.std.proofs.Common.{◌≡◌, rules, inl, length, refl, ◌∙◌, arith}
+use Rattle.std.proofs.Common.{◌≡◌, rules, inl, true, is_some, IfSome, length, refl, ◌∙◌, arith}
 use Rattle.fl_jobs.proofs.Ending.{reach}
-use Rattle.fl_jobs.specs.declared.status.ToolStatus.TheVariants.{NoMemory}
+use Rattle.fl_jobs.specs.declared.status.ToolStatus.TheVariants.{NoMemory, BadInput}
 use Rattle.fl_export.proofs.Ending.{goes-keeps, looks-keeps}
 use Rattle.fl_export.proofs.Images.{lie-medium}
 use Rattle.fl_export.proofs.Statuses.{looks-same}
-use Rattle.fl_import.specs.Images.{EndsOver, HasCauses, told_of}
+use Rattle.fl_import.specs.Images.{EndsOver, FormsAt, HasCauses, told_of}
 use Rattle.fl_import.specs.Taking.{EndedOver}
 use Rattle.fl_model.specs.Record.{has_var}
-use Rattle.fl_import.proofs.Closing.{as-end, flash-causes, flash-ends, no-causes, no-room, formed-ended}
+use Rattle.fl_import.proofs.Closing.{as-end, flash-causes, flash-ends, no-causes, no-room, form-then, formed-ended}
 use Rattle.fl_import.proofs.Others.{flash-others, others-still}
 use Rattle.fl_import.proofs.import.import_at.Goals as goal
 
@@ -37,21 +37,21 @@ returns-in_default-clause-causes g c =
     let flash = (g.M.Media.state c.args.media.now).faults in
     let source = g.S.Source.faults c.args.input.now in
     let sink = g.K.Sink.faults c.args.out.now in
-    as-end (λ kept status. HasCauses tables flash flash source source sink sink kept status) c.of.result NoMemory NoMemory c.of.ensures refl (no-causes tables flash source sink)
+    as-end (λ end. HasCauses tables flash flash source source sink sink end.kept end.status) c.of.result NoMemory NoMemory c.of.ensures refl (no-causes tables flash source sink)
 
 pub returns-in_default-clause-unread : goal.returns-in_default-clause-unread
 returns-in_default-clause-unread g c = λ table is. (refl, refl)
 
 pub returns-in_default-clause-ended : goal.returns-in_default-clause-ended
 returns-in_default-clause-ended g c = λ plan text p is.
-    as-end (λ kept status. EndedOver (length plan.columns) (has_var plan) text (g.S.Source.left c.args.input.now) status) c.of.result NoMemory NoMemory c.of.ensures refl (inl is)
+    as-end (λ end. EndedOver (length plan.columns) (has_var plan) text (g.S.Source.left c.args.input.now) end.status) c.of.result NoMemory NoMemory c.of.ensures refl (inl is)
 
 pub returns-in_default-clause-ends : goal.returns-in_default-clause-ends
 returns-in_default-clause-ends g c = λ configured ts name text tells makes image named is.
     let medium = g.M.Media.state c.args.media.now in
     let told = g.K.Sink.written c.args.out.now in
     let rest = g.S.Source.left c.args.input.now in
-    as-end (λ kept status. EndsOver configured ts name text (told_of told told rest) medium medium kept status) c.of.result NoMemory NoMemory c.of.ensures refl (no-room configured ts name text medium told rest is)
+    as-end (λ end. EndsOver configured ts name text (told_of c.args.gone end.taken told told rest) medium medium end.kept end.status) c.of.result NoMemory NoMemory c.of.ensures refl (no-room c.args.gone configured ts name text medium told rest is)
 
 pub returns-in_default-new-clause-keeps : goal.returns-in_default-new-clause-keeps
 returns-in_default-new-clause-keeps g c = looks-keeps _ _ (looks-same _)
@@ -62,21 +62,21 @@ returns-in_default-new-clause-causes g c =
     let flash = (g.M.Media.state c.args.media.now).faults in
     let source = g.S.Source.faults c.args.input.now in
     let sink = g.K.Sink.faults c.args.out.now in
-    as-end (λ kept status. HasCauses tables flash flash source source sink sink kept status) c.of-in_default-new.result NoMemory NoMemory c.of-in_default-new.ensures refl (no-causes tables flash source sink)
+    as-end (λ end. HasCauses tables flash flash source source sink sink end.kept end.status) c.of-in_default-new.result NoMemory NoMemory c.of-in_default-new.ensures refl (no-causes tables flash source sink)
 
 pub returns-in_default-new-clause-unread : goal.returns-in_default-new-clause-unread
 returns-in_default-new-clause-unread g c = λ table is. (refl, refl)
 
 pub returns-in_default-new-clause-ended : goal.returns-in_default-new-clause-ended
 returns-in_default-new-clause-ended g c = λ plan text p is.
-    as-end (λ kept status. EndedOver (length plan.columns) (has_var plan) text (g.S.Source.left c.args.input.now) status) c.of-in_default-new.result NoMemory NoMemory c.of-in_default-new.ensures refl (inl is)
+    as-end (λ end. EndedOver (length plan.columns) (has_var plan) text (g.S.Source.left c.args.input.now) end.status) c.of-in_default-new.result NoMemory NoMemory c.of-in_default-new.ensures refl (inl is)
 
 pub returns-in_default-new-clause-ends : goal.returns-in_default-new-clause-ends
 returns-in_default-new-clause-ends g c = λ configured ts name text tells makes image named is.
     let medium = g.M.Media.state c.args.media.now in
     let told = g.K.Sink.written c.args.out.now in
     let rest = g.S.Source.left c.args.input.now in
-    as-end (λ kept status. EndsOver configured ts name text (told_of told told rest) medium medium kept status) c.of-in_default-new.result NoMemory NoMemory c.of-in_default-new.ensures refl (no-room configured ts name text medium told rest is)
+    as-end (λ end. EndsOver configured ts name text (told_of c.args.gone end.taken told told rest) medium medium end.kept end.status) c.of-in_default-new.result NoMemory NoMemory c.of-in_default-new.ensures refl (no-room c.args.gone configured ts name text medium told rest is)
 
 pub returns-in_default-new-2-clause-keeps : goal.returns-in_default-new-2-clause-keeps
 returns-in_default-new-2-clause-keeps g c = looks-keeps _ _ (looks-same _)
@@ -87,21 +87,21 @@ returns-in_default-new-2-clause-causes g c =
     let flash = (g.M.Media.state c.args.media.now).faults in
     let source = g.S.Source.faults c.args.input.now in
     let sink = g.K.Sink.faults c.args.out.now in
-    as-end (λ kept status. HasCauses tables flash flash source source sink sink kept status) c.of-in_default-new-2.result NoMemory NoMemory c.of-in_default-new-2.ensures refl (no-causes tables flash source sink)
+    as-end (λ end. HasCauses tables flash flash source source sink sink end.kept end.status) c.of-in_default-new-2.result NoMemory NoMemory c.of-in_default-new-2.ensures refl (no-causes tables flash source sink)
 
 pub returns-in_default-new-2-clause-unread : goal.returns-in_default-new-2-clause-unread
 returns-in_default-new-2-clause-unread g c = λ table is. (refl, refl)
 
 pub returns-in_default-new-2-clause-ended : goal.returns-in_default-new-2-clause-ended
 returns-in_default-new-2-clause-ended g c = λ plan text p is.
-    as-end (λ kept status. EndedOver (length plan.columns) (has_var plan) text (g.S.Source.left c.args.input.now) status) c.of-in_default-new-2.result NoMemory NoMemory c.of-in_default-new-2.ensures refl (inl is)
+    as-end (λ end. EndedOver (length plan.columns) (has_var plan) text (g.S.Source.left c.args.input.now) end.status) c.of-in_default-new-2.result NoMemory NoMemory c.of-in_default-new-2.ensures refl (inl is)
 
 pub returns-in_default-new-2-clause-ends : goal.returns-in_default-new-2-clause-ends
 returns-in_default-new-2-clause-ends g c = λ configured ts name text tells makes image named is.
     let medium = g.M.Media.state c.args.media.now in
     let told = g.K.Sink.written c.args.out.now in
     let rest = g.S.Source.left c.args.input.now in
-    as-end (λ kept status. EndsOver configured ts name text (told_of told told rest) medium medium kept status) c.of-in_default-new-2.result NoMemory NoMemory c.of-in_default-new-2.ensures refl (no-room configured ts name text medium told rest is)
+    as-end (λ end. EndsOver configured ts name text (told_of c.args.gone end.taken told told rest) medium medium end.kept end.status) c.of-in_default-new-2.result NoMemory NoMemory c.of-in_default-new-2.ensures refl (no-room c.args.gone configured ts name text medium told rest is)
 
 pub returns-clause-causes : goal.returns-clause-causes
 returns-clause-causes g c =
@@ -136,3 +136,27 @@ returns-clause-repairs g c = λ configured ts name tells makes image named well.
     let e : g.M.Media.state c.media-1.given.0 ≡ g.M.Media.state c.into_media-media.result.now = search rules in
     flash-others configured c.args.config.now ts name _ _ _ _ c.geometry-geometry.result c.blocks-blocks.result _ c.args.tables.now.entries.items c.args.at c.import_on-end.result.status
     c.with_room-flash.ensures (e ∙ c.into_media-media.ensures.state) c.import_on-end.ensures.goes c.geometry-geometry.ensures.device tells makes image c.requires.tables named well c.import_on-end.ensures.repairs
+
+pub returns-in_default-clause-form : goal.returns-in_default-clause-form
+returns-in_default-clause-form g c = as-end (λ end. IfSome end.form (λ form. FormsAt form c.args.config.now.plans c.args.at)) c.of.result NoMemory NoMemory c.of.ensures refl tt
+
+pub returns-in_default-clause-formed : goal.returns-in_default-clause-formed
+returns-in_default-clause-formed g c = λ line. as-end (λ end. end.status ≡ BadInput line → is_some end.form ≡ true) c.of.result NoMemory NoMemory c.of.ensures refl (λ is. cc is)
+
+pub returns-in_default-new-clause-form : goal.returns-in_default-new-clause-form
+returns-in_default-new-clause-form g c = as-end (λ end. IfSome end.form (λ form. FormsAt form c.args.config.now.plans c.args.at)) c.of-in_default-new.result NoMemory NoMemory c.of-in_default-new.ensures refl tt
+
+pub returns-in_default-new-clause-formed : goal.returns-in_default-new-clause-formed
+returns-in_default-new-clause-formed g c = λ line. as-end (λ end. end.status ≡ BadInput line → is_some end.form ≡ true) c.of-in_default-new.result NoMemory NoMemory c.of-in_default-new.ensures refl (λ is. cc is)
+
+pub returns-in_default-new-2-clause-form : goal.returns-in_default-new-2-clause-form
+returns-in_default-new-2-clause-form g c = as-end (λ end. IfSome end.form (λ form. FormsAt form c.args.config.now.plans c.args.at)) c.of-in_default-new-2.result NoMemory NoMemory c.of-in_default-new-2.ensures refl tt
+
+pub returns-in_default-new-2-clause-formed : goal.returns-in_default-new-2-clause-formed
+returns-in_default-new-2-clause-formed g c = λ line. as-end (λ end. end.status ≡ BadInput line → is_some end.form ≡ true) c.of-in_default-new-2.result NoMemory NoMemory c.of-in_default-new-2.ensures refl (λ is. cc is)
+
+pub returns-clause-form : goal.returns-clause-form
+returns-clause-form g c = form-then c.import_on-end.result.form c.form_at-form.result (λ form. FormsAt form c.args.config.now.plans c.args.at) c.import_on-end.ensures.form (c.form_at-form.ensures.form c.args.config.now c.requires.tables)
+
+pub returns-clause-formed : goal.returns-clause-formed
+returns-clause-formed g c = c.import_on-end.ensures.formed

@@ -1,18 +1,18 @@
-use Rattle.std.proofs.Common.{◌≡◌, false, IsTrue, Some, length, refl, sym, ◌∙◌, subst, arith}
+use Rattle.std.proofs.Common.{◌≡◌, true, false, is_some, IsTrue, IfSome, Some, length, refl, sym, ◌∙◌, subst, arith}
 use Rattle.std.specs.List.{slice_get}
 use Rattle.std.proofs.lemmas.Option.{slice_get_within}
 use Rattle.fl_export.specs.Ends.{at_rest}
 use Rattle.fl_export.proofs.Locating.{stands-there}
 use Rattle.fl_export.proofs.Risen.{has_risen, watched}
 use Rattle.fl_export.proofs.Unmounted as export
-use Rattle.fl_jobs.specs.declared.status.ToolStatus.TheVariants.{Device}
+use Rattle.fl_jobs.specs.declared.status.ToolStatus.TheVariants.{Device, BadInput}
 use Rattle.fl_tables.specs.Tables.{first_of}
 use Rattle.fl_tables.proofs.Going.{goes-on, rose-back}
 use Rattle.fl_tables.proofs.TablesChanged.{item-there}
 use Rattle.fl_import.specs.Images.{EndsOn, HasCauses, told_of}
 use Rattle.fl_import.specs.Taking.{EndedOver}
 use Rattle.fl_import.proofs.Importing.{unmounted, own, own-works, imported}
-use Rattle.fl_import.proofs.Closing.{as-end, mount-causes, mount-ended, of-mounted, table-bad, table-ended}
+use Rattle.fl_import.proofs.Closing.{as-end, mount-causes, mount-ended, mount-unread, of-mounted, table-bad, table-ended}
 use Rattle.fl_import.proofs.Others.{others-repaired}
 use Rattle.fl_import.proofs.import.import_on.Goals as goal
 
@@ -25,12 +25,12 @@ returns-in-Err-clause-ends g c = λ plans ts name text tells on calm stand named
     let m = g.F.Flash.state c.mount.new.flash in
     let breaks = c.in-Err.ensures.ends plans ts (has_risen f m) at_rest (watched f m at_rest tells on calm) stand in
     let has = stands-there f (λ i. false) plans c.args.tables.now.entries.items ts name c.args.at stand named in
-    as-end (λ kept status. EndsOn plans ts name text (told_of (g.K.Sink.written c.args.out.now) (g.K.Sink.written c.args.out.now) (g.S.Source.left c.args.input.now)) f m c.mount.new.self.entries.items kept status) c.of.result _ _ c.of.ensures c.mount_status.ensures
-    (unmounted plans ts name text f m (g.K.Sink.written c.args.out.now) (g.S.Source.left c.args.input.now) c.mount.new.self.entries.items has c.in-Err.bad.fault c.in-Err.bad.at breaks is)
+    as-end (λ end. EndsOn plans ts name text (told_of c.args.gone end.taken (g.K.Sink.written c.args.out.now) (g.K.Sink.written c.args.out.now) (g.S.Source.left c.args.input.now)) f m c.mount.new.self.entries.items end.kept end.status) c.of.result _ _ c.of.ensures c.mount_status.ensures
+    (unmounted c.args.gone plans ts name text f m (g.K.Sink.written c.args.out.now) (g.S.Source.left c.args.input.now) c.mount.new.self.entries.items has c.in-Err.bad.fault c.in-Err.bad.at breaks is)
 
 pub returns-in-Err-clause-ended : goal.returns-in-Err-clause-ended
 returns-in-Err-clause-ended g c = λ text is.
-    as-end (λ kept status. EndedOver c.args.form.columns c.args.form.blobs text (g.S.Source.left c.args.input.now) status) c.of.result _ _ c.of.ensures c.mount_status.ensures
+    as-end (λ end. EndedOver c.args.form.columns c.args.form.blobs text (g.S.Source.left c.args.input.now) end.status) c.of.result _ _ c.of.ensures c.mount_status.ensures
     (mount-ended c.args.form.columns c.args.form.blobs text (g.S.Source.left c.args.input.now) c.in-Err.bad.fault c.in-Err.bad.at is)
 
 pub returns-in-Err-clause-causes : goal.returns-in-Err-clause-causes
@@ -39,7 +39,7 @@ returns-in-Err-clause-causes g c =
     let m = g.F.Flash.state c.mount.new.flash in
     let source = g.S.Source.faults c.args.input.now in
     let sink = g.K.Sink.faults c.args.out.now in
-    as-end (λ kept status. HasCauses (length c.args.tables.now.entries.items) f.media.faults m.media.faults source source sink sink kept status) c.of.result _ _ c.of.ensures c.mount_status.ensures
+    as-end (λ end. HasCauses (length c.args.tables.now.entries.items) f.media.faults m.media.faults source source sink sink end.kept end.status) c.of.result _ _ c.of.ensures c.mount_status.ensures
     (mount-causes f m (length c.args.tables.now.entries.items) source sink c.in-Err.bad.fault c.in-Err.bad.at
     (omega (arith, slice_get_within c.mount.new.self.entries.items c.in-Err.bad.at c.in-Err.ensures.stops.entry c.in-Err.ensures.stops.here, c.mount.ensures.as_many)) c.in-Err.ensures.cause)
 
@@ -72,9 +72,9 @@ returns-clause-ends g c = λ plans ts name text tells on calm stand named forms 
     let entries = c.args.tables.now.entries.items in
     let entry = c.index_mut.result.now in
     let u = c.import_table-status.new.table in
-    let place = own plans ts name text f m h told told_now rest entries now c.args.at entry u c.mount.ensures.goes.faults e.goes e.same e.outside tell stand named here mounted in
-    let works = own-works plans ts name text f m h told told_now rest entries now c.args.at entry u c.mount.ensures.goes.faults e.goes e.same e.outside tell stand named here mounted in
-    imported plans ts name text f m h told told_now rest entries now c.args.at entry u c.mount.ensures.goes.faults e.goes e.same e.outside tell stand named here mounted c.kept_rows-kept.result c.import_table-status.result
+    let place = own plans ts name text f m h c.args.gone c.import_table-status.new.taken told told_now rest entries now c.args.at entry u c.mount.ensures.goes.faults e.goes e.same e.outside tell stand named here mounted in
+    let works = own-works plans ts name text f m h c.args.gone c.import_table-status.new.taken told told_now rest entries now c.args.at entry u c.mount.ensures.goes.faults e.goes e.same e.outside tell stand named here mounted in
+    imported plans ts name text f m h c.args.gone c.import_table-status.new.taken told told_now rest entries now c.args.at entry u c.mount.ensures.goes.faults e.goes e.same e.outside tell stand named here mounted c.kept_rows-kept.result c.import_table-status.result
     (λ device. rose-back f.media.faults m.media.faults h.media.faults c.mount.ensures.goes.faults (e.device device)) c.kept_rows-kept.ensures.rows
     (e.ends text (first_of plans c.args.at) place.plan place.table is (forms place.plan place.plan_is) works)
 
@@ -107,7 +107,7 @@ returns-in-Err-clause-repairs g c = λ plans ts name tells on calm stand named w
     let breaks = c.in-Err.ensures.ends plans ts (has_risen f m) at_rest (watched f m at_rest tells on calm) stand in
     let has = stands-there f (λ i. false) plans c.args.tables.now.entries.items ts name c.args.at stand named in
     let device = (export.unmounted plans ts name f m (g.K.Sink.written c.args.out.now) c.mount.new.self.entries.items has c.in-Err.bad.fault c.in-Err.bad.at breaks).0 in
-    absurd (well (as-end (λ kept status. status ≡ Device) c.of.result _ _ c.of.ensures (c.mount_status.ensures ∙ device) refl))
+    absurd (well (as-end (λ end. end.status ≡ Device) c.of.result _ _ c.of.ensures (c.mount_status.ensures ∙ device) refl))
 
 pub returns-clause-repairs : goal.returns-clause-repairs
 returns-clause-repairs g c = λ plans ts name tells on calm stand named well.
@@ -119,3 +119,15 @@ returns-clause-repairs g c = λ plans ts name tells on calm stand named well.
     let mounted = c.in_default.ensures.ends plans ts (has_risen f m) at_rest (watched f m at_rest tells on calm) stand in
     others-repaired plans ts _ name f m h c.args.tables.now.entries.items c.mount.new.self.entries.items c.args.at c.index_mut.result.now stand named mounted.stand here
     (c.import_table-status.ensures.outside (subst IsTrue (sym c.mount.ensures.goes.tells) tells)) (c.in_default.ensures.repaired tells plans ts stand)
+
+pub returns-in-Err-clause-form : goal.returns-in-Err-clause-form
+returns-in-Err-clause-form g c = as-end (λ end. IfSome end.form (λ given. given ≡ c.args.form)) c.of.result _ _ c.of.ensures c.mount_status.ensures tt
+
+pub returns-in-Err-clause-formed : goal.returns-in-Err-clause-formed
+returns-in-Err-clause-formed g c = λ line. as-end (λ end. end.status ≡ BadInput line → is_some end.form ≡ true) c.of.result _ _ c.of.ensures c.mount_status.ensures (λ is. absurd (mount-unread c.in-Err.bad.fault c.in-Err.bad.at line is))
+
+pub returns-clause-form : goal.returns-clause-form
+returns-clause-form g c = refl
+
+pub returns-clause-formed : goal.returns-clause-formed
+returns-clause-formed g c = λ line is. refl

@@ -1,20 +1,20 @@
-use Rattle.std.proofs.Common.{◌≡◌, false, None, Ok, Err, refl, sym, ◌∙◌, ap, subst}
-use Rattle.fl_csv.specs.Lines.{line_put}
+use Rattle.std.proofs.Common.{◌≡◌, ℕ, List, false, None, Ok, Err, refl, sym, ◌∙◌, ap, subst}
+use Rattle.fl_csv.specs.Lines.{lacks_blob, line_put}
 use Rattle.fl_csv.specs.Views.{put_view}
 use Rattle.fl_jobs.specs.declared.status.ToolStatus.TheVariants.{OutWrite, NoMemory, Device}
-use Rattle.fl_import.specs.Lines.{meaning}
+use Rattle.fl_import.specs.Lines.{lacks, meaning}
 use Rattle.fl_import.specs.Steps.{IsOfLine, fault_in, is_unread}
 use Rattle.fl_import.proofs.OneLine.{means-either, ends-reason, ends-memory, ends-put, ends-broken, ends-told, works-watched, put-rose, fault-status, fault-unwritten, not-device, one-status, told-device}
 use Rattle.fl_import.proofs.line.put_line.Goals as goal
 
 pub returns-in-Err-clause-ends : goal.returns-in-Err-clause-ends
-returns-in-Err-clause-ends g c = λ first plan t is works. ends-memory first plan t c.args.table.now c.args.table.now _ _ works c.args.number (g.K.Sink.written c.args.out.now) (g.K.Sink.written c.args.out.now) (meaning c.args.form.columns c.args.form.blobs c.args.line.now) refl refl refl
+returns-in-Err-clause-ends g c = λ first plan t is works. ends-memory first plan t c.args.table.now c.args.table.now _ _ works (lacks c.args.gone c.args.form.columns c.args.form.blobs c.args.line.now) c.args.number (g.K.Sink.written c.args.out.now) (g.K.Sink.written c.args.out.now) (meaning c.args.gone c.args.form.columns c.args.form.blobs c.args.line.now) refl refl refl
 
 pub returns-in-Err-2-clause-ends : goal.returns-in-Err-2-clause-ends
 returns-in-Err-2-clause-ends g c = λ first plan t is works.
     let other : is_unread c.in-Err.refusal ≡ false = sym c.is_unread.ensures ∙ c.if-is_unread.false in
-    rw c.refused.ensures (ends-reason first plan t c.args.table.now c.args.table.now _ _ works c.args.number (g.K.Sink.written c.args.out.now) (g.K.Sink.written c.tell_reason.new.out) (meaning c.args.form.columns c.args.form.blobs c.args.line.now) c.in-Err.refusal other
-    (means-either c.args.form.columns c.args.form.blobs c.args.line.now c.without_return.result.now c.in-Err.refusal c.without_return.ensures c.in-Err.ensures.means) refl refl c.tell_reason.result c.tell_reason.ensures.text)
+    rw c.refused.ensures (ends-reason first plan t c.args.table.now c.args.table.now _ _ works (lacks c.args.gone c.args.form.columns c.args.form.blobs c.args.line.now) c.args.number (g.K.Sink.written c.args.out.now) (g.K.Sink.written c.tell_reason.new.out) (meaning c.args.gone c.args.form.columns c.args.form.blobs c.args.line.now) c.in-Err.refusal other
+    (means-either c.args.gone c.args.form.columns c.args.form.blobs c.args.line.now c.without_return-text.result.now c.in-Err.refusal c.without_return-text.ensures c.in-Err.ensures.means) refl refl c.tell_reason.result c.tell_reason.ensures.text)
 
 pub returns-in-Err-clause-device : goal.returns-in-Err-clause-device
 returns-in-Err-clause-device g c = λ is. absurd (not-device (one-status NoMemory Device is))
@@ -24,11 +24,11 @@ returns-in-Err-2-clause-device g c = λ is. told-device c.tell_reason.result (sy
 
 pub returns-in-Some-clause-ends : goal.returns-in-Some-clause-ends
 returns-in-Some-clause-ends g c = λ first plan t is works.
-    let means : meaning c.args.form.columns c.args.form.blobs c.args.line.now ≡ Ok (put_view c.in-Ok.put) = ap (line_put c.args.form.columns c.args.form.blobs) (sym c.without_return.ensures) ∙ c.in-Ok.ensures.means in
+    let means : meaning c.args.gone c.args.form.columns c.args.form.blobs c.args.line.now ≡ Ok (put_view c.in-Ok.put) = ap (line_put c.args.gone c.args.form.columns c.args.form.blobs) (sym c.without_return-text.ensures) ∙ c.in-Ok.ensures.means in
     let f = g.F.Flash.state c.args.flash.now in
     let h = g.F.Flash.state c.put_record-outcome.new.flash in
     let e = c.put_record-outcome.ensures in
-    rw c.flash_status.ensures (ends-broken first plan t c.args.table.now c.put_record-outcome.new.table f h works c.args.number (g.K.Sink.written c.args.out.now) (g.K.Sink.written c.args.out.now) (meaning c.args.form.columns c.args.form.blobs c.args.line.now) (put_view c.in-Ok.put) means
+    rw c.flash_status.ensures (ends-broken first plan t c.args.table.now c.put_record-outcome.new.table f h works (lacks c.args.gone c.args.form.columns c.args.form.blobs c.args.line.now) c.args.number (g.K.Sink.written c.args.out.now) (g.K.Sink.written c.args.out.now) (meaning c.args.gone c.args.form.columns c.args.form.blobs c.args.line.now) (put_view c.in-Ok.put) means
     c.put_record-outcome.result c.in-Some.fault (sym c.fault_in.ensures ∙ c.in-Some.is) refl (e.ends first plan t _ works.device (works-watched first plan t c.args.table.now c.put_record-outcome.new.table f h works) works.stands))
 
 pub returns-in-Some-clause-device : goal.returns-in-Some-clause-device
@@ -47,19 +47,20 @@ returns-clause-device g c = λ is. told-device c.tell_refusal.result (sym c.refu
 
 pub returns-in-Ok-outcome-clause-ends : goal.returns-in-Ok-outcome-clause-ends
 returns-in-Ok-outcome-clause-ends g c = λ first plan t is works.
-    let means : meaning c.args.form.columns c.args.form.blobs c.args.line.now ≡ Ok (put_view c.in-Ok.put) = ap (line_put c.args.form.columns c.args.form.blobs) (sym c.without_return.ensures) ∙ c.in-Ok.ensures.means in
+    let means : meaning c.args.gone c.args.form.columns c.args.form.blobs c.args.line.now ≡ Ok (put_view c.in-Ok.put) = ap (line_put c.args.gone c.args.form.columns c.args.form.blobs) (sym c.without_return-text.ensures) ∙ c.in-Ok.ensures.means in
     let f = g.F.Flash.state c.args.flash.now in
     let h = g.F.Flash.state c.put_record-outcome.new.flash in
     let e = c.put_record-outcome.ensures in
-    ends-put first plan t c.args.table.now c.put_record-outcome.new.table f h works c.args.number (g.K.Sink.written c.args.out.now) (g.K.Sink.written c.args.out.now) (meaning c.args.form.columns c.args.form.blobs c.args.line.now) (put_view c.in-Ok.put) means
-    e.goes refl (rw c.in-Ok-outcome.is at (e.ends first plan t _ works.device (works-watched first plan t c.args.table.now c.put_record-outcome.new.table f h works) works.stands))
+    let lacking : c.in-Ok.put.gone ≡ lacks c.args.gone c.args.form.columns c.args.form.blobs c.args.line.now = subst (λ (l : List ℕ). c.in-Ok.put.gone ≡ lacks_blob c.args.gone c.args.form.columns c.args.form.blobs l) c.without_return-text.ensures c.in-Ok.ensures.gone in
+    rw (c.put_end.ensures, lacking) (ends-put first plan t c.args.table.now c.put_record-outcome.new.table f h works (lacks c.args.gone c.args.form.columns c.args.form.blobs c.args.line.now) c.args.number (g.K.Sink.written c.args.out.now) (g.K.Sink.written c.args.out.now) (meaning c.args.gone c.args.form.columns c.args.form.blobs c.args.line.now) (put_view c.in-Ok.put) means
+    e.goes refl (rw c.in-Ok-outcome.is at (e.ends first plan t _ works.device (works-watched first plan t c.args.table.now c.put_record-outcome.new.table f h works) works.stands)))
 
 pub returns-clause-ends : goal.returns-clause-ends
 returns-clause-ends g c = λ first plan t is works.
-    let means : meaning c.args.form.columns c.args.form.blobs c.args.line.now ≡ Ok (put_view c.in-Ok.put) = ap (line_put c.args.form.columns c.args.form.blobs) (sym c.without_return.ensures) ∙ c.in-Ok.ensures.means in
+    let means : meaning c.args.gone c.args.form.columns c.args.form.blobs c.args.line.now ≡ Ok (put_view c.in-Ok.put) = ap (line_put c.args.gone c.args.form.columns c.args.form.blobs) (sym c.without_return-text.ensures) ∙ c.in-Ok.ensures.means in
     let f = g.F.Flash.state c.args.flash.now in
     let h = g.F.Flash.state c.put_record-outcome.new.flash in
     let e = c.put_record-outcome.ensures in
     let whole : fault_in (Err c.in-Err-outcome.refusal) ≡ None = ap fault_in (sym c.in-Err-outcome.is) ∙ (sym c.fault_in.ensures ∙ c.in_default.is) in
-    rw c.refused-in-Err-outcome.ensures (ends-told first plan t c.args.table.now c.put_record-outcome.new.table f h works c.args.number (g.K.Sink.written c.args.out.now) (g.K.Sink.written c.tell_refusal.new.out) (meaning c.args.form.columns c.args.form.blobs c.args.line.now) (put_view c.in-Ok.put) means
+    rw c.refused-in-Err-outcome.ensures (ends-told first plan t c.args.table.now c.put_record-outcome.new.table f h works (lacks c.args.gone c.args.form.columns c.args.form.blobs c.args.line.now) c.args.number (g.K.Sink.written c.args.out.now) (g.K.Sink.written c.tell_refusal.new.out) (meaning c.args.gone c.args.form.columns c.args.form.blobs c.args.line.now) (put_view c.in-Ok.put) means
     c.in-Err-outcome.refusal whole (rw c.in-Err-outcome.is at (e.ends first plan t _ works.device (works-watched first plan t c.args.table.now c.put_record-outcome.new.table f h works) works.stands)) (rw c.in-Err-outcome.is at e.refused) c.tell_refusal.result c.tell_refusal.ensures.text)

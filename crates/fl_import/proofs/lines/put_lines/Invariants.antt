@@ -18,9 +18,12 @@ invariant-lines g l =
       outside : IsTrue (F.state l.fn.flash).media.tells → OutsideStands l.fn.table (page_at (F.state l.fn.flash)) (page_at (F.state l.flash));
       input : S.faults l.fn.input ≤ S.faults l.input;
       output : K.faults l.fn.out ≤ K.faults l.out;
-      few : l.counts.accepted + l.counts.refused + l.lines.most < 2 ^ 24;
+      few : l.taken.line + l.lines.most ≤ 2 ^ 24;
+      some : 1 ≤ l.taken.line;
+      rows : l.taken.rows < l.taken.line;
+      gone : l.taken.gone ≤ l.taken.rows;
       far : (text names : List ℕ) → TakesSoFar l.form.columns l.form.blobs text (names ∷ []) l.fn.lines (S.left l.fn.input) →
-          SoFar l.form text l.fn.table (F.state l.fn.flash) l.table (F.state l.flash) (K.written l.fn.out) (K.written l.out) l.lines (S.left l.input) l.counts.accepted l.counts.refused;
+          SoFar l.gone l.taken l.form text l.fn.table (F.state l.fn.flash) l.table (F.state l.flash) (K.written l.fn.out) (K.written l.out) l.lines (S.left l.input);
     }
 
 abbrev pub decreases-lines : goal.decreases-lines

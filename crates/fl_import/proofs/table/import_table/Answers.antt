@@ -10,82 +10,82 @@ use Rattle.fl_import.proofs.table.import_table.Goals as goal
 
 pub returns-then-is_broken-clause-ends : goal.returns-then-is_broken-clause-ends
 returns-then-is_broken-clause-ends g c = λ text first plan t is form works.
-    let e : c.take_lines-taken.result ≡ Err Device = broken-is c.take_lines-taken.result (sym c.is_broken.ensures ∙ c.if-is_broken.true) in
-    failed-ends first plan t text c.take_lines-taken.new.table (g.F.Flash.state c.take_lines-taken.new.flash) (g.K.Sink.written c.args.out.now) (g.K.Sink.written c.take_lines-taken.new.out) (g.S.Source.left c.take_lines-taken.new.input)
-    (rw e at (c.take_lines-taken.ensures.ends text first plan t is form works))
+    let e : c.take_lines-all.result ≡ Err Device = broken-is c.take_lines-all.result (sym c.is_broken.ensures ∙ c.if-is_broken.true) in
+    failed-ends c.args.gone c.take_lines-all.new.taken first plan t text c.take_lines-all.new.table (g.F.Flash.state c.take_lines-all.new.flash) (g.K.Sink.written c.args.out.now) (g.K.Sink.written c.take_lines-all.new.out) (g.S.Source.left c.take_lines-all.new.input)
+    (rw e at (c.take_lines-all.ensures.ends text first plan t is form works))
 
 pub returns-then-is_broken-clause-ended : goal.returns-then-is_broken-clause-ended
 returns-then-is_broken-clause-ended g c = λ text is.
-    let e : c.take_lines-taken.result ≡ Err Device = broken-is c.take_lines-taken.result (sym c.is_broken.ensures ∙ c.if-is_broken.true) in
-    rw e at (c.take_lines-taken.ensures.ended text is)
+    let e : c.take_lines-all.result ≡ Err Device = broken-is c.take_lines-all.result (sym c.is_broken.ensures ∙ c.if-is_broken.true) in
+    rw e at (c.take_lines-all.ensures.ended text is)
 
 pub returns-then-is_broken-clause-device : goal.returns-then-is_broken-clause-device
-returns-then-is_broken-clause-device g c = λ is. c.take_lines-taken.ensures.device (broken-is c.take_lines-taken.result (sym c.is_broken.ensures ∙ c.if-is_broken.true))
+returns-then-is_broken-clause-device g c = λ is. c.take_lines-all.ensures.device (broken-is c.take_lines-all.result (sym c.is_broken.ensures ∙ c.if-is_broken.true))
 
 pub returns-in-Ok-clause-ends : goal.returns-in-Ok-clause-ends
 returns-in-Ok-clause-ends g c = λ text first plan t is form works.
-    let m = g.F.Flash.state c.take_lines-taken.new.flash in
+    let m = g.F.Flash.state c.take_lines-all.new.flash in
     let h = g.F.Flash.state c.flush.new.flash in
-    let other : is_broken c.take_lines-taken.result ≡ false = sym c.is_broken.ensures ∙ c.if-is_broken.false in
-    let ends = c.take_lines-taken.ensures.ends text first plan t is form works in
-    let going = lines first plan t text c.take_lines-taken.new.table c.flush.new.self m h (g.K.Sink.written c.args.out.now) (g.K.Sink.written c.take_lines-taken.new.out) (g.K.Sink.written c.told.new.out) (g.S.Source.left c.take_lines-taken.new.input) c.take_lines-taken.result other ends in
-    all-ends g.K.Sink.written g.K.Sink.faults c.args.out.now c.take_lines-taken.new.out c.told.new.out c.told.result first plan t text c.take_lines-taken.new.table c.flush.new.self m h (g.S.Source.left c.take_lines-taken.new.input) c.take_lines-taken.result other ends
-    c.take_lines-taken.ensures.statuses c.told.ensures.none c.told.ensures.counts c.flush.ensures.goes
-    (rw c.in-Ok.is at (c.flush.ensures.ends first plan _ _ going.works.device (works-watched first plan _ c.take_lines-taken.new.table c.flush.new.self m h going.works) going.works.stands))
+    let other : is_broken c.take_lines-all.result ≡ false = sym c.is_broken.ensures ∙ c.if-is_broken.false in
+    let ends = c.take_lines-all.ensures.ends text first plan t is form works in
+    let going = lines c.args.gone c.take_lines-all.new.taken first plan t text c.take_lines-all.new.table c.flush.new.self m h (g.K.Sink.written c.args.out.now) (g.K.Sink.written c.take_lines-all.new.out) (g.K.Sink.written c.told.new.out) (g.S.Source.left c.take_lines-all.new.input) c.take_lines-all.result other ends in
+    all-ends c.args.gone c.take_lines-all.new.taken g.K.Sink.written g.K.Sink.faults c.args.out.now c.take_lines-all.new.out c.told.new.out c.told.result first plan t text c.take_lines-all.new.table c.flush.new.self m h (g.S.Source.left c.take_lines-all.new.input) c.take_lines-all.result other ends
+    c.take_lines-all.ensures.statuses c.told.ensures.none c.told.ensures.counts c.flush.ensures.goes
+    (rw c.in-Ok.is at (c.flush.ensures.ends first plan _ _ going.works.device (works-watched first plan _ c.take_lines-all.new.table c.flush.new.self m h going.works) going.works.stands))
 
 pub returns-in-Ok-clause-ended : goal.returns-in-Ok-clause-ended
 returns-in-Ok-clause-ended g c = λ text is.
-    all-ended g.K.Sink.written g.K.Sink.faults c.args.out.now c.take_lines-taken.new.out c.told.new.out c.told.result c.args.form.columns c.args.form.blobs text (g.S.Source.left c.take_lines-taken.new.input) c.take_lines-taken.result
-    c.take_lines-taken.ensures.statuses c.told.ensures.none c.told.ensures.counts (c.take_lines-taken.ensures.ended text is)
+    all-ended c.args.gone c.take_lines-all.new.taken g.K.Sink.written g.K.Sink.faults c.args.out.now c.take_lines-all.new.out c.told.new.out c.told.result c.args.form.columns c.args.form.blobs text (g.S.Source.left c.take_lines-all.new.input) c.take_lines-all.result
+    c.take_lines-all.ensures.statuses c.told.ensures.none c.told.ensures.counts (c.take_lines-all.ensures.ended text is)
 
 pub returns-in-Ok-clause-device : goal.returns-in-Ok-clause-device
 returns-in-Ok-clause-device g c = λ is.
-    all-rose g.K.Sink.written g.K.Sink.faults c.args.out.now c.take_lines-taken.new.out c.told.new.out c.told.result _ _ c.take_lines-taken.result c.told.ensures.none c.told.ensures.counts (sym c.is_broken.ensures ∙ c.if-is_broken.false) is
+    all-rose c.args.gone c.take_lines-all.new.taken g.K.Sink.written g.K.Sink.faults c.args.out.now c.take_lines-all.new.out c.told.new.out c.told.result _ _ c.take_lines-all.result c.told.ensures.none c.told.ensures.counts (sym c.is_broken.ensures ∙ c.if-is_broken.false) is
 
 pub returns-in-Ok-clause-statuses : goal.returns-in-Ok-clause-statuses
 returns-in-Ok-clause-statuses g c =
-    all-of g.K.Sink.written g.K.Sink.faults c.args.out.now c.take_lines-taken.new.out c.told.new.out c.told.result c.take_lines-taken.result c.take_lines-taken.ensures.statuses c.told.ensures.none c.told.ensures.counts
+    all-of c.args.gone c.take_lines-all.new.taken g.K.Sink.written g.K.Sink.faults c.args.out.now c.take_lines-all.new.out c.told.new.out c.told.result c.take_lines-all.result c.take_lines-all.ensures.statuses c.told.ensures.none c.told.ensures.counts
 
 pub returns-in-Ok-clause-read : goal.returns-in-Ok-clause-read
 returns-in-Ok-clause-read g c =
-    all-read g.K.Sink.written g.K.Sink.faults c.args.out.now c.take_lines-taken.new.out c.told.new.out c.told.result c.take_lines-taken.result c.told.ensures.none c.told.ensures.counts c.take_lines-taken.ensures.read
+    all-read c.args.gone c.take_lines-all.new.taken g.K.Sink.written g.K.Sink.faults c.args.out.now c.take_lines-all.new.out c.told.new.out c.told.result c.take_lines-all.result c.told.ensures.none c.told.ensures.counts c.take_lines-all.ensures.read
 
 pub returns-in-Ok-clause-write : goal.returns-in-Ok-clause-write
 returns-in-Ok-clause-write g c =
-    all-write g.K.Sink.written g.K.Sink.faults c.args.out.now c.take_lines-taken.new.out c.told.new.out c.told.result c.take_lines-taken.result c.told.ensures.none c.told.ensures.counts c.take_lines-taken.ensures.later.1 c.take_lines-taken.ensures.write
+    all-write c.args.gone c.take_lines-all.new.taken g.K.Sink.written g.K.Sink.faults c.args.out.now c.take_lines-all.new.out c.told.new.out c.told.result c.take_lines-all.result c.told.ensures.none c.told.ensures.counts c.take_lines-all.ensures.later.1 c.take_lines-all.ensures.write
 
 pub returns-in-Ok-clause-outside : goal.returns-in-Ok-clause-outside
 returns-in-Ok-clause-outside g c = λ tells.
-    outside-then c.args.table.now c.take_lines-taken.new.table (page_at (g.F.Flash.state c.args.flash.now)) (page_at (g.F.Flash.state c.take_lines-taken.new.flash)) (page_at (g.F.Flash.state c.flush.new.flash)) c.take_lines-taken.ensures.same (c.take_lines-taken.ensures.outside tells)
-    (c.flush.ensures.outside (subst IsTrue (sym c.take_lines-taken.ensures.goes.tells) tells))
+    outside-then c.args.table.now c.take_lines-all.new.table (page_at (g.F.Flash.state c.args.flash.now)) (page_at (g.F.Flash.state c.take_lines-all.new.flash)) (page_at (g.F.Flash.state c.flush.new.flash)) c.take_lines-all.ensures.same (c.take_lines-all.ensures.outside tells)
+    (c.flush.ensures.outside (subst IsTrue (sym c.take_lines-all.ensures.goes.tells) tells))
 
 pub returns-in-Ok-clause-goes : goal.returns-in-Ok-clause-goes
-returns-in-Ok-clause-goes g c = goes-on _ _ _ c.take_lines-taken.ensures.goes c.flush.ensures.goes
+returns-in-Ok-clause-goes g c = goes-on _ _ _ c.take_lines-all.ensures.goes c.flush.ensures.goes
 
 pub returns-in-Ok-clause-same : goal.returns-in-Ok-clause-same
-returns-in-Ok-clause-same g c = same-on _ _ _ c.take_lines-taken.ensures.same c.flush.ensures.same
+returns-in-Ok-clause-same g c = same-on _ _ _ c.take_lines-all.ensures.same c.flush.ensures.same
 
 pub returns-in-Err-clause-ends : goal.returns-in-Err-clause-ends
 returns-in-Err-clause-ends g c = λ text first plan t is form works.
-    let m = g.F.Flash.state c.take_lines-taken.new.flash in
+    let m = g.F.Flash.state c.take_lines-all.new.flash in
     let h = g.F.Flash.state c.flush.new.flash in
-    let other : is_broken c.take_lines-taken.result ≡ false = sym c.is_broken.ensures ∙ c.if-is_broken.false in
-    let ends = c.take_lines-taken.ensures.ends text first plan t is form works in
+    let other : is_broken c.take_lines-all.result ≡ false = sym c.is_broken.ensures ∙ c.if-is_broken.false in
+    let ends = c.take_lines-all.ensures.ends text first plan t is form works in
     let told = g.K.Sink.written c.args.out.now in
-    let mid = g.K.Sink.written c.take_lines-taken.new.out in
-    let rest = g.S.Source.left c.take_lines-taken.new.input in
-    let going = lines first plan t text c.take_lines-taken.new.table c.flush.new.self m h told mid mid rest c.take_lines-taken.result other ends in
-    rw c.flush_status.ensures (flush-broken first plan t text c.take_lines-taken.new.table c.flush.new.self m h told mid mid rest c.take_lines-taken.result other ends c.in-Err.fault
-    (rw c.in-Err.is at (c.flush.ensures.ends first plan _ _ going.works.device (works-watched first plan _ c.take_lines-taken.new.table c.flush.new.self m h going.works) going.works.stands)))
+    let mid = g.K.Sink.written c.take_lines-all.new.out in
+    let rest = g.S.Source.left c.take_lines-all.new.input in
+    let going = lines c.args.gone c.take_lines-all.new.taken first plan t text c.take_lines-all.new.table c.flush.new.self m h told mid mid rest c.take_lines-all.result other ends in
+    rw c.flush_status.ensures (flush-broken c.args.gone c.take_lines-all.new.taken first plan t text c.take_lines-all.new.table c.flush.new.self m h told mid mid rest c.take_lines-all.result other ends c.in-Err.fault
+    (rw c.in-Err.is at (c.flush.ensures.ends first plan _ _ going.works.device (works-watched first plan _ c.take_lines-all.new.table c.flush.new.self m h going.works) going.works.stands)))
 
 pub returns-in-Err-clause-ended : goal.returns-in-Err-clause-ended
 returns-in-Err-clause-ended g c = λ text is.
-    rw c.flush_status.ensures (flush-ended c.args.form.columns c.args.form.blobs text (g.S.Source.left c.take_lines-taken.new.input) c.take_lines-taken.result c.in-Err.fault (c.take_lines-taken.ensures.ended text is))
+    rw c.flush_status.ensures (flush-ended c.args.form.columns c.args.form.blobs text (g.S.Source.left c.take_lines-all.new.input) c.take_lines-all.result c.in-Err.fault (c.take_lines-all.ensures.ended text is))
 
 pub returns-in-Err-clause-device : goal.returns-in-Err-clause-device
 returns-in-Err-clause-device g c = λ is.
-    rose-back (g.F.Flash.state c.args.flash.now).media.faults (g.F.Flash.state c.take_lines-taken.new.flash).media.faults (g.F.Flash.state c.flush.new.flash).media.faults c.take_lines-taken.ensures.goes.faults
-    (flush-rose (g.F.Flash.state c.take_lines-taken.new.flash) (g.F.Flash.state c.flush.new.flash) c.in-Err.fault (rw c.in-Err.is at c.flush.ensures.cause) (sym c.flush_status.ensures ∙ is))
+    rose-back (g.F.Flash.state c.args.flash.now).media.faults (g.F.Flash.state c.take_lines-all.new.flash).media.faults (g.F.Flash.state c.flush.new.flash).media.faults c.take_lines-all.ensures.goes.faults
+    (flush-rose (g.F.Flash.state c.take_lines-all.new.flash) (g.F.Flash.state c.flush.new.flash) c.in-Err.fault (rw c.in-Err.is at c.flush.ensures.cause) (sym c.flush_status.ensures ∙ is))
 
 pub returns-in-Err-clause-read : goal.returns-in-Err-clause-read
 returns-in-Err-clause-read g c = λ is. absurd (flush-read c.in-Err.fault (sym c.flush_status.ensures ∙ is))
@@ -98,11 +98,11 @@ returns-in-Err-clause-statuses g c = subst IsOfTable (sym c.flush_status.ensures
 
 pub returns-in-Err-clause-outside : goal.returns-in-Err-clause-outside
 returns-in-Err-clause-outside g c = λ tells.
-    outside-then c.args.table.now c.take_lines-taken.new.table (page_at (g.F.Flash.state c.args.flash.now)) (page_at (g.F.Flash.state c.take_lines-taken.new.flash)) (page_at (g.F.Flash.state c.flush.new.flash)) c.take_lines-taken.ensures.same (c.take_lines-taken.ensures.outside tells)
-    (c.flush.ensures.outside (subst IsTrue (sym c.take_lines-taken.ensures.goes.tells) tells))
+    outside-then c.args.table.now c.take_lines-all.new.table (page_at (g.F.Flash.state c.args.flash.now)) (page_at (g.F.Flash.state c.take_lines-all.new.flash)) (page_at (g.F.Flash.state c.flush.new.flash)) c.take_lines-all.ensures.same (c.take_lines-all.ensures.outside tells)
+    (c.flush.ensures.outside (subst IsTrue (sym c.take_lines-all.ensures.goes.tells) tells))
 
 pub returns-in-Err-clause-goes : goal.returns-in-Err-clause-goes
-returns-in-Err-clause-goes g c = goes-on _ _ _ c.take_lines-taken.ensures.goes c.flush.ensures.goes
+returns-in-Err-clause-goes g c = goes-on _ _ _ c.take_lines-all.ensures.goes c.flush.ensures.goes
 
 pub returns-in-Err-clause-same : goal.returns-in-Err-clause-same
-returns-in-Err-clause-same g c = same-on _ _ _ c.take_lines-taken.ensures.same c.flush.ensures.same
+returns-in-Err-clause-same g c = same-on _ _ _ c.take_lines-all.ensures.same c.flush.ensures.same

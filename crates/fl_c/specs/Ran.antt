@@ -1,0 +1,23 @@
+-- What a call did, by what its caller sees.
+use Rattle.std.specs.Prelude.{◌≡◌, ℕ, List, Some, []}
+use Rattle.fl_session.specs.Ends.{Ends, Told}
+use Rattle.fl_session.specs.Number.{number_of}
+use Rattle.fl_session.specs.declared.status.Status.{Status}
+use Rattle.fl_c.specs.Ending.{line_of}
+
+-- The promise of a run, at the bytes that a caller sees: the image before and after it, and all replies.
+pub record RanImage (knots : ℕ) (script image image_now replies : List ℕ) (status : Status) : Type 0 where
+  pub told : Told
+  pub ends : Ends knots script told status
+  pub before : told.content ≡ image
+  pub after : told.content_now ≡ image_now
+  pub unsaid : told.written ≡ Some []
+  pub said : told.written_now ≡ Some replies
+  pub calm : told.faults ≡ 0
+
+-- .. and the number and the line that tell how it ended
+pub record RanOver (knots : ℕ) (script image image_now replies : List ℕ) (line number : ℕ) : Type 0 where
+  pub status : Status
+  pub number_is : number_of status ≡ number
+  pub line_is : line_of status ≡ line
+  pub ran : RanImage knots script image image_now replies status

@@ -1,0 +1,70 @@
+// The jobs of the program, with an example each.
+use std::fmt::{self, Display};
+
+/// A job of the program.
+#[derive(Clone, Copy, Drop)]
+struct JobForm {
+    /// The words that name it, behind `flashts`.
+    form: &'static str,
+    /// What it does.
+    does: &'static str,
+    /// A line of a shell that calls it.
+    example: &'static str,
+}
+
+/// The jobs, in the order in which they are told: one more is an entry more here, and one of the usage's forms.
+const JOBS: [JobForm; 7] = [
+    JobForm {
+        form: "run IMAGE",
+        does: "runs the script on standard input, and makes an image that is missing",
+        example: "flashts run sensor.img < first.script",
+    },
+    JobForm {
+        form: "check IMAGE [all]",
+        does: "tells whether each table is sound, up to the first that isn't, or of all",
+        example: "flashts check sensor.img",
+    },
+    JobForm {
+        form: "map IMAGE [svg]",
+        does: "shows each page by a letter, or as a picture for a browser",
+        example: "flashts map sensor.img svg > sensor.svg",
+    },
+    JobForm {
+        form: "export IMAGE NAME [LOW HIGH]",
+        does: "writes the rows of a table as CSV, all or those whose keys are in the range",
+        example: "flashts export sensor.img env > env.csv",
+    },
+    JobForm {
+        form: "import IMAGE NAME [gone]",
+        does: "puts the rows of the CSV on standard input into a table, with gone also those whose blobs are gone",
+        example: "flashts import sensor.img env < env.csv",
+    },
+    JobForm {
+        form: "salvage IMAGE NAME",
+        does: "writes the rows of a table that a damaged image still holds, as CSV",
+        example: "flashts salvage sensor.img env > env.csv",
+    },
+    JobForm {
+        form: "help",
+        does: "tells this",
+        example: "flashts help",
+    },
+];
+
+/// The jobs in words.
+#[derive(Drop)]
+pub struct Help;
+
+impl Display for Help {
+    fn fmt<W: fmt::Write>(&self, f: &mut fmt::Formatter<W>) -> fmt::Result {
+        for job in &JOBS {
+            let JobForm {
+                form,
+                does,
+                example,
+            } = job;
+            write!(f, "flashts {form}\n    {does}\n    $ {example}\n")?;
+        }
+        Ok(())
+    }
+}

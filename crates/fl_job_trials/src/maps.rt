@@ -1,0 +1,179 @@
+// Maps of images made by hand: the states of pages, what rings tell, and a page that breaks a rule.
+use crate::checks::{Piece, SEAL, image};
+use fl_base::{MemSink, NoMemory};
+use fl_flash::MemMedia;
+use fl_jobs::{Drawing, ToolStatus};
+use fl_map::map_image;
+use std::alloc::Global;
+use std::test::Fail;
+
+// Pages of 64 bytes, two a block, and rings of three blocks: data pages 0 to 5, and index pages 6 to 11.
+const PLAIN: &str = "device 64 2\ntable t 8 i32 3 0 0 8 0 10 1 0\n";
+
+const INDEXED: &str = "device 64 2\ntable t 8 i32 3 3 0 64 0 10 1 0\n";
+
+const LEGEND: &str =
+    "each letter a page: . blank  # committed  v void  x torn  ! breaks a rule; > before the head\n";
+
+// A picture of one committed page.
+const PICTURE: &str =
+    "<svg xmlns='http://www.w3.org/2000/svg' version='1.1' width='1000' height='96' font-family='sans-serif' font-size='12'>\n\
+<style type='text/css'>.b{fill:#fff;stroke:#bbb}.c{fill:#4a7fb5}.v{fill:#bbb}.t{fill:#e8a33d}.f{fill:#d62728}.h{stroke:#000}</style>\n\
+<rect width='100%' height='100%' fill='#fff'/>\n\
+<rect x='24' y='16' width='10' height='10' class='b'/><text x='40' y='25'>blank</text>\n\
+<rect x='104' y='16' width='10' height='10' class='c'/><text x='120' y='25'>committed</text>\n\
+<rect x='214' y='16' width='10' height='10' class='v'/><text x='230' y='25'>void</text>\n\
+<rect x='284' y='16' width='10' height='10' class='t'/><text x='300' y='25'>torn</text>\n\
+<rect x='354' y='16' width='10' height='10' class='f'/><text x='370' y='25'>breaks a rule</text>\n\
+<rect x='474' y='16' width='10' height='10' class='b h'/><text x='490' y='25'>in the head</text>\n\
+<text x='24' y='60'>t data first 0 last 0 rows 1 waiting 0</text>\n\
+<rect x='24' y='68' width='10' height='10' class='c h'><title>page 0 committed</title></rect>\n\
+<rect x='36' y='68' width='10' height='10' class='b h'><title>page 1 blank</title></rect>\n\
+<rect x='54' y='68' width='10' height='10' class='b'><title>page 2 blank</title></rect>\n\
+<rect x='66' y='68' width='10' height='10' class='b'><title>page 3 blank</title></rect>\n\
+<rect x='84' y='68' width='10' height='10' class='b'><title>page 4 blank</title></rect>\n\
+<rect x='96' y='68' width='10' height='10' class='b'><title>page 5 blank</title></rect>\n\
+</svg>\n";
+
+// Data page 0 with one row: the value 0 with key 1. The number stands at 0, the count of rows at 4.
+const ROW: [u8; 28] = [
+    0, 0, 0, 0, 1, 0, 0, 0, 1, 0, 0, 0, 0, 0, 0, 0, 1, 0, 0, 0, 0, 0, 0, 0, 0, 0, 0, 0,
+];
+
+// What a map writes, and its status.
+fn map(
+    alloc: Global,
+    drawing: Drawing,
+    bytes: Vec<u8>,
+    failing: Vec<u64>,
+) -> Result<(MemSink, ToolStatus), NoMemory> {
+    let len = bytes.len();
+    let mut media = MemMedia::new(alloc, bytes, len)?;
+    let mut out = MemSink::new(alloc, 8192, failing)?;
+    let status = map_image(alloc, drawing, &mut media, &mut out);
+    Ok((out, status))
+}
+
+// These lines and that of the letters.
+fn with_legend(alloc: Global, lines: &str) -> Result<Vec<u8>, NoMemory> {
+    let mut text = Vec::new(alloc);
+    text.extend_from_slice(lines.as_bytes())?;
+    text.extend_from_slice(LEGEND.as_bytes())?;
+    Ok(text)
+}
+
+#[test]
+fn letters(rt: HostRuntime) -> Result<(), Fail> {
+    let alloc = rt.alloc();
+    let cases: [(&[Piece<'_>], &str); 7] = [
+        (
+            &[],
+            "t data first none last none rows 0 waiting 0\n>.. .. ..\n",
+        ),
+        (
+            &[(0, &ROW), (56, &SEAL)],
+            "t data first 0 last 0 rows 1 waiting 0\n>#. .. ..\n",
+        ),
+        // The page was begun, or given up.
+        (
+            &[(0, &ROW)],
+            "t data first none last none rows 0 waiting 0\n>x. .. ..\n",
+        ),
+        (
+            &[(60, &SEAL)],
+            "t data first none last none rows 0 waiting 0\n>v. .. ..\n",
+        ),
+        // The block ahead waits for its erase.
+        (
+            &[(60, &SEAL), (124, &SEAL), (188, &SEAL), (256, &[0])],
+            "t data first none last none rows 0 waiting 1\n vv>v. x.\n",
+        ),
+        // A page tells more rows than it has room for.
+        (
+            &[(0, &ROW), (4, &[4]), (56, &SEAL)],
+            "t data first 0 last 0 rows 0 waiting 0\n>!. .. ..\nfault: t data page 0 rule 4\n",
+        ),
+        // Each block is full, so none is the head.
+        (
+            &[(124, &SEAL), (252, &SEAL), (380, &SEAL)],
+            "t data first none last none rows 0 waiting 0\n !v .v .v\nfault: t data page 0 rule 1\n",
+        ),
+    ];
+    for (pieces, wanted) in cases {
+        let bytes = image(alloc, PLAIN, 384, pieces)?;
+        let (out, status) = map(alloc, Drawing::Text, bytes, Vec::new(alloc))?;
+        assert_eq!(rt; status, ToolStatus::Done);
+        let text = with_legend(alloc, wanted)?;
+        assert_eq!(rt; out.bytes(), &text[..]);
+    }
+    Ok(())
+}
+
+#[test]
+fn rings_of_a_table(rt: HostRuntime) -> Result<(), Fail> {
+    let alloc = rt.alloc();
+    let bytes = image(alloc, INDEXED, 768, &[(0, &ROW), (56, &SEAL)])?;
+    let (out, status) = map(alloc, Drawing::Text, bytes, Vec::new(alloc))?;
+    assert_eq!(rt; status, ToolStatus::Done);
+    let wanted =
+        "t data first 0 last 0 rows 1 waiting 0\n>#. .. ..\nt index first none last none waiting 0\n>.. .. ..\n";
+    let text = with_legend(alloc, wanted)?;
+    assert_eq!(rt; out.bytes(), &text[..]);
+    Ok(())
+}
+
+#[test]
+fn squares(rt: HostRuntime) -> Result<(), Fail> {
+    let alloc = rt.alloc();
+    let bytes = image(alloc, PLAIN, 384, &[(0, &ROW), (56, &SEAL)])?;
+    let (out, status) = map(alloc, Drawing::Svg, bytes, Vec::new(alloc))?;
+    assert_eq!(rt; status, ToolStatus::Done);
+    assert_eq!(rt; out.bytes(), PICTURE.as_bytes());
+    Ok(())
+}
+
+// An empty file, noise, and the header of another length.
+#[test]
+fn no_images(rt: HostRuntime) -> Result<(), Fail> {
+    let alloc = rt.alloc();
+    let images = [
+        Vec::new(alloc),
+        vec![in alloc; 0xa5; 4096]?,
+        image(alloc, PLAIN, 383, &[])?,
+    ];
+    for bytes in images {
+        let (out, status) = map(alloc, Drawing::Text, bytes, Vec::new(alloc))?;
+        assert_eq!(rt; status, ToolStatus::NotImage);
+        assert_eq!(rt; out.bytes().len(), 0);
+    }
+    Ok(())
+}
+
+// A medium that fails in any of its calls leaves nothing written.
+#[test]
+fn a_medium_that_fails(rt: HostRuntime) -> Result<(), Fail> {
+    let alloc = rt.alloc();
+    for call in 1..12 {
+        let bytes = image(alloc, PLAIN, 384, &[(0, &ROW), (56, &SEAL)])?;
+        let len = bytes.len();
+        let mut media = MemMedia::new(alloc, bytes, len)?;
+        media.fail_call(call);
+        let mut out = MemSink::new(alloc, 8192, Vec::new(alloc))?;
+        let status = map_image(alloc, Drawing::Text, &mut media, &mut out);
+        assert_eq!(rt; status, ToolStatus::Device);
+        assert_eq!(rt; out.bytes().len(), 0);
+    }
+    Ok(())
+}
+
+// A sink that fails at its second write keeps what stood before it.
+#[test]
+fn a_sink_that_fails(rt: HostRuntime) -> Result<(), Fail> {
+    let alloc = rt.alloc();
+    let bytes = image(alloc, PLAIN, 384, &[])?;
+    let (out, status) = map(alloc, Drawing::Text, bytes, vec![in alloc; 2]?)?;
+    assert_eq!(rt; status, ToolStatus::OutWrite);
+    let wanted = "t data first none last none rows 0 waiting 0\n>.. .. ..\n";
+    assert_eq!(rt; out.bytes(), wanted.as_bytes());
+    Ok(())
+}

@@ -1,0 +1,5 @@
+pub mod Chains
+pub mod Pages
+pub mod Writing
+pub mod Tables
+pub mod Ending

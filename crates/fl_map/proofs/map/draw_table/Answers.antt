@@ -1,0 +1,56 @@
+use Rattle.std.proofs.Common.{◌≡◌, IfSome, Option, refl, subst}
+use Rattle.fl_model.specs.Record.{Plan}
+use Rattle.fl_check.proofs.Looking.{fits_still, told_still}
+use Rattle.fl_jobs.proofs.Telling.{plan-there, config-there, lies-at}
+use Rattle.fl_jobs.proofs.Ringed.{fits}
+use Rattle.fl_map.specs.Canvas.{drawn_of}
+use Rattle.fl_map.proofs.Tables.{table-drawn}
+use Rattle.fl_map.proofs.map.draw_table.Goals as goal
+
+pub check_table-requires : goal.check_table-requires
+check_table-requires g c =
+    let lines = c.args.config.now in
+    let f = g.F.Flash.state c.args.flash.now in
+    let table = c.table-table.ensures in
+    let p = plan-there lines.plans c.args.i c.requires.table in
+    let is = config-there lines.plans c.args.i p.0 c.table-table.result.now p.1 table.plan in
+    record { fits = fits c.table-table.result.now f (lies-at lines f c.args.i p.0 c.table-table.result.now c.requires.over p.1 is table.first table.device table.limits table.passes) }
+
+pub draw_rings-requires-clause-fits : goal.draw_rings-requires-clause-fits
+draw_rings-requires-clause-fits g c =
+    let lines = c.args.config.now in
+    let f = g.F.Flash.state c.args.flash.now in
+    let table = c.table-table.ensures in
+    let p = plan-there lines.plans c.args.i c.requires.table in
+    let is = config-there lines.plans c.args.i p.0 c.table-table.result.now p.1 table.plan in
+    fits_still c.table-table.result.now f (g.F.Flash.state c.check_table.new.flash) c.check_table.ensures.looks
+    (fits c.table-table.result.now f (lies-at lines f c.args.i p.0 c.table-table.result.now c.requires.over p.1 is table.first table.device table.limits table.passes))
+
+pub returns-in-Ok-draw_fault-clause-drawn : goal.returns-in-Ok-draw_fault-clause-drawn
+returns-in-Ok-draw_fault-clause-drawn g c = λ told.
+    let lines = c.args.config.now in
+    let f = g.F.Flash.state c.args.flash.now in
+    let f1 = g.F.Flash.state c.check_table.new.flash in
+    let config = c.table-table.result.now in
+    let table = c.table-table.ensures in
+    let p = plan-there lines.plans c.args.i c.requires.table in
+    let is = config-there lines.plans c.args.i p.0 config p.1 table.plan in
+    let called : c.name-name.result ≡ p.0.name = subst (λ (o : Option Plan). IfSome o (λ plan. c.name-name.result ≡ plan.name)) p.1 c.name-name.ensures in
+    record {
+      finding = c.in-Ok.finding;
+      found = record {
+        plan = p.0;
+        plan_is = p.1;
+        config = config;
+        config_is = is;
+        first = table.first;
+        flash = f;
+        over = c.requires.over;
+        lies = lies-at lines f c.args.i p.0 config c.requires.over p.1 is table.first table.device table.limits table.passes;
+        content = refl;
+        finds = c.in-Ok.ensures.finding told;
+      };
+      drawn = table-drawn c.args.canvas.now.drawing c.args.canvas.now.drawing c.draw_rings.new.canvas.drawing c.name-name.result p.0.name config c.in-Ok.finding f f1
+          (drawn_of c.args.canvas.now) (drawn_of c.draw_rings.new.canvas) (drawn_of c.draw_fault.new.canvas) refl c.draw_rings.ensures.drawing called c.check_table.ensures.looks
+          (c.in-Ok-draw_rings.ensures.drawn (told_still f f1 c.check_table.ensures.looks told)) c.in-Ok-draw_fault.ensures.drawn;
+    }

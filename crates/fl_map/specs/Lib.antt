@@ -1,0 +1,10 @@
+pub mod Reading
+pub mod Pages
+pub mod Words
+pub mod Text
+pub mod Svg
+pub mod Drawn
+pub mod Canvas
+pub mod Finding
+pub mod Table
+pub mod Map

@@ -1,0 +1,15 @@
+//! The map of an image: a letter or a square for each page, ring by ring, with what the rings tell and what a check finds.
+#![tactic(auto)]
+
+mod canvas;
+mod fault;
+mod finding;
+mod map;
+mod note;
+mod picture;
+mod ring;
+mod table;
+mod text;
+mod words;
+
+pub use map::map_image;

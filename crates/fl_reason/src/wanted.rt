@@ -1,0 +1,133 @@
+// What is wanted at a place of a line.
+use crate::form::PUT;
+use crate::word::word_at;
+use fl_base::Name;
+use std::str;
+
+/// What a word has to be.
+#[derive(Clone, Copy, Debug, PartialEq, Eq)]
+pub enum Wanted {
+    /// The name of a table.
+    Name,
+    /// A number from a least to a greatest one.
+    Number { least: u64, greatest: u64 },
+    /// A number of 64 bits that may have a sign.
+    Signed,
+    /// The number of a cursor.
+    Cursor,
+    /// How a column and a value are compared.
+    Comparison,
+    /// How an operation is torn.
+    Cut,
+    /// The numbers of columns.
+    Columns,
+    /// The digits of a blob.
+    Blob,
+}
+
+impl Wanted {
+    /// Whether it is a number: a word that is none is another fault than one of another form.
+    pub(crate) fn is_number(self) -> bool {
+        matches!(self, Wanted::Number { .. } | Wanted::Signed)
+    }
+
+    /// Whether the word is such a one.
+    pub(crate) fn fits(self, word: &[u8]) -> bool {
+        match self {
+            Wanted::Name => Name::of(word).is_some(),
+            Wanted::Number { least, greatest } => match number(word) {
+                Some(value) => least <= value && value <= greatest,
+                None => false,
+            },
+            Wanted::Signed => is_signed(word),
+            Wanted::Cursor => matches!(word, b"0" | b"1" | b"2" | b"3"),
+            Wanted::Comparison => matches!(word, b"lt" | b"le" | b"eq" | b"ne" | b"ge" | b"gt"),
+            Wanted::Cut => matches!(word, b"before" | b"after" | b"half" | b"noise"),
+            Wanted::Columns => are_columns(word),
+            Wanted::Blob => is_blob(word),
+        }
+    }
+}
+
+/// The number that the word is. It has no sign, and `parse` takes a plus.
+fn number(word: &[u8]) -> Option<u64> {
+    if word.starts_with(b"+") {
+        return None;
+    }
+    str::from_utf8(word).ok()?.parse().ok()
+}
+
+fn is_signed(word: &[u8]) -> bool {
+    if word.starts_with(b"+") {
+        return false;
+    }
+    match str::from_utf8(word) {
+        Ok(text) => text.parse::<i64>().is_ok(),
+        Err(_) => false,
+    }
+}
+
+fn are_columns(word: &[u8]) -> bool {
+    let mut count: usize = 0;
+    let parts = word.split(|byte| *byte == b',');
+    for part in parts {
+        count = count.saturating_add(1);
+        if part.len() > 3 || number(part).is_none() {
+            return false;
+        }
+    }
+    count <= 8
+}
+
+fn is_blob(word: &[u8]) -> bool {
+    word == b"-".as_slice()
+        || word.len() % 2 == 0 && word.iter().all(|byte| byte.is_ascii_hexdigit())
+}
+
+/// What is wanted at a place of this name.
+fn wanted_of(place: &[u8]) -> Option<Wanted> {
+    match place {
+        b"" | b"COLUMNS" => None,
+        b"NAME" | b"LEFT" | b"RIGHT" => Some(Wanted::Name),
+        b"CURSOR" => Some(Wanted::Cursor),
+        b"OP" => Some(Wanted::Comparison),
+        b"KIND" => Some(Wanted::Cut),
+        b"LIST" => Some(Wanted::Columns),
+        b"BASE" | b"VALUE" | b"[VLOW" | b"VHIGH]" => Some(Wanted::Signed),
+        b"COUNT" | b"STEP" => Some(Wanted::Number {
+            least: 1,
+            greatest: 1_000_000,
+        }),
+        b"N" | b"W" => Some(Wanted::Number {
+            least: 1,
+            greatest: u64::MAX,
+        }),
+        _ => Some(Wanted::Number {
+            least: 0,
+            greatest: u64::MAX,
+        }),
+    }
+}
+
+/// What is wanted of the word of this number, counted from 1, of a line of this form. `is_behind_blob` says whether the word
+/// before is `blob`, which ends the values of a put.
+pub(crate) fn wanted_at(
+    form: &str,
+    number: usize,
+    word: &[u8],
+    is_behind_blob: bool,
+) -> Option<Wanted> {
+    if number < 2 {
+        return None;
+    }
+    if form != PUT || number < 4 {
+        return wanted_of(word_at(form.as_bytes(), number));
+    }
+    if is_behind_blob {
+        return Some(Wanted::Blob);
+    }
+    if word == b"blob".as_slice() {
+        return None;
+    }
+    Some(Wanted::Signed)
+}
