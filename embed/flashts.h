@@ -28,7 +28,7 @@ enum {
     FLASHTS_CONFIGURATION = 6, /* the line *line of the configuration is refused; at 0 the configuration is incomplete */
     FLASHTS_OTHER = 7,         /* the image has another configuration */
     FLASHTS_LONG = 8,          /* the script has more than 16,777,216 bytes; its whole lines before had their replies */
-    FLASHTS_MEMORY = 9,        /* no memory, and no command was run */
+    FLASHTS_MEMORY = 9,        /* no memory, and no command was run; a new image may have been made, blank */
     FLASHTS_TOO_SMALL = 32,    /* a buffer has no room for what the run left; nothing was changed */
     FLASHTS_BAD_LENGTH = 33    /* *image_len is more than image_room; nothing was changed */
 };

@@ -1,8 +1,9 @@
 -- What a call did, by what its caller sees.
-use Rattle.std.specs.Prelude.{◌≡◌, ℕ, List, Some, []}
+use Rattle.std.specs.Prelude.{◌≡◌, ◌⊎◌, ℕ, ◌<◌, List, Some, [], length}
 use Rattle.fl_session.specs.Ends.{Ends, Told}
 use Rattle.fl_session.specs.Number.{number_of}
 use Rattle.fl_session.specs.declared.status.Status.{Status}
+use Rattle.fl_session.specs.declared.status.Status.TheVariants.{Usage, ScriptRead}
 use Rattle.fl_c.specs.Ending.{line_of}
 
 -- The promise of a run, at the bytes that a caller sees: the image before and after it, and all replies.
@@ -14,6 +15,9 @@ pub record RanImage (knots : ℕ) (script image image_now replies : List ℕ) (s
   pub unsaid : told.written ≡ Some []
   pub said : told.written_now ≡ Some replies
   pub calm : told.faults ≡ 0
+  -- the words are those of a run, and a script in memory can be read
+  pub words : status ≡ Usage → ⊥
+  pub read : status ≡ ScriptRead → ⊥
 
 -- .. and the number and the line that tell how it ended
 pub record RanOver (knots : ℕ) (script image image_now replies : List ℕ) (line number : ℕ) : Type 0 where
@@ -21,3 +25,11 @@ pub record RanOver (knots : ℕ) (script image image_now replies : List ℕ) (li
   pub number_is : number_of status ≡ number
   pub line_is : line_of status ≡ line
   pub ran : RanImage knots script image image_now replies status
+
+-- A run was made whose image or whose replies have no room in buffers of these lengths.
+pub record IsTooLong (knots : ℕ) (script image : List ℕ) (image_room replies_room : ℕ) : Type 0 where
+  pub image_now : List ℕ
+  pub replies : List ℕ
+  pub status : Status
+  pub ran : RanImage knots script image image_now replies status
+  pub long : (image_room < length image_now) ⊎ (replies_room < length replies)

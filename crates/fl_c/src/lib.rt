@@ -11,10 +11,10 @@ mod script;
 #[cfg(test)]
 mod tests;
 
-ghost use Rattle.std.specs.Prelude.{◌≡◌, ◌≤◌, ◌<◌, ◌⊎◌, length, take};
+ghost use Rattle.std.specs.Prelude.{◌≡◌, ◌≤◌, ◌<◌, ◌⊎◌, ◌↔◌, length, take};
 ghost use Rattle.fl_session.specs.Number.{number_of};
-ghost use Rattle.fl_c.specs.Ending.{bad_length, IsOwn, line_of};
-ghost use Rattle.fl_c.specs.Ran.{RanOver};
+ghost use Rattle.fl_c.specs.Ending.{bad_length, too_small, IsOwn, line_of};
+ghost use Rattle.fl_c.specs.Ran.{IsTooLong, RanOver};
 
 use crate::ending::{Refusal, give, line_of};
 use crate::ran::run_copy;
@@ -36,7 +36,8 @@ pub extern "C" fn flashts_run(
     // The image and the replies are those that a run of the script leaves, and number and line tell how it ended.
     ensures ran { IsOwn result ⊎ RanOver KNOTS script.now (take image_len.old image.old) (take image_len.new image.new) (take replies_len.new replies.new) line.new result }
     // The library's own numbers, with their cause, leave everything as it was.
-    ensures lengths { result ≡ bad_length → length image.old < image_len.old }
+    ensures lengths { (result ≡ bad_length) ↔ (length image.old < image_len.old) }
+    ensures small { result ≡ too_small → IsTooLong KNOTS script.now (take image_len.old image.old) (length image.old) (length replies.old) }
     ensures kept { IsOwn result → (image.new ≡ image.old) × (image_len.new ≡ image_len.old) × (replies.new ≡ replies.old) × (replies_len.new ≡ replies_len.old) × (line.new ≡ line.old) }
     ensures fits { IsOwn result ⊎ ((image_len.new ≤ length image.new) × (replies_len.new ≤ length replies.new)) }
 {

@@ -1,5 +1,6 @@
 // A run over the image of a caller.
-ghost use Rattle.std.specs.Prelude.{◌≡◌, IfOk};
+ghost use Rattle.std.specs.Prelude.{◌≡◌, IfOk, None, map, string_bytes};
+ghost use Rattle.fl_session.specs.Words.{image_named};
 ghost use Rattle.fl_c.specs.Ran.{RanImage};
 
 use crate::script::Script;
@@ -25,7 +26,9 @@ fn copy_of(alloc: Global, bytes: &[u8]) -> Result<Vec<u8>, NoMemory>
 }
 
 // The words of a command line that runs a script.
-fn words(alloc: Global) -> Result<Vec<String>, NoMemory> {
+fn words(alloc: Global) -> Result<Vec<String>, NoMemory>
+    ensures { IfOk result (λ words. image_named (map (λ word. string_bytes word) words.items) ≡ None → ⊥) }
+{
     let mut words = Vec::new(alloc);
     words.push(String::from_str(alloc, "run")?)?;
     words.push(String::from_str(alloc, "image")?)?;

@@ -17,5 +17,7 @@ returns-in_default-run_copy-clause-ran c =
         unsaid = refl;
         said = ap (λ (n : ℕ). Some (take n c.args.replies.now)) (sym c.none_ran.ensures.replies);
         calm = refl;
+        words = λ usage. cc;
+        read = λ failed. cc;
       };
     })

@@ -1,4 +1,5 @@
-use Rattle.std.proofs.Common.{◌≡◌, refl, Some, ℕ, List, ap, ◌∙◌}
+use Rattle.std.proofs.Common.{◌≡◌, refl, sym, Some, ℕ, List, String, Global, map, string_bytes, ap, ◌∙◌, arith}
+use Rattle.fl_session.specs.Words.{image_named}
 use Rattle.fl_base.specs.Memory.{SinkState}
 use Rattle.fl_flash.specs.MemState.{MemState, media_state}
 use Rattle.fl_session.specs.Ends.{told_of}
@@ -14,4 +15,6 @@ returns c =
       unsaid = ap (λ (s : SinkState). Some s.written) c.in_ok-out.ensures;
       said = refl;
       calm = ap (λ (m : MemState). m.faults) c.in_ok-media.ensures;
+      words = λ usage. c.in_ok-words.ensures (ap (λ (ws : List (String Global)). image_named (map (λ word. string_bytes word) ws)) (sym c.deref.ensures.value) ∙ c.run-status.ensures.usage.0 usage);
+      read = λ failed. absurd (omega (arith, c.run-status.ensures.read failed));
     }
