@@ -8,7 +8,7 @@ ends "the same image again" 0 '' ''
 flashts help
 told=$(printf '%s' "$(cat err)$(grep -v '^flashts \|^    ' out)")
 [ $status = 0 ] || told="status $status"
-for words in 'run IMAGE' 'check IMAGE [all]' 'map IMAGE [svg]' 'export IMAGE NAME [LOW HIGH]' 'import IMAGE NAME [gone]' 'salvage IMAGE NAME' 'help'; do
+for words in 'run IMAGE' 'plan [SECONDS]' 'check IMAGE [all]' 'map IMAGE [svg]' 'export IMAGE NAME [LOW HIGH]' 'import IMAGE NAME [gone]' 'salvage IMAGE NAME' 'help'; do
     grep -qxF "flashts $words" out || told="no $words"
 done
 tell "the help has each job" "$told"
@@ -16,7 +16,7 @@ call help > /dev/full 2> err
 status=$?
 : > out
 ends "a help that can't be written" 4 '' $'flashts: the replies cannot be written\n'
-for words in '' 'help me' 'run' 'run a b' 'check' 'export image t 0' 'export image t 0 -1' 'import image' 'erase image' 'import image T'; do
+for words in '' 'help me' 'run' 'run a b' 'check' 'export image t 0' 'export image t 0 -1' 'import image' 'erase image' 'import image T' 'plan often' 'plan 0' 'plan +10' 'plan 1000001' 'plan 10 20'; do
     cp image before
     # shellcheck disable=SC2086
     flashts $words < script

@@ -1,11 +1,11 @@
 -- Pages of variable data, by their bytes.
-use Rattle.std.proofs.Common.{◌≡◌, ℕ, ◌+◌, ◌-◌, ◌<◌, ◌≤◌, true, List, ◌++◌, length, take, drop, slice_range, refl, sym, ap, ◌∙◌, arith}
-use Rattle.std.proofs.Math.Seq.{take-add}
+use Rattle.std.proofs.Common.{◌≡◌, ℕ, ◌+◌, ◌-◌, ◌<◌, ◌≤◌, true, List, ◌++◌, length, take, drop, replicate, slice_range, refl, sym, ap, ◌∙◌, arith, length-append, append_assoc}
+use Rattle.std.proofs.Math.Seq.{take-add, drop-append_seam}
 use Rattle.std.proofs.lemmas.List.{drop-drop, take-take, drop-take}
 use Rattle.fl_mark.specs.Mark.{all_are}
-use Rattle.fl_model.specs.Image.{HoldsContent}
+use Rattle.fl_model.specs.Facts.{IsContent}
+use Rattle.fl_model.specs.Layout.{ContentPage, content_body, committed}
 use Rattle.fl_model.specs.Record.{Plan}
-use Rattle.fl_model.specs.Ring.{Ring, oldest}
 use Rattle.fl_model.specs.Row.{le, number_of}
 use Rattle.fl_page.specs.Header.{page_number, page_count}
 use Rattle.fl_schema.proofs.Numbers.{number_of-le}
@@ -38,12 +38,26 @@ module _ (page : List ℕ) (number : ℕ) (is : IsContentPage number page) where
   pub content_zero : all_are 0 (slice_range page 6 8) ≡ true
   content_zero = is_zero page 6 2 8 refl (sym (drop-take 6 2 page) ∙ ap (λ (l : List ℕ). drop 6 l) is.head)
 
-module _ (page : List ℕ) (number : ℕ) (plan : Plan) (ring : Ring) (i count : ℕ) (size : plan.geometry.page ≡ length page) (at : oldest ring + i ≡ number) (is : HoldsContent plan ring i count page) where
-  abbrev pub content_of_page : IsContentPage number page
+module _ (page : List ℕ) (number : ℕ) (plan : Plan) (content : ContentPage) (is : IsContent plan content) (bytes : page ≡ committed (content_body number content)) where
+  parts : page ≡ content_body number content ++ (replicate 4 0 ++ replicate 4 255)
+  parts = bytes ∙ append_assoc (content_body number content) (replicate 4 0) (replicate 4 255)
+
+  length-page : length page ≡ length (content_body number content) + 8
+  length-page = ap (λ (l : List ℕ). length l) parts ∙ length-append (content_body number content) (replicate 4 0 ++ replicate 4 255)
+
+  length-body : length (content_body number content) ≡ 8 + length content.bytes
+  length-body = length-append (le 4 number ++ le 2 content.used ++ le 2 0) content.bytes
+
+  pub content_of_page : IsContentPage number page
   content_of_page = record {
-    used = is.used;
+    used = content.used;
     some = is.some;
-    most = rw (sym size) is.most;
-    head = rw (sym at) is.head;
-    marks = is.marks;
+    most = omega (arith, is.most, is.length, length-page, length-body);
+    head = ap (λ (l : List ℕ). take 8 l) bytes;
+    marks =
+        ap (λ (k : ℕ). drop k page) (let e : length page - 8 ≡ length (content_body number content) = omega (arith, length-page) in e)
+        ∙ ap (λ (l : List ℕ). drop (length (content_body number content)) l) parts ∙ drop-append_seam (content_body number content) (replicate 4 0 ++ replicate 4 255);
   }
+
+  pub content_used : length page < 65536 → page_count page ≡ content.used
+  content_used short = ap page_count bytes ∙ number_of-le 2 content.used (omega (arith, is.most, is.length, length-page, length-body, short))

@@ -1,22 +1,26 @@
 -- The pages that a table keeps.
-use Rattle.std.proofs.Common.{◌≡◌, ℕ, zero, suc, ◌+◌, ◌-◌, ◌^◌, ◌<◌, ◌≤◌, ◌⊎◌, inl, inr, Bool, true, ◌&&◌, ◌||◌, ◌==◌, cond, nat_lt, Option, Some, None, IfSome, option_map, unwrap_or, slice_get, List, [], ◌∷◌, length, map, take, drop, refl, sym, subst, ap, ◌∙◌, arith, length-drop}
+use Rattle.std.proofs.Common.{◌≡◌, ℕ, zero, suc, ◌+◌, ◌-◌, ◌<◌, ◌≤◌, ◌⊎◌, inl, inr, Bool, true, ◌&&◌, ◌||◌, ◌==◌, cond, nat_lt, Option, Some, None, IfSome, option_map, unwrap_or, slice_get, List, [], ◌∷◌, length, map, take, drop, refl, sym, subst, ap, ◌∙◌, arith, length-drop}
 use Rattle.std.specs.List.{last_or, sum, AllByRecursion}
 use Rattle.std.proofs.lemmas.Bool.{eq-eqb, lt-ltb, cases_lt}
 use Rattle.std.proofs.lemmas.List.{length-take-le}
+use Rattle.std.proofs.lemmas.Option.{slice_get-map}
 use Rattle.std.proofs.lemmas.List.Sums.{sum_by-cons}
-use Rattle.fl_model.specs.Facts.{IsTable, FitsPlan, BlobFits, is_some_ring}
-use Rattle.fl_model.specs.Image.{HoldsRows, HoldsBitmaps, rows_at}
+use Rattle.fl_model.specs.Agrees.{reach_of}
+use Rattle.fl_model.specs.Facts.{IsTable, IsContent, FitsPlan, BlobFits, is_some_ring}
+use Rattle.fl_model.specs.Image.{HoldsRows, HoldsEntries as HoldsListing, HoldsContent, rows_at}
+use Rattle.fl_model.specs.Index.{IndexPage}
 use Rattle.fl_model.specs.Mount.{index_end}
 use Rattle.fl_model.specs.Query.{is_above}
 use Rattle.fl_model.specs.Record.{Plan, row_layout, has_var, entries_per_page}
 use Rattle.fl_model.specs.Ring.{Ring, IsRing, oldest}
 use Rattle.fl_model.specs.Row.{Row, IsStorable, stored_row}
-use Rattle.fl_model.specs.Table.{Table, Entry, DataRing, VarRing, shape_of, written, full_pages}
+use Rattle.fl_model.specs.Table.{Table, Entry, DataRing, VarRing, shape_of, written, firsts, full_pages}
 use Rattle.fl_model.proofs.Lists.{slice_get-some, slice_get-short, slice_get-take, slice_get-drop, slice_get-front, each-drop, each-take, each-at, last_or-get}
 use Rattle.fl_page.specs.Steps.{Ascends}
+use Rattle.fl_check.specs.ContentPage.{IsContentPage}
 use Rattle.fl_check.specs.DataPage.{HoldsEntries, is_plain, are_plain}
 use Rattle.fl_check.specs.IndexPage.{IsIndexPage}
-use Rattle.fl_check.specs.KeptPages.{IsWithin, KeptPagesAreGood}
+use Rattle.fl_check.specs.KeptPages.{KeptPagesAreGood}
 use Rattle.fl_check.proofs.ContentPages.{content_of_page}
 
 -- ---- one entry
@@ -25,10 +29,10 @@ abbrev row_of_blob : Entry → Option (List ℕ) → Row
 row_of_blob entry o = record { key = entry.kept.key; values = entry.kept.values; blob = option_map (λ bytes. record { page = entry.page; offset = entry.offset; length = length bytes }) o }
 
 module _ (plan : Plan) (entry : Entry) (fits : FitsPlan plan entry) where
-  row-storable : IsWithin plan → ((blob : List ℕ) → entry.kept.blob ≡ Some blob → 0 < length blob → entry.page < 2 ^ 32) → IsStorable (row_layout plan) (stored_row entry)
-  row-storable within numbered = by_blob entry.kept.blob refl fits.blob
+  row-storable : ((blob : List ℕ) → entry.kept.blob ≡ Some blob → 0 < length blob → entry.page < 4294967295) → IsStorable (row_layout plan) (stored_row entry)
+  row-storable numbered = by_blob entry.kept.blob refl fits.blob
     where
-      by_length : (xs : List ℕ) → entry.kept.blob ≡ Some xs → (length xs ≡ 0 → (entry.page ≡ 0) × (entry.offset ≡ 0)) → entry.page < 2 ^ 32
+      by_length : (xs : List ℕ) → entry.kept.blob ≡ Some xs → (length xs ≡ 0 → (entry.page ≡ 0) × (entry.offset ≡ 0)) → entry.page < 4294967295
       by_length [] e none = omega (arith, (none refl).0)
       by_length (x ∷ xs) e none = numbered (x ∷ xs) e (omega arith)
 
@@ -37,11 +41,11 @@ module _ (plan : Plan) (entry : Entry) (fits : FitsPlan plan entry) where
           subst (λ (o : Option (List ℕ)). IsStorable (row_layout plan) (row_of_blob entry o)) (sym e)
           (record { fits = record { key = fits.key; as_many = fits.as_many; values = fits.values; blob = tt }; bytes = tt })
       by_blob (Some bytes) e b =
-          let page : entry.page < 2 ^ 32 = by_length bytes e b.3 in
+          let page : entry.page < 4294967295 = by_length bytes e b.3 in
           subst (λ (o : Option (List ℕ)). IsStorable (row_layout plan) (row_of_blob entry o)) (sym e)
           (record {
-            fits = record { key = fits.key; as_many = fits.as_many; values = fits.values; blob = (b.0, λ at offset len. omega (arith, len, b.1, within.blob)) };
-            bytes = (page, omega (arith, b.2, within.page), omega (arith, b.1, within.blob));
+            fits = record { key = fits.key; as_many = fits.as_many; values = fits.values; blob = (b.0, λ at offset len. omega (arith, at, page)) };
+            bytes = (omega (arith, page), b.2, b.1);
           })
 
   row-plain : is_plain (stored_row entry).blob ≡ true
@@ -59,12 +63,12 @@ module _ (plan : Plan) (entry : Entry) (fits : FitsPlan plan entry) where
 
 -- the blobs of these entries begin on pages whose numbers fit
 abbrev AreNumbered : List Entry → Type 0
-AreNumbered entries = (i : ℕ) (entry : Entry) (blob : List ℕ) → slice_get entries i ≡ Some entry → entry.kept.blob ≡ Some blob → 0 < length blob → entry.page < 2 ^ 32
+AreNumbered entries = (i : ℕ) (entry : Entry) (blob : List ℕ) → slice_get entries i ≡ Some entry → entry.kept.blob ≡ Some blob → 0 < length blob → entry.page < 4294967295
 
-rows-storable : (plan : Plan) (entries : List Entry) → IsWithin plan → AreNumbered entries → AllByRecursion (FitsPlan plan) entries → AllByRecursion (IsStorable (row_layout plan)) (map stored_row entries)
-rows-storable plan [] within numbered fit = tt
-rows-storable plan (entry ∷ entries) within numbered fit =
-    (row-storable plan entry fit.0 within (λ blob is some. numbered 0 entry blob refl is some), rows-storable plan entries within (λ i. numbered (suc i)) fit.1)
+rows-storable : (plan : Plan) (entries : List Entry) → AreNumbered entries → AllByRecursion (FitsPlan plan) entries → AllByRecursion (IsStorable (row_layout plan)) (map stored_row entries)
+rows-storable plan [] numbered fit = tt
+rows-storable plan (entry ∷ entries) numbered fit =
+    (row-storable plan entry fit.0 (λ blob is some. numbered 0 entry blob refl is some), rows-storable plan entries (λ i. numbered (suc i)) fit.1)
 
 rows-plain : (plan : Plan) (entries : List Entry) → AllByRecursion (FitsPlan plan) entries → are_plain (map stored_row entries) ≡ true
 rows-plain plan [] fit = refl
@@ -81,12 +85,10 @@ module _ (plan : Plan) (table : Table) (facts : IsTable plan table) where
       fit = subst (BlobFits plan entry) is (each-at (FitsPlan plan) table.entries i entry facts.fit (slice_get-front (length table.entries - table.pending) table.entries i entry e)).blob
 
       by_ring : (o : Option Ring) → is_some_ring o ≡ has_var plan → IfSome o (IsRing (shape_of plan VarRing)) → IfSome o (λ ring. ring.next + (cond ring.torn 1 0) ≤ 4294967292)
-          → IfSome o (λ ring. (entry.page < oldest ring) ⊎ ((oldest ring ≤ entry.page) × (slice_get ring.counts (entry.page - oldest ring) ≡ Some 1))) → entry.page < 2 ^ 32
+          → IfSome o (λ ring. (entry.page < oldest ring) ⊎ ((oldest ring ≤ entry.page) × (slice_get ring.counts (entry.page - oldest ring) ≡ Some 1) × (entry.page + reach_of plan entry blob < ring.next))) → entry.page < 4294967295
       by_ring None has ring small at = absurd (cc (has ∙ fit.0))
       by_ring (Some ring) has is_ring small (inl before) = omega (arith, before, small)
-      by_ring (Some ring) has is_ring small (inr within) =
-          let short = slice_get-short ring.counts (entry.page - oldest ring) 1 within.1 in
-          omega (arith, short, within.0, small)
+      by_ring (Some ring) has is_ring small (inr within) = omega (arith, within.2, small)
 
 -- the pages before a page, and it, have no more records than all
 sum-within : (counts : List ℕ) (i count : ℕ) → slice_get counts i ≡ Some count → sum (take i counts) + count ≤ sum counts
@@ -120,12 +122,12 @@ module _ (plan : Plan) (table : Table) (facts : IsTable plan table) (i count : �
   rows-fit : AllByRecursion (FitsPlan plan) (rows_at table i count)
   rows-fit = each-take (FitsPlan plan) count (drop start table.entries) (each-drop (FitsPlan plan) start table.entries facts.fit)
 
-  rows-good : (page : List ℕ) → IsWithin plan → 0 < count → HoldsRows plan table i count page → HoldsEntries plan (oldest table.rows + i) page
-  rows-good page within some is = record {
+  rows-good : (page : List ℕ) → 0 < count → HoldsRows plan table i count page → HoldsEntries plan (oldest table.rows + i) page
+  rows-good page some is = record {
     entries = rows_at table i count;
     some = omega (arith, some, row-count);
     few = rw row-count (each-at _ table.rows.counts i count facts.few_rows at);
-    storable = rows-storable plan (rows_at table i count) within rows-numbered rows-fit;
+    storable = rows-storable plan (rows_at table i count) rows-numbered rows-fit;
     plain = rows-plain plan (rows_at table i count) rows-fit;
     bytes = is;
   }
@@ -165,21 +167,29 @@ first-below room first k (x ∷ xs) at ascending =
     same-some : {a b : ℕ} → Some a ≡ Some b → a ≡ b
     same-some e = cc
 
-bitmaps-good : (plan : Plan) (table : Table) (ring : Ring) (i count : ℕ) (page : List ℕ) → IsTable plan table → HoldsBitmaps plan table ring i count page → IsIndexPage plan (oldest ring + i) page
-bitmaps-good plan table ring i count page facts is =
-    let low : is.first ≤ index_end plan table = first-below (entries_per_page plan) is.first (full_pages (take i ring.counts)) table.firsts is.listed facts.firsts in
+index-good : (plan : Plan) (table : Table) (ring : Ring) (i count : ℕ) (page : List ℕ) → IsTable plan table → HoldsListing plan table ring i count page → IsIndexPage plan (oldest ring + i) page
+index-good plan table ring i count page facts is =
+    let k = full_pages (take i ring.counts) in
+    let first : slice_get (firsts table) (full_pages (take i ring.counts)) ≡ Some is.holds.first = slice_get-map (λ (p : IndexPage). p.first) table.index_pages k ∙ ap (λ (o : Option IndexPage). option_map (λ (p : IndexPage). p.first) o) is.is in
+    let low : is.holds.first ≤ index_end plan table = first-below (entries_per_page plan) is.holds.first k (firsts table) first facts.firsts in
     record {
-      first = is.first;
-      bitmaps = is.bitmaps;
+      first = is.holds.first;
+      entries = is.holds.entries;
       small = omega (arith, low, facts.listed, facts.numbers DataRing);
-      full = is.length;
+      full = each-at _ table.index_pages k is.holds facts.index_fit is.is;
       bytes = is.bytes;
     }
 
+-- ---- pages of variable data
+
+content-good : (plan : Plan) (table : Table) (ring : Ring) (i count : ℕ) (page : List ℕ) → IsTable plan table → HoldsContent table ring i count page → IsContentPage (oldest ring + i) page
+content-good plan table ring i count page facts is =
+    content_of_page page (oldest ring + i) plan is.holds (each-at (IsContent plan) table.var_pages (full_pages (take i ring.counts)) is.holds facts.var_fit is.is) is.bytes
+
 pub good : KeptPagesAreGood
 good = record {
-  rows = λ plan table i count page within facts at some is. rows-good plan table facts i count at page within some is;
+  rows = λ plan table i count page facts at some is. rows-good plan table facts i count at page some is;
   keys = λ plan table facts. entries-ascend None table.entries (λ entry is. refl) facts.ascending;
-  bitmaps = bitmaps-good;
-  content = λ plan ring i count page size is. content_of_page page (oldest ring + i) plan ring i count (sym size) refl is;
+  index = index-good;
+  content = content-good;
 }

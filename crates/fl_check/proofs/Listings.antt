@@ -1,11 +1,11 @@
 -- The kept index pages so far: what they list, and the end of the newest one.
 use Rattle.std.proofs.Common.{◌≡◌, ℕ, List, ◌+◌, ◌-◌, ◌<◌, ◌≤◌, inl, inr, sym, ap, subst, arith}
 use Rattle.std.proofs.lemmas.Bool.{cases_eq}
-use Rattle.fl_index.specs.Page.{page_first, entry_at}
+use Rattle.fl_index.specs.Page.{page_first}
 use Rattle.fl_ring.specs.Newest.{page_back}
 use Rattle.fl_ring.specs.Ring.{Shape}
 use Rattle.fl_check.specs.Claims.{AllBelow, FailsFirst}
-use Rattle.fl_check.specs.Entries.{entries_in, HasBitmap, IsEntry, Lists, first_listed, IsListing, AreSeen, HasEntries, HaveEntries}
+use Rattle.fl_check.specs.Entries.{entries_in, entry_at, HasBitmap, IsEntry, Lists, first_listed, IsListing, AreSeen, HasEntries, HaveEntries}
 use Rattle.fl_check.specs.Marks.{kept_page}
 use Rattle.fl_check.specs.declared.entries.Indexing.{Indexing}
 use Rattle.fl_check.specs.declared.entries.Seen.{Seen}

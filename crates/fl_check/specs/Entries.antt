@@ -1,7 +1,8 @@
 -- The rule on the entries of index pages: they are the bitmaps of their data pages, no two pages list the same one, and
 -- the newest lists none that isn't written yet.
-use Rattle.std.specs.Prelude.{◌≡◌, ℕ, ◌+◌, ◌-◌, ◌/◌, ◌<◌, ◌≤◌, true, List, take, drop}
-use Rattle.fl_index.specs.Page.{page_first, entry_at}
+use Rattle.std.specs.Prelude.{◌≡◌, ℕ, ◌+◌, ◌-◌, ◌/◌, ◌<◌, ◌≤◌, true, false, List, take, drop}
+use Rattle.fl_index.specs.Page.{page_first, bitmap_at}
+use Rattle.fl_index.specs.declared.page.EntryForm.{EntryForm}
 use Rattle.fl_mark.specs.Mark.{state_of_page}
 use Rattle.fl_model.specs.Row.{number_of}
 use Rattle.fl_ring.specs.Newest.{commits}
@@ -16,6 +17,13 @@ use Rattle.fl_check.specs.declared.numbering.Numbering.{Numbering}
 -- how many entries of this width an index page has room for
 abbrev pub entries_in : ℕ → ℕ → ℕ
 entries_in size width = (size - 24) / width
+
+-- entries that are bitmaps of this width, and the j-th of them
+abbrev pub bitmaps : ℕ → EntryForm
+bitmaps width = record { width = width; full = false }
+
+abbrev pub entry_at : ℕ → List ℕ → ℕ → ℕ
+entry_at width listing j = bitmap_at (bitmaps width) listing j
 
 -- the bitmap in the header of a data page
 abbrev pub header_bitmap : List ℕ → ℕ

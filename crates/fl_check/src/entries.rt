@@ -14,7 +14,7 @@ use crate::marks::Marks;
 use crate::numbering::Numbering;
 use fl_base::get_u64;
 use fl_flash::{Flash, FlashFault, PageBuf};
-use fl_index::{entry_in, first_in};
+use fl_index::{EntryForm, bitmap_in, first_in};
 use fl_ring::{Ring, is_committed, look};
 
 /// An index over data pages: the bytes of its entries, the kept pages of its ring, and those of the data ring with the
@@ -27,7 +27,7 @@ pub struct Indexing {
 }
 
 /// The bitmap in the header of a data page.
-fn bitmap_in(page: &[u8]) -> u64
+fn header_bitmap(page: &[u8]) -> u64
     requires { 16 ≤ length page.now }
     ensures { result ≡ header_bitmap page.now }
 {
@@ -56,7 +56,7 @@ fn has_bitmap<F: Flash>(
 {
     let page = rows.page_back(m.at, back);
     let state = look(flash, page, buf)?;
-    Ok(!is_committed(state) || bitmap == bitmap_in(buf.bytes()))
+    Ok(!is_committed(state) || bitmap == header_bitmap(buf.bytes()))
 }
 
 /// How many pages before the next one the kept data page with a number stands, where there is one.
@@ -108,7 +108,11 @@ fn is_entry<F: Flash>(
     match found {
         None => Ok(true),
         Some(back) => {
-            let bitmap = entry_in(listing, l.width as usize, j as usize);
+            let form = EntryForm {
+                width: l.width as usize,
+                full: false,
+            };
+            let bitmap = bitmap_in(listing, form, j as usize);
             has_bitmap(rows, flash, l.rows.marks, back, bitmap, buf)
         }
     }

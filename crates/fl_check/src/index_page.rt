@@ -1,6 +1,6 @@
-// A committed index page: its number in four bytes, the first data page that it lists in four, the count of its bitmaps
-// in two, which is the count of all that it has room for, six zeros, and the bitmaps.
-ghost use Rattle.std.specs.Prelude.{◌≡◌, ◌-◌, ◌*◌, ◌/◌, ◌↔◌, ◌≤◌, ◌<◌, IsTrue, ℕ, length};
+// A committed index page whose entries are bitmaps: its number in four bytes, the first data page that it lists in four,
+// the count of its bitmaps in two, which is the count of all that it has room for, six zeros, and the bitmaps.
+ghost use Rattle.std.specs.Prelude.{◌≡◌, ◌-◌, ◌*◌, ◌/◌, ◌↔◌, ◌≤◌, ◌<◌, false, IsTrue, ℕ, length};
 ghost use Rattle.fl_model.specs.Record.{Plan};
 ghost use Rattle.fl_bitmap.specs.Widths.{is_bits};
 ghost use Rattle.fl_check.specs.IndexPage.{IsIndexPage};
@@ -14,7 +14,7 @@ pub fn index_page_is_good(page: &[u8], bits: u32, number: u32) -> bool
     requires bits { IsTrue (is_bits bits) }
     requires least { 24 ≤ length page.now }
     requires most { length page.now < 65536 }
-    ensures { (plan : Plan) → plan.bits ≡ bits → plan.geometry.page ≡ length page.now → IsTrue result ↔ IsIndexPage plan number page.now }
+    ensures { (plan : Plan) → plan.bits ≡ bits → plan.full_index ≡ false → plan.geometry.page ≡ length page.now → IsTrue result ↔ IsIndexPage plan number page.now }
 {
     let width = (bits / 8) as usize;
     let room = (page.len() - 24) / width;

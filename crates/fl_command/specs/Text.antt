@@ -1,7 +1,7 @@
 -- The text that standard error has of an exit.
 use Rattle.std.specs.Prelude.{ℕ, ◌==◌, Option, Some, None, List, [], ◌++◌, codes, decimal, if◌then◌else◌}
 use Rattle.fl_command.specs.declared.exit.Exit.{Exit}
-use Rattle.fl_command.specs.declared.exit.Exit.TheVariants.{Run, Job, Salvage, Words, Help, InUse}
+use Rattle.fl_command.specs.declared.exit.Exit.TheVariants.{Run, Plan, Job, Salvage, Words, Help, InUse}
 use Rattle.fl_jobs.specs.Number.{number_of}
 use Rattle.fl_csv.specs.declared.record.LineForm.{LineForm}
 use Rattle.fl_jobs.specs.declared.job_end.JobEnd.{JobEnd}
@@ -12,6 +12,8 @@ use Rattle.fl_jobs.specs.declared.status.ToolStatus.{ToolStatus}
 use Rattle.fl_jobs.specs.declared.status.ToolStatus.TheVariants as job
 use Rattle.fl_session.specs.declared.status.Status.{Status}
 use Rattle.fl_session.specs.declared.status.Status.TheVariants.{Done, Usage, Line, ScriptRead, OutWrite, MediaMake, Config, OtherConfig, ScriptLong, NoMemory}
+use Rattle.fl_sizing.specs.declared.end.PlanStatus.{PlanStatus}
+use Rattle.fl_sizing.specs.declared.end.PlanStatus.TheVariants as plan
 
 -- a line of the program
 abbrev pub line_of : List ℕ → List ℕ
@@ -31,6 +33,16 @@ run_text (Config n) =
 run_text (OtherConfig wanted found at) = line_of (codes "the image has another configuration\n")
 run_text ScriptLong = line_of (codes "the script is longer than 16777216 bytes\n")
 run_text NoMemory = line_of (codes "no memory\n")
+
+-- of a plan: the words of the same statuses of a run
+abbrev pub plan_text : PlanStatus → List ℕ
+plan_text plan.Done = []
+plan_text (plan.Line n) = run_text (Line n)
+plan_text (plan.Config n) = run_text (Config n)
+plan_text plan.InputRead = run_text ScriptRead
+plan_text plan.OutWrite = run_text OutWrite
+plan_text plan.InputLong = line_of (codes "the text is longer than 65536 bytes: the first lines of a script are enough\n")
+plan_text plan.NoMemory = run_text NoMemory
 
 -- how many rows the table of an import holds
 abbrev pub kept_text : Option ℕ → List ℕ
@@ -97,11 +109,12 @@ form_of words = codes "                flashts " ++ words
 
 abbrev pub forms_text : List ℕ
 forms_text =
-    run_text Usage ++ form_of (codes "check IMAGE [all]\n") ++ form_of (codes "map IMAGE [svg]\n") ++ form_of (codes "export IMAGE NAME [LOW HIGH]\n")
+    run_text Usage ++ form_of (codes "plan [SECONDS]\n") ++ form_of (codes "check IMAGE [all]\n") ++ form_of (codes "map IMAGE [svg]\n") ++ form_of (codes "export IMAGE NAME [LOW HIGH]\n")
     ++ form_of (codes "import IMAGE NAME [gone]\n") ++ form_of (codes "salvage IMAGE NAME\n") ++ form_of (codes "help\n")
 
 abbrev pub exit_text : Exit → List ℕ
 exit_text (Run status) = run_text status
+exit_text (Plan status) = plan_text status
 exit_text (Job end) = job_text end
 exit_text (Salvage end) = salvage_text end
 exit_text Words = forms_text

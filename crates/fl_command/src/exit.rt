@@ -2,11 +2,12 @@
 ghost use Rattle.std.specs.Prelude.{◌≡◌, OnOk, OnErr};
 ghost use Rattle.fl_command.specs.Number.{number_of, unwritten};
 
-use crate::lines::{Forms, JobLines, RunLines, SalvageLines};
+use crate::lines::{Forms, JobLines, PlanLines, RunLines, SalvageLines};
 use fl_base::SinkFailed;
 use fl_jobs::{JobEnd, ToolStatus};
 use fl_salvage::SalvageEnd;
 use fl_session::Status;
+use fl_sizing::PlanStatus;
 use std::fmt::{self, Display};
 
 /// How the program ends: its status is the number, and standard error has the text.
@@ -14,6 +15,8 @@ use std::fmt::{self, Display};
 pub enum Exit {
     /// A run of a script ended so, or its words don't name an image.
     Run(Status),
+    /// The plan of a configuration ended so.
+    Plan(PlanStatus),
     /// A job over an image ended so.
     Job(JobEnd),
     /// The salvage of a table ended so.
@@ -33,6 +36,7 @@ impl Exit {
     {
         match self {
             Exit::Run(status) => status.number(),
+            Exit::Plan(status) => status.number(),
             Exit::Job(end) => end.status.number(),
             Exit::Salvage(end) => end.status.number(),
             Exit::Words => 1,
@@ -49,6 +53,7 @@ impl Exit {
         match (handed, self) {
             (Ok(()), exit) => exit,
             (Err(_), Exit::Run(_)) => Exit::Run(Status::OutWrite),
+            (Err(_), Exit::Plan(_)) => Exit::Plan(PlanStatus::OutWrite),
             (Err(_), Exit::Job(end)) => Exit::Job(JobEnd {
                 status: ToolStatus::OutWrite,
                 kept: None,
@@ -74,6 +79,7 @@ impl Display for Exit {
     fn fmt<W: fmt::Write>(&self, f: &mut fmt::Formatter<W>) -> fmt::Result {
         match self {
             Exit::Run(status) => RunLines(*status).fmt(f),
+            Exit::Plan(status) => PlanLines(*status).fmt(f),
             Exit::Job(end) => JobLines(*end).fmt(f),
             Exit::Salvage(end) => SalvageLines(*end).fmt(f),
             Exit::Words => Forms.fmt(f),

@@ -13,11 +13,16 @@ struct JobForm {
 }
 
 /// The jobs, in the order in which they are told: one more is an entry more here, and one of the usage's forms.
-const JOBS: [JobForm; 7] = [
+const JOBS: [JobForm; 8] = [
     JobForm {
         form: "run IMAGE",
         does: "runs the script on standard input, and makes an image that is missing",
         example: "flashts run sensor.img < first.script",
+    },
+    JobForm {
+        form: "plan [SECONDS]",
+        does: "tells what the tables of the configuration on standard input keep and take, with the seconds between two rows also for how many days",
+        example: "flashts plan 10 < first.script",
     },
     JobForm {
         form: "check IMAGE [all]",

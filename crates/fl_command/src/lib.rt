@@ -7,10 +7,12 @@ mod exit;
 mod help;
 mod jobs;
 mod lines;
+mod planning;
 mod reason;
 
 pub use ending::Ending;
 pub use exit::Exit;
 pub use help::Help;
 pub use jobs::tool;
+pub use planning::plan;
 pub use reason::reason_of;

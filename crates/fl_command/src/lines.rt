@@ -3,6 +3,7 @@ use fl_csv::LineForm;
 use fl_jobs::{JobEnd, LinesTaken, ToolStatus};
 use fl_salvage::{PassedOver, SalvageEnd};
 use fl_session::Status;
+use fl_sizing::PlanStatus;
 use std::fmt::{self, Display};
 
 /// The lines of a run that ended so; none where the script was read to its end.
@@ -36,6 +37,31 @@ impl Display for RunLines {
                 f.write_str("flashts: the script is longer than 16777216 bytes\n")
             }
             Status::NoMemory => f.write_str("flashts: no memory\n"),
+        }
+    }
+}
+
+/// The lines of a plan that ended so: the words of the same statuses of a run.
+#[derive(Drop)]
+pub(crate) struct PlanLines(pub(crate) PlanStatus);
+
+impl Display for PlanLines {
+    ghost use Rattle.std.specs.Prelude.{Some};
+    ghost use Rattle.fl_command.specs.Text.{plan_text};
+
+    ghost output = { λ lines. Some (plan_text lines.0) };
+
+    fn fmt<W: fmt::Write>(&self, f: &mut fmt::Formatter<W>) -> fmt::Result {
+        match self.0 {
+            PlanStatus::Done => Ok(()),
+            PlanStatus::Line { line } => RunLines(Status::Line { line }).fmt(f),
+            PlanStatus::Config { line } => RunLines(Status::Config { line }).fmt(f),
+            PlanStatus::InputRead => RunLines(Status::ScriptRead).fmt(f),
+            PlanStatus::OutWrite => RunLines(Status::OutWrite).fmt(f),
+            PlanStatus::InputLong => f.write_str(
+                "flashts: the text is longer than 65536 bytes: the first lines of a script are enough\n",
+            ),
+            PlanStatus::NoMemory => RunLines(Status::NoMemory).fmt(f),
         }
     }
 }
@@ -286,7 +312,9 @@ impl Display for Forms {
 
     fn fmt<W: fmt::Write>(&self, f: &mut fmt::Formatter<W>) -> fmt::Result {
         RunLines(Status::Usage).fmt(f)?;
-        f.write_str("                flashts check IMAGE [all]\n")?;
+        f.write_str(
+            "                flashts plan [SECONDS]\n                flashts check IMAGE [all]\n",
+        )?;
         f.write_str("                flashts map IMAGE [svg]\n")?;
         f.write_str(
             "                flashts export IMAGE NAME [LOW HIGH]\n                flashts import IMAGE NAME [gone]\n",

@@ -73,7 +73,7 @@ stands-moved t f h = record {
   bitmaps = stand-moved t.bitmaps h.flash f (h.first + h.plan.data_blocks) h.plan h.table
       (fun_ext (λ n. ap (λ (c : Contents). page_of c.bytes c.start c.geometry.page n) h.same)) h.stands.bitmaps;
   blobs = blobbing.stand-moved t.blobs h.flash f h.first h.plan h.table h.table
-      (λ number. ap (λ (c : Contents). page_of c.bytes c.start c.geometry.page (place_in h.first h.plan VarRing number)) (sym h.same)) refl refl refl refl h.stands.blobs;
+      (λ number. ap (λ (c : Contents). page_of c.bytes c.start c.geometry.page (place_in h.first h.plan VarRing number)) (sym h.same)) refl refl refl (λ i entry e. (i, e)) h.stands.blobs;
   points = h.stands.points;
 }
 

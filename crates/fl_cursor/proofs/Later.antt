@@ -19,7 +19,7 @@ use Rattle.fl_model.specs.Record.{entries_per_page}
 use Rattle.fl_model.specs.Ring as rings
 use Rattle.fl_model.specs.Row.{Row, stored_row}
 use Rattle.fl_model.specs.Spline.{pages_from, pages_of, page_at}
-use Rattle.fl_model.specs.Table.{Entry}
+use Rattle.fl_model.specs.Table.{Entry, firsts}
 use Rattle.fl_model.proofs.Lists.{slice_get-short}
 use Rattle.fl_page.specs.Contents.{Contents}
 use Rattle.fl_page.specs.Steps.{Ascends}
@@ -301,12 +301,12 @@ module _ {KNOTS SLOTS : ℕ} (t : Table KNOTS SLOTS) (contents : Contents) (h : 
         let l = later-is first e in
         later-above first l.0 l.1 (below l.0 l.1.row l.1.kept l.1.within l.1.is_first l.1.up))
 
-    pub none-counted : ((n : ℕ) (row : Row) → oldest_in t ≤ n → n < next_in t → slice_get (rows_on t contents n) 0 ≡ Some row → is_up_to (begin range span h.table).top row.key ≡ true → row.key ≤ range.low) → count_by lists_later h.table.firsts ≡ 0
-    none-counted below = count-false lists_later h.table.firsts (none-later below)
+    pub none-counted : ((n : ℕ) (row : Row) → oldest_in t ≤ n → n < next_in t → slice_get (rows_on t contents n) 0 ≡ Some row → is_up_to (begin range span h.table).top row.key ≡ true → row.key ≤ range.low) → count_by lists_later (firsts h.table) ≡ 0
+    none-counted below = count-false lists_later (firsts h.table) (none-later below)
 
     -- the index pages that list one are due
     pub due-later : (index : Index) (buf : BufferState) → t.bitmaps ≡ Some index → buf.holds ≡ None →
-        count_by lists_later h.table.firsts
+        count_by lists_later (firsts h.table)
         ≤ due index (pages_looked_up t contents (begin range span h.table).top (start_of t contents range.low + 1) (next_in t - (start_of t contents range.low + 1))) (next_to_read index buf)
     due-later index buf is empty =
         let numbers = pages_looked_up t contents (begin range span h.table).top (start_of t contents range.low + 1) (next_in t - (start_of t contents range.low + 1)) in

@@ -14,7 +14,7 @@ use Rattle.fl_model.specs.Ring as rings
 use Rattle.fl_model.specs.Ring.{Ring}
 use Rattle.fl_model.specs.Row.{Row, stored_row}
 use Rattle.fl_model.specs.Spline.{pages_from, pages_of}
-use Rattle.fl_model.specs.Table.{Entry, full_pages}
+use Rattle.fl_model.specs.Table.{Entry, full_pages, firsts}
 use Rattle.fl_model.proofs.Lists.{slice_get-some}
 use Rattle.fl_page.specs.Contents.{Contents}
 use Rattle.fl_page.specs.Steps.{Ascends}
@@ -38,6 +38,7 @@ use Rattle.fl_cursor.proofs.Looked.{due-both}
 use Rattle.fl_flash.specs.Buffer.{BufferState}
 use Rattle.fl_index.specs.declared.index.Index.{Index}
 use Rattle.fl_index.specs.Looking.{due, next_to_read}
+use Rattle.fl_index.proofs.Lists.{firsts-length}
 use Rattle.fl_table.specs.Bitmaps.{ArePlanned}
 use Rattle.fl_table.specs.Skipping.{due_of}
 use Rattle.fl_cursor.proofs.Passing.{each-weaker}
@@ -206,8 +207,8 @@ module _ {KNOTS SLOTS : ℕ} (t : Table KNOTS SLOTS) (contents : Contents) (h : 
         omega (arith, le, left, right)
 
   -- without an index no index page is listed
-  no-firsts : has_index h.plan ≡ false → h.table.firsts ≡ []
-  no-firsts none = length-none h.table.firsts (h.stands.facts.first_each ∙ by_index h.table.index (h.stands.facts.has_rings.0 ∙ none))
+  no-firsts : has_index h.plan ≡ false → firsts h.table ≡ []
+  no-firsts none = length-none (firsts h.table) (firsts-length h.table.index_pages ∙ (h.stands.facts.index_each ∙ by_index h.table.index (h.stands.facts.has_rings.0 ∙ none)))
     where
       by_index : (index : Option Ring) → is_some_ring index ≡ false → full_pages (counts_in index) ≡ 0
       by_index None e = refl
@@ -215,7 +216,7 @@ module _ {KNOTS SLOTS : ℕ} (t : Table KNOTS SLOTS) (contents : Contents) (h : 
 
   -- the index pages of the model
   abbrev pages_listed : KeyRange → Option Span → ℕ
-  pages_listed range span = cond (asks_values span) (count_by (lists_later t contents h range span) h.table.firsts) 0
+  pages_listed range span = cond (asks_values span) (count_by (lists_later t contents h range span) (firsts h.table)) 0
 
   listed-few : (range : KeyRange) (span : Option Span) (index : BufferState) → index.holds ≡ None → pages_listed range span ≤ index_least t contents (begin range span h.table) index (start_of t contents range.low + 1)
   listed-few range None index empty = omega arith
@@ -230,11 +231,11 @@ module _ {KNOTS SLOTS : ℕ} (t : Table KNOTS SLOTS) (contents : Contents) (h : 
       by_index None is =
           let plain = subst (λ (o : Option Index). ArePlanned o (h.first + h.plan.data_blocks) h.plan) is h.stands.planned.index in
           let none = no-firsts (ap (λ n. nat_lt 0 n) plain) in
-          let nothing = by_values (asks_values (Some span)) (count_by (lists_later t contents h range (Some span)) h.table.firsts) (ap (λ (xs : List ℕ). count_by (lists_later t contents h range (Some span)) xs) none) in
+          let nothing = by_values (asks_values (Some span)) (count_by (lists_later t contents h range (Some span)) (firsts h.table)) (ap (λ (xs : List ℕ). count_by (lists_later t contents h range (Some span)) xs) none) in
           omega (arith, nothing)
       by_index (Some b) is =
           subst (λ (o : Option Index). pages_listed range (Some span) ≤ due_of (Some span) o (pages_looked_up t contents (begin range (Some span) h.table).top (start_of t contents range.low + 1) (next_in t - (start_of t contents range.low + 1))) index) (sym is)
-          (due-both (asks_values (Some span)) (count_by (lists_later t contents h range (Some span)) h.table.firsts) (due b (pages_looked_up t contents (begin range (Some span) h.table).top (start_of t contents range.low + 1) (next_in t - (start_of t contents range.low + 1))) (next_to_read b index))
+          (due-both (asks_values (Some span)) (count_by (lists_later t contents h range (Some span)) (firsts h.table)) (due b (pages_looked_up t contents (begin range (Some span) h.table).top (start_of t contents range.low + 1) (next_in t - (start_of t contents range.low + 1))) (next_to_read b index))
           (due-later t contents h range (Some span) b index is empty))
 
   none-listed : (range : KeyRange) (span : Option Span) →

@@ -3,10 +3,11 @@ use Rattle.std.proofs.Common.{◌≡◌, ℕ, zero, suc, ◌+◌, ◌-◌, ◌<�
 use Rattle.std.specs.List.{count_by}
 use Rattle.std.proofs.lemmas.Bool.{cases_lt, le-leb, eq-eqb}
 use Rattle.std.proofs.lemmas.List.Sums.{sum_by-cons}
+use Rattle.fl_base.specs.declared.types.KeyRange.{KeyRange}
 use Rattle.fl_base.specs.declared.types.Span.{Span}
 use Rattle.fl_find.specs.Index.{most_reads}
 use Rattle.fl_find.specs.Pages.{first_key}
-use Rattle.fl_model.specs.Limits.{is_wanted, numbers_from, numbers_of, first_page, last_page, in_pages, is_spanned, scan_limit}
+use Rattle.fl_model.specs.Limits.{is_wanted, numbers_from, numbers_of, first_page, last_page, in_pages, is_spanned, page_behind, past, scan_limit, is_indexed}
 use Rattle.fl_model.specs.Query.{Cursor}
 use Rattle.fl_model.specs.Record.{has_index}
 use Rattle.fl_model.specs.Ring.{Ring}
@@ -146,7 +147,7 @@ module _ {KNOTS SLOTS : ℕ} (t : Table KNOTS SLOTS) (contents : Contents) (h : 
   -- the limit of a key that isn't pending
   abbrev beyond : Cursor → ℕ
   beyond asked =
-      lookup_limit KNOTS h.plan h.table (lowest_of asked) + 2 + voids_of h.table
+      lookup_limit KNOTS h.plan h.table (lowest_of asked) + 1 + past h.plan h.table asked.range asked.span + voids_of h.table
       + (cond (has_index h.plan && is_spanned asked.span) (unwrap_or (option_map (λ (ring : Ring). full_pages ring.counts) h.table.index) 0) 0)
       + count_by (counted asked.span asked.range.high (first_page h.table (lowest_of asked))) (numbers_of h.table)
 
@@ -169,6 +170,10 @@ module _ {KNOTS SLOTS : ℕ} (t : Table KNOTS SLOTS) (contents : Contents) (h : 
           ap (λ x. cond (x && true) (unwrap_or (option_map (λ (ring : Ring). full_pages ring.counts) h.table.index) 0) 0) (some_index b h.flash (h.first + h.plan.data_blocks) h.plan h.table stands)
           ∙ ap (λ (o : Option Ring). unwrap_or (option_map (λ (ring : Ring). full_pages ring.counts) o) 0) stands.in_ring.facts.ring_is in
           omega (arith, same, few, has)
+
+  -- without full entries the page behind the range is read
+  one-past : (range : KeyRange) (span : Option Span) → past h.plan h.table range span ≡ 1
+  one-past range span = ap (λ b. cond {A = ℕ} (b && is_spanned span && unwrap_or (option_map (is_indexed h.plan h.table) (page_behind h.table range.high)) true) 0 1) h.stands.planned.full
 
   start-limit : (asked : Cursor) (index : BufferState) (page : List ℕ) → index.holds ≡ None → IsBounded asked.top asked.range.high → begins_by (lowest_of asked) (buffered_rows t) ≡ false →
       most_from t contents asked index page Start ≤ scan_limit KNOTS h.plan h.table asked.range asked.span (lowest_of asked)
@@ -196,7 +201,7 @@ module _ {KNOTS SLOTS : ℕ} (t : Table KNOTS SLOTS) (contents : Contents) (h : 
       let all : k + m ≡ length h.table.rows.counts = omega (arith, from, up_to, oldest, next, h.stands.facts.rows.not_negative) in
       let at_start : count_by p (numbers_from (oldest_in t + k) m) ≡ count_by p (numbers_from start m) = ap (λ a. count_by p (numbers_from a m)) at in
       let whole : count_by p (numbers_from (oldest_in t) (k + m)) ≡ count_by p (numbers_of h.table) = ap (λ n. count_by p (numbers_from (oldest_in t) n)) all ∙ ap (λ a. count_by p (numbers_from a (length h.table.rows.counts))) oldest in
-      let most : most_from t contents asked index page Start ≤ beyond asked = omega (arith, finds, few, part, at_start, whole, few-unread asked.span start index empty) in
+      let most : most_from t contents asked index page Start ≤ beyond asked = omega (arith, finds, few, part, at_start, whole, few-unread asked.span start index empty, one-past asked.range asked.span) in
       subst (λ (b : Bool). most_from t contents asked index page Start ≤ cond b 0 (beyond asked)) (sym pending) most
 
   pub begun-limit : (asked : Cursor) (index : BufferState) (page : List ℕ) (place : Place) → index.holds ≡ None → IsBounded asked.top asked.range.high → IsBegun asked t place →

@@ -1,9 +1,9 @@
 -- A step as the step of rows.
-use Rattle.std.proofs.Common.{◌≡◌, ℕ, true, false, Bool, [], filter, Result, Ok, Err, OnErr, IfOk, IfErr, refl, ◌∙◌, ap, inl, inr, Option, Some, None, ◌+◌, subst}
+use Rattle.std.proofs.Common.{◌≡◌, ℕ, ◌+◌, ◌-◌, ◌^◌, ◌<◌, ◌≤◌, true, false, Bool, [], filter, Result, Ok, Err, OnOk, OnErr, IfOk, IfErr, refl, ◌∙◌, ap, arith, inl, inr, Option, Some, None, subst}
 use Rattle.std.specs.Bool.{OnFalse}
 use Rattle.std.specs.Borrow.{Bor}
 use Rattle.fl_page.specs.Contents.{Contents}
-use Rattle.fl_page.specs.Steps.{Steps}
+use Rattle.fl_page.specs.Steps.{Steps, left_after}
 use Rattle.fl_page.specs.declared.fault.BadPage.{BadPage as BadPageOf}
 use Rattle.fl_page.specs.declared.fault.ReadFault.{ReadFault}
 use Rattle.fl_page.specs.declared.fault.ReadFault.TheVariants.{Flash, BadPage}
@@ -20,7 +20,7 @@ use Rattle.fl_cursor.specs.Asked.{asked_by, is_left}
 use Rattle.fl_cursor.specs.Cursor.{table_of, asked_of, buffer_of, index_page, present_of, left_of, is_end, has_ended, rows_behind, IsStanding, IsTold, AreBadIn, IfBad, MayBeBad}
 use Rattle.fl_cursor.specs.Going.{Goes, Fails}
 use Rattle.fl_cursor.specs.Listed.{rows_of}
-use Rattle.fl_cursor.specs.Reads.{least_of, least_from}
+use Rattle.fl_cursor.specs.Reads.{most_of, least_of, least_from}
 use Rattle.fl_cursor.specs.declared.bookmark.Bookmark.{Bookmark}
 use Rattle.fl_cursor.specs.declared.cursor.Cursor.{Cursor}
 use Rattle.fl_cursor.specs.declared.place.Place.{Place}
@@ -74,6 +74,16 @@ module _ {KNOTS SLOTS : ℕ} (old new : Cursor KNOTS SLOTS) (contents : Contents
         | inl is ↦ absurd (is.not_good (standing-good (table_of old) contents told.standing page.wanted is.from is.before is.committed))
         | inr is ↦ absurd (none-bad (table_of old) contents told.standing page (table_of old).bitmaps refl is)
       ]
+
+  pub most-after : (result : Result Bool ReadFault) → IfOk result (λ more. Goes more contents reads old reads_now new) → OnErr result (Fails contents reads old reads_now new) → IsTold old contents →
+      reads_now + left_after result (most_of new contents) ≤ reads + most_of old contents
+  most-after (Ok more) goes fails told = goes.most told
+  most-after (Err fault) goes fails told = let few = fails.most told in omega (arith, few)
+
+  pub least-after : (result : Result Bool ReadFault) → IfOk result (λ more. Goes more contents reads old reads_now new) → IsTold old contents → reads_now < 2 ^ 64 - 1 →
+      OnOk result (reads + least_of old contents ≤ reads_now + least_of new contents)
+  least-after (Ok more) goes told lt = goes.least told lt
+  least-after (Err fault) goes told lt = tt
 
   pub none-left : (result : Result Bool ReadFault) → IfOk result (λ more. OnFalse more (has_ended new ≡ true)) → IfOk result (λ more. OnFalse more (least_of new contents ≡ 0))
   none-left (Ok true) end = tt

@@ -1,5 +1,5 @@
 -- The pages that bitmaps let a cursor skip, in memory and in the words of the model.
-use Rattle.std.proofs.Common.{◌≡◌, ℕ, zero, suc, ◌+◌, ◌-◌, ◌^◌, ◌<◌, ◌≤◌, Bool, true, false, not, ◌&&◌, ◌||◌, cond, ◌==◌, nat_le, nat_lt, Option, Some, None, option_map, unwrap_or, List, [], ◌∷◌, filter, fold, map, take, drop, bit_and, bit_or, refl, sym, ◌∙◌, ap, subst, arith}
+use Rattle.std.proofs.Common.{◌≡◌, ℕ, zero, suc, ◌+◌, ◌-◌, ◌^◌, ◌<◌, ◌≤◌, Bool, true, false, not, ◌&&◌, ◌||◌, cond, ◌==◌, nat_lt, Option, Some, None, option_map, unwrap_or, List, [], ◌∷◌, filter, fold, map, take, drop, bit_and, bit_or, refl, sym, ◌∙◌, ap, subst, arith}
 use Rattle.std.specs.Prelude.{pos, int_le}
 use Rattle.std.specs.List.{slice_get, sum, list_any, AllByRecursion}
 use Rattle.std.proofs.lemmas.Bool.{eq-eqb, eqb-true, false_from_ne_true}
@@ -13,7 +13,7 @@ use Rattle.fl_index.specs.declared.index.Index.{Index}
 use Rattle.fl_index.proofs.Spanned.{indexed-is}
 use Rattle.fl_model.specs.Image.{rows_at}
 use Rattle.fl_model.specs.Layout.{bitmap_of, bucket_of}
-use Rattle.fl_model.specs.Limits.{bits_from, mask_of, is_indexed, is_listed, is_wanted, rows_of_page}
+use Rattle.fl_model.specs.Limits.{bits_from, mask_of, is_indexed, is_listed, is_wanted, rows_of_page, waits}
 use Rattle.fl_model.specs.Query.{Cursor, matches, selected, is_above, is_up_to}
 use Rattle.fl_model.specs.Record.{Plan}
 use Rattle.fl_model.specs.Ring as rings
@@ -26,7 +26,6 @@ use Rattle.fl_table.specs.Look.{oldest_in, rows_noted}
 use Rattle.fl_table.specs.Memory.{next_in, HasBuckets}
 use Rattle.fl_table.specs.Skipping.{wants_page}
 use Rattle.fl_table.specs.declared.table.Table.{Table}
-use Rattle.fl_table.proofs.Looks.{next-is}
 use Rattle.fl_table.proofs.Skips.{mask-meets, index-stands, some-bits}
 use Rattle.fl_cursor.specs.Asked.{is_asked}
 use Rattle.fl_cursor.specs.Cursor.{IsStanding}
@@ -135,20 +134,17 @@ module _ {KNOTS SLOTS : ℕ} (t : Table KNOTS SLOTS) (contents : Contents) (h : 
     pub rows-are : rows_on t contents number ≡ map stored_row entries
     rows-are = sym (ap (rows_on t contents) (back t contents h number from)) ∙ kept-rows t contents h place (rows_noted t number) (at-number t contents h number from before)
 
-    small : number < h.table.rows.next
-    small = omega (arith, before, next-is t h.flash h.first h.plan h.table h.stands)
-
     plain : t.bitmaps ≡ None → is_indexed h.plan h.table number ≡ false
     plain is =
         let none = subst (λ (o : Option Index). ArePlanned o (h.first + h.plan.data_blocks) h.plan) is h.stands.planned.index in
-        ap (λ n. nat_lt 0 n && (nat_le (h.table.rows.next - h.table.waiting) number || is_listed h.plan h.table number)) none
+        ap (λ n. nat_lt 0 n && (waits h.table number || is_listed h.plan h.table number)) none
 
     with_index : (span : Span) (index : Index) → t.bitmaps ≡ Some index → (buckets : Option Buckets) → t.buckets ≡ buckets →
         (is_indexed_in t.bitmaps number && (bit_and (bitmap_in buckets (rows_on t contents number)) (mask_for buckets span) == 0)) ≡ not (wants_page h.plan h.table (Some span) number entries)
     with_index span index is None has = absurd (some-bits t h.flash h.first h.plan h.table h.stands index is (subst (HasBuckets h.plan) has h.stands.planned.buckets))
     with_index span index is (Some buckets) has =
         let same = subst (HasBuckets h.plan) has h.stands.planned.buckets in
-        let indexed = indexed-is index h.flash (h.first + h.plan.data_blocks) h.plan h.table (index-stands t h.flash h.first h.plan h.table h.stands index is) number small in
+        let indexed = indexed-is index h.flash (h.first + h.plan.data_blocks) h.plan h.table (index-stands t h.flash h.first h.plan h.table h.stands index is) number in
         let bits = ap (bitmap_in (Some buckets)) rows-are ∙ sym (bitmap-same h.plan buckets entries same (some-bits t h.flash h.first h.plan h.table h.stands index is)) in
         ap (λ (o : Option Index). is_indexed_in o number && (bit_and (bitmap_in (Some buckets) (rows_on t contents number)) (mask_in buckets span) == 0)) is
         ∙ (ap (λ b. b && (bit_and (bitmap_in (Some buckets) (rows_on t contents number)) (mask_in buckets span) == 0)) (sym indexed)

@@ -39,7 +39,7 @@ abbrev pub mask_for : Option Buckets → Span → ℕ
 mask_for None span = 0
 mask_for (Some buckets) span = mask_in buckets span
 
--- an index page lists a data page, or its bitmap waits
+-- an index page lists a data page, or its entry waits
 abbrev pub is_indexed_in : Option Index → ℕ → Bool
 is_indexed_in None number = false
 is_indexed_in (Some index) number = is_waiting index number || is_some (listing_in index number)

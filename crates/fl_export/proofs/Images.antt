@@ -58,13 +58,13 @@ images-of config content place (plan ∷ plans) (table ∷ tables) n each = (
       subst (λ q. IsTableImage config content q p t) (let m : place + suc i ≡ place + 1 + i = omega arith in m) (each (suc i) p t e k)),
 )
 
-images-many : (config : Config) (content : List ℕ) (place : ℕ) (plans : List Plan) (tables : List Table) → AreTableImages config content place plans tables → length tables ≡ length plans
+pub images-many : (config : Config) (content : List ℕ) (place : ℕ) (plans : List Plan) (tables : List Table) → AreTableImages config content place plans tables → length tables ≡ length plans
 images-many config content place [] [] h = refl
 images-many config content place [] (table ∷ tables) h = absurd h
 images-many config content place (plan ∷ plans) [] h = absurd h
 images-many config content place (plan ∷ plans) (table ∷ tables) h = ap suc (images-many config content (place + 1) plans tables h.1)
 
-images-at : (config : Config) (content : List ℕ) (place : ℕ) (plans : List Plan) (tables : List Table) → AreTableImages config content place plans tables → (i : ℕ) (plan : Plan) (table : Table) → slice_get plans i ≡ Some plan → slice_get tables i ≡ Some table →
+pub images-at : (config : Config) (content : List ℕ) (place : ℕ) (plans : List Plan) (tables : List Table) → AreTableImages config content place plans tables → (i : ℕ) (plan : Plan) (table : Table) → slice_get plans i ≡ Some plan → slice_get tables i ≡ Some table →
     IsTableImage config content (place + i) plan table
 images-at config content place [] tables h i plan table e k = absurd (none e)
   where
@@ -108,8 +108,9 @@ tables-image config entries f tables len head start geometry h = record {
   head = head;
   tables_are = images-of config f.media.content 0 config.plans tables h.all (λ i plan table p r.
       let entry = slice_get-some entries i (omega (arith, slice_get_within config.plans i plan p, h.as_many)) in
+      let own = h.each i plan entry.0 table p entry.1 r in
       subst (λ n. IsTableImage config f.media.content n plan table) (let m : i ≡ 0 + i = omega arith in m)
-      (rests-image config i plan table f start geometry (h.each i plan entry.0 table p entry.1 r).on_flash));
+      (rests-image config i plan table f own.planned.log start geometry own.on_flash));
 }
 
 -- ---- new tables lie on a flash of their configuration

@@ -1,5 +1,5 @@
 -- What a row tells of its blob, and a record's line.
-use Rattle.std.proofs.Common.{◌≡◌, ℕ, ℤ, ◌+◌, Bool, true, false, cond, Option, Some, None, IfSome, List, [], ◌∷◌, length, drop, refl, sym, ◌∙◌, ap, subst, suc}
+use Rattle.std.proofs.Common.{◌≡◌, ℕ, ℤ, ◌+◌, Bool, true, false, cond, Option, Some, None, IfSome, List, [], length, drop, refl, sym, ◌∙◌, ap, subst}
 use Rattle.std.specs.Prelude.{option_map, unwrap_or, if◌then◌else◌}
 use Rattle.std.proofs.lemmas.Bool.{eq-eqb}
 use Rattle.fl_base.specs.declared.types.BlobRef.{BlobRef}
@@ -7,9 +7,9 @@ use Rattle.fl_csv.specs.Text as csv
 use Rattle.fl_csv.specs.Text.{Blob, entry_text}
 use Rattle.fl_flash.specs.Flash.{FlashState}
 use Rattle.fl_model.specs.Query.{BlobState, Without, Lost, Stands as StandsWith, blob_in, blob_of, page_stands}
-use Rattle.fl_model.specs.Record.{Column, Plan, RowLayout, columns_len, has_var}
+use Rattle.fl_model.specs.Record.{Plan, RowLayout, columns_len, has_var}
 use Rattle.fl_model.specs.Ring.{Ring}
-use Rattle.fl_model.specs.Row.{Row, stored_row, reference_in, values_in}
+use Rattle.fl_model.specs.Row.{Row, stored_row, reference_in}
 use Rattle.fl_model.specs.Table as model
 use Rattle.fl_model.specs.Table.{Entry}
 use Rattle.fl_schema.specs.Schema.{row_of, layout_of_row, bytes_of}
@@ -89,9 +89,12 @@ said-is plan table entry row blobs blob row_is noted blob_is =
     ap (λ (r : Row). record { key = r.key; values = r.values; blob = blob }) row_is
     ∙ ap (λ (b : Blob). record { key = entry.kept.key; values = entry.kept.values; blob = b }) (blob_is ∙ field-is plan blobs (blob_of table entry) noted)
 
--- what is told of a blob that a row names
+-- what is told of a blob that a row names, or of none
 pub whole-field : (blobs : Bool) (state : BlobState) (bytes : List ℕ) → blobs ≡ true → state ≡ StandsWith bytes → csv.Bytes bytes ≡ field_of blobs state
 whole-field blobs state bytes has is = sym (ap (λ (b : Bool). field_of b state) has ∙ ap told_blob is)
+
+pub none-field : (blobs : Bool) (state : BlobState) → blobs ≡ true → state ≡ Without → csv.Nothing ≡ field_of blobs state
+none-field blobs state has is = sym (ap (λ (b : Bool). field_of b state) has ∙ ap told_blob is)
 
 pub gone-field : (blobs : Bool) (state : BlobState) → blobs ≡ true → state ≡ Lost → csv.Gone ≡ field_of blobs state
 gone-field blobs state has is = sym (ap (λ (b : Bool). field_of b state) has ∙ ap told_blob is)

@@ -7,9 +7,9 @@ use Rattle.fl_base.specs.declared.types.CutKind.{CutKind}
 use Rattle.fl_flash.specs.Flash.{FlashState}
 use Rattle.fl_ring.specs.Device.{SameDevice}
 use Rattle.fl_ring.specs.Step.{IsWatched}
-use Rattle.fl_model.specs.Mount.{Mounts, GoesOn, MountEnd, Mounted, Stopped, Unread, renumbered_at, repairs_at}
+use Rattle.fl_model.specs.Mount.{Mounts, GoesOn, MountEnd, Mounted, Stopped, Unread, Turn, turned_at, operations_at}
 use Rattle.fl_model.specs.Record.{Plan}
-use Rattle.fl_model.specs.Table.{Table, RingName}
+use Rattle.fl_model.specs.Table.{Table}
 use Rattle.fl_model.specs.Work.{Operation, Device, Progress, Outcome, Finished, CutShort, Failed, Performs, PerformsFirst, counted, done}
 
 -- the medium's faults rose from one flash to another
@@ -54,7 +54,7 @@ goes-calm rose (Failed before) now how others is (inr calm) goes go = absurd (no
     no : Failed before ≡ Finished → ⊥
     no e = cc
 
-pub fails-rose : (plans : List Plan) (rose : Bool) (rings : List (ℕ × RingName)) (device : Device) (tables : List Table) (end : Progress) (how : MountEnd) → device.armed ≡ None → Fails end how → Mounts plans rose rings device tables how → IsTrue rose
+pub fails-rose : (plans : List Plan) (rose : Bool) (turns : List (ℕ × Turn)) (device : Device) (tables : List Table) (end : Progress) (how : MountEnd) → device.armed ≡ None → Fails end how → Mounts plans rose turns device tables how → IsTrue rose
 fails-rose plans rose [] device tables end how unarmed fails did = absurd (by_end fails)
   where
     by_end : Fails end how → ⊥
@@ -66,11 +66,11 @@ fails-rose plans rose [] device tables end how unarmed fails did = absurd (by_en
       where
         no_read : Unread end ≡ Mounted (record { outcome = Finished; device = device; tables = tables }) → ⊥
         no_read e = cc
-fails-rose plans rose (at ∷ rings) device tables end how unarmed fails (inl unread) = unread.1.may_fail
-fails-rose plans rose (at ∷ rings) device tables end how unarmed fails (inr (now, did, goes)) =
-    goes-calm rose now.outcome now how (Mounts plans rose rings now.device now.tables how) refl
-    (performs-calm plans rose (repairs_at plans at (renumbered_at plans at tables)) device (renumbered_at plans at tables) now unarmed did) goes
-    (λ unarmed' others. fails-rose plans rose rings now.device now.tables end how unarmed' fails others)
+fails-rose plans rose (at ∷ turns) device tables end how unarmed fails (inl unread) = unread.1.may_fail
+fails-rose plans rose (at ∷ turns) device tables end how unarmed fails (inr (now, did, goes)) =
+    goes-calm rose now.outcome now how (Mounts plans rose turns now.device now.tables how) refl
+    (performs-calm plans rose (operations_at plans at (turned_at plans at tables)) device (turned_at plans at tables) now unarmed did) goes
+    (λ unarmed' others. fails-rose plans rose turns now.device now.tables end how unarmed' fails others)
 
 -- .. and no operation of it is cut short
 abbrev pub IsSafe : Outcome → Type 0
@@ -101,16 +101,16 @@ goes-safe now end others (inr failed) goes go =
     let same : end ≡ now = cc stopped in
     subst IsSafe (sym (ap (λ (p : Progress). p.outcome) same ∙ failed.1)) tt
 
-pub stopped-safe : (plans : List Plan) (rose : Bool) (rings : List (ℕ × RingName)) (device : Device) (tables : List Table) (end : Progress) → device.armed ≡ None → Mounts plans rose rings device tables (Stopped end) → IsSafe end.outcome
+pub stopped-safe : (plans : List Plan) (rose : Bool) (turns : List (ℕ × Turn)) (device : Device) (tables : List Table) (end : Progress) → device.armed ≡ None → Mounts plans rose turns device tables (Stopped end) → IsSafe end.outcome
 stopped-safe plans rose [] device tables end unarmed did = absurd (no did)
   where
     no : Stopped end ≡ Mounted (record { outcome = Finished; device = device; tables = tables }) → ⊥
     no e = cc
-stopped-safe plans rose (at ∷ rings) device tables end unarmed (inl unread) = absurd (no unread.2)
+stopped-safe plans rose (at ∷ turns) device tables end unarmed (inl unread) = absurd (no unread.2)
   where
     no : Stopped end ≡ Unread unread.0 → ⊥
     no e = cc
-stopped-safe plans rose (at ∷ rings) device tables end unarmed (inr (now, did, goes)) =
-    goes-safe now end (Mounts plans rose rings now.device now.tables (Stopped end))
-    (performs-settled plans rose (repairs_at plans at (renumbered_at plans at tables)) device (renumbered_at plans at tables) now unarmed did) goes
-    (λ unarmed' others. stopped-safe plans rose rings now.device now.tables end unarmed' others)
+stopped-safe plans rose (at ∷ turns) device tables end unarmed (inr (now, did, goes)) =
+    goes-safe now end (Mounts plans rose turns now.device now.tables (Stopped end))
+    (performs-settled plans rose (operations_at plans at (turned_at plans at tables)) device (turned_at plans at tables) now unarmed did) goes
+    (λ unarmed' others. stopped-safe plans rose turns now.device now.tables end unarmed' others)

@@ -5,7 +5,7 @@ use Rattle.fl_flash.specs.Flash.{FlashState}
 use Rattle.fl_flash.specs.declared.flash.FlashFault.{FlashFault}
 use Rattle.fl_flash.specs.declared.flash.FlashFault.TheVariants.{PowerLost, Media}
 use Rattle.fl_jobs.specs.declared.status.ToolStatus.TheVariants.{Device}
-use Rattle.fl_model.specs.Mount.{Mounts, Stopped, Unread, rings_from}
+use Rattle.fl_model.specs.Mount.{Mounts, Stopped, Unread, turns_from}
 use Rattle.fl_model.specs.Record.{Plan}
 use Rattle.fl_model.specs.Table as model
 use Rattle.fl_model.specs.Table.{lose}
@@ -31,16 +31,16 @@ module _ (plans : List Plan) (tables : List model.Table) (name : List ℕ) (f g 
   broken : (fault : FlashFault) → TablesBroken plans tables (has_risen f g) at_rest fault now g → AreUnmounted
   broken fault b = by_how b.did
     where
-      fails : IsTrue (has_risen f g) → (Mounts plans (has_risen f g) (rings_from 0 plans) at_rest tables (Stopped b.end) ⊎ Mounts plans (has_risen f g) (rings_from 0 plans) at_rest tables (Unread b.end)) → AreUnmounted
+      fails : IsTrue (has_risen f g) → (Mounts plans (has_risen f g) (turns_from 0 plans) at_rest tables (Stopped b.end) ⊎ Mounts plans (has_risen f g) (turns_from 0 plans) at_rest tables (Unread b.end)) → AreUnmounted
       fails rose did = (
         risen-rose f g rose,
         record { named = has; rose = has_risen f g; risen = λ r. risen-rose f g r; end = b.end; did = did; holds = off g false plans now b.end.tables b.rest; nothing = appends-none told },
       )
 
-      by_how : (Mounts plans (has_risen f g) (rings_from 0 plans) at_rest tables (Stopped b.end) × FaultIs b.end.outcome fault) ⊎ (Mounts plans (has_risen f g) (rings_from 0 plans) at_rest tables (Unread b.end) × (fault ≡ Media))
+      by_how : (Mounts plans (has_risen f g) (turns_from 0 plans) at_rest tables (Stopped b.end) × FaultIs b.end.outcome fault) ⊎ (Mounts plans (has_risen f g) (turns_from 0 plans) at_rest tables (Unread b.end) × (fault ≡ Media))
           → AreUnmounted
-      by_how (inl x) = fails (fails-rose plans (has_risen f g) (rings_from 0 plans) at_rest tables b.end (Stopped b.end) refl (inl refl) x.0) (inl x.0)
-      by_how (inr x) = fails (fails-rose plans (has_risen f g) (rings_from 0 plans) at_rest tables b.end (Unread b.end) refl (inr refl) x.0) (inr x.0)
+      by_how (inl x) = fails (fails-rose plans (has_risen f g) (turns_from 0 plans) at_rest tables b.end (Stopped b.end) refl (inl refl) x.0) (inl x.0)
+      by_how (inr x) = fails (fails-rose plans (has_risen f g) (turns_from 0 plans) at_rest tables b.end (Unread b.end) refl (inr refl) x.0) (inr x.0)
 
   -- no cut was armed, so that none falls into it
   uncut : TablesBroken plans tables (has_risen f g) at_rest PowerLost now g → ⊥
@@ -51,8 +51,8 @@ module _ (plans : List Plan) (tables : List model.Table) (name : List ℕ) (f g 
       not_lost (CutShort before) is safe = safe
       not_lost (Failed before) is safe = cc is
 
-      by_how : (Mounts plans (has_risen f g) (rings_from 0 plans) at_rest tables (Stopped b.end) × FaultIs b.end.outcome PowerLost) ⊎ (Mounts plans (has_risen f g) (rings_from 0 plans) at_rest tables (Unread b.end) × (PowerLost ≡ Media)) → ⊥
-      by_how (inl x) = not_lost b.end.outcome x.1 (stopped-safe plans (has_risen f g) (rings_from 0 plans) at_rest tables b.end refl x.0)
+      by_how : (Mounts plans (has_risen f g) (turns_from 0 plans) at_rest tables (Stopped b.end) × FaultIs b.end.outcome PowerLost) ⊎ (Mounts plans (has_risen f g) (turns_from 0 plans) at_rest tables (Unread b.end) × (PowerLost ≡ Media)) → ⊥
+      by_how (inl x) = not_lost b.end.outcome x.1 (stopped-safe plans (has_risen f g) (turns_from 0 plans) at_rest tables b.end refl x.0)
       by_how (inr x) = cc x.1
 
   pub unmounted : (bad : MountFault) (at : ℕ) → MountBreaks plans tables (has_risen f g) at_rest bad now g → (mount_status bad at ≡ Device) × AreUnmounted

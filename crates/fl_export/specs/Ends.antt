@@ -10,7 +10,7 @@ use Rattle.fl_jobs.specs.declared.status.ToolStatus.{ToolStatus}
 use Rattle.fl_jobs.specs.declared.status.ToolStatus.TheVariants.{Done, InputRead, OutWrite, InputLong, NoMemory, NotImage, Device, BadImage, NoTable, BadInput, Unsound}
 use Rattle.fl_machine.specs.Step.{Located, located_from, all_ready}
 use Rattle.fl_model.specs.Image.{page_bytes}
-use Rattle.fl_model.specs.Mount.{Mounts, Mounted, Stopped, Unread, rings_from}
+use Rattle.fl_model.specs.Mount.{Mounts, Mounted, Stopped, Unread, turns_from}
 use Rattle.fl_model.specs.Record.{Plan, Config, blocks_of, bytes_equal}
 use Rattle.fl_model.specs.Table.{Table, lose}
 use Rattle.fl_model.specs.Work as work
@@ -79,7 +79,7 @@ pub record MountFails (plans : List Plan) (tables : List Table) (name : List ℕ
   pub rose : Bool
   pub risen : IsTrue rose → Rose told.faults told.faults_now
   pub end : Progress
-  pub did : Mounts plans rose (rings_from 0 plans) at_rest tables (Stopped end) ⊎ Mounts plans rose (rings_from 0 plans) at_rest tables (Unread end)
+  pub did : Mounts plans rose (turns_from 0 plans) at_rest tables (Stopped end) ⊎ Mounts plans rose (turns_from 0 plans) at_rest tables (Unread end)
   pub holds : Holds (map lose end.tables)
   pub nothing : Appends told.written told.written_now []
 
@@ -88,7 +88,7 @@ pub record Exports (plans : List Plan) (tables : List Table) (name : List ℕ) (
   pub rose : Bool
   pub risen : IsTrue rose → Rose told.faults told.faults_now
   pub end : Progress
-  pub did : Mounts plans rose (rings_from 0 plans) at_rest tables (Mounted end)
+  pub did : Mounts plans rose (turns_from 0 plans) at_rest tables (Mounted end)
   pub holds : Holds (map lose (all_ready plans end.tables))
   pub at : Located
   pub found : located_from 0 plans (all_ready plans end.tables) name ≡ Some at

@@ -11,10 +11,12 @@ use Rattle.fl_jobs.specs.declared.status.ToolStatus.{ToolStatus}
 use Rattle.fl_jobs.specs.declared.status.ToolStatus.TheVariants.{Done, InputRead, OutWrite, InputLong, NoMemory, NotImage, Device, BadImage, NoTable, BadInput, Unsound}
 use Rattle.fl_model.specs.Record.{Plan}
 use Rattle.fl_model.specs.Table as model
+use Rattle.fl_model.specs.Work as work
+use Rattle.fl_model.specs.Work.{PartProgress}
 use Rattle.fl_model.specs.Record.{entries_per_page, has_index}
-use Rattle.fl_model.specs.Table.{RingName, DataRing, IndexRing, VarRing, after_seal, after_seals, table_seals, flushed, lose}
+use Rattle.fl_model.specs.Table.{RingName, DataRing, IndexRing, VarRing, after_seal, after_seals, fill, table_seals, flushed, lose}
 use Rattle.fl_table.specs.Causes.{FlushCausedBy}
-use Rattle.fl_table.specs.Outcomes.{FlushEnds}
+use Rattle.fl_table.specs.Outcomes.{BySeals, FlushEnds}
 use Rattle.fl_table.specs.Pages.{Rests}
 use Rattle.fl_table.specs.Standing.{Stands}
 use Rattle.fl_table.specs.declared.table.Table.{Table}
@@ -28,6 +30,7 @@ use Rattle.fl_import.specs.Images.{told_of}
 use Rattle.fl_import.specs.Reading.{TakesSome, TakesUntil}
 use Rattle.fl_import.specs.Steps.{AllEnds, LinesEnd, IsOfLines, IsOfTable, TableEnds, TellsCounts, flush_status, is_broken, status_of}
 use Rattle.fl_import.specs.Taking.{Ended, EndedAs}
+use Rattle.fl_import.proofs.Failing.{seals-work}
 use Rattle.fl_import.proofs.OneLine.{no-false, not-device, works-done, works-broken, works-uncut}
 
 not-done : Device ≡ Done → ⊥
@@ -46,10 +49,10 @@ flushed-idle : (plan : Plan) (table : model.Table) → (flushed plan table).pend
 flushed-idle plan table = by-test (table.pending == 0) refl
   where
     bitmaps : List RingName
-    bitmaps = if has_index plan && (table.waiting == entries_per_page plan) then IndexRing ∷ [] else []
+    bitmaps = if has_index plan && (length table.waiting == entries_per_page plan) then IndexRing ∷ [] else []
 
     blobs : List RingName
-    blobs = if nat_lt 0 table.fill then VarRing ∷ [] else []
+    blobs = if nat_lt 0 (fill table) then VarRing ∷ [] else []
 
     by-test : (b : Bool) → (table.pending == 0) ≡ b → (after_seals plan (if b then [] else bitmaps ++ blobs ++ DataRing ∷ []) table).pending ≡ 0
     by-test true is = eqb-true table.pending 0 is
@@ -90,18 +93,21 @@ module _ (gone : GoneBlobs) (counts : LinesTaken) (first : ℕ) (plan : Plan) (t
     abbrev pub then_table : model.Table
     then_table = table_after gone plan table lines.puts.taken
 
+    abbrev DidFlush : Bool → work.Device → PartProgress model.Table → Type 0
+    DidFlush rose device now = BySeals plan (table_seals plan then_table) then_table rose device now
+
     pub flush-broken : (fault : FlushFault) → FlushEnds first plan then_table (has_risen g h) lines.works.device (Err fault) v g h → TableEnds first plan table text v h (told_of gone counts told told_mid rest) (flush_status fault)
     flush-broken (flush.Flash Media) flushes =
-        let b = works-broken first plan then_table u v g h lines.works (table_seals plan then_table) Media flushes in
+        let b = works-broken first plan then_table u v g h lines.works DidFlush (seals-work plan (table_seals plan then_table) then_table) Media flushes in
         record { after = b.after; leaves = inr (record { status = status_of taken; puts = lines.puts; fails = b.fails }); rests = b.rests; stands = λ e. absurd (not-done e) }
-    flush-broken (flush.Flash PowerLost) flushes = absurd (works-uncut first plan then_table u v g h lines.works (table_seals plan then_table) flushes)
+    flush-broken (flush.Flash PowerLost) flushes = absurd (works-uncut first plan then_table u v g h lines.works DidFlush (seals-work plan (table_seals plan then_table) then_table) flushes)
     flush-broken flush.Stopped flushes = absurd flushes
 
     abbrev pub after : model.Table
     after = flushed plan then_table
 
     pub stood : Goes g h → FlushEnds first plan then_table (has_risen g h) lines.works.device (Ok tt) v g h → Stands v h first plan after
-    stood goes flushes = (works-done first plan then_table u v g h lines.works goes (table_seals plan then_table) after flushes).stands
+    stood goes flushes = (works-done first plan then_table u v g h lines.works DidFlush (seals-work plan (table_seals plan then_table) then_table) goes after flushes).stands
 
     pub rested : Goes g h → FlushEnds first plan then_table (has_risen g h) lines.works.device (Ok tt) v g h → Rests h first plan (lose after)
     rested goes flushes = off-rests v h first plan after true (stood goes flushes)

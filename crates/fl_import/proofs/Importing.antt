@@ -17,7 +17,7 @@ use Rattle.fl_jobs.specs.declared.job_end.LinesTaken.{LinesTaken}
 use Rattle.fl_jobs.specs.declared.status.ToolStatus.{ToolStatus}
 use Rattle.fl_jobs.specs.declared.status.ToolStatus.TheVariants.{Done, InputRead, OutWrite, InputLong, NoMemory, NotImage, Device, BadImage, NoTable, BadInput, Unsound}
 use Rattle.fl_machine.specs.Step.{all_ready}
-use Rattle.fl_model.specs.Mount.{rings_from}
+use Rattle.fl_model.specs.Mount.{turns_from}
 use Rattle.fl_model.specs.Record.{Plan}
 use Rattle.fl_model.specs.Table as model
 use Rattle.fl_model.specs.Table.{lose}
@@ -65,7 +65,7 @@ module _ (plans : List Plan) (tables : List model.Table) (name text : List ℕ) 
     power = mt.power;
     device = mt.end.device;
     counts = mt.counts;
-    unarmed = mounts-unarmed plans (has_risen f m) (rings_from 0 plans) at_rest tables mt.end refl mt.did;
+    unarmed = mounts-unarmed plans (has_risen f m) (turns_from 0 plans) at_rest tables mt.end refl mt.did;
   }
 
   abbrev now_there : Entry

@@ -2,9 +2,9 @@
 use Rattle.std.proofs.Common.{◌≡◌, ℕ, ◌-◌, inl, inr, Bool, Option, Some, None, List, [], ◌∷◌, refl, sym, ◌∙◌, ap, subst}
 use Rattle.std.specs.Prelude.{option_map, unwrap_or, ◌==◌, if◌then◌else◌}
 use Rattle.fl_base.specs.declared.types.CutKind.{CutKind}
-use Rattle.fl_model.specs.Mount.{Mounts, MountEnd, Mounted, Stopped, Unread, GoesOn, renumbered_at, repairs_at}
+use Rattle.fl_model.specs.Mount.{Mounts, MountEnd, Mounted, Stopped, Unread, GoesOn, Turn, turned_at, operations_at}
 use Rattle.fl_model.specs.Record.{Plan}
-use Rattle.fl_model.specs.Table.{Table, RingName}
+use Rattle.fl_model.specs.Table.{Table}
 use Rattle.fl_model.specs.Work.{Operation, Device, Progress, Outcome, Finished, CutShort, Failed, Performs, PerformsFirst, counted, done}
 
 performs-unarmed : (plans : List Plan) (rose : Bool) (operations : List Operation) (device : Device) (tables : List Table) (end : Progress) → device.armed ≡ None → Performs plans rose operations device tables end → end.outcome ≡ Finished → end.device.armed ≡ None
@@ -23,20 +23,20 @@ performs-unarmed plans rose (operation ∷ operations) device tables end unarmed
     by_cut go (inl failed) = let no = sym failed.1 ∙ whole in cc
     by_cut go (inr others) = go others
 
-pub mounts-unarmed : (plans : List Plan) (rose : Bool) (rings : List (ℕ × RingName)) (device : Device) (tables : List Table) (end : Progress) → device.armed ≡ None → Mounts plans rose rings device tables (Mounted end) → end.device.armed ≡ None
+pub mounts-unarmed : (plans : List Plan) (rose : Bool) (turns : List (ℕ × Turn)) (device : Device) (tables : List Table) (end : Progress) → device.armed ≡ None → Mounts plans rose turns device tables (Mounted end) → end.device.armed ≡ None
 mounts-unarmed plans rose [] device tables end unarmed did = let same = ends did in ap (λ (p : Progress). p.device.armed) same ∙ unarmed
   where
     ends : ◌≡◌ {A = MountEnd} (Mounted end) (Mounted (record { outcome = Finished; device = device; tables = tables })) → end ≡ record { outcome = Finished; device = device; tables = tables }
     ends e = cc
-mounts-unarmed plans rose (at ∷ rings) device tables end unarmed (inl unread) = absurd (no unread.2)
+mounts-unarmed plans rose (at ∷ turns) device tables end unarmed (inl unread) = absurd (no unread.2)
   where
     no : ◌≡◌ {A = MountEnd} (Mounted end) (Unread unread.0) → ⊥
     no e = cc
-mounts-unarmed plans rose (at ∷ rings) device tables end unarmed (inr (now, did, goes)) =
-    by-outcome now.outcome refl goes (λ whole others. mounts-unarmed plans rose rings now.device now.tables end (performs-unarmed plans rose (repairs_at plans at (renumbered_at plans at tables)) device (renumbered_at plans at tables) now unarmed did whole) others)
+mounts-unarmed plans rose (at ∷ turns) device tables end unarmed (inr (now, did, goes)) =
+    by-outcome now.outcome refl goes (λ whole others. mounts-unarmed plans rose turns now.device now.tables end (performs-unarmed plans rose (operations_at plans at (turned_at plans at tables)) device (turned_at plans at tables) now unarmed did whole) others)
   where
     Others : Type 0
-    Others = Mounts plans rose rings now.device now.tables (Mounted end)
+    Others = Mounts plans rose turns now.device now.tables (Mounted end)
 
     no : ◌≡◌ {A = MountEnd} (Mounted end) (Stopped now) → ⊥
     no e = cc

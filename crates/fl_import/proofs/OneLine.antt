@@ -17,9 +17,10 @@ use Rattle.fl_jobs.specs.declared.status.ToolStatus.TheVariants.{OutWrite, NoMem
 use Rattle.fl_machine.specs.Step.{refused}
 use Rattle.fl_model.specs.Record.{Record, Plan}
 use Rattle.fl_model.specs.Table as model
-use Rattle.fl_model.specs.Table.{RingName, refusal_of, put_record, put_seals, lose, Refusal, BadKey, BadColumns, BadValue, BadBlob, Spent}
-use Rattle.fl_model.specs.Within.{seals_within, effect_within}
-use Rattle.fl_model.specs.Work.{PartEnd, Whole, CutIn, FailedIn}
+use Rattle.fl_model.specs.Table.{refusal_of, put_record, lose, Refusal, BadKey, BadColumns, BadValue, BadBlob, Spent}
+use Rattle.fl_model.specs.Puts.{TablePuts}
+use Rattle.fl_model.specs.Work as work
+use Rattle.fl_model.specs.Work.{PartEnd, Whole, CutIn, FailedIn, PartProgress}
 use Rattle.fl_ring.specs.Step.{IsWatched}
 use Rattle.fl_script.specs.Written.{Written}
 use Rattle.fl_script.proofs.Sending.{appends-append, written-err}
@@ -39,7 +40,7 @@ use Rattle.fl_import.specs.Puts.{FailsIn}
 use Rattle.fl_import.specs.Report.{number_text, reason_line}
 use Rattle.fl_import.specs.Steps.{IsOfLine, LineEnds, Works, by_told, fault_in, is_unread}
 use Rattle.fl_import.specs.declared.line_end.LineEnd.{LineEnd}
-use Rattle.fl_import.proofs.Failing.{calm}
+use Rattle.fl_import.proofs.Failing.{IsWork, put-work}
 
 -- two answers are two
 pub no-false : true ≡ false → ⊥
@@ -112,37 +113,41 @@ module _ (first : ℕ) (plan : Plan) (table : model.Table) (t u : Table 64 64) (
   pub works-watched : IsWatched f g (has_risen f g) works.device
   works-watched = watched f g works.device works.told works.power works.counts
 
-  -- the operations of some seals were done
-  pub works-done : Goes f g → (seals : List RingName) (after : model.Table) → Finishes first plan (seals_within plan seals table) table after (has_risen f g) works.device u f g → Works u g first plan after
-  works-done goes seals after fin =
-      let c = calm (λ operation. operation.1) (effect_within plan) (has_risen f g) (seals_within plan seals table) works.device table fin.now works.unarmed fin.did in
-      record { stands = fin.stands; told = subst IsTrue (sym goes.tells) works.told; power = fin.power; device = fin.now.device; counts = fin.counts; unarmed = c.unarmed fin.whole }
+  -- some work was done on the table
+  module _ (Did : Bool → work.Device → PartProgress model.Table → Type 0) (calm : IsWork Did) where
+    pub works-done : Goes f g → (after : model.Table) → Finishes first plan (Did (has_risen f g) works.device) table after u f g → Works u g first plan after
+    works-done goes after fin = record {
+      stands = fin.stands;
+      told = subst IsTrue (sym goes.tells) works.told;
+      power = fin.power;
+      device = fin.now.device;
+      counts = fin.counts;
+      unarmed = (calm (has_risen f g) works.device fin.now works.unarmed fin.did).unarmed fin.whole;
+    }
 
-  -- .. or one failed
-  pub record IsBroken (seals : List RingName) : Type 0 where
-    pub after : model.Table
-    pub fails : FailsIn plan seals table after
-    pub rests : Rests g first plan (lose after)
+    -- .. or an operation failed
+    pub record IsBroken : Type 0 where
+      pub after : model.Table
+      pub fails : FailsIn (Did true) after
+      pub rests : Rests g first plan (lose after)
 
-  pub works-broken : (seals : List RingName) (fault : FlashFault) → Breaks first plan (seals_within plan seals table) table (has_risen f g) works.device fault g → IsBroken seals
-  works-broken seals fault b =
-      let c = calm (λ operation. operation.1) (effect_within plan) (has_risen f g) (seals_within plan seals table) works.device table b.now works.unarmed b.did in
-      let bad : b.now.end ≡ Whole → ⊥ = λ e. subst (λ (x : PartEnd model.Table). FaultEnds x fault g) e b.answer in
-      record {
-        after = b.now.state;
-        fails = record { device = works.device; unarmed = works.unarmed; now = b.now; did = c.did; failed = bad; left_is = refl };
-        rests = b.rests;
-      }
+    pub works-broken : (fault : FlashFault) → Breaks first plan (Did (has_risen f g) works.device) fault g → IsBroken
+    works-broken fault b =
+        let bad : b.now.end ≡ Whole → ⊥ = λ e. subst (λ (x : PartEnd model.Table). FaultEnds x fault g) e b.answer in
+        record {
+          after = b.now.state;
+          fails = record { device = works.device; unarmed = works.unarmed; now = b.now; did = (calm (has_risen f g) works.device b.now works.unarmed b.did).did; failed = bad; left_is = refl };
+          rests = b.rests;
+        }
 
-  -- no cut is armed, so that none falls into it
-  pub works-uncut : (seals : List RingName) → Breaks first plan (seals_within plan seals table) table (has_risen f g) works.device PowerLost g → ⊥
-  works-uncut seals b = by-end b.now.end refl b.answer
-    where
-      by-end : (end : PartEnd model.Table) → b.now.end ≡ end → FaultEnds end PowerLost g → ⊥
-      by-end Whole is answer = answer
-      by-end (CutIn before) is answer =
-          (calm (λ operation. operation.1) (effect_within plan) (has_risen f g) (seals_within plan seals table) works.device table b.now works.unarmed b.did).uncut before is
-      by-end (FailedIn before) is answer = not-media answer.0
+    -- no cut is armed, so that none falls into it
+    pub works-uncut : Breaks first plan (Did (has_risen f g) works.device) PowerLost g → ⊥
+    works-uncut b = by-end b.now.end refl b.answer
+      where
+        by-end : (end : PartEnd model.Table) → b.now.end ≡ end → FaultEnds end PowerLost g → ⊥
+        by-end Whole is answer = answer
+        by-end (CutIn before) is answer = (calm (has_risen f g) works.device b.now works.unarmed b.did).uncut before is
+        by-end (FailedIn before) is answer = not-media answer.0
 
   works-same : u ≡ t → g ≡ f → Works u g first plan table
   works-same e k = subst (λ (x : FlashState). Works u x first plan table) (sym k) (subst (λ (x : Table 64 64). Works x f first plan table) (sym e) works)
@@ -168,17 +173,20 @@ module _ (first : ℕ) (plan : Plan) (table : model.Table) (t u : Table 64 64) (
         rw (is, by) (works-same e k, subst (λ (r : Reply). AppendsFront told told_now (number_text number ++ text r)) same written)
 
     module _ (put : Result Record CsvRefusal) (item : Record) (is : put ≡ Ok item) where
+      abbrev DidPut : Bool → work.Device → PartProgress model.Table → Type 0
+      DidPut rose device now = TablePuts plan rose item device table now
+
       pub ends-put : Goes f g → told_now ≡ told → PutEnds first plan item table (has_risen f g) works.device (Ok tt) u f g → LineEnds lacking first plan table number put u g told told_now (Ok (put_end lacking))
       ends-put goes same ends =
-          let done = works-done goes (put_seals plan item table) (put_record plan item table) ends.1 in
+          let done = works-done DidPut (put-work plan item table) goes (put_record plan item table) ends.1 in
           rw (is, ends.0) (refl, done, subst (λ (o : Option (List ℕ)). Appends told o []) (sym same) (appends-none told))
 
-      broken-by : (fault : FlashFault) → told_now ≡ told → refusal_of plan table item ≡ None → Breaks first plan (seals_within plan (put_seals plan item table) table) table (has_risen f g) works.device fault g →
+      broken-by : (fault : FlashFault) → told_now ≡ told → refusal_of plan table item ≡ None → Breaks first plan (DidPut (has_risen f g) works.device) fault g →
           LineEnds lacking first plan table number put u g told told_now (Err (flash_status fault))
       broken-by Media same accepted ends =
-          let b = works-broken (put_seals plan item table) Media ends in
+          let b = works-broken DidPut (put-work plan item table) Media ends in
           (subst (λ (o : Option (List ℕ)). Appends told o []) (sym same) (appends-none told), (item, is, accepted, (b.after, b.fails, b.rests)))
-      broken-by PowerLost same accepted ends = absurd (works-uncut (put_seals plan item table) ends)
+      broken-by PowerLost same accepted ends = absurd (works-uncut DidPut (put-work plan item table) ends)
 
       pub ends-broken : (outcome : Result (Unit {0}) PutRefusal) (fault : FlashFault) → fault_in outcome ≡ Some fault → told_now ≡ told → PutEnds first plan item table (has_risen f g) works.device outcome u f g →
           LineEnds lacking first plan table number put u g told told_now (Err (flash_status fault))

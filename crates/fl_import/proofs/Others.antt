@@ -47,8 +47,8 @@ some-blocks b at zero page from upto =
     absurd (omega (arith, from, upto, none))
 some-blocks b at (suc blocks) page from upto = lt-ltb 0 (suc blocks) (omega arith)
 
-in-blocks : (f g : FlashState) (first : ℕ) (plan : Plan) → PagesApart f g first plan → (page : ℕ) → first * plan.geometry.block ≤ page → page < (first + blocks_of plan) * plan.geometry.block → page_at g page ≡ page_at f page
-in-blocks f g first plan stand page from upto = by-data (cases_order page ((first + plan.data_blocks) * plan.geometry.block))
+in-blocks : (f g : FlashState) (first : ℕ) (plan : Plan) → plan.log_blocks ≡ 0 → PagesApart f g first plan → (page : ℕ) → first * plan.geometry.block ≤ page → page < (first + blocks_of plan) * plan.geometry.block → page_at g page ≡ page_at f page
+in-blocks f g first plan unlogged stand page from upto = by-data (cases_order page ((first + plan.data_blocks) * plan.geometry.block))
   where
     there : (at blocks : ℕ) → at * plan.geometry.block ≤ page → page < (at + blocks) * plan.geometry.block →
         ((n : ℕ) → page_at g (at * plan.geometry.block + n % (blocks * plan.geometry.block)) ≡ page_at f (at * plan.geometry.block + n % (blocks * plan.geometry.block))) → page_at g page ≡ page_at f page
@@ -56,7 +56,7 @@ in-blocks f g first plan stand page from upto = by-data (cases_order page ((firs
         subst (λ (p : ℕ). page_at g p ≡ page_at f p) (in-ring plan.geometry.block at blocks page begins ends) (same (page - at * plan.geometry.block))
 
     behind : first + plan.data_blocks + plan.index_blocks + plan.var_blocks ≡ first + blocks_of plan
-    behind = omega arith
+    behind = omega (arith, unlogged)
 
     in-var : (first + plan.data_blocks + plan.index_blocks) * plan.geometry.block ≤ page → page_at g page ≡ page_at f page
     in-var begins =
@@ -91,12 +91,18 @@ other-stands plans entries tables m h at i entry plan own stood here outside p o
     let changed = at-place m (λ j. true) plans entries tables at entry stood here in
     other-pages plans i at plan changed.plan beside.0 entry m h true true table.0 changed.table p changed.plan_is other changed.stands outside (stood.each i plan beside.0 table.0 p beside.1 table.1)
 
-block-of : (f : FlashState) (plans : List Plan) (entries : List Entry) (tables : List model.Table) (i : ℕ) (plan : Plan) → TablesStand f (λ j. false) plans entries tables → slice_get plans i ≡ Some plan → plan.geometry.block ≡ f.geometry.block
-block-of f plans entries tables i plan stood p =
+-- the plan of a table that stands
+pub record IsPlace (f : FlashState) (plan : Plan) : Type 0 where
+  pub block : plan.geometry.block ≡ f.geometry.block
+  pub unlogged : plan.log_blocks ≡ 0
+
+place-of : (f : FlashState) (plans : List Plan) (entries : List Entry) (tables : List model.Table) (i : ℕ) (plan : Plan) → TablesStand f (λ j. false) plans entries tables → slice_get plans i ≡ Some plan → IsPlace f plan
+place-of f plans entries tables i plan stood p =
     let within = slice_get_within plans i plan p in
     let entry = slice_get-some entries i (omega (arith, within, stood.as_many)) in
     let table = slice_get-some tables i (omega (arith, within, stood.all)) in
-    ap (λ (x : Geometry). x.block) (stood.each i plan entry.0 table.0 p entry.1 table.1).geometry
+    let own = stood.each i plan entry.0 table.0 p entry.1 table.1 in
+    record { block = ap (λ (x : Geometry). x.block) own.geometry; unlogged = own.planned.log }
 
 -- a page of its blocks is one of all blocks
 among-all : (plans : List Plan) (i b page : ℕ) (plan : Plan) → slice_get plans i ≡ Some plan → page < (first_of plans i + blocks_of plan) * b → page < sum_by blocks_of plans * b
@@ -115,9 +121,10 @@ others-repaired plans tables ready name f m h entries now at entry stood named m
     let own_name : own.plan.name ≡ name = (first-named plans entries (stand-named f (λ i. false) plans entries tables stood) name at named own.plan own.plan_is).0 in
     let other : at ≡ o.at → ⊥ = λ is.
     o.other (ap (λ (p : Plan). p.name) (some-is (slice_get plans o.at) o.plan own.plan o.here (subst (λ (j : ℕ). slice_get plans j ≡ Some own.plan) is own.plan_is)) ∙ own_name) in
-    let block = sym (block-of f plans entries tables o.at o.plan stood o.here) in
+    let place = place-of f plans entries tables o.at o.plan stood o.here in
+    let block = sym place.block in
     let same : page_at h page ≡ page_at m page =
-    in-blocks m h (first_of plans o.at) o.plan (other-stands plans now ready m h at o.at entry o.plan own.plan mounted here outside o.here own.plan_is other) page
+    in-blocks m h (first_of plans o.at) o.plan place.unlogged (other-stands plans now ready m h at o.at entry o.plan own.plan mounted here outside o.here own.plan_is other) page
     (subst (λ (b : ℕ). first_of plans o.at * b ≤ page) block o.from) (subst (λ (b : ℕ). page < (first_of plans o.at + blocks_of o.plan) * b) block o.upto) in
     subst (IsRepaired f.geometry.page (page_at f page)) (sym same) (repaired page (among-all plans o.at f.geometry.block page o.plan o.here o.upto))
 

@@ -14,9 +14,9 @@ use Rattle.fl_jobs.specs.declared.status.ToolStatus.{ToolStatus}
 use Rattle.fl_jobs.specs.declared.status.ToolStatus.TheVariants.{Done, InputRead, OutWrite, InputLong, NoMemory, NotImage, Device, BadImage, NoTable, BadInput, Unsound}
 use Rattle.fl_machine.specs.Step.{Located, located_from, all_ready}
 use Rattle.fl_model.specs.Image.{page_bytes}
-use Rattle.fl_model.specs.Mount.{Mounts, Mounted, rings_from}
+use Rattle.fl_model.specs.Mount.{Mounts, Mounted, turns_from}
 use Rattle.fl_model.specs.Record.{Record, Plan, Config, blocks_of, has_var, bytes_equal}
-use Rattle.fl_model.specs.Table.{Table, refusal_of, put_seals, table_seals, flushed, lose}
+use Rattle.fl_model.specs.Table.{Table, refusal_of, flushed, lose}
 use Rattle.fl_model.specs.Within.{with_table}
 use Rattle.fl_model.specs.Work.{Progress}
 use Rattle.fl_tables.specs.Repaired.{IsRepaired}
@@ -25,7 +25,7 @@ use Rattle.fl_words.specs.Config.{Lines}
 use Rattle.fl_words.specs.Medium.{IsImage}
 use Rattle.fl_import.specs.Counting.{count_text, counts_of}
 use Rattle.fl_import.specs.Lines.{meaning, meanings, Takes}
-use Rattle.fl_import.specs.Puts.{after_puts, FailsIn}
+use Rattle.fl_import.specs.Puts.{after_puts, FailsInFlush, FailsInPut}
 use Rattle.fl_import.specs.Reading.{Stops, TakesSome, TakesUntil}
 use Rattle.fl_lines.specs.Taken.{TakesFew}
 use Rattle.fl_import.specs.Report.{told_line, told_lines}
@@ -85,7 +85,7 @@ pub record PutFails (gone : GoneBlobs) (counts : LinesTaken) (plan : Plan) (tabl
   pub item : Record
   pub means : meaning gone (length plan.columns) (has_var plan) line ≡ Ok item
   pub accepted : refusal_of plan (table_after gone plan table taken) item ≡ None
-  pub fails : FailsIn plan (put_seals plan item (table_after gone plan table taken)) (table_after gone plan table taken) after
+  pub fails : FailsInPut plan item (table_after gone plan table taken) after
   pub reports : Appends told told_now (told_of_lines gone plan table taken)
   pub counted : counts ≡ counts_of gone plan table taken
 
@@ -98,7 +98,7 @@ pub record Flushes (plan : Plan) (table : Table) (text : List ℕ) (told : Told)
 pub record FlushFails (plan : Plan) (table : Table) (text : List ℕ) (told : Told) (after : Table) : Type 0 where
   pub status : ToolStatus
   pub puts : Puts told.gone told.taken plan table text told.written told.written_now told.left_now status
-  pub fails : FailsIn plan (table_seals plan (table_after told.gone plan table puts.taken)) (table_after told.gone plan table puts.taken) after
+  pub fails : FailsInFlush plan (table_after told.gone plan table puts.taken) after
 
 -- All lines were put, the table was flushed, and it was told how many were put: `Wrote` says what was written of that.
 pub record Counts (plan : Plan) (table : Table) (text : List ℕ) (told : Told) (after : Table) (Wrote : Option (List ℕ) → Option (List ℕ) → List ℕ → Type 0) : Type 0 where
@@ -136,7 +136,7 @@ pub record Imports (plans : List Plan) (tables : List Table) (name : List ℕ) (
   pub rose : Bool
   pub risen : IsTrue rose → Rose faults faults_now
   pub end : Progress
-  pub did : Mounts plans rose (rings_from 0 plans) at_rest tables (Mounted end)
+  pub did : Mounts plans rose (turns_from 0 plans) at_rest tables (Mounted end)
   pub at : Located
   pub found : located_from 0 plans (all_ready plans end.tables) name ≡ Some at
   pub after : Table

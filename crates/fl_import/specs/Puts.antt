@@ -2,7 +2,8 @@
 use Rattle.std.specs.Prelude.{◌≡◌, ℕ, ◌+◌, Bool, true, false, not, is_some, None, Result, Ok, Err, List, [], ◌∷◌, if◌then◌else◌}
 use Rattle.fl_csv.specs.declared.record.CsvRefusal.{CsvRefusal}
 use Rattle.fl_model.specs.Record.{Record, Plan}
-use Rattle.fl_model.specs.Table.{Table, RingName, refusal_of, put_record}
+use Rattle.fl_model.specs.Table.{Table, refusal_of, put_record, table_seals}
+use Rattle.fl_model.specs.Puts.{TablePuts}
 use Rattle.fl_model.specs.Within.{TablePerforms, seals_within}
 use Rattle.fl_model.specs.Work.{Device, PartProgress, Whole}
 
@@ -25,11 +26,18 @@ abbrev pub put_count : Plan → Table → List (Result Record CsvRefusal) → �
 put_count plan table [] = 0
 put_count plan table (put ∷ puts) = (if is_put plan table put then 1 else 0) + put_count plan (after_put plan table put) puts
 
--- One of the operations of these seals failed, while no cut was armed. This is left of the table.
-pub record FailsIn (plan : Plan) (seals : List RingName) (table left : Table) : Type 0 where
+-- One of the operations of some work on a table failed, while no cut was armed. This is left of the table.
+pub record FailsIn (Did : Device → PartProgress Table → Type 0) (left : Table) : Type 0 where
   pub device : Device
   pub unarmed : device.armed ≡ None
   pub now : PartProgress Table
-  pub did : TablePerforms plan true (seals_within plan seals table) device table now
+  pub did : Did device now
   pub failed : now.end ≡ Whole → ⊥
   pub left_is : left ≡ now.state
+
+-- .. in the put of a record that isn't refused, and in a flush
+abbrev pub FailsInPut : Plan → Record → Table → Table → Type 0
+FailsInPut plan item table left = FailsIn (λ device now. TablePuts plan true item device table now) left
+
+abbrev pub FailsInFlush : Plan → Table → Table → Type 0
+FailsInFlush plan table left = FailsIn (λ device now. TablePerforms plan true (seals_within plan (table_seals plan table) table) device table now) left

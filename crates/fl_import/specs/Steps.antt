@@ -15,7 +15,7 @@ use Rattle.fl_jobs.specs.declared.status.ToolStatus.{ToolStatus}
 use Rattle.fl_jobs.specs.declared.status.ToolStatus.TheVariants.{Done, InputRead, OutWrite, InputLong, NoMemory, NotImage, Device, BadImage, NoTable, BadInput, Unsound}
 use Rattle.fl_model.specs.Record.{Record, Plan, has_var}
 use Rattle.fl_model.specs.Table as model
-use Rattle.fl_model.specs.Table.{refusal_of, put_seals, lose}
+use Rattle.fl_model.specs.Table.{refusal_of, lose}
 use Rattle.fl_model.specs.Work as work
 use Rattle.fl_ring.specs.Device.{SameDevice}
 use Rattle.fl_table.specs.Pages.{Rests}
@@ -27,7 +27,7 @@ use Rattle.fl_table.specs.declared.faults.PutRefusal.{PutRefusal}
 use Rattle.fl_table.specs.declared.faults.PutRefusal.TheVariants as refusal
 use Rattle.fl_import.specs.Ends.{Told, Puts, PutFails, Leaves, table_after}
 use Rattle.fl_import.specs.Counting.{count_text, end_of}
-use Rattle.fl_import.specs.Puts.{after_put, FailsIn}
+use Rattle.fl_import.specs.Puts.{after_put, FailsInPut}
 use Rattle.fl_import.specs.Report.{told_line}
 use Rattle.fl_import.specs.declared.line_end.LineEnd.{LineEnd}
 use Rattle.fl_import.specs.declared.line_end.LineEnd.TheVariants.{Refused}
@@ -77,7 +77,7 @@ LineEnds lacking first plan table number put t g told told_now (Err OutWrite) = 
 LineEnds lacking first plan table number put t g told told_now (Err NoMemory) = Works t g first plan table × Appends told told_now []
 LineEnds lacking first plan table number put t g told told_now (Err Device) =
     Appends told told_now []
-    × ((item : Record) × (put ≡ Ok item) × (refusal_of plan table item ≡ None) × ((after : model.Table) × FailsIn plan (put_seals plan item table) table after × Rests g first plan (lose after)))
+    × ((item : Record) × (put ≡ Ok item) × (refusal_of plan table item ≡ None) × ((after : model.Table) × FailsInPut plan item table after × Rests g first plan (lose after)))
 LineEnds lacking first plan table number put t g told told_now (Err status) = ⊥
 
 -- ---- all lines

@@ -1,5 +1,5 @@
 -- A kept index page that is committed is a good one.
-use Rattle.std.proofs.Common.{◌≡◌, ◌⊎◌, inl, inr, ℕ, ◌+◌, ◌-◌, ◌*◌, ◌^◌, ◌<◌, ◌≤◌, Some, length, sym, ◌∙◌, ap, subst, arith, ◌/◌}
+use Rattle.std.proofs.Common.{◌≡◌, ◌⊎◌, inl, inr, ℕ, ◌+◌, ◌-◌, ◌*◌, ◌^◌, ◌<◌, ◌≤◌, Some, length, take, sym, ◌∙◌, ap, subst, arith}
 use Rattle.std.proofs.lemmas.Bool.{cases_lt}
 use Rattle.std.proofs.Math.Nat.{div-le_self}
 use Rattle.std.specs.List.{slice_get}
@@ -7,11 +7,11 @@ use Rattle.fl_flash.specs.Flash.{FlashState, page_at}
 use Rattle.fl_mark.specs.Mark.{state_of_page}
 use Rattle.fl_mark.specs.declared.page_state.PageState.TheVariants.{Committed, Void}
 use Rattle.fl_mark.proofs.InModel.{model_state}
-use Rattle.fl_model.specs.Layout.{committed, index_body, is_void}
-use Rattle.fl_model.specs.Record.{Plan, entries_per_page}
+use Rattle.fl_model.specs.Layout.{IndexPage, committed, index_body, is_void}
+use Rattle.fl_model.specs.Record.{Plan, entry_len, entries_per_page}
 use Rattle.fl_model.specs.Ring as model
-use Rattle.fl_model.specs.Table.{Table}
-use Rattle.fl_model.proofs.Lists.{slice_get-short}
+use Rattle.fl_model.specs.Table.{Table, firsts, full_pages}
+use Rattle.fl_model.proofs.Lists.{slice_get-short, each-at}
 use Rattle.fl_base.specs.declared.types.Geometry.{Geometry}
 use Rattle.fl_flash.specs.Places.{extent}
 use Rattle.fl_ring.specs.Place.{shape_of}
@@ -25,7 +25,7 @@ use Rattle.fl_index.specs.declared.index.Index.{Index}
 use Rattle.fl_index.specs.Memory.{next_in, oldest_in, per_page, place_in, LiesOn}
 use Rattle.fl_index.specs.Page.{IsGoodPage}
 use Rattle.fl_index.specs.Standing.{Stands, bytes_in}
-use Rattle.fl_index.proofs.Lists.{below-end}
+use Rattle.fl_index.proofs.Lists.{below-end, first-at}
 use Rattle.fl_index.proofs.Lookups.{place-same}
 use Rattle.fl_index.proofs.Sealings.{planned-ring}
 use Rattle.fl_index.proofs.Showing.{KeptPage, kept-page, index-page, X_is}
@@ -52,10 +52,10 @@ module _ (t : Index) (f : FlashState) (first : ℕ) (plan : Plan) (table : Table
       few_entries : entries_per_page plan < 2 ^ 16
       few_entries =
           let size = ap (λ g. g.page) stands.in_ring.planned.geometry in
-          omega (arith, div-le_self (plan.geometry.page - 24) (plan.bits / 8), size, t.served.page_greatest)
+          omega (arith, div-le_self (plan.geometry.page - 24) (entry_len plan), size, t.served.page_greatest)
 
-      first_small : (x k : ℕ) → slice_get table.firsts k ≡ Some x → x < 2 ^ 32
-      first_small x k e = omega (arith, below-end (entries_per_page plan) table.firsts k x stands.in_ring.facts.firsts e, stands.in_ring.facts.listed, stands.in_ring.facts.rows_number)
+      first_small : (x k : ℕ) → slice_get (firsts table) k ≡ Some x → x < 2 ^ 32
+      first_small x k e = omega (arith, below-end (entries_per_page plan) (firsts table) k x stands.in_ring.facts.firsts e, stands.in_ring.facts.listed, stands.in_ring.facts.rows_number)
 
       long : (number : ℕ) → 8 ≤ length (page_at f (place_in t number))
       long number = omega (arith, page-size t f stands.in_ring.in_memory stands.in_ring.memory_is lies reaches number, t.served.page_least)
@@ -68,8 +68,10 @@ module _ (t : Index) (f : FlashState) (first : ℕ) (plan : Plan) (table : Table
           let held = stands.in_ring.pages.kept k.i k.c k.here some in
           let short = slice_get-short stands.in_ring.ring.counts k.i k.c k.here in
           let small : number < 2 ^ 32 = omega (arith, k.at, short, stands.in_ring.facts.is_ring.not_negative, stands.in_ring.facts.number) in
-          let page = index-page plan number held.first held.bitmaps (page_at f (place_in t number)) small (first_small held.first _ held.listed) held.length few_entries
-          (place_is k ∙ (held.bytes ∙ ap (λ n. committed (index_body plan n held.first held.bitmaps)) (sym k.at))) in
+          let at = full_pages (take k.i stands.in_ring.ring.counts) in
+          let many = each-at (λ (p : IndexPage). length p.entries ≡ entries_per_page plan) table.index_pages at held.holds stands.in_ring.facts.index_fit held.is in
+          let page = index-page plan number held.holds.first held.holds.entries (page_at f (place_in t number)) small (first_small held.holds.first at (first-at table.index_pages at held.holds held.is)) many few_entries
+          (place_is k ∙ (held.bytes ∙ ap (λ n. committed (index_body plan n held.holds.first held.holds.entries)) (sym k.at))) in
           subst (λ n. IsGoodPage n number (page_at f (place_in t number))) (sym (X_is t f first plan table stands)) page.good
       by_some k (inr none) =
           let z : k.c ≡ 0 = omega (arith, none) in

@@ -10,7 +10,7 @@ use Rattle.fl_index.specs.Looking.{IsHeld, is_page, is_kept, held_lists, listing
 use Rattle.fl_index.specs.Memory.{first_in, next_in, oldest_in, per_page, lists, listing_in, place_in}
 use Rattle.fl_index.specs.Page.{page_number}
 use Rattle.fl_index.specs.Standing.{Stands}
-use Rattle.fl_index.proofs.Firsts.{full-below}
+use Rattle.fl_model.proofs.FullPages.{full-below}
 use Rattle.fl_index.proofs.Listings.{listing-is, listing-no}
 use Rattle.fl_index.proofs.Showing.{both_true, ListingPage, listing-page}
 

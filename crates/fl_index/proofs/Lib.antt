@@ -1,5 +1,4 @@
 pub mod Bytes
-pub mod Firsts
 pub mod Lists
 pub mod Gathering
 pub mod State
@@ -13,6 +12,7 @@ pub mod Rooms
 pub mod HeaderPages
 pub mod Listings
 pub mod Showing
+pub mod BitmapsAlone
 pub mod Held
 pub mod Lookups
 pub mod Counts

@@ -1,27 +1,28 @@
 -- The operations on the index ring are those of its table.
-use Rattle.std.proofs.Common.{◌≡◌, ℕ, ◌+◌, ◌-◌, ◌^◌, ◌<◌, inl, inr, Bool, true, false, cond, ◌&&◌, Option, Some, None, IfSome, Result, List, [], ◌∷◌, ◌++◌, map, length, take, drop, refl, sym, ◌∙◌, ap, subst, arith, IsOk, IsErrOf, IsTrue}
+use Rattle.std.proofs.Common.{◌≡◌, ℕ, ◌+◌, ◌-◌, ◌^◌, ◌<◌, ◌≤◌, ◌⊎◌, inl, inr, Bool, true, false, cond, ◌&&◌, Option, Some, None, Result, List, [], ◌∷◌, ◌++◌, map, length, take, drop, refl, sym, ◌∙◌, ap, subst, arith, IsOk, IsErrOf, IsTrue}
 use Rattle.std.proofs.lemmas.List.{append-nil}
-use Rattle.std.specs.List.{slice_get}
+use Rattle.std.specs.List.{slice_get, AllByRecursion}
 use Rattle.std.specs.Option.{option_map, unwrap_or}
 use Rattle.fl_flash.specs.Flash.{FlashState}
 use Rattle.fl_flash.specs.declared.flash.FlashFault.{FlashFault}
 use Rattle.fl_flash.specs.declared.flash.FlashFault.TheVariants.{PowerLost, Media}
 use Rattle.fl_model.specs.Record.{Plan, entries_per_page}
 use Rattle.fl_model.specs.Ring as model
-use Rattle.fl_model.specs.Table.{Table, RingName, IndexRing, shape_of, full_pages, with_ring, seal_page, seal_buffer, after_seal, is_dirty}
-use Rattle.fl_model.specs.Layout.{committed, index_body, bitmap_of}
-use Rattle.fl_model.specs.Image.{HoldsBitmaps, rows_at}
+use Rattle.fl_model.specs.Table.{Table, RingName, IndexRing, shape_of, full_pages, firsts, with_ring, seal_page, seal_buffer, after_seal, is_dirty}
+use Rattle.fl_model.specs.Layout.{IndexEntry, IndexPage, committed, index_body}
+use Rattle.fl_model.specs.Image.{HoldsEntries}
+use Rattle.fl_model.specs.Agrees.{TellPages}
 use Rattle.fl_model.specs.Work.{Kind, Body, Mark, VoidMark, Erase, effect, Device, PartEnd, Whole, CutIn, FailedIn, PartProgress}
 use Rattle.fl_model.specs.Within.{seal_within, effect_within, TablePerforms}
-use Rattle.fl_model.proofs.Lists.{slice_get-last, last_or-push}
+use Rattle.fl_model.proofs.Lists.{slice_get-last, slice_get-push, each-push, last_or-push}
 use Rattle.fl_model.proofs.Performs.{performs-along, performs-map, performs-whole, EndsAlong}
 use Rattle.fl_model.proofs.Among.{seal-all_done}
 use Rattle.fl_ring.specs.Device.{SameDevice}
 use Rattle.fl_ring.specs.Operations.{change, seal_kinds}
 use Rattle.fl_ring.specs.Ring.{RingState, sealed, voided, begun, erased}
 use Rattle.fl_ring.specs.Sealing.{Performed, AnswersEnd}
-use Rattle.fl_index.proofs.Firsts.{full-one, full-last}
-use Rattle.fl_index.proofs.Lists.{end_after, ascend-push}
+use Rattle.fl_model.proofs.FullPages.{full-one, full-last}
+use Rattle.fl_index.proofs.Lists.{firsts_of, firsts-append, end_after, Ascend, ascend-push}
 use Rattle.fl_index.proofs.State.{shape_in, IsStateOf, holds-moved}
 use Rattle.fl_index.proofs.Steps.{with_index, state-kept, last-shifted}
 
@@ -29,15 +30,11 @@ use Rattle.fl_index.proofs.Steps.{with_index, state-kept, last-shifted}
 abbrev pub of_index : Kind → RingName × Kind
 of_index kind = (IndexRing, kind)
 
--- a full list of bitmaps waits that makes this body, and no block waits for its erase
+-- a full list of entries waits that makes this body, and no block waits for its erase
 pub record MakesBody (plan : Plan) (body : List ℕ) (table : Table) (ring : model.Ring) : Type 0 where
-  pub full : table.waiting ≡ entries_per_page plan
+  pub full : length table.waiting ≡ entries_per_page plan
   pub some : 0 < entries_per_page plan
-  pub bitmaps : List ℕ
-  pub length_is : length bitmaps ≡ entries_per_page plan
-  pub body_is : body ≡ index_body plan ring.next (table.rows.next - entries_per_page plan) bitmaps
-  pub each : (j n : ℕ) → j < entries_per_page plan → table.rows.next - entries_per_page plan + j ≡ model.oldest table.rows + n → IfSome (slice_get table.rows.counts n) (λ rows. 0 < rows →
-      slice_get bitmaps j ≡ Some (bitmap_of plan (rows_at table n rows)))
+  pub body_is : body ≡ index_body plan ring.next (table.rows.next - entries_per_page plan) table.waiting
   pub clean : ring.dirty ≡ false
   pub left : ring.next + 1 < 2 ^ 32
 
@@ -60,16 +57,19 @@ begun-state plan table s is clean left = record {
       not_both = λ d. no (sym clean ∙ d);
     };
     counts = is.facts.counts;
-    first_each = is.facts.first_each;
+    index_each = is.facts.index_each;
+    index_fit = is.facts.index_fit;
     firsts = is.facts.firsts;
     waiting = is.facts.waiting;
     listed = is.facts.listed;
+    tell = is.facts.tell;
+    wait = is.facts.wait;
     counted = is.facts.counted;
     number = left;
     rows_number = is.facts.rows_number;
   };
   counts = ap model.begun is.counts;
-  bodies = λ i body lt at. holds-moved plan table (with_ring IndexRing model.begun table) is.ring (model.begun is.ring) i i (entries_per_page plan) (committed body) refl (λ n rows e. refl) refl (λ f e. e) (is.bodies i body lt at);
+  bodies = λ i body lt at. holds-moved plan table (with_ring IndexRing model.begun table) is.ring (model.begun is.ring) i i (entries_per_page plan) (committed body) refl (λ p e. e) (is.bodies i body lt at);
 }
   where
     no : ◌≡◌ {A = Bool} false true → ⊥
@@ -91,16 +91,19 @@ erased-state plan table s is = record {
       not_both = λ d. both is.ring.torn d;
     };
     counts = is.facts.counts;
-    first_each = is.facts.first_each;
+    index_each = is.facts.index_each;
+    index_fit = is.facts.index_fit;
     firsts = is.facts.firsts;
     waiting = is.facts.waiting;
     listed = is.facts.listed;
+    tell = is.facts.tell;
+    wait = is.facts.wait;
     counted = is.facts.counted;
     number = is.facts.number;
     rows_number = is.facts.rows_number;
   };
   counts = ap model.erased is.counts;
-  bodies = λ i body lt at. holds-moved plan table (with_ring IndexRing model.erased table) is.ring (model.erased is.ring) i i (entries_per_page plan) (committed body) refl (λ n rows e. refl) refl (λ f e. e) (is.bodies i body lt at);
+  bodies = λ i body lt at. holds-moved plan table (with_ring IndexRing model.erased table) is.ring (model.erased is.ring) i i (entries_per_page plan) (committed body) refl (λ p e. e) (is.bodies i body lt at);
 }
   where
     no : ◌≡◌ {A = Bool} false true → ⊥
@@ -110,17 +113,18 @@ erased-state plan table s is = record {
     both true e = cc
     both false e = cc
 
--- a page that is sealed holds the bitmaps that waited
+-- the page of the entries that waited
+abbrev pub page_waited : Plan → Table → IndexPage
+page_waited plan table = record { first = table.rows.next - entries_per_page plan; entries = table.waiting }
+
+-- a page that is sealed holds them
 sealed-page : (plan : Plan) (body : List ℕ) (table : Table) (s : RingState) (is : IsStateOf plan table s) → MakesBody plan body table is.ring → (body' : List ℕ) → Some body ≡ Some body' →
-    HoldsBitmaps plan (with_index table (model.extended (entries_per_page plan) is.ring) (table.firsts ++ (table.rows.next - entries_per_page plan) ∷ [])) (model.extended (entries_per_page plan) is.ring) (length is.ring.counts) (entries_per_page plan) (committed body')
+    HoldsEntries plan (with_index table (model.extended (entries_per_page plan) is.ring) (table.index_pages ++ page_waited plan table ∷ [])) (model.extended (entries_per_page plan) is.ring) (length is.ring.counts) (entries_per_page plan) (committed body')
 sealed-page plan body table s is m body' e = record {
-  first = table.rows.next - entries_per_page plan;
-  bitmaps = m.bitmaps;
-  listed = ap (slice_get (table.firsts ++ (table.rows.next - entries_per_page plan) ∷ [])) (full-last is.ring.counts (entries_per_page plan ∷ []) ∙ sym is.facts.first_each)
-      ∙ slice_get-last table.firsts (table.rows.next - entries_per_page plan);
-  length = m.length_is;
-  bytes = ap committed (sym (some_same e) ∙ m.body_is) ∙ ap (λ n. committed (index_body plan n (table.rows.next - entries_per_page plan) m.bitmaps)) here;
-  each = m.each;
+  holds = page_waited plan table;
+  is = ap (slice_get (table.index_pages ++ page_waited plan table ∷ [])) (full-last is.ring.counts (entries_per_page plan ∷ []) ∙ sym is.facts.index_each)
+      ∙ slice_get-last table.index_pages (page_waited plan table);
+  bytes = ap committed (sym (some_same e) ∙ m.body_is) ∙ ap (λ n. committed (index_body plan n (table.rows.next - entries_per_page plan) table.waiting)) here;
 }
   where
     pushed_length : (xs : List ℕ) (y : ℕ) → length (xs ++ y ∷ []) ≡ length xs + 1
@@ -130,23 +134,48 @@ sealed-page plan body table s is m body' e = record {
     here : is.ring.next ≡ is.ring.next + 1 - length (is.ring.counts ++ entries_per_page plan ∷ []) + length is.ring.counts
     here = let k : length (is.ring.counts ++ entries_per_page plan ∷ []) ≡ length is.ring.counts + 1 = pushed_length is.ring.counts (entries_per_page plan) in omega (arith, k, is.facts.is_ring.not_negative)
 
+-- it lists the data pages behind those that are listed
+rises-waited : (plan : Plan) (table : Table) (s : RingState) (is : IsStateOf plan table s) → length table.waiting ≡ entries_per_page plan →
+    Ascend (entries_per_page plan) (firsts_of (table.index_pages ++ page_waited plan table ∷ []))
+rises-waited plan table s is full =
+    subst (Ascend (entries_per_page plan)) (sym (firsts-append table.index_pages (page_waited plan table ∷ [])))
+    (ascend-push (entries_per_page plan) (table.rows.next - entries_per_page plan) (firsts table) is.facts.firsts (omega (arith, is.facts.listed, full)))
+
+ends-waited : (plan : Plan) (table : Table) (s : RingState) (is : IsStateOf plan table s) → length table.waiting ≡ entries_per_page plan →
+    end_after (entries_per_page plan) (firsts_of (table.index_pages ++ page_waited plan table ∷ [])) ≤ table.rows.next
+ends-waited plan table s is full =
+    let all = ap (end_after (entries_per_page plan)) (firsts-append table.index_pages (page_waited plan table ∷ [])) in
+    let e = ap (λ (o : Option ℕ). unwrap_or (option_map (λ p. p + entries_per_page plan) o) 0) (last_or-push None (firsts table) (table.rows.next - entries_per_page plan)) in
+    omega (arith, all, e, is.facts.listed, full)
+
+-- .. and tells what they told
+tells-waited : (plan : Plan) (table : Table) (s : RingState) (is : IsStateOf plan table s) → length table.waiting ≡ entries_per_page plan →
+    (k : ℕ) (p : IndexPage) → slice_get (table.index_pages ++ page_waited plan table ∷ []) k ≡ Some p → TellPages plan table p.first p.entries
+tells-waited plan table s is full k p e = by_place (slice_get-push table.index_pages (page_waited plan table) k p e)
+  where
+    by_place : (slice_get table.index_pages k ≡ Some p) ⊎ ((k ≡ length table.index_pages) × (page_waited plan table ≡ p)) → TellPages plan table p.first p.entries
+    by_place (inl old) = is.facts.tell k p old
+    by_place (inr new) =
+        subst (λ (q : IndexPage). TellPages plan table q.first q.entries) new.1
+        (subst (λ n. TellPages plan table (table.rows.next - n) table.waiting) full is.facts.wait)
+
 -- the page is sealed
 pub sealed-state : (first : ℕ) (plan : Plan) (body : List ℕ) (table : Table) (s : RingState) (is : IsStateOf plan table s) → model.IsShape (shape_of plan IndexRing) → MakesBody plan body table is.ring →
     IsStateOf plan (seal_buffer plan IndexRing table) (sealed (shape_in first plan) s body)
 sealed-state first plan body table s is shape m =
     subst (λ (t : Table). IsStateOf plan t (sealed (shape_in first plan) s body)) (sym table_is)
-    (state-kept first plan shape table s is m.clean (Some body) (entries_per_page plan) refl ((table.rows.next - entries_per_page plan) ∷ []) (inr refl) (sym (full-one (entries_per_page plan) m.some)) m.left
-    (ascend-push (entries_per_page plan) (table.rows.next - entries_per_page plan) table.firsts is.facts.firsts (omega (arith, is.facts.listed, m.full)))
-    (let e = ap (λ (o : Option ℕ). unwrap_or (option_map (λ p. p + entries_per_page plan) o) 0) (last_or-push None table.firsts (table.rows.next - entries_per_page plan)) in
-    omega (arith, e, is.facts.listed, m.full))
+    (state-kept first plan shape table s is m.clean (Some body) (entries_per_page plan) refl (page_waited plan table ∷ []) (inr refl) (sym (full-one (entries_per_page plan) m.some)) m.left
+    (rises-waited plan table s is m.full) (ends-waited plan table s is m.full)
+    (each-push (λ (p : IndexPage). length p.entries ≡ entries_per_page plan) table.index_pages (page_waited plan table) is.facts.index_fit m.full)
+    (tells-waited plan table s is m.full)
     (sealed-page plan body table s is m))
   where
     table_is : seal_buffer plan IndexRing table ≡ with_index table (model.sealed (shape_of plan IndexRing) (entries_per_page plan) is.ring)
-        (drop (full_pages (model.given_up (shape_of plan IndexRing) (entries_per_page plan) is.ring)) table.firsts ++ (table.rows.next - entries_per_page plan) ∷ [])
+        (drop (full_pages (model.given_up (shape_of plan IndexRing) (entries_per_page plan) is.ring)) table.index_pages ++ page_waited plan table ∷ [])
     table_is = ap (λ (o : Option model.Ring). record table {
-      firsts = drop (full_pages (unwrap_or (option_map (model.given_up (shape_of plan IndexRing) (entries_per_page plan)) o) [])) table.firsts ++ (table.rows.next - entries_per_page plan) ∷ [];
+      index_pages = drop (full_pages (unwrap_or (option_map (model.given_up (shape_of plan IndexRing) (entries_per_page plan)) o) [])) table.index_pages ++ page_waited plan table ∷ [];
       index = option_map (model.sealed (shape_of plan IndexRing) (entries_per_page plan)) o;
-      waiting = 0;
+      waiting = [];
     }) is.facts.ring_is
 
 -- .. and where its pages stood before
@@ -154,26 +183,28 @@ pub record IndexShift (plan : Plan) (table : Table) (ring : model.Ring) : Type 0
   pub by : ℕ
   pub counts : (i : ℕ) → slice_get (model.sealed (shape_of plan IndexRing) (entries_per_page plan) ring).counts i ≡ slice_get (ring.counts ++ entries_per_page plan ∷ []) (by + i)
   pub old : (i : ℕ) → model.oldest (model.sealed (shape_of plan IndexRing) (entries_per_page plan) ring) + i ≡ model.oldest ring + (by + i)
-  pub listed : (i : ℕ) → slice_get (drop (full_pages (model.given_up (shape_of plan IndexRing) (entries_per_page plan) ring)) table.firsts ++ (table.rows.next - entries_per_page plan) ∷ []) (full_pages (take i (model.sealed (shape_of plan IndexRing) (entries_per_page plan) ring).counts))
-      ≡ slice_get (table.firsts ++ (table.rows.next - entries_per_page plan) ∷ []) (full_pages (take (by + i) (ring.counts ++ entries_per_page plan ∷ [])))
+  pub listed : (i : ℕ) → slice_get (drop (full_pages (model.given_up (shape_of plan IndexRing) (entries_per_page plan) ring)) table.index_pages ++ page_waited plan table ∷ []) (full_pages (take i (model.sealed (shape_of plan IndexRing) (entries_per_page plan) ring).counts))
+      ≡ slice_get (table.index_pages ++ page_waited plan table ∷ []) (full_pages (take (by + i) (ring.counts ++ entries_per_page plan ∷ [])))
 
 pub index-shift : (first : ℕ) (plan : Plan) (body : List ℕ) (table : Table) (s : RingState) (is : IsStateOf plan table s) → model.IsShape (shape_of plan IndexRing) → MakesBody plan body table is.ring → IndexShift plan table is.ring
 index-shift first plan body table s is shape m =
-    let l = last-shifted first plan shape table s is m.clean (Some body) (entries_per_page plan) refl ((table.rows.next - entries_per_page plan) ∷ []) (inr refl) (sym (full-one (entries_per_page plan) m.some)) m.left
-    (ascend-push (entries_per_page plan) (table.rows.next - entries_per_page plan) table.firsts is.facts.firsts (omega (arith, is.facts.listed, m.full)))
-    (let e = ap (λ (o : Option ℕ). unwrap_or (option_map (λ p. p + entries_per_page plan) o) 0) (last_or-push None table.firsts (table.rows.next - entries_per_page plan)) in
-    omega (arith, e, is.facts.listed, m.full))
+    let l = last-shifted first plan shape table s is m.clean (Some body) (entries_per_page plan) refl (page_waited plan table ∷ []) (inr refl) (sym (full-one (entries_per_page plan) m.some)) m.left
+    (rises-waited plan table s is m.full) (ends-waited plan table s is m.full)
+    (each-push (λ (p : IndexPage). length p.entries ≡ entries_per_page plan) table.index_pages (page_waited plan table) is.facts.index_fit m.full)
+    (tells-waited plan table s is m.full)
     (sealed-page plan body table s is m) in
     record { by = l.by; counts = l.counts; old = l.old; listed = l.listed }
 
 -- a torn page is given up, where none waits
-pub voided-state : (first : ℕ) (plan : Plan) (table : Table) (s : RingState) (is : IsStateOf plan table s) → model.IsShape (shape_of plan IndexRing) → table.waiting ≡ 0 → is.ring.torn ≡ true →
+pub voided-state : (first : ℕ) (plan : Plan) (table : Table) (s : RingState) (is : IsStateOf plan table s) → model.IsShape (shape_of plan IndexRing) → table.waiting ≡ [] → is.ring.torn ≡ true →
     IsStateOf plan (seal_page plan IndexRing 0 table) (voided (shape_in first plan) s)
 voided-state first plan table s is shape idle torn =
     subst (λ (t : Table). IsStateOf plan t (voided (shape_in first plan) s)) (sym table_is)
     (state-kept first plan shape table s is (clean is.ring.torn is.ring.dirty torn is.facts.is_ring.not_both) None 0 refl [] (inl refl) refl (left is.ring.torn torn is.facts.number)
-    (λ i j a b lt e f. is.facts.firsts i j a b lt (ap (λ (fs : List ℕ). slice_get fs i) (sym (append-nil table.firsts)) ∙ e) (ap (λ (fs : List ℕ). slice_get fs j) (sym (append-nil table.firsts)) ∙ f))
-    (let e = ap (end_after (entries_per_page plan)) (append-nil table.firsts) in omega (arith, e, is.facts.listed))
+    (subst (λ (ps : List IndexPage). Ascend (entries_per_page plan) (firsts_of ps)) (sym (append-nil table.index_pages)) is.facts.firsts)
+    (let e = ap (λ (ps : List IndexPage). end_after (entries_per_page plan) (firsts_of ps)) (append-nil table.index_pages) in omega (arith, e, is.facts.listed))
+    (subst (AllByRecursion (λ (p : IndexPage). length p.entries ≡ entries_per_page plan)) (sym (append-nil table.index_pages)) is.facts.index_fit)
+    (λ k p e. is.facts.tell k p (ap (λ (ps : List IndexPage). slice_get ps k) (sym (append-nil table.index_pages)) ∙ e))
     (λ body e. absurd (none body e)))
   where
     none : (body : List ℕ) → ◌≡◌ {A = Option (List ℕ)} None (Some body) → ⊥
@@ -188,14 +219,14 @@ voided-state first plan table s is shape idle torn =
     left true e h = h
     left false e h = cc
 
-    table_is : seal_page plan IndexRing 0 table ≡ with_index table (model.sealed (shape_of plan IndexRing) 0 is.ring) (drop (full_pages (model.given_up (shape_of plan IndexRing) 0 is.ring)) table.firsts ++ [])
+    table_is : seal_page plan IndexRing 0 table ≡ with_index table (model.sealed (shape_of plan IndexRing) 0 is.ring) (drop (full_pages (model.given_up (shape_of plan IndexRing) 0 is.ring)) table.index_pages ++ [])
     table_is =
         ap (λ (o : Option model.Ring). record table {
-          firsts = drop (full_pages (unwrap_or (option_map (model.given_up (shape_of plan IndexRing) 0) o) [])) table.firsts;
+          index_pages = drop (full_pages (unwrap_or (option_map (model.given_up (shape_of plan IndexRing) 0) o) [])) table.index_pages;
           index = option_map (model.sealed (shape_of plan IndexRing) 0) o;
         }) is.facts.ring_is
-        ∙ (ap (λ (fs : List ℕ). record table { firsts = fs; index = Some (model.sealed (shape_of plan IndexRing) 0 is.ring) }) (sym (append-nil (drop (full_pages (model.given_up (shape_of plan IndexRing) 0 is.ring)) table.firsts)))
-        ∙ ap (λ (n : ℕ). record table { firsts = drop (full_pages (model.given_up (shape_of plan IndexRing) 0 is.ring)) table.firsts ++ []; index = Some (model.sealed (shape_of plan IndexRing) 0 is.ring); waiting = n }) idle)
+        ∙ (ap (λ (fs : List IndexPage). record table { index_pages = fs; index = Some (model.sealed (shape_of plan IndexRing) 0 is.ring) }) (sym (append-nil (drop (full_pages (model.given_up (shape_of plan IndexRing) 0 is.ring)) table.index_pages)))
+        ∙ ap (λ (n : List IndexEntry). record table { index_pages = drop (full_pages (model.given_up (shape_of plan IndexRing) 0 is.ring)) table.index_pages ++ []; index = Some (model.sealed (shape_of plan IndexRing) 0 is.ring); waiting = n }) idle)
 
 -- how the operations of a table ended, by the answer
 abbrev pub TableAnswers : PartEnd Table → Result (Unit {0}) FlashFault → FlashState → Type 0
@@ -292,7 +323,7 @@ step-along first plan body shape Body kinds s table r =
     record {
       state = begun-state plan table s r.state m.clean m.left;
       come = mark_comes plan body kinds (with_ring IndexRing model.begun table) (model.begun r.state.ring)
-          (record { full = m.full; some = m.some; bitmaps = m.bitmaps; length_is = m.length_is; body_is = m.body_is; each = m.each; clean = m.clean; left = m.left }) r.come.1;
+          (record { full = m.full; some = m.some; body_is = m.body_is; clean = m.clean; left = m.left }) r.come.1;
     }
 step-along first plan body shape Mark kinds s table r =
     let state = sealed-state first plan body table s r.state shape r.come.0 in

@@ -1,11 +1,12 @@
 -- Lists of first data pages.
-use Rattle.std.proofs.Common.{◌≡◌, ℕ, zero, suc, ◌+◌, ◌<◌, ◌≤◌, ◌⊎◌, inl, inr, Option, Some, None, List, [], ◌∷◌, ◌++◌, length, take, drop, get_or, refl, sym, ◌∙◌, ap, arith, length-drop}
+use Rattle.std.proofs.Common.{◌≡◌, ℕ, zero, suc, ◌+◌, ◌<◌, ◌≤◌, ◌⊎◌, inl, inr, Option, Some, None, List, [], ◌∷◌, ◌++◌, length, map, take, drop, get_or, refl, sym, ◌∙◌, ap, arith, length-drop}
 use Rattle.std.proofs.lemmas.Bool.{cases_lt}
 use Rattle.std.specs.List.{slice_get, last_or}
 use Rattle.std.specs.Option.{option_map, unwrap_or}
 use Rattle.fl_model.specs.Table.{full_pages}
+use Rattle.fl_model.specs.Layout.{IndexPage}
 use Rattle.fl_model.proofs.Lists.{slice_get-drop, slice_get-push, slice_get-short, slice_get-some, last_or-get}
-use Rattle.fl_index.proofs.Firsts.{full-split}
+use Rattle.fl_model.proofs.FullPages.{full-split}
 
 pub drop-front : {X : Type 0} (k : ℕ) (xs ys : List X) → k ≤ length xs → drop k (xs ++ ys) ≡ drop k xs ++ ys
 drop-front zero [] ys h = none ys
@@ -85,5 +86,37 @@ get_or-end [] y d = refl
 get_or-end (x ∷ xs) y d = get_or-end xs y d
 
 -- as many are left as pages that aren't void
-pub as-many-drop : (p : ℕ) (counts firsts : List ℕ) → length firsts ≡ full_pages counts → length (drop (full_pages (take p counts)) firsts) ≡ full_pages (drop p counts)
-as-many-drop p counts firsts h = omega (arith, length-drop (full_pages (take p counts)) firsts, h, full-split p counts)
+pub as-many-drop : {X : Type 0} (p : ℕ) (counts : List ℕ) (pages : List X) → length pages ≡ full_pages counts → length (drop (full_pages (take p counts)) pages) ≡ full_pages (drop p counts)
+as-many-drop p counts pages h = omega (arith, length-drop (full_pages (take p counts)) pages, h, full-split p counts)
+
+-- ---- the first data pages of index pages
+
+abbrev pub firsts_of : List IndexPage → List ℕ
+firsts_of pages = map (λ page. page.first) pages
+
+pub first-at : (pages : List IndexPage) (k : ℕ) (page : IndexPage) → slice_get pages k ≡ Some page → slice_get (firsts_of pages) k ≡ Some page.first
+first-at [] k page e = absurd (none e)
+  where
+    none : ◌≡◌ {A = Option IndexPage} None (Some page) → ⊥
+    none e = cc
+first-at (p ∷ ps) zero page e = let same : p ≡ page = cc in rw same refl
+first-at (p ∷ ps) (suc k) page e = first-at ps k page e
+
+pub firsts-get : (pages : List IndexPage) (k : ℕ) → slice_get (firsts_of pages) k ≡ option_map (λ page. page.first) (slice_get pages k)
+firsts-get [] k = refl
+firsts-get (p ∷ ps) zero = refl
+firsts-get (p ∷ ps) (suc k) = firsts-get ps k
+
+pub firsts-length : (pages : List IndexPage) → length (firsts_of pages) ≡ length pages
+firsts-length [] = refl
+firsts-length (p ∷ ps) = ap suc (firsts-length ps)
+
+pub firsts-append : (xs ys : List IndexPage) → firsts_of (xs ++ ys) ≡ firsts_of xs ++ firsts_of ys
+firsts-append [] ys = refl
+firsts-append (x ∷ xs) ys = ap (λ (ns : List ℕ). x.first ∷ ns) (firsts-append xs ys)
+
+pub firsts-drop : (k : ℕ) (xs : List IndexPage) → firsts_of (drop k xs) ≡ drop k (firsts_of xs)
+firsts-drop zero [] = refl
+firsts-drop zero (x ∷ xs) = refl
+firsts-drop (suc k) [] = refl
+firsts-drop (suc k) (x ∷ xs) = firsts-drop k xs

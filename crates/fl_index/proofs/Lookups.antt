@@ -7,7 +7,7 @@ use Rattle.std.specs.Option.{option_map, unwrap_or}
 use Rattle.fl_flash.specs.Buffer.{BufferState}
 use Rattle.fl_flash.specs.Flash.{FlashState, page_at}
 use Rattle.fl_model.specs.Record.{Plan}
-use Rattle.fl_model.specs.Table.{Table, full_pages}
+use Rattle.fl_model.specs.Table.{Table, full_pages, firsts}
 use Rattle.fl_page.specs.declared.fault.ReadFault.{ReadFault}
 use Rattle.fl_page.specs.declared.fault.ReadFault.TheVariants.{Flash, BadPage}
 use Rattle.fl_ring.specs.Place.{shape_of, oldest_of, next_of}
@@ -17,35 +17,36 @@ use Rattle.fl_index.specs.declared.index.Index.{Index}
 use Rattle.fl_index.specs.Looking.{looked_at, listing_by, IsHeld, IsFresh, IfRead, ends_above, unread, HoldsLast, IsScanning, ScansOn}
 use Rattle.fl_index.specs.Memory.{first_in, is_waiting, next_in, oldest_in, per_page, listing_in, place_in}
 use Rattle.fl_index.specs.Page.{page_number}
+use Rattle.fl_index.specs.declared.page.Found.{Found}
 use Rattle.fl_index.specs.Standing.{Stands}
-use Rattle.fl_index.proofs.Firsts.{full-below}
+use Rattle.fl_model.proofs.FullPages.{full-below}
 use Rattle.fl_index.proofs.Held.{listed-by, listed-first}
 use Rattle.fl_index.proofs.Listings.{IsListing, listing-is}
 use Rattle.fl_index.proofs.Showing.{KeptPage, kept-page, ListingPage, listing-page, PageIs, page-is, X_is}
 
-pub some-of : (b : Bool) (x y : ℕ) → ◌≡◌ {A = Option ℕ} (cond b (Some x) None) (Some y) → (b ≡ true) × (y ≡ x)
-some-of true x y h = (refl, sym (same h))
+pub some-of : {A : Type 0} (b : Bool) (x y : A) → ◌≡◌ {A = Option A} (cond b (Some x) None) (Some y) → (b ≡ true) × (y ≡ x)
+some-of {A} true x y h = (refl, sym (same h))
   where
-    same : ◌≡◌ {A = Option ℕ} (Some x) (Some y) → x ≡ y
+    same : ◌≡◌ {A = Option A} (Some x) (Some y) → x ≡ y
     same e = cc
-some-of false x y h = absurd (none h)
+some-of {A} false x y h = absurd (none h)
   where
-    none : ◌≡◌ {A = Option ℕ} None (Some y) → ⊥
+    none : ◌≡◌ {A = Option A} None (Some y) → ⊥
     none e = cc
 
-pub none-of : (b : Bool) (x : ℕ) → ◌≡◌ {A = Option ℕ} (cond b (Some x) None) None → b ≡ false
-none-of true x h = absurd (none h)
+pub none-of : {A : Type 0} (b : Bool) (x : A) → ◌≡◌ {A = Option A} (cond b (Some x) None) None → b ≡ false
+none-of {A} true x h = absurd (none h)
   where
-    none : ◌≡◌ {A = Option ℕ} (Some x) None → ⊥
+    none : ◌≡◌ {A = Option A} (Some x) None → ⊥
     none e = cc
 none-of false x h = refl
 
-pub read-any : (result : Result (Option ℕ) ReadFault) (P : Type 0) → P → IfRead result P
+pub read-any : (result : Result (Option Found) ReadFault) (P : Type 0) → P → IfRead result P
 read-any (Ok found) P p = p
 read-any (Err (Flash fault)) P p = tt
 read-any (Err (BadPage bad)) P p = p
 
-pub ok-any : (result : Result (Option ℕ) ReadFault) (P : Type 0) → P → OnOk result P
+pub ok-any : (result : Result (Option Found) ReadFault) (P : Type 0) → P → OnOk result P
 ok-any (Ok found) P p = p
 ok-any (Err fault) P p = tt
 
@@ -132,9 +133,9 @@ module _ (t : Index) (f : FlashState) (first : ℕ) (plan : Plan) (table : Table
           none h = cc
 
           by_count : (0 < p.c) ⊎ (p.c ≤ 0) → nat_lt number (x + per_page t) ≡ false
-          by_count (inr z) = let c0 : p.c ≡ 0 = omega (arith, z) in absurd (none (sym (p.memory ∙ ap (λ c. cond (c == 0) None (slice_get table.firsts (full_pages (take p.i stands.in_ring.ring.counts)))) c0) ∙ e))
+          by_count (inr z) = let c0 : p.c ≡ 0 = omega (arith, z) in absurd (none (sym (p.memory ∙ ap (λ c. cond (c == 0) None (slice_get (firsts table) (full_pages (take p.i stands.in_ring.ring.counts)))) c0) ∙ e))
           by_count (inl some) =
-              let is : slice_get table.firsts (full_pages (take p.i stands.in_ring.ring.counts)) ≡ Some x = sym (not_zero p.c some (slice_get table.firsts (full_pages (take p.i stands.in_ring.ring.counts)))) ∙ (sym p.memory ∙ e) in
+              let is : slice_get (firsts table) (full_pages (take p.i stands.in_ring.ring.counts)) ≡ Some x = sym (not_zero p.c some (slice_get (firsts table) (full_pages (take p.i stands.in_ring.ring.counts)))) ∙ (sym p.memory ∙ e) in
               let less : full_pages (take p.i stands.in_ring.ring.counts) < full_pages (take l.kept.i stands.in_ring.ring.counts) =
               let k = full-below stands.in_ring.ring.counts p.i l.kept.i p.c (omega (arith, p.at, l.kept.at, high)) p.here some in omega (arith, k) in
               let apart = stands.in_ring.facts.firsts _ _ x l.first_page less is l.listed in

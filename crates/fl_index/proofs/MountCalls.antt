@@ -41,7 +41,7 @@ pub same-shape : (old new : Index) (f : FlashState) → IsSamePlan old new → f
 same-shape old new f same geometry = ap (λ (p : RingPlace). shape_at p f.geometry) same.place ∙ ap (λ (g : Geometry). shape_at old.place g) geometry
 
 pub same-entries : (old new : Index) → IsSamePlan old new → per_page new ≡ per_page old
-same-entries old new same = rw (same.geometry, same.bits) refl
+same-entries old new same = rw (same.geometry, same.bits, same.full) refl
 
 -- a call within another is watched as that is
 pub watched-front : (old mid new : FlashState) (rose : Bool) (device : Device) → IsWatched old new rose device → Goes mid new → IsWatched old mid rose device

@@ -47,7 +47,7 @@ pub record IsMounting (first : ℕ) (plan : Plan) (table : Table) (old : FlashSt
   pub some : 0 < entries_per_page plan
   pub large : 64 ≤ plan.geometry.page
   pub few : plan.geometry.page ≤ 4096
-  pub idle : table.waiting ≡ 0
+  pub idle : table.waiting ≡ []
   pub s : RingState
   pub is : IsStateOf plan table s
   pub on : OnRing (shape_in first plan) (page_at old) s

@@ -1,5 +1,5 @@
 -- The pages that a mount of an index reads, where the flash stands for the index of a table.
-use Rattle.std.proofs.Common.{◌≡◌, ◌⊎◌, inl, inr, ℕ, zero, suc, ◌+◌, ◌-◌, ◌/◌, ◌^◌, ◌<◌, ◌≤◌, Bool, true, false, cond, ◌==◌, Option, Some, None, List, [], ◌∷◌, length, take, refl, sym, ◌∙◌, ap, subst, arith}
+use Rattle.std.proofs.Common.{◌≡◌, ◌⊎◌, inl, inr, ℕ, zero, suc, ◌+◌, ◌-◌, ◌^◌, ◌<◌, ◌≤◌, Bool, true, false, cond, ◌==◌, Option, Some, None, List, [], ◌∷◌, length, take, refl, sym, ◌∙◌, ap, subst, arith}
 use Rattle.std.proofs.Math.Nat.{div-le_self}
 use Rattle.std.proofs.lemmas.Bool.{cases_lt, eqb-true}
 use Rattle.std.proofs.lemmas.List.{take_all}
@@ -9,16 +9,17 @@ use Rattle.fl_mark.specs.Mark.{state_of_page}
 use Rattle.fl_mark.specs.declared.page_state.PageState.{PageState}
 use Rattle.fl_mark.specs.declared.page_state.PageState.TheVariants.{Void}
 use Rattle.fl_mark.proofs.InModel.{model_state}
-use Rattle.fl_model.specs.Record.{Plan, entries_per_page}
+use Rattle.fl_model.specs.Layout.{IndexEntry, IndexPage}
+use Rattle.fl_model.specs.Record.{Plan, entry_len, entries_per_page}
 use Rattle.fl_model.specs.Ring as model
-use Rattle.fl_model.specs.Table.{Table, full_pages}
-use Rattle.fl_model.proofs.Lists.{slice_get-some, slice_get-short, last_or-get}
+use Rattle.fl_model.specs.Table.{Table, full_pages, firsts}
+use Rattle.fl_model.proofs.Lists.{slice_get-some, slice_get-short, last_or-get, each-at}
 use Rattle.fl_index.specs.Finding.{HasEnd, IsEnd}
 use Rattle.fl_index.specs.Outcomes.{end_of}
 use Rattle.fl_index.specs.Page.{page_first, first_on, first_where, newest_of, newest_where}
 use Rattle.fl_index.specs.Standing.{HasIndex, HoldsIndex, bytes_in}
-use Rattle.fl_index.proofs.Firsts.{full-one, full-cons}
-use Rattle.fl_index.proofs.Lists.{below-end}
+use Rattle.fl_model.proofs.FullPages.{full-one, full-cons}
+use Rattle.fl_index.proofs.Lists.{below-end, first-at, firsts-length}
 use Rattle.fl_index.proofs.Showing.{IsIndexPage, index-page}
 use Rattle.fl_index.proofs.State.{HaveSize}
 
@@ -29,33 +30,35 @@ module _ (page : ℕ → List ℕ) (first : ℕ) (plan : Plan) (table : Table) (
   void-none : (i : ℕ) → slice_get ring.counts i ≡ Some 0 → state_of_page (bytes_in page first plan (model.oldest ring + i)) ≡ Void
   void-none i e = (model_state (bytes_in page first plan (model.oldest ring + i)) (omega (arith, sizes (model.oldest ring + i), large))).void.1 (image.void i e)
 
-  -- a page with bitmaps
+  -- a page with entries
   pub record IsListed (i : ℕ) : Type 0 where
     pub first_page : ℕ
-    pub bitmaps : List ℕ
-    pub is : IsIndexPage plan (model.oldest ring + i) first_page bitmaps (bytes_in page first plan (model.oldest ring + i))
-    pub listed : slice_get table.firsts (full_pages (take i ring.counts)) ≡ Some first_page
+    pub entries : List IndexEntry
+    pub is : IsIndexPage plan (model.oldest ring + i) first_page entries (bytes_in page first plan (model.oldest ring + i))
+    pub listed : slice_get (firsts table) (full_pages (take i ring.counts)) ≡ Some first_page
     pub small : first_page + entries_per_page plan < 2 ^ 32
 
   pub is-listed : (i c : ℕ) → slice_get ring.counts i ≡ Some c → 0 < c → IsListed i
   is-listed i c e some =
       let h = image.kept i c e some in
-      let end = below-end (entries_per_page plan) table.firsts (full_pages (take i ring.counts)) h.first facts.firsts h.listed in
+      let listed = first-at table.index_pages (full_pages (take i ring.counts)) h.holds h.is in
+      let end = below-end (entries_per_page plan) (firsts table) (full_pages (take i ring.counts)) h.holds.first facts.firsts listed in
+      let many = each-at (λ (p : IndexPage). length p.entries ≡ entries_per_page plan) table.index_pages (full_pages (take i ring.counts)) h.holds facts.index_fit h.is in
       let short = slice_get-short ring.counts i c e in
       record {
-        first_page = h.first;
-        bitmaps = h.bitmaps;
-        is = index-page plan (model.oldest ring + i) h.first h.bitmaps (bytes_in page first plan (model.oldest ring + i)) (omega (arith, short, facts.is_ring.not_negative, facts.number))
-            (omega (arith, end, facts.listed, facts.rows_number)) h.length (omega (arith, div-le_self (plan.geometry.page - 24) (plan.bits / 8), few)) h.bytes;
-        listed = h.listed;
+        first_page = h.holds.first;
+        entries = h.holds.entries;
+        is = index-page plan (model.oldest ring + i) h.holds.first h.holds.entries (bytes_in page first plan (model.oldest ring + i)) (omega (arith, short, facts.is_ring.not_negative, facts.number))
+            (omega (arith, end, facts.listed, facts.rows_number)) many (omega (arith, div-le_self (plan.geometry.page - 24) (entry_len plan), few)) h.bytes;
+        listed = listed;
         small = omega (arith, end, facts.listed, facts.rows_number);
       }
 
   -- the first data page that it lists
-  pub first-there : (i c : ℕ) → slice_get ring.counts i ≡ Some c → first_on (bytes_in page first plan (model.oldest ring + i)) ≡ cond (c == 0) None (slice_get table.firsts (full_pages (take i ring.counts)))
+  pub first-there : (i c : ℕ) → slice_get ring.counts i ≡ Some c → first_on (bytes_in page first plan (model.oldest ring + i)) ≡ cond (c == 0) None (slice_get (firsts table) (full_pages (take i ring.counts)))
   first-there i c e = by_count (c == 0) refl (cases_lt 0 c)
     where
-      by_count : (b : Bool) → (c == 0) ≡ b → (0 < c) ⊎ (c ≤ 0) → first_on (bytes_in page first plan (model.oldest ring + i)) ≡ cond b None (slice_get table.firsts (full_pages (take i ring.counts)))
+      by_count : (b : Bool) → (c == 0) ≡ b → (0 < c) ⊎ (c ≤ 0) → first_on (bytes_in page first plan (model.oldest ring + i)) ≡ cond b None (slice_get (firsts table) (full_pages (take i ring.counts)))
       by_count true k h =
           let z = eqb-true c 0 k in
           ap (λ (s : PageState). first_where s (page_first (bytes_in page first plan (model.oldest ring + i)))) (void-none i (e ∙ ap (λ (n : ℕ). Some n) z))
@@ -124,7 +127,7 @@ module _ (page : ℕ → List ℕ) (first : ℕ) (plan : Plan) (table : Table) (
   newest-end = by_newest (newest_of (bytes_in page first plan) (model.oldest ring) (length ring.counts)) (newest-there (length ring.counts) (omega arith))
     where
       by_newest : (o : Option ℕ) → Newest (length ring.counts) o → IsNewestEnd o
-      by_newest None h = record { fits = λ number e. absurd (none number e); end = λ x e. e ∙ sym (ap (option_map (λ page. page + entries_per_page plan)) (empty table.firsts (omega (arith, facts.first_each, all-full, h)))) }
+      by_newest None h = record { fits = λ number e. absurd (none number e); end = λ x e. e ∙ sym (ap (option_map (λ page. page + entries_per_page plan)) (empty (firsts table) (omega (arith, firsts-length table.index_pages, facts.index_each, all-full, h)))) }
         where
           none : (number : ℕ) → ◌≡◌ {A = Option ℕ} None (Some number) → ⊥
           none number e = cc
@@ -134,7 +137,7 @@ module _ (page : ℕ → List ℕ) (first : ℕ) (plan : Plan) (table : Table) (
           empty (x ∷ xs) h = absurd (omega (arith, h))
       by_newest (Some number) h =
           let l = is-listed h.0 h.1 h.3 h.4 in
-          let last : last_or None table.firsts ≡ Some l.first_page = last_at table.firsts (full_pages (take h.0 ring.counts)) l.first_page l.listed (omega (arith, facts.first_each, all-full, h.5)) in
+          let last : last_or None (firsts table) ≡ Some l.first_page = last_at (firsts table) (full_pages (take h.0 ring.counts)) l.first_page l.listed (omega (arith, firsts-length table.index_pages, facts.index_each, all-full, h.5)) in
           let here : bytes_in page first plan number ≡ bytes_in page first plan (model.oldest ring + h.0) = ap (bytes_in page first plan) h.2 in
           record {
             fits = λ n e. subst (λ k. HasEnd (entries_per_page plan) (bytes_in page first plan k)) (sym (sym (same n e) ∙ h.2)) (record { full = l.is.good.full; fits = ap_small l.first_page l.small l.is.first_is });

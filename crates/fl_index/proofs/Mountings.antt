@@ -15,14 +15,14 @@ use Rattle.fl_model.specs.Record.{Plan, entries_per_page}
 use Rattle.fl_model.specs.Ring as model
 use Rattle.fl_model.specs.Row.{le}
 use Rattle.fl_model.specs.Table.{Table, RingName, IndexRing, shape_of, seal_page, is_dirty, is_torn}
-use Rattle.fl_model.specs.Image.{HoldsBitmaps}
+use Rattle.fl_model.specs.Image.{HoldsEntries}
 use Rattle.fl_model.specs.Layout.{committed, index_body}
 use Rattle.fl_model.specs.Mount as numbering
 use Rattle.fl_model.specs.Mount.{renumber}
 use Rattle.fl_model.specs.Work.{Kind, Body, Mark, VoidMark, Erase, effect, Device, Whole, PartProgress}
 use Rattle.fl_model.specs.Within.{repair_within, effect_within, TablePerforms, TableUnreads, all_done}
 use Rattle.fl_model.proofs.Performs.{performs-whole}
-use Rattle.fl_model.proofs.Plain.{sealed-torn}
+use Rattle.fl_model.proofs.Sealed.{sealed-torn}
 use Rattle.fl_model.proofs.Renumber.{least-alike}
 use Rattle.fl_ring.specs.Counts.{page_count}
 use Rattle.fl_ring.specs.Device.{SameDevice}
@@ -127,10 +127,13 @@ module _ (first : ℕ) (plan : Plan) (shape : model.IsShape (shape_of plan Index
     ring_is = refl;
     is_ring = is.facts.is_ring;
     counts = is.facts.counts;
-    first_each = is.facts.first_each;
+    index_each = is.facts.index_each;
+    index_fit = is.facts.index_fit;
     firsts = is.facts.firsts;
     waiting = is.facts.waiting;
     listed = is.facts.listed;
+    tell = is.facts.tell;
+    wait = is.facts.wait;
     counted = is.facts.counted;
     number = is.facts.number;
     rows_number = is.facts.rows_number;
@@ -139,20 +142,23 @@ module _ (first : ℕ) (plan : Plan) (shape : model.IsShape (shape_of plan Index
     ring_is = refl;
     is_ring = ring-lower (shape_of plan IndexRing) is.ring shape is.facts.is_ring;
     counts = is.facts.counts;
-    first_each = is.facts.first_each;
+    index_each = is.facts.index_each;
+    index_fit = is.facts.index_fit;
     firsts = is.facts.firsts;
     waiting = is.facts.waiting;
     listed = is.facts.listed;
+    tell = is.facts.tell;
+    wait = is.facts.wait;
     counted = is.facts.counted;
     number = torn_small (length is.ring.counts + model.oldest is.ring % (plan.index_blocks * plan.geometry.block)) lower_le;
     rows_number = is.facts.rows_number;
   })
 
   bodies_by : (b : Bool) → list_any (nat_lt 0) is.ring.counts ≡ b → (i : ℕ) (body : List ℕ) → i < count s → get_or s.kept i None ≡ Some body →
-      HoldsBitmaps plan (record table { index = Some (cond b is.ring (record is.ring { next = numbering.least_alike (plan.index_blocks * plan.geometry.block) is.ring.next (0 + length is.ring.counts) })) })
+      HoldsEntries plan (record table { index = Some (cond b is.ring (record is.ring { next = numbering.least_alike (plan.index_blocks * plan.geometry.block) is.ring.next (0 + length is.ring.counts) })) })
       (cond b is.ring (record is.ring { next = numbering.least_alike (plan.index_blocks * plan.geometry.block) is.ring.next (0 + length is.ring.counts) })) i (entries_per_page plan) (committed body)
   bodies_by true e i body lt at =
-      holds-moved plan table (record table { index = Some is.ring }) is.ring is.ring i i (entries_per_page plan) (committed body) refl (λ n rows e. refl) refl (λ f e. e) (is.bodies i body lt at)
+      holds-moved plan table (record table { index = Some is.ring }) is.ring is.ring i i (entries_per_page plan) (committed body) refl (λ p e. e) (is.bodies i body lt at)
   bodies_by false e i body lt at =
       absurd (false≢true (sym e ∙ any-some (nat_lt 0) is.ring.counts i (entries_per_page plan) (body-count plan table s is i body lt at) (lt-ltb 0 (entries_per_page plan) some)))
 
@@ -178,7 +184,7 @@ module _ (first : ℕ) (plan : Plan) (shape : model.IsShape (shape_of plan Index
   body_is : (i : ℕ) (body : List ℕ) → i < count s → get_or s.kept i None ≡ Some body → number_of body ≡ oldest s + i
   body_is i body lt at =
       let h = is.bodies i body lt at in
-      let same = same_body body (index_body plan (model.oldest is.ring + i) h.first h.bitmaps) h.bytes in
+      let same = same_body body (index_body plan (model.oldest is.ring + i) h.holds.first h.holds.entries) h.bytes in
       let small : model.oldest is.ring + i < 2 ^ 32 = omega (arith, lt, state-len plan table s is, is.facts.is_ring.not_negative, is.facts.number) in
       ap number_of same ∙ (from_le_bytes_4 (le 4 (model.oldest is.ring + i)) (length-le 4 (model.oldest is.ring + i)) ∙ (number_of-le 4 (model.oldest is.ring + i) small ∙ omega (arith, state-old plan table s is)))
     where
@@ -234,7 +240,7 @@ RepairsCome (Mark ∷ kinds) r = ⊥
 
 record IsRepairOf (plan : Plan) (kinds : List Kind) (s : RingState) (table : Table) : Type 0 where
   pub state : IsStateOf plan table s
-  pub idle : table.waiting ≡ 0
+  pub idle : table.waiting ≡ []
   pub come : RepairsCome kinds state.ring
 
 erases_come : (kinds : List Kind) (ring : model.Ring) → AreErases kinds → RepairsCome kinds ring
@@ -269,7 +275,7 @@ repairs_front (Erase ∷ front) others ring h = erases_front front others h
 repairs_front (Body ∷ front) others ring h = absurd h
 repairs_front (Mark ∷ front) others ring h = absurd h
 
-module _ (first : ℕ) (plan : Plan) (shape : model.IsShape (shape_of plan IndexRing)) (table : Table) (s : RingState) (is : IsStateOf plan table s) (idle : table.waiting ≡ 0) where
+module _ (first : ℕ) (plan : Plan) (shape : model.IsShape (shape_of plan IndexRing)) (table : Table) (s : RingState) (is : IsStateOf plan table s) (idle : table.waiting ≡ []) where
   repairs_come : RepairsCome (repair_kinds (shape_in first plan) s) is.ring
   repairs_come = by_torn s.torn (sym (state-torn plan table s is)) (unerased (shape_in first plan) s).dirty
     where
@@ -304,9 +310,9 @@ module _ (first : ℕ) (plan : Plan) (shape : model.IsShape (shape_of plan Index
   -- a front of the repairs
   repair-lifts : (rose : Bool) (front others : List Kind) (device : Device) (result : Result (Unit {0}) FlashFault) (new : FlashState) → repair_kinds (shape_in first plan) s ≡ front ++ others →
       (h : Performed (shape_in first plan) (change (shape_in first plan) []) rose front device s result new) →
-      IndexPerformed (λ t. t.waiting ≡ 0) plan (map of_index front) table rose device result new h.now.state
+      IndexPerformed (λ t. t.waiting ≡ []) plan (map of_index front) table rose device result new h.now.state
   repair-lifts rose front others device result new split h =
-      performed-lifts (λ t. t.waiting ≡ 0) first plan [] (IsRepairOf plan) (repair-along first plan shape) (λ kinds s t r. (r.state, r.idle)) rose front device s table result new
+      performed-lifts (λ t. t.waiting ≡ []) first plan [] (IsRepairOf plan) (repair-along first plan shape) (λ kinds s t r. (r.state, r.idle)) rose front device s table result new
       (record { state = is; idle = idle; come = repairs_front front others is.ring (subst (λ (ks : List Kind). RepairsCome ks is.ring) split repairs_come) }) h
 
   -- after all repairs no page is torn and no block waits
@@ -342,7 +348,7 @@ module _ (first : ℕ) (plan : Plan) (shape : model.IsShape (shape_of plan Index
     pub whole : now.end ≡ Whole
     pub counts : SameDevice new now.device
     pub power : new.is_on ≡ true
-    pub idle_now : now.state.waiting ≡ 0
+    pub idle_now : now.state.waiting ≡ []
     pub s_now : RingState
     pub is_now : IsStateOf plan now.state s_now
     pub untorn : is_now.ring.torn ≡ false
@@ -380,7 +386,7 @@ module _ (first : ℕ) (plan : Plan) (shape : model.IsShape (shape_of plan Index
     pub did : (TablePerforms plan rose (repair_within plan IndexRing table) device table now × FaultEnds now.end fault new)
         ⊎ (TableUnreads plan rose (repair_within plan IndexRing table) device table now × (fault ≡ Media))
     pub counts : SameDevice new now.device
-    pub idle_now : now.state.waiting ≡ 0
+    pub idle_now : now.state.waiting ≡ []
     pub s_now : RingState
     pub is_now : IsStateOf plan now.state s_now
     pub on : OnRing (shape_in first plan) (page_at new) s_now

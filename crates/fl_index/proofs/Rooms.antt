@@ -1,5 +1,5 @@
 -- A full list of bitmaps is sealed, and none else.
-use Rattle.std.proofs.Common.{◌≡◌, ℕ, ◌<◌, ◌==◌, Bool, true, false, cond, Result, Ok, Err, List, [], ◌∷◌, refl, sym, ◌∙◌, ap, subst, arith}
+use Rattle.std.proofs.Common.{◌≡◌, ℕ, ◌<◌, ◌==◌, Bool, true, false, cond, Result, Ok, Err, List, [], ◌∷◌, length, refl, sym, ◌∙◌, ap, subst, arith}
 use Rattle.std.proofs.lemmas.Bool.{eqb-true}
 use Rattle.std.proofs.lemmas.List.{append-nil}
 use Rattle.std.proofs.Common.{eq-eqb}
@@ -17,20 +17,20 @@ use Rattle.fl_index.specs.Outcomes.{index_seals, Finishes, Breaks, MakesRoom, Se
 use Rattle.fl_index.proofs.Sealings.{planned-page}
 use Rattle.fl_index.proofs.Stays.{nothing-stands}
 
-none-sealed : (plan : Plan) (table : Table) → table.waiting < entries_per_page plan → index_seals plan table ≡ []
-none-sealed plan table lt = by_test (table.waiting == entries_per_page plan) refl
+none-sealed : (plan : Plan) (table : Table) → length table.waiting < entries_per_page plan → index_seals plan table ≡ []
+none-sealed plan table lt = by_test (length table.waiting == entries_per_page plan) refl
   where
-    by_test : (b : Bool) → (table.waiting == entries_per_page plan) ≡ b → cond b (IndexRing ∷ []) [] ≡ []
-    by_test true e = absurd (omega (arith, eqb-true table.waiting (entries_per_page plan) e, lt))
+    by_test : (b : Bool) → (length table.waiting == entries_per_page plan) ≡ b → cond b (IndexRing ∷ []) [] ≡ []
+    by_test true e = absurd (omega (arith, eqb-true (length table.waiting) (entries_per_page plan) e, lt))
     by_test false e = refl
 
-one-sealed : (plan : Plan) (table : Table) → table.waiting ≡ entries_per_page plan → index_seals plan table ≡ IndexRing ∷ []
-one-sealed plan table e = ap (λ (b : Bool). cond b (IndexRing ∷ []) []) (eq-eqb table.waiting (entries_per_page plan) e)
+one-sealed : (plan : Plan) (table : Table) → length table.waiting ≡ entries_per_page plan → index_seals plan table ≡ IndexRing ∷ []
+one-sealed plan table e = ap (λ (b : Bool). cond b (IndexRing ∷ []) []) (eq-eqb (length table.waiting) (entries_per_page plan) e)
 
 pub makes-nothing : (index : Index) (f : FlashState) (first : ℕ) (plan : Plan) (table : Table) (rose : Bool) (device : Device) → IsWatched f f rose device → Stands index f first plan table → waiting_in index < per_page index →
     MakesRoom first plan table rose device (Ok tt) index f f
 makes-nothing index f first plan table rose device watched stands lt =
-    let few : table.waiting < entries_per_page plan = omega (arith, lt, stands.waits.count_is, planned-page index first plan stands.in_ring.planned) in
+    let few : length table.waiting < entries_per_page plan = omega (arith, lt, stands.waits.count_is, planned-page index first plan stands.in_ring.planned) in
     subst (λ (rings : List RingName). Finishes first plan (seals_within plan rings table) table (after_seals plan rings table) rose device index f f) (sym (none-sealed plan table few))
     (record {
       now = record { end = Whole; device = device; state = table };
@@ -46,7 +46,7 @@ pub makes-room : (index : Index) (f : FlashState) (first : ℕ) (plan : Plan) (t
     (result : Result (Unit {0}) FlashFault) (now : Index) (new : FlashState) → SealEnds first plan table rose device result now f new → MakesRoom first plan table rose device result now f new
 makes-room index f first plan table rose device stands full result now new h = by_result result h
   where
-    all : table.waiting ≡ entries_per_page plan
+    all : length table.waiting ≡ entries_per_page plan
     all = sym stands.waits.count_is ∙ (full ∙ planned-page index first plan stands.in_ring.planned)
 
     by_result : (result : Result (Unit {0}) FlashFault) → SealEnds first plan table rose device result now f new → MakesRoom first plan table rose device result now f new

@@ -11,9 +11,10 @@ use Rattle.fl_page.specs.Contents.{IsCaused}
 use Rattle.fl_page.specs.declared.fault.ReadFault.{ReadFault}
 use Rattle.fl_page.specs.declared.fault.ReadFault.TheVariants.{Flash, BadPage}
 use Rattle.fl_index.specs.declared.index.Index.{Index}
-use Rattle.fl_index.specs.Looking.{bad_page, HoldsGood, IsBadPage, IfBad, IfUnread, IsFound, listing_of, IsHeld, ends_above, unread, IsScanning, after_held, next_to_read, is_page, is_looked_at, due}
+use Rattle.fl_index.specs.Looking.{bad_page, HoldsGood, IsBadPage, IfBad, IfUnread, entire, IsFound, listing_of, IsHeld, ends_above, unread, IsScanning, after_held, next_to_read, is_page, is_looked_at, due}
 use Rattle.fl_index.specs.Memory.{first_in, is_waiting, next_in, oldest_in, per_page, lists, listing_in, place_in}
 use Rattle.fl_index.specs.Page.{page_number, IsGoodPage}
+use Rattle.fl_index.specs.declared.page.Found.{Found}
 use Rattle.fl_index.specs.Standing.{Stands}
 use Rattle.fl_index.proofs.Counts.{count-cons, count-split, count-none, count-fewer, at-most-one}
 use Rattle.fl_index.proofs.Listings.{listing-is}
@@ -97,19 +98,19 @@ memory-least t number from reads numbers buf none scanning =
     omega (arith, few, moved)
 
 -- what is found in a good page is no fault
-pub good-found : (t : Index) (page number : ℕ) (bytes : List ℕ) (result : Result (Option ℕ) ReadFault) (P : Type 0) → IsGoodPage (per_page t) page bytes → IsFound t page number bytes result → IfErr result (IfUnread (λ e. ⊥)) → OnErr result P
+pub good-found : (t : Index) (page number : ℕ) (bytes : List ℕ) (result : Result (Option Found) ReadFault) (P : Type 0) → IsGoodPage (per_page t) page bytes → IsFound entire t page number bytes result → IfErr result (IfUnread (λ e. ⊥)) → OnErr result P
 good-found t page number bytes (Ok found) P good is none = tt
 good-found t page number bytes (Err (Flash fault)) P good is none = absurd none
 good-found t page number bytes (Err (BadPage bad)) P good is none = absurd (is.1 good)
 
 -- a fault that isn't one of the flash needs no cause
-pub caused-none : (f g : FlashState) (result : Result (Option ℕ) ReadFault) → IfErr result (IfUnread (λ e. ⊥)) → IfErr result (λ fault. IsCaused f fault g)
+pub caused-none : (f g : FlashState) (result : Result (Option Found) ReadFault) → IfErr result (IfUnread (λ e. ⊥)) → IfErr result (λ fault. IsCaused f fault g)
 caused-none f g (Ok found) none = tt
 caused-none f g (Err (Flash fault)) none = absurd none
 caused-none f g (Err (BadPage bad)) none = tt
 
 -- a bad page stands on the flash, where none is held
-pub bad-page : (t : Index) (f : FlashState) (number page : ℕ) (old new : BufferState) (result : Result (Option ℕ) ReadFault) → (oldest_in t ≤ page) × (page < next_in t) → IsFound t page number new.bytes result →
+pub bad-page : (t : Index) (f : FlashState) (number page : ℕ) (old new : BufferState) (result : Result (Option Found) ReadFault) → (oldest_in t ≤ page) × (page < next_in t) → IsFound entire t page number new.bytes result →
     (IsTrue f.media.tells → (new.bytes ≡ page_at f (place_in t page)) ⊎ (IsHeld t page old × (new ≡ old))) → IfErr result (IfBad (λ bad. IsTrue f.media.tells → HoldsGood t old → IsBadPage t f bad))
 bad-page t f number page old new (Ok found) kept is bytes = tt
 bad-page t f number page old new (Err (Flash fault)) kept is bytes = tt

@@ -1,10 +1,10 @@
 -- What an index that is sealed tells of its ring and its bitmaps.
-use Rattle.std.proofs.Common.{◌≡◌, inl, inr, Bool, true, false, Ok, IsErr, List, ℕ, ◌+◌, ◌-◌, ◌*◌, ◌/◌, ◌^◌, ◌<◌, ◌≤◌, Option, Some, length, drop, replicate, sym, ◌∙◌, ap, subst, arith}
+use Rattle.std.proofs.Common.{◌≡◌, inl, inr, Bool, true, false, Ok, IsErr, List, ℕ, ◌+◌, ◌-◌, ◌*◌, ◌^◌, ◌<◌, ◌≤◌, Option, Some, length, drop, replicate, sym, ◌∙◌, ap, subst, arith}
 use Rattle.std.proofs.Math.Nat.{mul-le-mul_right, div-add-mod'}
 use Rattle.std.specs.Option.{option_map, unwrap_or}
 use Rattle.fl_base.specs.Bytes.{splice}
 use Rattle.fl_flash.specs.Flash.{FlashState, page_at}
-use Rattle.fl_model.specs.Record.{Plan, entries_per_page}
+use Rattle.fl_model.specs.Record.{Plan, entry_len, entries_per_page}
 use Rattle.fl_model.specs.Ring as model
 use Rattle.fl_model.specs.Table.{Table}
 use Rattle.fl_model.specs.Layout.{index_body}
@@ -14,13 +14,14 @@ use Rattle.fl_ring.specs.Ring.{RingState, Shape}
 use Rattle.fl_ring.specs.Sealing.{SealCalls, ErasesWhere}
 use Rattle.fl_ring.specs.declared.ring.Ring.{Ring}
 use Rattle.fl_index.specs.declared.index.Index.{Index}
-use Rattle.fl_index.specs.Memory.{next_in, per_page, waiting_in}
+use Rattle.fl_index.specs.Memory.{next_in, per_page, waiting_in, len_in}
 use Rattle.fl_index.specs.Page.{header_bytes}
 use Rattle.fl_index.specs.Standing.{Stands}
-use Rattle.fl_index.proofs.Gathering.{InFront, body-is}
+use Rattle.fl_index.proofs.Gathering.{InFront, plan_form, body-is}
+use Rattle.fl_index.specs.declared.page.EntryForm.{EntryForm}
 use Rattle.fl_index.proofs.Lifted.{MakesBody}
 use Rattle.fl_index.proofs.State.{HaveSize, IsStateOf, to-state}
-use Rattle.fl_index.proofs.Sealings.{IsSealing, planned-page, planned-width, served-shape, some-entries}
+use Rattle.fl_index.proofs.Sealings.{IsSealing, planned-page, planned-form, planned-len, served-shape, some-entries}
 
 pub some-room : (index : Index) (len : ℕ) → len ≡ index.firsts.len → 0 < len
 some-room index len is =
@@ -38,21 +39,20 @@ sealing-of index f first plan table ring number stands sizes has at left full =
     let planned = in_ring.planned in
     let found = to-state first plan (page_at f) sizes (served-shape index first plan planned) (some-entries index first plan planned) table in_ring.ring in_ring.facts in_ring.pages in
     let X = planned-page index first plan planned in
-    let all : table.waiting ≡ entries_per_page plan = sym stands.waits.count_is ∙ (full ∙ X) in
+    let all : length table.waiting ≡ entries_per_page plan = sym stands.waits.count_is ∙ (full ∙ X) in
     let same_ring : in_ring.in_memory ≡ ring = one_ring (sym in_ring.memory_is ∙ has) in
     let next : place.next_of ring ≡ in_ring.ring.next = subst (λ (r : Ring). r.next ≡ in_ring.ring.next) same_ring in_ring.next in
     let page_is : index.first ≡ table.rows.next - entries_per_page plan = stands.waits.first_is ∙ ap (λ n. table.rows.next - n) all in
     let size : length index.body.items + 8 ≡ plan.geometry.page = index.page ∙ ap (λ g. g.page) (sym planned.geometry) in
-    let w = planned-width index first plan planned in
-    let many : length stands.waits.bitmaps ≡ entries_per_page plan = stands.waits.as_many ∙ all in
-    let whole : entries_per_page plan * (plan.bits / 8) ≤ plan.geometry.page - 24 = omega (arith, div-add-mod' (plan.geometry.page - 24) (plan.bits / 8)) in
-    let blank : drop (16 + entries_per_page plan * (plan.bits / 8)) index.body.items ≡ replicate (length index.body.items - (16 + entries_per_page plan * (plan.bits / 8))) 255 =
-    subst (λ k. drop (16 + k) index.body.items ≡ replicate (length index.body.items - (16 + k)) 255) (ap (λ n. n * (index.bits / 8)) X ∙ ap (λ n. entries_per_page plan * n) w) index.blank_rest in
-    let gathered : InFront (plan.bits / 8) (drop 16 index.body.items) stands.waits.bitmaps = subst (λ n. InFront n (drop 16 index.body.items) stands.waits.bitmaps) w stands.waits.gathered in
-    let made = body-is plan number index.first index.body.items stands.waits.bitmaps (entries_per_page plan) many size (omega (arith, whole, size, index.served.page_least)) gathered blank in
-    let body : splice index.body.items 0 (header_bytes number index.first index.waiting) ≡ index_body plan in_ring.ring.next (table.rows.next - entries_per_page plan) stands.waits.bitmaps =
+    let w = planned-len index first plan planned in
+    let whole : entries_per_page plan * entry_len plan ≤ plan.geometry.page - 24 = omega (arith, div-add-mod' (plan.geometry.page - 24) (entry_len plan)) in
+    let blank : drop (16 + entries_per_page plan * entry_len plan) index.body.items ≡ replicate (length index.body.items - (16 + entries_per_page plan * entry_len plan)) 255 =
+    subst (λ k. drop (16 + k) index.body.items ≡ replicate (length index.body.items - (16 + k)) 255) (ap (λ n. n * len_in index) X ∙ ap (λ n. entries_per_page plan * n) w) index.blank_rest in
+    let gathered : InFront (plan_form plan) (drop 16 index.body.items) table.waiting = subst (λ (form : EntryForm). InFront form (drop 16 index.body.items) table.waiting) (planned-form index first plan planned) stands.waits.gathered in
+    let made = body-is plan number index.first index.body.items table.waiting (entries_per_page plan) all size (omega (arith, whole, size, index.served.page_least)) gathered blank in
+    let body : splice index.body.items 0 (header_bytes number index.first index.waiting) ≡ index_body plan in_ring.ring.next (table.rows.next - entries_per_page plan) table.waiting =
     ap (λ n. splice index.body.items 0 (header_bytes number index.first n)) (stands.waits.count_is ∙ all) ∙ (made
-    ∙ (ap (λ n. index_body plan n index.first stands.waits.bitmaps) (at ∙ next) ∙ ap (λ n. index_body plan in_ring.ring.next n stands.waits.bitmaps) page_is)) in
+    ∙ (ap (λ n. index_body plan n index.first table.waiting) (at ∙ next) ∙ ap (λ n. index_body plan in_ring.ring.next n table.waiting) page_is)) in
     record {
       stands = stands;
       sizes = sizes;
@@ -65,10 +65,7 @@ sealing-of index f first plan table ring number stands sizes has at left full =
           (record {
             full = all;
             some = some-entries index first plan planned;
-            bitmaps = stands.waits.bitmaps;
-            length_is = many;
             body_is = body;
-            each = λ j n lt e. stands.waits.each j n (omega (arith, lt, all)) (ap (λ k. table.rows.next - k + j) all ∙ e);
             clean = in_ring.clean;
             left = omega (arith, left, next, next_is ring has);
           });

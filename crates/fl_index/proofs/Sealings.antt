@@ -1,5 +1,5 @@
 -- How the seal of an index page ends, by what it did to the ring.
-use Rattle.std.proofs.Common.{◌≡◌, ◌≢◌, ◌⊎◌, inl, inr, ℕ, suc, ◌+◌, ◌-◌, ◌*◌, ◌/◌, ◌%◌, ◌<◌, ◌≤◌, Bool, true, false, cond, ◌==◌, ◌||◌, IsTrue, Option, Some, None, Result, Ok, Err, List, [], ◌∷◌, ◌++◌, length, take, drop, get_or, set, sum, refl, sym, ◌∙◌, ap, subst, arith, length-take, IsOk, get_or-set_other, get_or-set_same}
+use Rattle.std.proofs.Common.{◌≡◌, ◌≢◌, ◌⊎◌, inl, inr, ℕ, suc, ◌+◌, ◌-◌, ◌*◌, ◌/◌, ◌%◌, ◌<◌, ◌≤◌, Bool, true, false, cond, ◌==◌, ◌||◌, IsTrue, Option, Some, None, IfSome, Result, Ok, Err, List, [], ◌∷◌, ◌++◌, length, take, drop, get_or, set, sum, refl, sym, ◌∙◌, ap, subst, arith, length-take, IsOk, get_or-set_other, get_or-set_same}
 use Rattle.std.proofs.lemmas.Bool.{cases_lt, eqb-true}
 use Rattle.std.proofs.lemmas.List.{take-take, drop-take}
 use Rattle.std.proofs.lemmas.List.Sums.{sum_by-take-drop, sum_by-cons}
@@ -11,14 +11,16 @@ use Rattle.fl_flash.specs.Flash.{FlashState, pages, page_at}
 use Rattle.fl_flash.specs.Places.{extent}
 use Rattle.fl_flash.specs.declared.flash.FlashFault.{FlashFault}
 use Rattle.fl_flash.specs.declared.flash.FlashFault.TheVariants.{PowerLost, Media}
-use Rattle.fl_model.specs.Record.{Plan, entries_per_page}
+use Rattle.fl_model.specs.Agrees.{TellPages, TellsAt, is_told}
+use Rattle.fl_model.specs.Layout.{IndexPage, IndexEntry}
+use Rattle.fl_model.specs.Record.{Plan, entry_len, entries_per_page}
 use Rattle.fl_model.specs.Ring as model
-use Rattle.fl_model.specs.Table.{Table, IndexRing, shape_of, full_pages, after_seal, lose}
+use Rattle.fl_model.specs.Table.{Table, Entry, IndexRing, shape_of, full_pages, after_seal, lose, firsts}
 use Rattle.fl_model.specs.Image.{rows_at}
 use Rattle.fl_model.specs.Work.{Device, PartEnd, Whole, CutIn, FailedIn}
 use Rattle.fl_model.specs.Within.{seal_within}
 use Rattle.fl_model.proofs.Lists.{slice_get-drop, slice_get-push, slice_get-left, slice_get-short, slice_get-last}
-use Rattle.fl_model.proofs.Plain.{sealed-torn}
+use Rattle.fl_model.proofs.Sealed.{sealed-torn}
 use Rattle.fl_ring.specs.Counts.{ring_counts}
 use Rattle.fl_ring.specs.Mounting.{shape_at}
 use Rattle.fl_ring.specs.Operations.{change, seal_kinds}
@@ -33,13 +35,15 @@ use Rattle.fl_ring.proofs.Modulo.{apart}
 use Rattle.fl_ring.proofs.SealSteps.{whole_end}
 use Rattle.fl_ring.proofs.Whole.{whole_seal}
 use Rattle.fl_index.specs.declared.index.Index.{Index}
-use Rattle.fl_index.specs.Memory.{IsPlanned, IsSamePlan, first_in, first_waiting, waiting_in, width_in, per_page}
+use Rattle.fl_index.specs.Memory.{IsPlanned, IsSamePlan, first_in, first_waiting, waiting_in, form_in, len_in, per_page}
 use Rattle.fl_index.specs.Standing.{HasIndex, HoldsIndex, Rests, StandsForRing, Stands, bytes_in}
 use Rattle.fl_index.specs.Outcomes.{FaultEnds, Finishes, Breaks}
-use Rattle.fl_index.proofs.Firsts.{full-pushed, full-last, full-within}
-use Rattle.fl_index.proofs.Gathering.{none-in}
+use Rattle.fl_model.proofs.FullPages.{full-pushed, full-last, full-within}
+use Rattle.fl_index.specs.Page.{form_len}
+use Rattle.fl_index.proofs.Lists.{firsts-length, firsts-get, firsts-append, firsts_of}
+use Rattle.fl_index.proofs.Gathering.{none-in, plan_form, width-le, width-le22}
 use Rattle.fl_index.proofs.State.{shape_in, HaveSize, full_count, IsStateOf, holds-moved, to-index}
-use Rattle.fl_index.proofs.Lifted.{TableAnswers, MakesBody, seal-lifts, seal-whole, index-shift}
+use Rattle.fl_index.proofs.Lifted.{TableAnswers, MakesBody, seal-lifts, seal-whole, index-shift, page_waited}
 use Rattle.fl_index.proofs.Memories.{planned-same}
 use Rattle.fl_index.proofs.Stays.{seal-stands}
 
@@ -89,15 +93,17 @@ module _ (index : Index) (first : ℕ) (plan : Plan) (h : IsPlanned index first 
   pub planned-bits : IsTrue (is_bits plan.bits)
   planned-bits = subst (λ n. IsTrue (is_bits n)) (sym h.bits) index.some_bits
 
-  pub planned-width : width_in index ≡ plan.bits / 8
-  planned-width = ap (λ n. n / 8) (sym h.bits)
+  pub planned-form : form_in index ≡ plan_form plan
+  planned-form = rw (h.bits, h.full) refl
+
+  pub planned-len : len_in index ≡ entry_len plan
+  planned-len = ap form_len planned-form
 
   pub planned-page : per_page index ≡ entries_per_page plan
-  planned-page = ap (λ n. (n - 24) / (index.bits / 8)) (ap (λ g. g.page) (sym h.geometry)) ∙ ap (λ n. (plan.geometry.page - 24) / (n / 8)) (sym h.bits)
+  planned-page = ap (λ n. (n - 24) / len_in index) (ap (λ g. g.page) (sym h.geometry)) ∙ ap (λ n. (plan.geometry.page - 24) / n) planned-len
 
-  -- an index page holds some bitmap
-  pub some-entries : 0 < entries_per_page plan
-  some-entries = by_width (plan.bits / 8) (widths plan.bits planned-bits)
+  pub planned-widths : (1 ≤ plan.bits / 8) × (plan.bits / 8 ≤ 8)
+  planned-widths = widths plan.bits planned-bits
     where
       widths : (n : ℕ) → IsTrue (is_bits n) → (1 ≤ n / 8) × (n / 8 ≤ 8)
       widths n h = by_tests (n == 8) (n == 16) (n == 64) refl refl refl h
@@ -108,15 +114,22 @@ module _ (index : Index) (first : ℕ) (plan : Plan) (h : IsPlanned index first 
           by_tests false false true x y z h = let e = eqb-true n 64 z in subst (λ k. (1 ≤ k / 8) × (k / 8 ≤ 8)) (sym e) (omega arith, omega arith)
           by_tests false false false x y z h = cc
 
-      by_width : (w : ℕ) → (1 ≤ w) × (w ≤ 8) → 0 < (plan.geometry.page - 24) / w
-      by_width w h = elim (cases_lt 0 ((plan.geometry.page - 24) / w)) [
+  -- an index page holds some entry
+  pub some-entries : 0 < entries_per_page plan
+  some-entries =
+      let most = width-le22 (plan_form plan) planned-widths.1 in
+      let least = width-le (plan_form plan) in
+      by_len (entry_len plan) (omega (arith, least, planned-widths.0)) most
+    where
+      by_len : (w : ℕ) → 1 ≤ w → w ≤ 22 → 0 < (plan.geometry.page - 24) / w
+      by_len w some few = elim (cases_lt 0 ((plan.geometry.page - 24) / w)) [
         | inl some ↦ some
         | inr none ↦
             let zero_is : (plan.geometry.page - 24) / w ≡ 0 = omega (arith, none) in
-            let small = mod-lt (plan.geometry.page - 24) h.0 in
+            let small = mod-lt (plan.geometry.page - 24) some in
             let whole = div-add-mod' (plan.geometry.page - 24) w in
             let nothing : (plan.geometry.page - 24) / w * w ≡ 0 = ap (λ n. n * w) zero_is ∙ omega arith in
-            absurd (omega (arith, whole, nothing, small, h.1, planned-large))
+            absurd (omega (arith, whole, nothing, small, few, planned-large))
       ]
 
 -- the pages of a flash on which it lies have their size
@@ -152,7 +165,16 @@ rows-lost table counted n rows e =
         none e = cc
     first_counts (x ∷ xs) e = let same : x ≡ rows = cc in omega (arith, same, sum_by-cons (λ (k : ℕ). k) x xs)
 
--- the same pages hold what is left where the pending rows and the waiting bitmaps are lost
+-- what entries tell they tell where the pending rows are lost
+tell-lost : (plan : Plan) (table : Table) → sum table.rows.counts + table.pending ≡ length table.entries → (first : ℕ) (entries : List IndexEntry) → TellPages plan table first entries → TellPages plan (lose table) first entries
+tell-lost plan table counted first entries h j n lt e = by_count (slice_get table.rows.counts n) refl (h j n lt e)
+  where
+    by_count : (c : Option ℕ) → slice_get table.rows.counts n ≡ c → IfSome c (λ count. IsTrue (is_told plan count) → TellsAt plan (rows_at table n count) (slice_get entries j)) →
+        IfSome c (λ count. IsTrue (is_told plan count) → TellsAt plan (rows_at (lose table) n count) (slice_get entries j))
+    by_count None k h = tt
+    by_count (Some count) k h = λ told. subst (λ (rows : List Entry). TellsAt plan rows (slice_get entries j)) (sym (rows-lost table counted n count k)) (h told)
+
+-- the same pages hold what is left where the pending rows and the waiting entries are lost
 pub lost-rests : (f : FlashState) (first : ℕ) (plan : Plan) (table : Table) (ring : model.Ring) → HasIndex plan table ring → HoldsIndex (page_at f) first plan table ring → Rests f first plan (lose table)
 lost-rests f first plan table ring facts image = record {
   ring = ring;
@@ -160,10 +182,13 @@ lost-rests f first plan table ring facts image = record {
     ring_is = facts.ring_is;
     is_ring = facts.is_ring;
     counts = facts.counts;
-    first_each = facts.first_each;
+    index_each = facts.index_each;
+    index_fit = facts.index_fit;
     firsts = facts.firsts;
     waiting = omega arith;
     listed = omega (arith, facts.listed);
+    tell = λ k page e. tell-lost plan table facts.counted page.first page.entries (facts.tell k page e);
+    wait = λ j n lt e. absurd (nothing j lt);
     counted = omega (arith, facts.counted, length-take (length table.entries - table.pending) table.entries);
     number = facts.number;
     rows_number = facts.rows_number;
@@ -171,13 +196,16 @@ lost-rests f first plan table ring facts image = record {
   idle = refl;
   pages = record {
     void = image.void;
-    kept = λ i c e some. holds-moved plan table (lose table) ring ring i i c (bytes_in (page_at f) first plan (model.oldest ring + i)) refl (rows-lost table facts.counted) refl (λ x h. h) (image.kept i c e some);
+    kept = λ i c e some. holds-moved plan table (lose table) ring ring i i c (bytes_in (page_at f) first plan (model.oldest ring + i)) refl (λ x h. h) (image.kept i c e some);
     blank_next = image.blank_next;
     torn_next = image.torn_next;
     dirty = image.dirty;
     others = image.others;
   };
 }
+  where
+    nothing : (j : ℕ) → j < 0 → ⊥
+    nothing j lt = omega arith
 
 one_ring : {a b : Ring} → ◌≡◌ {A = Option Ring} (Some a) (Some b) → a ≡ b
 one_ring e = cc
@@ -245,17 +273,17 @@ module _ (shape : model.Shape) (is_shape : model.IsShape shape) (ring last : mod
 
 -- the first data pages after a seal
 abbrev sealed_firsts : Plan → Table → model.Ring → List ℕ
-sealed_firsts plan table ring = drop (full_pages (model.given_up (shape_of plan IndexRing) (entries_per_page plan) ring)) table.firsts ++ (table.rows.next - entries_per_page plan) ∷ []
+sealed_firsts plan table ring = firsts_of (drop (full_pages (model.given_up (shape_of plan IndexRing) (entries_per_page plan) ring)) table.index_pages ++ page_waited plan table ∷ [])
 
-firsts_are : (plan : Plan) (table : Table) (ring : model.Ring) → table.index ≡ Some ring → sealed_firsts plan table ring ≡ (after_seal plan IndexRing table).firsts
+firsts_are : (plan : Plan) (table : Table) (ring : model.Ring) → table.index ≡ Some ring → sealed_firsts plan table ring ≡ firsts (after_seal plan IndexRing table)
 firsts_are plan table ring is =
-    ap (λ (o : Option model.Ring). drop (full_pages (unwrap_or (option_map (model.given_up (shape_of plan IndexRing) (entries_per_page plan)) o) [])) table.firsts ++ (table.rows.next - entries_per_page plan) ∷ []) (sym is)
+    ap (λ (o : Option model.Ring). firsts_of (drop (full_pages (unwrap_or (option_map (model.given_up (shape_of plan IndexRing) (entries_per_page plan)) o) [])) table.index_pages ++ page_waited plan table ∷ [])) (sym is)
 
 -- what is known of an index that is about to seal
 pub record IsSealing (index : Index) (f : FlashState) (first : ℕ) (plan : Plan) (table : Table) (body : List ℕ) : Type 0 where
   pub stands : Stands index f first plan table
   pub sizes : HaveSize first plan (page_at f)
-  pub full : table.waiting ≡ entries_per_page plan
+  pub full : length table.waiting ≡ entries_per_page plan
   pub s : RingState
   pub is : IsStateOf plan table s
   pub on : OnRing (shape_in first plan) (page_at f) s
@@ -352,17 +380,11 @@ module _ (index : Index) (f : FlashState) (first : ℕ) (plan : Plan) (table : T
             waits = record {
               first_is = moved ∙ omega (arith, page_is, h.full, h.stands.waits.count_is, h.is.facts.listed);
               count_is = none;
-              bitmaps = [];
-              as_many = refl;
-              gathered = none-in (width_in now) (drop 16 now.body.items);
-              each = λ j n lt e. absurd (nothing j lt);
+              gathered = none-in (form_in now) (drop 16 now.body.items);
             };
           };
         }
       where
-        nothing : (j : ℕ) → j < 0 → ⊥
-        nothing j lt = omega arith
-
         last_ring_is : (state : IsStateOf plan (after_seal plan IndexRing table) p.now.state) → state.ring ≡ model.erased (model.sealed (shape_of plan IndexRing) (entries_per_page plan) h.is.ring)
         last_ring_is state =
             same_model (sym state.facts.ring_is ∙ ap (λ (o : Option model.Ring). option_map model.erased (option_map (model.sealed (shape_of plan IndexRing) (entries_per_page plan)) o)) h.is.facts.ring_is)
@@ -381,7 +403,7 @@ module _ (index : Index) (f : FlashState) (first : ℕ) (plan : Plan) (table : T
 
         first_of : (now : Index) → IsPlanned now first plan → now.firsts.items ≡ set index.firsts.items (h.is.ring.next % length index.firsts.items) (Some (table.rows.next - entries_per_page plan)) →
             (r : model.Ring) → r ≡ model.erased (model.sealed (shape_of plan IndexRing) (entries_per_page plan) h.is.ring) →
-            (i c : ℕ) → slice_get r.counts i ≡ Some c → first_in now (model.oldest r + i) ≡ cond (c == 0) None (slice_get (after_seal plan IndexRing table).firsts (full_pages (take i r.counts)))
+            (i c : ℕ) → slice_get r.counts i ≡ Some c → first_in now (model.oldest r + i) ≡ cond (c == 0) None (slice_get (firsts (after_seal plan IndexRing table)) (full_pages (take i r.counts)))
         first_of now planned_now is r last i c e =
             let X = entries_per_page plan in
             let page = table.rows.next - entries_per_page plan in
@@ -389,15 +411,22 @@ module _ (index : Index) (f : FlashState) (first : ℕ) (plan : Plan) (table : T
             let b = rooms index h.stands.in_ring.planned in
             let shift = index-shift first plan body table h.s h.is shape h.makes in
             let e' : slice_get (model.sealed (shape_of plan IndexRing) (entries_per_page plan) h.is.ring).counts i ≡ Some c = ap (λ (r : model.Ring). slice_get r.counts i) (sym last) ∙ e in
+            let pages = drop (full_pages (model.given_up (shape_of plan IndexRing) (entries_per_page plan) h.is.ring)) table.index_pages ++ page_waited plan table ∷ [] in
+            let firsts_shifted : (j : ℕ) → slice_get (sealed_firsts plan table h.is.ring) (full_pages (take j (model.sealed (shape_of plan IndexRing) (entries_per_page plan) h.is.ring).counts))
+            ≡ slice_get (firsts table ++ page ∷ []) (full_pages (take (shift.by + j) (h.is.ring.counts ++ X ∷ []))) =
+            λ j. firsts-get pages (full_pages (take j (model.sealed (shape_of plan IndexRing) (entries_per_page plan) h.is.ring).counts))
+            ∙ (ap (option_map (λ (p : IndexPage). p.first)) (shift.listed j)
+            ∙ (sym (firsts-get (table.index_pages ++ page_waited plan table ∷ []) (full_pages (take (shift.by + j) (h.is.ring.counts ++ X ∷ []))))
+            ∙ ap (λ (fs : List ℕ). slice_get fs (full_pages (take (shift.by + j) (h.is.ring.counts ++ X ∷ [])))) (firsts-append table.index_pages (page_waited plan table ∷ [])))) in
             let old_memory : StandsForRing index f first plan table = h.stands.in_ring in
             ap (λ n. get_or now.firsts.items ((model.oldest r + i) % n) None) (a.1 ∙ sym b.0)
             ∙ (ap (λ (xs : List (Option ℕ)). get_or xs ((model.oldest r + i) % length index.firsts.items) None) is
             ∙ (ap (λ (r : model.Ring). get_or (set index.firsts.items (h.is.ring.next % length index.firsts.items) (Some (table.rows.next - entries_per_page plan))) ((model.oldest r + i) % length index.firsts.items) None) last
-            ∙ (remembered-last (shape_of plan IndexRing) shape h.is.ring (model.sealed (shape_of plan IndexRing) (entries_per_page plan) h.is.ring) h.is.facts.is_ring table.firsts (sealed_firsts plan table h.is.ring) (entries_per_page plan) (table.rows.next - entries_per_page plan) some h.is.facts.first_each
-            shift.by shift.counts shift.old shift.listed index.firsts.items b.0
+            ∙ (remembered-last (shape_of plan IndexRing) shape h.is.ring (model.sealed (shape_of plan IndexRing) (entries_per_page plan) h.is.ring) h.is.facts.is_ring (firsts table) (sealed_firsts plan table h.is.ring) (entries_per_page plan) (table.rows.next - entries_per_page plan) some (firsts-length table.index_pages ∙ h.is.facts.index_each)
+            shift.by shift.counts shift.old firsts_shifted index.firsts.items b.0
             (λ j d k. ap (λ n. get_or index.firsts.items ((model.oldest h.is.ring + j) % n) None) (b.0 ∙ sym b.1)
             ∙ (ap (λ (r : model.Ring). first_in index (model.oldest r + j)) h.same
-            ∙ (old_memory.first_of j d (ap (λ (r : model.Ring). slice_get r.counts j) (sym h.same) ∙ k) ∙ ap (λ (r : model.Ring). cond (d == 0) None (slice_get table.firsts (full_pages (take j r.counts)))) (sym h.same))))
+            ∙ (old_memory.first_of j d (ap (λ (r : model.Ring). slice_get r.counts j) (sym h.same) ∙ k) ∙ ap (λ (r : model.Ring). cond (d == 0) None (slice_get (firsts table) (full_pages (take j r.counts)))) (sym h.same))))
             i c e'
             ∙ (ap (λ (fs : List ℕ). cond (c == 0) None (slice_get fs (full_pages (take i (model.sealed (shape_of plan IndexRing) (entries_per_page plan) h.is.ring).counts)))) (firsts_are plan table h.is.ring h.is.facts.ring_is)
-            ∙ ap (λ (r : model.Ring). cond (c == 0) None (slice_get (after_seal plan IndexRing table).firsts (full_pages (take i r.counts)))) (sym last)))))
+            ∙ ap (λ (r : model.Ring). cond (c == 0) None (slice_get (firsts (after_seal plan IndexRing table)) (full_pages (take i r.counts)))) (sym last)))))

@@ -7,15 +7,15 @@ use Rattle.std.specs.List.{slice_get, list_any, range_with_len, count_by}
 use Rattle.fl_flash.specs.Flash.{FlashState}
 use Rattle.fl_model.specs.Limits.{is_indexed}
 use Rattle.fl_model.specs.Record.{Plan, entries_per_page}
-use Rattle.fl_model.specs.Table.{Table, full_pages}
+use Rattle.fl_model.specs.Table.{Table, full_pages, firsts}
 use Rattle.fl_model.proofs.Lists.{slice_get-some, slice_get-short}
 use Rattle.fl_index.specs.declared.index.Index.{Index}
 use Rattle.fl_index.specs.Looking.{ends_above, unread, is_page, is_looked_at, due}
 use Rattle.fl_index.specs.Memory.{first_in, first_waiting, waiting_in, is_waiting, next_in, oldest_in, per_page, lists, listing_in}
 use Rattle.fl_index.specs.Standing.{Stands}
 use Rattle.fl_index.proofs.Counts.{count-cons, at-most-one}
-use Rattle.fl_index.proofs.Firsts.{full-one, full-void, full-append, full-within}
-use Rattle.fl_index.proofs.Lists.{below-end}
+use Rattle.fl_model.proofs.FullPages.{full-one, full-void, full-append, full-within}
+use Rattle.fl_index.proofs.Lists.{below-end, firsts-length}
 use Rattle.fl_index.proofs.Held.{listed-first}
 use Rattle.fl_index.proofs.Listings.{listing-is}
 use Rattle.fl_index.proofs.Showing.{both_true, ListingPage, listing-page, listed-indexed, waits-indexed, none-shows, number_old, kept_len, X_is}
@@ -59,11 +59,11 @@ module _ (t : Index) (f : FlashState) (first : ℕ) (plan : Plan) (table : Table
   counts = stands.in_ring.ring.counts
 
   -- a data page is indexed where its bitmap waits or an index page lists it
-  pub indexed-is : (number : ℕ) → number < table.rows.next → is_indexed plan table number ≡ (is_waiting t number || is_some (listing_in t number))
-  indexed-is number before = by_waiting (is_waiting t number) refl
+  pub indexed-is : (number : ℕ) → is_indexed plan table number ≡ (is_waiting t number || is_some (listing_in t number))
+  indexed-is number = by_waiting (is_waiting t number) refl
     where
       by_listing : (o : Option ℕ) → listing_in t number ≡ o → is_waiting t number ≡ false → is_indexed plan table number ≡ is_some o
-      by_listing None e w = sym (none-shows t f first plan table stands number w e before).0
+      by_listing None e w = sym (none-shows t f first plan table stands number w e).0
       by_listing (Some page) e w =
           let at = listing-is (per_page t) (first_in t) number (next_in t - oldest_in t) (oldest_in t) page e in
           listed-indexed t f first plan table stands number page (listing-page t f first plan table stands number page at.low (omega (arith, at.low, at.high)) at.here)
@@ -73,7 +73,7 @@ module _ (t : Index) (f : FlashState) (first : ℕ) (plan : Plan) (table : Table
       by_waiting false w = by_listing (listing_in t number) refl w
 
   -- what is remembered of the index page at a place
-  memory : (i c : ℕ) → slice_get counts i ≡ Some c → first_in t (oldest_in t + i) ≡ cond (c == 0) None (slice_get table.firsts (full_pages (take i counts)))
+  memory : (i c : ℕ) → slice_get counts i ≡ Some c → first_in t (oldest_in t + i) ≡ cond (c == 0) None (slice_get (firsts table) (full_pages (take i counts)))
   memory i c e = ap (λ n. first_in t (n + i)) (number_old t f first plan table stands) ∙ stands.in_ring.first_of i c e
 
   -- at most all index pages that aren't void are unread
@@ -92,7 +92,7 @@ module _ (t : Index) (f : FlashState) (first : ℕ) (plan : Plan) (table : Table
       by_count c e (inl some) = let one = full-one c some in let few = at-most-one (ends_above (per_page t) number (first_in t (oldest_in t + i))) in omega (arith, one, few)
       by_count c e (inr none) =
           let z : c ≡ 0 = omega (arith, none) in
-          let void : first_in t (oldest_in t + i) ≡ None = memory i c e ∙ ap (λ k. cond (k == 0) None (slice_get table.firsts (full_pages (take i counts)))) z in
+          let void : first_in t (oldest_in t + i) ≡ None = memory i c e ∙ ap (λ k. cond (k == 0) None (slice_get (firsts table) (full_pages (take i counts)))) z in
           let nothing : cond (ends_above (per_page t) number (first_in t (oldest_in t + i))) 1 0 ≡ 0 = ap (λ (o : Option ℕ). cond {A = ℕ} (ends_above (per_page t) number o) 1 0) void in
           omega (arith, nothing)
 
@@ -125,16 +125,16 @@ module _ (t : Index) (f : FlashState) (first : ℕ) (plan : Plan) (table : Table
       not_waiting l = false_from_ne_true (is_waiting t number) (λ e.
           let b = both_true (nat_le (first_waiting t) number) (nat_lt number (first_waiting t + waiting_in t)) e in
           let least = leb-true (first_waiting t) number b.0 in
-          let end = below-end (entries_per_page plan) table.firsts _ l.first_page stands.in_ring.facts.firsts l.listed in
+          let end = below-end (entries_per_page plan) (firsts table) _ l.first_page stands.in_ring.facts.firsts l.listed in
           omega (arith, least, end, l.high, stands.in_ring.facts.listed, stands.waits.first_is))
 
   -- the index pages that the model counts are due
   module _ (q : ℕ → Bool) (numbers : List ℕ) (looked : (page first_page : ℕ) → oldest_in t ≤ page → page < next_in t → first_in t page ≡ Some first_page → q first_page ≡ true → list_any (is_looked_at t page) numbers ≡ true) where
     due-over : (n i : ℕ) → i + n ≡ length counts →
-        count_by q (drop (full_pages (take i counts)) table.firsts) ≤ count_by (λ k. list_any (is_looked_at t k) numbers) (range_with_len (oldest_in t + i) n)
+        count_by q (drop (full_pages (take i counts)) (firsts table)) ≤ count_by (λ k. list_any (is_looked_at t k) numbers) (range_with_len (oldest_in t + i) n)
     due-over zero i is =
         let all : full_pages (take i counts) ≡ full_pages counts = ap full_pages (take_all i counts (omega (arith, is))) in
-        let none : count_by q (drop (full_pages (take i counts)) table.firsts) ≡ 0 = ap (count_by q) (drop-past (full_pages (take i counts)) table.firsts (omega (arith, all, stands.in_ring.facts.first_each))) in
+        let none : count_by q (drop (full_pages (take i counts)) (firsts table)) ≡ 0 = ap (count_by q) (drop-past (full_pages (take i counts)) (firsts table) (omega (arith, all, firsts-length table.index_pages, stands.in_ring.facts.index_each))) in
         omega (arith, none)
     due-over (suc n) i is =
         let at = slice_get-some counts i (omega (arith, is)) in
@@ -144,23 +144,23 @@ module _ (t : Index) (f : FlashState) (first : ℕ) (plan : Plan) (table : Table
         by_count at.0 at.1 (cases_lt 0 at.0) others moved
       where
         by_count : (c : ℕ) → slice_get counts i ≡ Some c → (0 < c) ⊎ (c ≤ 0) →
-            count_by q (drop (full_pages (take (suc i) counts)) table.firsts) ≤ count_by (λ k. list_any (is_looked_at t k) numbers) (range_with_len (oldest_in t + suc i) n) →
+            count_by q (drop (full_pages (take (suc i) counts)) (firsts table)) ≤ count_by (λ k. list_any (is_looked_at t k) numbers) (range_with_len (oldest_in t + suc i) n) →
             count_by (λ k. list_any (is_looked_at t k) numbers) (range_with_len (oldest_in t + i + 1) n) ≡ count_by (λ k. list_any (is_looked_at t k) numbers) (range_with_len (oldest_in t + suc i) n) →
-            count_by q (drop (full_pages (take i counts)) table.firsts) ≤ count_by (λ k. list_any (is_looked_at t k) numbers) (range_with_len (oldest_in t + i) (suc n))
+            count_by q (drop (full_pages (take i counts)) (firsts table)) ≤ count_by (λ k. list_any (is_looked_at t k) numbers) (range_with_len (oldest_in t + i) (suc n))
         by_count c e (inr none) others moved =
             let void = full-void c none in
             let same : full_pages (take (suc i) counts) ≡ full_pages (take i counts) = omega (arith, take-at i c counts e, void) in
-            let left = ap (λ k. count_by q (drop k table.firsts)) same in
+            let left = ap (λ k. count_by q (drop k (firsts table))) same in
             omega (arith, others, moved, left, count-cons (λ k. list_any (is_looked_at t k) numbers) n (oldest_in t + i))
         by_count c e (inl some) others moved =
             let one = full-one c some in
             let more : full_pages (take (suc i) counts) ≡ suc (full_pages (take i counts)) = omega (arith, take-at i c counts e, one) in
             let within = full-within counts i c (slice_get-short counts i c e) e some in
-            let found = slice_get-some table.firsts (full_pages (take i counts)) (omega (arith, within, stands.in_ring.facts.first_each)) in
-            let split = ap (count_by q) (drop-at (full_pages (take i counts)) found.0 table.firsts found.1) ∙ sum_by-cons (λ x. cond (q x) 1 0) found.0 (drop (suc (full_pages (take i counts))) table.firsts) in
-            let left = ap (λ k. count_by q (drop k table.firsts)) more in
+            let found = slice_get-some (firsts table) (full_pages (take i counts)) (omega (arith, within, firsts-length table.index_pages, stands.in_ring.facts.index_each)) in
+            let split = ap (count_by q) (drop-at (full_pages (take i counts)) found.0 (firsts table) found.1) ∙ sum_by-cons (λ x. cond (q x) 1 0) found.0 (drop (suc (full_pages (take i counts))) (firsts table)) in
+            let left = ap (λ k. count_by q (drop k (firsts table))) more in
             let kept : oldest_in t + i < next_in t = omega (arith, slice_get-short counts i c e, kept_len t f first plan table stands) in
-            let is_first : first_in t (oldest_in t + i) ≡ Some found.0 = memory i c e ∙ (zero-case c some (slice_get table.firsts (full_pages (take i counts))) ∙ found.1) in
+            let is_first : first_in t (oldest_in t + i) ≡ Some found.0 = memory i c e ∙ (zero-case c some (slice_get (firsts table) (full_pages (take i counts))) ∙ found.1) in
             let here = fewer (q found.0) (list_any (is_looked_at t (oldest_in t + i)) numbers) (looked (oldest_in t + i) found.0 (omega arith) kept is_first) in
             omega (arith, others, moved, split, left, here, count-cons (λ k. list_any (is_looked_at t k) numbers) n (oldest_in t + i))
           where
@@ -168,7 +168,7 @@ module _ (t : Index) (f : FlashState) (first : ℕ) (plan : Plan) (table : Table
             fewer true b f = let e : cond {A = ℕ} b 1 0 ≡ 1 = ap (λ x. cond {A = ℕ} x 1 0) (f refl) in omega (arith, e)
             fewer false b f = omega arith
 
-    pub due-firsts : count_by q table.firsts ≤ due t numbers (oldest_in t)
+    pub due-firsts : count_by q (firsts table) ≤ due t numbers (oldest_in t)
     due-firsts =
         let all = due-over (length counts) 0 (omega arith) in
         let at : oldest_in t + 0 ≡ oldest_in t = omega arith in
@@ -176,7 +176,7 @@ module _ (t : Index) (f : FlashState) (first : ℕ) (plan : Plan) (table : Table
         let same = ap (λ a. count_by (λ k. list_any (is_looked_at t k) numbers) (range_with_len a (length counts))) at
         ∙ ap (λ n. count_by (λ k. list_any (is_looked_at t k) numbers) (range_with_len (oldest_in t) n)) (sym many) in
         let none : full_pages (take 0 counts) ≡ 0 = ap full_pages (take_none counts) in
-        let whole = ap (λ k. count_by q (drop k table.firsts)) none ∙ ap (count_by q) (drop_none table.firsts) in
+        let whole = ap (λ k. count_by q (drop k (firsts table))) none ∙ ap (count_by q) (drop_none (firsts table)) in
         omega (arith, all, same, whole)
       where
         drop_none : (xs : List ℕ) → drop 0 xs ≡ xs

@@ -4,9 +4,9 @@ use Rattle.std.proofs.lemmas.Nat.Gcd.{mod-eq-zero_of_dvd}
 use Rattle.std.specs.List.{slice_get, AllByRecursion}
 use Rattle.fl_model.specs.Record.{Plan, entries_per_page}
 use Rattle.fl_model.specs.Ring as model
-use Rattle.fl_model.specs.Table.{Table, Entry, IndexRing, shape_of, full_pages}
-use Rattle.fl_model.specs.Layout.{committed, index_body, bitmap_of}
-use Rattle.fl_model.specs.Image.{IsRingImage, HoldsBitmaps, rows_at}
+use Rattle.fl_model.specs.Table.{Table, IndexRing, shape_of, full_pages}
+use Rattle.fl_model.specs.Layout.{IndexPage, committed, index_body}
+use Rattle.fl_model.specs.Image.{IsRingImage, HoldsEntries}
 use Rattle.fl_model.proofs.Lists.{each-at, slice_get-some}
 use Rattle.fl_ring.specs.Counts.{page_count, ring_counts, model_shape, HoldsSome}
 use Rattle.fl_ring.specs.Ring.{Shape, RingState, IsShape, IsRing, OnRing, count, oldest, place}
@@ -21,7 +21,7 @@ shape_in first plan = record { first = first * plan.geometry.block; blocks = pla
 abbrev pub HaveSize : ℕ → Plan → (ℕ → List ℕ) → Type 0
 HaveSize first plan page = (n : ℕ) → length (page (place (shape_in first plan) n)) ≡ plan.geometry.page
 
--- each page with bitmaps has as many as an index page holds
+-- each page with entries has as many as an index page holds
 abbrev pub full_count : Plan → List ℕ → ℕ
 full_count plan body = entries_per_page plan
 
@@ -30,7 +30,7 @@ pub record IsStateOf (plan : Plan) (table : Table) (s : RingState) : Type 0 wher
   pub ring : model.Ring
   pub facts : HasIndex plan table ring
   pub counts : ring ≡ ring_counts (full_count plan) s
-  pub bodies : (i : ℕ) (body : List ℕ) → i < count s → get_or s.kept i None ≡ Some body → HoldsBitmaps plan table ring i (entries_per_page plan) (committed body)
+  pub bodies : (i : ℕ) (body : List ℕ) → i < count s → get_or s.kept i None ≡ Some body → HoldsEntries plan table ring i (entries_per_page plan) (committed body)
 
 -- the bodies of the pages from a number on
 abbrev pub body_where : ℕ → ℕ → List ℕ → Option (List ℕ)
@@ -108,28 +108,14 @@ ring-from r s counts len h = record {
     both false b e k = cc
 
 -- What holds of an index page by other names of the same things.
-pub holds-moved : (plan : Plan) (t t' : Table) (ring ring' : model.Ring) (i i' count : ℕ) (page : List ℕ) →
-    t'.rows ≡ t.rows → ((n rows : ℕ) → slice_get t.rows.counts n ≡ Some rows → rows_at t' n rows ≡ rows_at t n rows) → model.oldest ring' + i' ≡ model.oldest ring + i →
-    ((first : ℕ) → slice_get t.firsts (full_pages (take i ring.counts)) ≡ Some first → slice_get t'.firsts (full_pages (take i' ring'.counts)) ≡ Some first) →
-    HoldsBitmaps plan t ring i count page → HoldsBitmaps plan t' ring' i' count page
-holds-moved plan t t' ring ring' i i' count page rows same at firsts h = record {
-  first = h.first;
-  bitmaps = h.bitmaps;
-  listed = firsts h.first h.listed;
-  length = h.length;
-  bytes = h.bytes ∙ ap (λ n. committed (index_body plan n h.first h.bitmaps)) (sym at);
-  each = λ j n lt e. each j n lt (e ∙ ap (λ (r : model.Ring). model.oldest r + n) rows);
+pub holds-moved : (plan : Plan) (t t' : Table) (ring ring' : model.Ring) (i i' count : ℕ) (page : List ℕ) → model.oldest ring' + i' ≡ model.oldest ring + i →
+    ((p : IndexPage) → slice_get t.index_pages (full_pages (take i ring.counts)) ≡ Some p → slice_get t'.index_pages (full_pages (take i' ring'.counts)) ≡ Some p) →
+    HoldsEntries plan t ring i count page → HoldsEntries plan t' ring' i' count page
+holds-moved plan t t' ring ring' i i' count page at pages h = record {
+  holds = h.holds;
+  is = pages h.holds h.is;
+  bytes = h.bytes ∙ ap (λ n. committed (index_body plan n h.holds.first h.holds.entries)) (sym at);
 }
-  where
-    each : (j n : ℕ) → j < entries_per_page plan → h.first + j ≡ model.oldest t.rows + n → IfSome (slice_get t'.rows.counts n) (λ rows. 0 < rows → slice_get h.bitmaps j ≡ Some (bitmap_of plan (rows_at t' n rows)))
-    each j n lt e =
-        subst (λ (r : model.Ring). IfSome (slice_get r.counts n) (λ rows. 0 < rows → slice_get h.bitmaps j ≡ Some (bitmap_of plan (rows_at t' n rows)))) (sym rows)
-        (by_count (slice_get t.rows.counts n) refl (h.each j n lt e))
-      where
-        by_count : (c : Option ℕ) → slice_get t.rows.counts n ≡ c → IfSome c (λ rows. 0 < rows → slice_get h.bitmaps j ≡ Some (bitmap_of plan (rows_at t n rows))) →
-            IfSome c (λ rows. 0 < rows → slice_get h.bitmaps j ≡ Some (bitmap_of plan (rows_at t' n rows)))
-        by_count None e k = tt
-        by_count (Some rows) e k = λ some. k some ∙ ap (λ (es : List Entry). Some (bitmap_of plan es)) (sym (same n rows e))
 
 pub kept-short : (kept : List (Option (List ℕ))) (i : ℕ) (body : List ℕ) → get_or kept i None ≡ Some body → i < length kept
 kept-short [] i body e = absurd (none e)
@@ -166,10 +152,10 @@ module _ (first : ℕ) (plan : Plan) (page : ℕ → List ℕ) (sizes : HaveSize
   to-state table ring facts image = record {
     s = index_state first plan page ring;
     is = record { ring = ring; facts = facts; counts = counts; bodies = bodies };
-    on = on_from_image (shape_in first plan) page (index_state first plan page ring) (full_count plan) sizes shape (has_some (index_state first plan page ring)) (HoldsBitmaps plan table ring)
+    on = on_from_image (shape_in first plan) page (index_state first plan page ring) (full_count plan) sizes shape (has_some (index_state first plan page ring)) (HoldsEntries plan table ring)
         (ring-from (shape_in first plan) (index_state first plan page ring) ring.counts (sym len) facts.is_ring)
         (λ i body at h. page_is i body at h)
-        (subst (λ (r : model.Ring). IsRingImage (shape_of plan IndexRing) r (bytes_in page first plan) (HoldsBitmaps plan table ring)) counts image);
+        (subst (λ (r : model.Ring). IsRingImage (shape_of plan IndexRing) r (bytes_in page first plan) (HoldsEntries plan table ring)) counts image);
   }
     where
       len : count (index_state first plan page ring) ≡ length ring.counts
@@ -190,30 +176,30 @@ module _ (first : ℕ) (plan : Plan) (page : ℕ → List ℕ) (sizes : HaveSize
           (c.0, c.1, b.0, b.1)
 
       page_is : (i : ℕ) (body : List ℕ) → get_or (index_state first plan page ring).kept i None ≡ Some body →
-          HoldsBitmaps plan table ring i (entries_per_page plan) (page (place (shape_in first plan) (oldest (index_state first plan page ring) + i))) →
+          HoldsEntries plan table ring i (entries_per_page plan) (page (place (shape_in first plan) (oldest (index_state first plan page ring) + i))) →
           page (place (shape_in first plan) (oldest (index_state first plan page ring) + i)) ≡ committed body
       page_is i body at h =
           let lt = kept-short (index_state first plan page ring).kept i body at in
           let b = body_is i body at (omega (arith, lt, len)) in
-          let whole = committed-body plan.geometry.page (page (place (shape_in first plan) (oldest (index_state first plan page ring) + i))) (index_body plan (model.oldest ring + i) h.first h.bitmaps)
+          let whole = committed-body plan.geometry.page (page (place (shape_in first plan) (oldest (index_state first plan page ring) + i))) (index_body plan (model.oldest ring + i) h.holds.first h.holds.entries)
           (sizes (oldest (index_state first plan page ring) + i)) h.bytes in
           h.bytes ∙ ap committed (sym (b.3 ∙ (ap (take (plan.geometry.page - 8)) (old i) ∙ whole)))
 
-      as_full : (i c : ℕ) → (c ≡ 0) ⊎ (c ≡ entries_per_page plan) → 0 < c → HoldsBitmaps plan table ring i c (bytes_in page first plan (model.oldest ring + i)) →
-          HoldsBitmaps plan table ring i (entries_per_page plan) (bytes_in page first plan (model.oldest ring + i))
+      as_full : (i c : ℕ) → (c ≡ 0) ⊎ (c ≡ entries_per_page plan) → 0 < c → HoldsEntries plan table ring i c (bytes_in page first plan (model.oldest ring + i)) →
+          HoldsEntries plan table ring i (entries_per_page plan) (bytes_in page first plan (model.oldest ring + i))
       as_full i c (inl e) some h = absurd (omega (arith, e, some))
-      as_full i c (inr e) some h = subst (λ (k : ℕ). HoldsBitmaps plan table ring i k (bytes_in page first plan (model.oldest ring + i))) e h
+      as_full i c (inr e) some h = subst (λ (k : ℕ). HoldsEntries plan table ring i k (bytes_in page first plan (model.oldest ring + i))) e h
 
-      bodies : (i : ℕ) (body : List ℕ) → i < count (index_state first plan page ring) → get_or (index_state first plan page ring).kept i None ≡ Some body → HoldsBitmaps plan table ring i (entries_per_page plan) (committed body)
+      bodies : (i : ℕ) (body : List ℕ) → i < count (index_state first plan page ring) → get_or (index_state first plan page ring).kept i None ≡ Some body → HoldsEntries plan table ring i (entries_per_page plan) (committed body)
       bodies i body lt at =
           let b = body_is i body at (omega (arith, lt, len)) in
           let h = as_full i b.0 (each-at (λ count. (count ≡ 0) ⊎ (count ≡ entries_per_page plan)) ring.counts i b.0 facts.counts b.1) b.2 (image.kept i b.0 b.1 b.2) in
-          let is = page_is i body at (subst (λ (p : List ℕ). HoldsBitmaps plan table ring i (entries_per_page plan) p) (old i) h) in
-          subst (λ (p : List ℕ). HoldsBitmaps plan table ring i (entries_per_page plan) p) (old i ∙ is) h
+          let is = page_is i body at (subst (λ (p : List ℕ). HoldsEntries plan table ring i (entries_per_page plan) p) (old i) h) in
+          subst (λ (p : List ℕ). HoldsEntries plan table ring i (entries_per_page plan) p) (old i ∙ is) h
 
   -- and back
   pub to-index : (table : Table) (s : RingState) (is : IsStateOf plan table s) → OnRing (shape_in first plan) page s → HoldsIndex page first plan table is.ring
   to-index table s is on =
-      subst (λ (r : model.Ring). IsRingImage (shape_of plan IndexRing) r (bytes_in page first plan) (HoldsBitmaps plan table is.ring)) (sym is.counts)
-      (image_from_on (shape_in first plan) page s (full_count plan) sizes shape (has_some s) (HoldsBitmaps plan table is.ring)
-      (λ i body at page_is. subst (λ (p : List ℕ). HoldsBitmaps plan table is.ring i (entries_per_page plan) p) (sym page_is) (is.bodies i body (kept-short s.kept i body at) at)) on)
+      subst (λ (r : model.Ring). IsRingImage (shape_of plan IndexRing) r (bytes_in page first plan) (HoldsEntries plan table is.ring)) (sym is.counts)
+      (image_from_on (shape_in first plan) page s (full_count plan) sizes shape (has_some s) (HoldsEntries plan table is.ring)
+      (λ i body at page_is. subst (λ (p : List ℕ). HoldsEntries plan table is.ring i (entries_per_page plan) p) (sym page_is) (is.bodies i body (kept-short s.kept i body at) at)) on)

@@ -1,5 +1,5 @@
--- A lookup of a data page's bitmap, over any bytes and for a table of the model.
-use Rattle.std.specs.Prelude.{◌≡◌, ◌⊎◌, ℕ, ◌+◌, ◌-◌, ◌<◌, ◌≤◌, Bool, true, false, ◌&&◌, nat_le, nat_lt, ◌==◌, Option, Some, None, IfSome, is_some, unwrap_or, Result, Ok, Err, List, count_by, slice_get, if◌then◌else◌}
+-- A lookup of a data page's entry, over any bytes and for a table of the model.
+use Rattle.std.specs.Prelude.{◌≡◌, ◌⊎◌, ℕ, ◌+◌, ◌-◌, ◌<◌, ◌≤◌, Bool, true, false, ◌&&◌, nat_le, nat_lt, ◌==◌, Option, Some, None, IfSome, is_some, unwrap_or, Result, Ok, Err, List, count_by, slice_get, IsTrue, if◌then◌else◌}
 use Rattle.std.specs.List.{range_with_len, list_any}
 use Rattle.fl_flash.specs.Buffer.{BufferState}
 use Rattle.fl_flash.specs.Flash.{FlashState, page_at}
@@ -7,17 +7,19 @@ use Rattle.fl_flash.specs.declared.flash.FlashFault.{FlashFault}
 use Rattle.fl_mark.specs.Mark.{state_of_page}
 use Rattle.fl_mark.specs.declared.page_state.PageState.TheVariants.{Committed}
 use Rattle.fl_model.specs.Image.{rows_at}
-use Rattle.fl_model.specs.Layout.{bitmap_of}
+use Rattle.fl_model.specs.Agrees.{is_told}
+use Rattle.fl_model.specs.Layout.{bitmap_of, full_of}
 use Rattle.fl_model.specs.Limits.{is_indexed}
 use Rattle.fl_model.specs.Record.{Plan}
 use Rattle.fl_model.specs.Ring as rings
-use Rattle.fl_model.specs.Table.{Table}
+use Rattle.fl_model.specs.Table.{Table, Entry}
 use Rattle.fl_page.specs.declared.fault.BadPage.{BadPage as Refusal}
 use Rattle.fl_page.specs.declared.fault.ReadFault.{ReadFault}
 use Rattle.fl_page.specs.declared.fault.ReadFault.TheVariants.{Flash, BadPage}
 use Rattle.fl_index.specs.declared.index.Index.{Index}
-use Rattle.fl_index.specs.Memory.{oldest_in, next_in, place_in, per_page, width_in, first_in, lists, listing_in, is_waiting, waiting_at, first_waiting}
-use Rattle.fl_index.specs.Page.{page_number, page_entries, entry_at, IsGoodPage}
+use Rattle.fl_index.specs.Memory.{oldest_in, next_in, place_in, per_page, form_in, first_in, lists, listing_in, is_waiting, found_waiting, first_waiting}
+use Rattle.fl_index.specs.Page.{page_number, page_entries, found_at, fields_of, IsGoodPage}
+use Rattle.fl_index.specs.declared.page.Found.{Found}
 
 -- a buffer holds the kept index page with this number
 pub record IsHeld (index : Index) (number : ℕ) (buf : BufferState) : Type 0 where
@@ -41,19 +43,26 @@ HasEntry index number listing entry =
 abbrev pub bad_page : ℕ → List ℕ → Refusal
 bad_page number page = record { wanted = number; found = page_number page; count = page_entries page }
 
--- what the bytes of the index page that lists a data page say: a page that isn't committed lists none, and one that is
--- committed has to have its number and its count
-abbrev pub IsFound : Index → ℕ → ℕ → List ℕ → Result (Option ℕ) ReadFault → Type 0
-IsFound index listing number page (Ok None) = state_of_page page ≡ Committed → ⊥
-IsFound index listing number page (Ok (Some bitmap)) =
-    (state_of_page page ≡ Committed) × IsGoodPage (per_page index) listing page × (bitmap ≡ entry_at (width_in index) page (entry_of index listing number))
-IsFound index listing number page (Err (BadPage bad)) =
+-- what is asked for of an entry: all of it, or its bitmap alone
+abbrev pub entire : Found → Found
+entire found = found
+
+abbrev pub bitmap_alone : Found → ℕ
+bitmap_alone found = found.bitmap
+
+-- what the bytes of the index page that lists a data page say of its entry, as far as it is asked for: a page that isn't
+-- committed lists none, and one that is committed has to have its number and its count
+abbrev pub IsFound : {X : Type 0} → (Found → X) → Index → ℕ → ℕ → List ℕ → Result (Option X) ReadFault → Type 0
+IsFound asked index listing number page (Ok None) = state_of_page page ≡ Committed → ⊥
+IsFound asked index listing number page (Ok (Some answer)) =
+    (state_of_page page ≡ Committed) × IsGoodPage (per_page index) listing page × (answer ≡ asked (found_at (form_in index) page (entry_of index listing number)))
+IsFound asked index listing number page (Err (BadPage bad)) =
     (state_of_page page ≡ Committed) × (IsGoodPage (per_page index) listing page → ⊥) × (bad ≡ bad_page listing page)
-IsFound index listing number page (Err (Flash fault)) = Unit {0}
+IsFound asked index listing number page (Err (Flash fault)) = Unit {0}
 
 -- what holds where no read failed, and why a read failed
-abbrev pub IfRead : Result (Option ℕ) ReadFault → Type 0 → Type 0
-IfRead (Ok found) P = P
+abbrev pub IfRead : {X : Type 0} → Result X ReadFault → Type 0 → Type 0
+IfRead (Ok answer) P = P
 IfRead (Err (BadPage bad)) P = P
 IfRead (Err (Flash fault)) P = Unit {0}
 
@@ -83,14 +92,28 @@ listing_by index number buf = if held_lists index number buf then Some (page_num
 abbrev pub looked_at : Index → ℕ → BufferState → Option ℕ
 looked_at index number buf = if is_waiting index number then None else listing_by index number buf
 
--- Nothing was read, and this was answered: the bitmap where it waits.
-pub record ByMemory (index : Index) (number : ℕ) (old : FlashState) (before : BufferState) (result : Result (Option ℕ) ReadFault) (new : FlashState) (after : BufferState) : Type 0 where
-  pub answer : result ≡ Ok (if is_waiting index number then Some (waiting_at index (number - first_waiting index)) else None)
+-- Nothing was read, and this was answered: what is asked for of the entry where it waits.
+pub record ByMemory {X : Type 0} (asked : Found → X) (index : Index) (number : ℕ) (old : FlashState) (before : BufferState) (result : Result (Option X) ReadFault) (new : FlashState) (after : BufferState) : Type 0 where
+  pub answer : result ≡ Ok (if is_waiting index number then Some (asked (found_waiting index (number - first_waiting index))) else None)
   pub flash : new ≡ old
   pub buffer : after ≡ before
 
--- For a table of the model: None exactly where the data page isn't indexed, and else the bitmap of its rows, where it
--- has any. No page is bad.
+-- what an entry has to tell of a page with these rows: its bitmap, and in a full one the rest
+pub record TellsRows (plan : Plan) (rows : List Entry) (found : Found) : Type 0 where
+  pub bitmap : found.bitmap ≡ bitmap_of plan rows
+  pub full : found.full ≡ (if plan.full_index then Some (fields_of (full_of rows)) else None)
+
+-- For a table of the model: None exactly where the data page isn't indexed, and else the entry of a kept page, where it has
+-- rows or entries are full. No page is bad.
+abbrev pub ShowsEntry : Plan → Table → ℕ → Result (Option Found) ReadFault → Type 0
+ShowsEntry plan table number (Ok found) =
+    (is_some found ≡ is_indexed plan table number)
+    × ((n rows : ℕ) → number ≡ rings.oldest table.rows + n → slice_get table.rows.counts n ≡ Some rows → IsTrue (is_told plan rows) →
+    IfSome found (TellsRows plan (rows_at table n rows)))
+ShowsEntry plan table number (Err (Flash fault)) = Unit {0}
+ShowsEntry plan table number (Err (BadPage bad)) = ⊥
+
+-- .. the bitmap alone
 abbrev pub ShowsBitmap : Plan → Table → ℕ → Result (Option ℕ) ReadFault → Type 0
 ShowsBitmap plan table number (Ok found) =
     (is_some found ≡ is_indexed plan table number)
@@ -98,6 +121,15 @@ ShowsBitmap plan table number (Ok found) =
     IfSome found (λ bitmap. bitmap ≡ bitmap_of plan (rows_at table n rows)))
 ShowsBitmap plan table number (Err (Flash fault)) = Unit {0}
 ShowsBitmap plan table number (Err (BadPage bad)) = ⊥
+
+-- the bitmaps of what was found
+abbrev pub bitmap_found : Option Found → Option ℕ
+bitmap_found None = None
+bitmap_found (Some found) = Some found.bitmap
+
+abbrev pub bitmaps_of : Result (Option Found) ReadFault → Result (Option ℕ) ReadFault
+bitmaps_of (Ok found) = Ok (bitmap_found found)
+bitmaps_of (Err fault) = Err fault
 
 -- the data pages that an index page lists end above a number
 abbrev pub ends_above : ℕ → ℕ → Option ℕ → Bool

@@ -4,26 +4,31 @@ use Rattle.std.specs.List.{flat_map}
 use Rattle.std.specs.Option.{ForSome}
 use Rattle.fl_flash.specs.Flash.{FlashState, pages}
 use Rattle.fl_model.specs.Record.{Plan}
-use Rattle.fl_model.specs.Row.{le}
+use Rattle.fl_model.specs.Layout.{IndexEntry}
 use Rattle.fl_ring.specs.Mounting.{shape_at}
 use Rattle.fl_ring.specs.Place.{next_of, oldest_of}
 use Rattle.fl_ring.specs.Place as place
 use Rattle.fl_ring.specs.Ring as rings
 use Rattle.fl_ring.specs.Ring.{Shape}
 use Rattle.fl_index.specs.declared.index.Index.{Index}
-use Rattle.fl_index.specs.Page.{entry_at}
+use Rattle.fl_index.specs.Page.{form_len, bytes_of, bitmap_at, found_at}
+use Rattle.fl_index.specs.declared.page.Found.{Found}
+use Rattle.fl_index.specs.declared.page.EntryForm.{EntryForm}
 
 -- the last mount succeeded, and no seal failed since
 abbrev pub is_running : Index → Bool
 is_running index = is_some index.ring
 
--- the bytes of a bitmap
-abbrev pub width_in : Index → ℕ
-width_in index = index.bits / 8
+-- the form of an entry, and its bytes
+abbrev pub form_in : Index → EntryForm
+form_in index = record { width = index.bits / 8; full = index.full }
 
--- how many bitmaps an index page holds
+abbrev pub len_in : Index → ℕ
+len_in index = form_len (form_in index)
+
+-- how many entries an index page holds
 abbrev pub per_page : Index → ℕ
-per_page index = (index.geometry.page - 24) / width_in index
+per_page index = (index.geometry.page - 24) / len_in index
 
 -- the number of the next index page, and of the oldest kept one
 abbrev pub next_in : Index → ℕ
@@ -32,7 +37,7 @@ next_in index = unwrap_or (option_map (λ ring. next_of ring) index.ring) 0
 abbrev pub oldest_in : Index → ℕ
 oldest_in index = unwrap_or (option_map (λ ring. oldest_of ring) index.ring) 0
 
--- how many bitmaps wait, the data page of the first of them, and the j-th of them
+-- how many entries wait, the data page of the first of them, and the bitmap of the j-th of them
 abbrev pub waiting_in : Index → ℕ
 waiting_in index = index.waiting
 
@@ -40,13 +45,16 @@ abbrev pub first_waiting : Index → ℕ
 first_waiting index = index.first
 
 abbrev pub waiting_at : Index → ℕ → ℕ
-waiting_at index j = entry_at (width_in index) index.body.items j
+waiting_at index j = bitmap_at (form_in index) index.body.items j
 
--- these bitmaps wait, one after another
-abbrev pub Gathers : Index → List ℕ → Type 0
-Gathers index bitmaps = take (length bitmaps * width_in index) (drop 16 index.body.items) ≡ flat_map (λ bits. le (width_in index) bits) bitmaps
+abbrev pub found_waiting : Index → ℕ → Found
+found_waiting index j = found_at (form_in index) index.body.items j
 
--- the bitmap of a data page waits
+-- these entries wait, one after another
+abbrev pub Gathers : Index → List IndexEntry → Type 0
+Gathers index entries = take (length entries * len_in index) (drop 16 index.body.items) ≡ flat_map (bytes_of (form_in index)) entries
+
+-- the entry of a data page waits
 abbrev pub is_waiting : Index → ℕ → Bool
 is_waiting index number = nat_le (first_waiting index) number && nat_lt number (first_waiting index + waiting_in index)
 
@@ -83,12 +91,14 @@ pub record IsPlanned (index : Index) (first : ℕ) (plan : Plan) : Type 0 where
   pub begins : index.place.first_block ≡ first
   pub blocks : plan.index_blocks ≡ index.place.blocks
   pub bits : plan.bits ≡ index.bits
+  pub full : plan.full_index ≡ index.full
 
 -- what no call changes
 pub record IsSamePlan (old new : Index) : Type 0 where
   pub geometry : new.geometry ≡ old.geometry
   pub place : new.place ≡ old.place
   pub bits : new.bits ≡ old.bits
+  pub full : new.full ≡ old.full
 
 -- .. and what no call changes that leaves the ring
 pub record IsSameRing (old new : Index) : Type 0 where

@@ -1,12 +1,12 @@
 -- How the calls of an index end, over a flash that stands for the index of a table of the model.
-use Rattle.std.specs.Prelude.{◌≡◌, ◌⊎◌, ℕ, ◌+◌, Bool, true, false, ◌==◌, Option, Some, None, option_map, Result, Ok, Err, List, [], ◌∷◌, if◌then◌else◌}
+use Rattle.std.specs.Prelude.{◌≡◌, ◌⊎◌, ℕ, ◌+◌, Bool, true, false, ◌==◌, Option, Some, None, option_map, Result, Ok, Err, List, [], ◌∷◌, length, if◌then◌else◌}
 use Rattle.std.specs.List.{last_or}
 use Rattle.fl_flash.specs.Flash.{FlashState, page_at}
 use Rattle.fl_flash.specs.declared.flash.FlashFault.{FlashFault}
 use Rattle.fl_flash.specs.declared.flash.FlashFault.TheVariants.{PowerLost, Media}
 use Rattle.fl_model.specs.Record.{Plan, entries_per_page}
 use Rattle.fl_model.specs.Ring.{Ring}
-use Rattle.fl_model.specs.Table.{Table, RingName, IndexRing, after_seal, after_seals, lose}
+use Rattle.fl_model.specs.Table.{Table, RingName, IndexRing, firsts, after_seal, after_seals, lose}
 use Rattle.fl_model.specs.Mount.{renumber}
 use Rattle.fl_model.specs.Work.{Kind, Device, PartEnd, Whole, CutIn, FailedIn, PartProgress}
 use Rattle.fl_model.specs.Within.{TablePerforms, TableUnreads, repair_within, seal_within, seals_within}
@@ -20,7 +20,7 @@ use Rattle.fl_index.specs.Standing.{Rests, StandsForRing, Stands, bytes_in}
 
 -- an index page is sealed where as many bitmaps wait as it holds
 abbrev pub index_seals : Plan → Table → List RingName
-index_seals plan table = if table.waiting == entries_per_page plan then IndexRing ∷ [] else []
+index_seals plan table = if length table.waiting == entries_per_page plan then IndexRing ∷ [] else []
 
 -- The operations of a call were all done, and it left this table's index. The index pages that are kept have the bytes
 -- that they had.
@@ -61,7 +61,7 @@ MakesRoom first plan table rose device (Err fault) index old new = Breaks first 
 
 -- the number after those that the index lists, where it lists any
 abbrev pub end_of : Plan → Table → Option ℕ
-end_of plan table = option_map (λ page. page + entries_per_page plan) (last_or None table.firsts)
+end_of plan table = option_map (λ page. page + entries_per_page plan) (last_or None (firsts table))
 
 -- A mount that ended well: the ring is that of the table's index, and no bitmap waits.
 pub record MountsWell (first : ℕ) (plan : Plan) (table : Table) (rose : Bool) (device : Device) (end : Option ℕ) (index : Index) (new : FlashState) : Type 0 where

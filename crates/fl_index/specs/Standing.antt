@@ -1,12 +1,13 @@
 -- An index in memory and a flash, and the index of the table of the model for which they stand.
-use Rattle.std.specs.Prelude.{◌≡◌, ◌⊎◌, ℕ, ◌+◌, ◌-◌, ◌*◌, ◌%◌, ◌^◌, ◌<◌, ◌≤◌, false, ◌==◌, Some, None, IfSome, List, length, take, sum, slice_get, if◌then◌else◌}
+use Rattle.std.specs.Prelude.{◌≡◌, ◌⊎◌, ℕ, ◌+◌, ◌-◌, ◌*◌, ◌%◌, ◌^◌, ◌<◌, ◌≤◌, false, ◌==◌, Some, None, List, [], length, take, sum, slice_get, if◌then◌else◌}
 use Rattle.std.specs.List.{AllByRecursion}
 use Rattle.fl_flash.specs.Flash.{FlashState, page_at}
 use Rattle.fl_model.specs.Record.{Plan, entries_per_page}
 use Rattle.fl_model.specs.Ring.{Ring, IsRing, oldest}
-use Rattle.fl_model.specs.Table.{Table, IndexRing, shape_of, full_pages}
-use Rattle.fl_model.specs.Image.{IsRingImage, HoldsBitmaps, rows_at}
-use Rattle.fl_model.specs.Layout.{bitmap_of}
+use Rattle.fl_model.specs.Table.{Table, IndexRing, shape_of, full_pages, firsts}
+use Rattle.fl_model.specs.Image.{IsRingImage, HoldsEntries}
+use Rattle.fl_model.specs.Agrees.{TellPages}
+use Rattle.fl_model.specs.Layout.{IndexEntry, IndexPage}
 use Rattle.fl_model.specs.Mount.{index_end}
 use Rattle.fl_ring.specs.Place as memory
 use Rattle.fl_ring.specs.declared.ring.Ring as code
@@ -20,17 +21,21 @@ bytes_in page first plan number =
 
 -- the pages of the index ring hold what the table's index lists
 abbrev pub HoldsIndex : (ℕ → List ℕ) → ℕ → Plan → Table → Ring → Type 0
-HoldsIndex page first plan table ring = IsRingImage (shape_of plan IndexRing) ring (bytes_in page first plan) (HoldsBitmaps plan table ring)
+HoldsIndex page first plan table ring = IsRingImage (shape_of plan IndexRing) ring (bytes_in page first plan) (HoldsEntries plan table ring)
 
 -- what holds of the index of a table in each state
 pub record HasIndex (plan : Plan) (table : Table) (ring : Ring) : Type 0 where
   pub ring_is : table.index ≡ Some ring
   pub is_ring : IsRing (shape_of plan IndexRing) ring
   pub counts : AllByRecursion (λ count. (count ≡ 0) ⊎ (count ≡ entries_per_page plan)) ring.counts
-  pub first_each : length table.firsts ≡ full_pages ring.counts
-  pub firsts : (i j a b : ℕ) → i < j → slice_get table.firsts i ≡ Some a → slice_get table.firsts j ≡ Some b → a + entries_per_page plan ≤ b
-  pub waiting : table.waiting ≤ entries_per_page plan
-  pub listed : index_end plan table + table.waiting ≤ table.rows.next
+  pub index_each : length table.index_pages ≡ full_pages ring.counts
+  pub index_fit : AllByRecursion (λ page. length page.entries ≡ entries_per_page plan) table.index_pages
+  pub firsts : (i j a b : ℕ) → i < j → slice_get (firsts table) i ≡ Some a → slice_get (firsts table) j ≡ Some b → a + entries_per_page plan ≤ b
+  pub waiting : length table.waiting ≤ entries_per_page plan
+  pub listed : index_end plan table + length table.waiting ≤ table.rows.next
+  -- what the index pages and the waiting entries tell
+  pub tell : (k : ℕ) (page : IndexPage) → slice_get table.index_pages k ≡ Some page → TellPages plan table page.first page.entries
+  pub wait : TellPages plan table (table.rows.next - length table.waiting) table.waiting
   pub counted : sum table.rows.counts + table.pending ≡ length table.entries
   pub number : ring.next + (if ring.torn then 1 else 0) < 2 ^ 32
   pub rows_number : table.rows.next < 2 ^ 32
@@ -39,7 +44,7 @@ pub record HasIndex (plan : Plan) (table : Table) (ring : Ring) : Type 0 where
 pub record Rests (f : FlashState) (first : ℕ) (plan : Plan) (table : Table) : Type 0 where
   pub ring : Ring
   pub facts : HasIndex plan table ring
-  pub idle : table.waiting ≡ 0
+  pub idle : table.waiting ≡ []
   pub pages : HoldsIndex (page_at f) first plan table ring
 
 -- the ring in memory and on a flash is that of the table's index, which has no torn page, and no block that waits for its erase
@@ -56,19 +61,15 @@ pub record StandsForRing (index : Index) (f : FlashState) (first : ℕ) (plan : 
   pub oldest_is : memory.oldest_of in_memory ≡ oldest ring
   -- the first data page of each kept index page is remembered
   pub first_of : (i count : ℕ) → slice_get ring.counts i ≡ Some count →
-      first_in index (oldest ring + i) ≡ (if count == 0 then None else slice_get table.firsts (full_pages (take i ring.counts)))
+      first_in index (oldest ring + i) ≡ (if count == 0 then None else slice_get (firsts table) (full_pages (take i ring.counts)))
 
--- So many bitmaps wait in memory, from this data page on. That of each kept data page with rows is right.
-pub record Waits (index : Index) (plan : Plan) (table : Table) (first count : ℕ) : Type 0 where
+-- these entries wait in memory, those of the data pages from one on
+pub record Waits (index : Index) (first : ℕ) (entries : List IndexEntry) : Type 0 where
   pub first_is : first_waiting index ≡ first
-  pub count_is : waiting_in index ≡ count
-  pub bitmaps : List ℕ
-  pub as_many : length bitmaps ≡ count
-  pub gathered : Gathers index bitmaps
-  pub each : (j n : ℕ) → j < count → first + j ≡ oldest table.rows + n → IfSome (slice_get table.rows.counts n) (λ rows. 0 < rows →
-      slice_get bitmaps j ≡ Some (bitmap_of plan (rows_at table n rows)))
+  pub count_is : waiting_in index ≡ length entries
+  pub gathered : Gathers index entries
 
--- the index stands for that of the table: its ring, and the waiting bitmaps, which are those of the last data pages
+-- the index stands for that of the table: its ring, and the waiting entries, which are those of the last data pages
 pub record Stands (index : Index) (f : FlashState) (first : ℕ) (plan : Plan) (table : Table) : Type 0 where
   pub in_ring : StandsForRing index f first plan table
-  pub waits : Waits index plan table (table.rows.next - table.waiting) table.waiting
+  pub waits : Waits index (table.rows.next - length table.waiting) table.waiting

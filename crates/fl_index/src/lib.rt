@@ -1,4 +1,4 @@
-//! An index of value bitmaps: those of sealed data pages gather in memory, and stand in pages of a ring of their own.
+//! An index of data pages: the entries of sealed ones gather in memory, and stand in pages of a ring of their own.
 #![tactic(auto)]
 
 mod index;
@@ -9,4 +9,4 @@ mod seal;
 mod waiting;
 
 pub use index::Index;
-pub use page::{entry_in, first_in};
+pub use page::{EntryForm, Found, Full, bitmap_in, entry_len, first_in, found_in};

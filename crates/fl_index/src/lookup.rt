@@ -1,5 +1,5 @@
-// A lookup of a data page's bitmap.
-ghost use Rattle.std.specs.Prelude.{◌≡◌, ◌⊎◌, ◌+◌, ◌-◌, ◌*◌, ◌^◌, ◌<◌, ◌≤◌, None, Some, Err, true, false, length, IsTrue, IfSome, IfErr, OnOk, OnErr, if◌then◌else◌, unwrap_or};
+// A lookup of a data page's entry.
+ghost use Rattle.std.specs.Prelude.{◌≡◌, ◌⊎◌, ◌+◌, ◌-◌, ◌*◌, ◌^◌, ◌<◌, ◌≤◌, None, Some, Ok, Err, true, false, length, IsTrue, IfSome, IfErr, OnOk, OnErr, if◌then◌else◌, unwrap_or};
 ghost use Rattle.fl_flash.specs.Flash.{page_at};
 ghost use Rattle.fl_flash.specs.Media.{next_count};
 ghost use Rattle.fl_page.specs.Contents as contents;
@@ -7,16 +7,17 @@ ghost use Rattle.fl_page.specs.declared.fault.ReadFault.TheVariants as fault;
 ghost use Rattle.fl_ring.specs.Looking.{OnlyReads};
 ghost use Rattle.fl_ring.specs.Place.{shape_of, LiesOn as LiesIn};
 ghost use Rattle.fl_ring.specs.Ring.{place};
+ghost use Rattle.fl_index.specs.Looking.{bitmap_found};
 ghost use Rattle.fl_index.specs.Page.{page_number};
 
 use crate::index::Index;
-use crate::page::{count_in, entry_in, number_in};
+use crate::page::{Found, count_in, found_in, number_in};
 use fl_flash::{Flash, FlashFault, PageBuf};
 use fl_mark::{PageState, state_of};
 use fl_page::{BadPage, ReadFault};
 use fl_ring::Ring;
 
-/// The kept index page that lists a data page, and the place of that one's bitmap among its bitmaps.
+/// The kept index page that lists a data page, and the place of that one's entry among its entries.
 #[derive(Clone, Copy)]
 struct Listing {
     page: u32,
@@ -28,29 +29,29 @@ impl Index {
     ghost use Rattle.std.specs.List.{AllByRecursion};
     ghost use Rattle.fl_model.specs.Record.{Plan};
     ghost use Rattle.fl_model.specs.Table as model;
-    ghost use Rattle.fl_index.specs.Looking.{looked_at, listing_by, held_lists, entry_of, HasEntry, IsFound, IsHeld, IsFresh, IfRead, IfUnread, ByMemory, ShowsBitmap, IsScanning, ScansOn, HoldsGood, IsBadPage, IfBad, due, next_to_read, unread};
-    ghost use Rattle.fl_index.specs.Memory.{first_in, listing_in, lists, oldest_in, per_page, place_in, width_in, LiesOn};
+    ghost use Rattle.fl_index.specs.Looking.{looked_at, listing_by, held_lists, entry_of, entire, bitmap_alone, HasEntry, IsFound, IsHeld, IsFresh, IfRead, IfUnread, ByMemory, ShowsBitmap, ShowsEntry, bitmap_found, IsScanning, ScansOn, HoldsGood, IsBadPage, IfBad, due, next_to_read, unread};
+    ghost use Rattle.fl_index.specs.Memory.{first_in, first_waiting, found_waiting, is_waiting, listing_in, lists, oldest_in, per_page, place_in, LiesOn};
     ghost use Rattle.fl_index.specs.Standing.{Stands};
 
-    /// The bitmap of a data page, and none where it doesn't wait and no kept index page lists it. The index page that
+    /// The entry of a data page, and none where it doesn't wait and no kept index page lists it. The index page that
     /// lists it is read, unless the buffer holds it; so over ascending numbers each index page is read once.
-    pub fn bitmap_of<F: Flash>(
+    pub fn entry_of<F: Flash>(
         &self,
         flash: &mut F,
         number: u32,
         buf: &mut PageBuf,
-    ) -> Result<Option<u64>, ReadFault>
+    ) -> Result<Option<Found>, ReadFault>
         requires lies { LiesOn self.now (F.state flash.old) }
         requires room { length buf.old.bytes ≡ (F.state flash.old).geometry.page }
         ensures reads { OnlyReads (F.state flash.old) 1 (F.state flash.new) }
         ensures counts { contents.OnlyReads (F.state flash.old) (F.state flash.new) }
         ensures room { length buf.new.bytes ≡ length buf.old.bytes }
 
-        // A bitmap that waits, and that of a data page that no index page lists, need no look ..
-        ensures memory { looked_at self.now number buf.old ≡ None → ByMemory self.now number (F.state flash.old) buf.old result (F.state flash.new) buf.new }
+        // An entry that waits, and that of a data page that no index page lists, need no look ..
+        ensures memory { looked_at self.now number buf.old ≡ None → ByMemory entire self.now number (F.state flash.old) buf.old result (F.state flash.new) buf.new }
 
         // .. and any other one is looked up in the one index page that lists it, which isn't read where the buffer holds it.
-        ensures found { IfSome (looked_at self.now number buf.old) (λ listing. IsFound self.now listing number buf.new.bytes result) }
+        ensures found { IfSome (looked_at self.now number buf.old) (λ listing. IsFound entire self.now listing number buf.new.bytes result) }
         ensures page { IfSome (looked_at self.now number buf.old) (λ listing. IsTrue (F.state flash.old).media.tells → IsFresh self.now (F.state flash.old) buf.old →
             IfRead result (buf.new.bytes ≡ page_at (F.state flash.old) (place_in self.now listing))) }
         ensures holds { IfSome (looked_at self.now number buf.old) (λ listing. IfRead result (buf.new.holds ≡ Some (place_in self.now listing))) }
@@ -60,7 +61,7 @@ impl Index {
         ensures fresh { IsTrue (F.state flash.old).media.tells → IsFresh self.now (F.state flash.old) buf.old → IsFresh self.now (F.state flash.new) buf.new }
 
         ensures stands { (first : ℕ) → (plan : Plan) → (table : model.Table) → IsTrue (F.state flash.old).media.tells → Stands self.now (F.state flash.old) first plan table →
-            IsFresh self.now (F.state flash.old) buf.old → number < table.rows.next → ShowsBitmap plan table number result }
+            IsFresh self.now (F.state flash.old) buf.old → ShowsEntry plan table number result }
         ensures scans { (first : ℕ) → (plan : Plan) → (table : model.Table) → (from : ℕ) → IsTrue (F.state flash.old).media.tells → Stands self.now (F.state flash.old) first plan table →
             IsFresh self.now (F.state flash.old) buf.old → IsScanning self.now number from buf.old → OnOk result (ScansOn self.now number from (F.state flash.old) (F.state flash.new) buf.new) }
         ensures most { (first : ℕ) → (plan : Plan) → (table : model.Table) → (from : ℕ) → IsTrue (F.state flash.old).media.tells → Stands self.now (F.state flash.old) first plan table →
@@ -79,8 +80,8 @@ impl Index {
         ensures cause { IfErr result (λ fault. contents.IsCaused (F.state flash.old) fault (F.state flash.new)) }
         ensures unread { IfErr result (IfUnread (λ e. buf.new.holds ≡ None)) }
     {
-        if let Some(bitmap) = self.waiting_bitmap(number) {
-            return Ok(Some(bitmap));
+        if let Some(found) = self.waiting_entry(number) {
+            return Ok(Some(found));
         }
         let Some(ring) = &self.ring else {
             return Ok(None);
@@ -92,6 +93,58 @@ impl Index {
             return Err(ReadFault::Flash(fault));
         }
         self.listed(listing, buf.bytes())
+    }
+
+    /// The bitmap of a data page, and none where it doesn't wait and no kept index page lists it. It is found as the entry is.
+    pub fn bitmap_of<F: Flash>(
+        &self,
+        flash: &mut F,
+        number: u32,
+        buf: &mut PageBuf,
+    ) -> Result<Option<u64>, ReadFault>
+        requires lies { LiesOn self.now (F.state flash.old) }
+        requires room { length buf.old.bytes ≡ (F.state flash.old).geometry.page }
+        ensures reads { OnlyReads (F.state flash.old) 1 (F.state flash.new) }
+        ensures counts { contents.OnlyReads (F.state flash.old) (F.state flash.new) }
+        ensures room { length buf.new.bytes ≡ length buf.old.bytes }
+
+        // A bitmap that waits, and that of a data page that no index page lists, need no look ..
+        ensures memory { looked_at self.now number buf.old ≡ None → ByMemory bitmap_alone self.now number (F.state flash.old) buf.old result (F.state flash.new) buf.new }
+
+        // .. and any other one is looked up in the one index page that lists it, which isn't read where the buffer holds it.
+        ensures found { IfSome (looked_at self.now number buf.old) (λ listing. IsFound bitmap_alone self.now listing number buf.new.bytes result) }
+        ensures page { IfSome (looked_at self.now number buf.old) (λ listing. IsTrue (F.state flash.old).media.tells → IsFresh self.now (F.state flash.old) buf.old →
+            IfRead result (buf.new.bytes ≡ page_at (F.state flash.old) (place_in self.now listing))) }
+        ensures holds { IfSome (looked_at self.now number buf.old) (λ listing. IfRead result (buf.new.holds ≡ Some (place_in self.now listing))) }
+        ensures held { IfSome (looked_at self.now number buf.old) (λ listing. IsHeld self.now listing buf.old → ((F.state flash.new) ≡ F.state flash.old) × (buf.new ≡ buf.old)) }
+        ensures read { IfSome (looked_at self.now number buf.old) (λ listing. (buf.old.holds ≡ Some (place_in self.now listing) → page_number buf.old.bytes ≡ listing → ⊥) →
+            IfRead result ((F.state flash.new).work.reads ≡ next_count (F.state flash.old).work.reads)) }
+        ensures fresh { IsTrue (F.state flash.old).media.tells → IsFresh self.now (F.state flash.old) buf.old → IsFresh self.now (F.state flash.new) buf.new }
+
+        ensures stands { (first : ℕ) → (plan : Plan) → (table : model.Table) → IsTrue (F.state flash.old).media.tells → Stands self.now (F.state flash.old) first plan table →
+            IsFresh self.now (F.state flash.old) buf.old → ShowsBitmap plan table number result }
+        ensures scans { (first : ℕ) → (plan : Plan) → (table : model.Table) → (from : ℕ) → IsTrue (F.state flash.old).media.tells → Stands self.now (F.state flash.old) first plan table →
+            IsFresh self.now (F.state flash.old) buf.old → IsScanning self.now number from buf.old → OnOk result (ScansOn self.now number from (F.state flash.old) (F.state flash.new) buf.new) }
+        ensures most { (first : ℕ) → (plan : Plan) → (table : model.Table) → (from : ℕ) → IsTrue (F.state flash.old).media.tells → Stands self.now (F.state flash.old) first plan table →
+            IsFresh self.now (F.state flash.old) buf.old → IsScanning self.now number from buf.old → (F.state flash.new).work.reads ≤ (F.state flash.old).work.reads + unread self.now number from }
+        ensures least { (first : ℕ) → (plan : Plan) → (table : model.Table) → (from : ℕ) → (numbers : List ℕ) → IsTrue (F.state flash.old).media.tells → Stands self.now (F.state flash.old) first plan table →
+            IsFresh self.now (F.state flash.old) buf.old → IsScanning self.now number from buf.old → AllByRecursion (λ n. number ≤ n) numbers → (F.state flash.new).work.reads < 2 ^ 64 - 1 →
+            OnOk result ((F.state flash.old).work.reads + due self.now (number ∷ numbers) from ≤ (F.state flash.new).work.reads + due self.now numbers (next_to_read self.now buf.new)) }
+
+        // A scan that begins anew after a fault has no more left to read than before it.
+        ensures again { (first : ℕ) → (plan : Plan) → (table : model.Table) → (from : ℕ) → IsTrue (F.state flash.old).media.tells → Stands self.now (F.state flash.old) first plan table →
+            IsFresh self.now (F.state flash.old) buf.old → IsScanning self.now number from buf.old → OnErr result (unread self.now number (oldest_in self.now) ≤ unread self.now number from) }
+
+        // A page that is held isn't bad, and a bad one that is answered stands on the flash.
+        ensures good { HoldsGood self.now buf.old → OnOk result (HoldsGood self.now buf.new) }
+        ensures bad { IfErr result (IfBad (λ bad. IsTrue (F.state flash.old).media.tells → HoldsGood self.now buf.old → IsBadPage self.now (F.state flash.old) bad)) }
+        ensures cause { IfErr result (λ fault. contents.IsCaused (F.state flash.old) fault (F.state flash.new)) }
+        ensures unread { IfErr result (IfUnread (λ e. buf.new.holds ≡ None)) }
+    {
+        match self.entry_of(flash, number, buf) {
+            Ok(found) => Ok(bitmap_found(found)),
+            Err(fault) => Err(fault),
+        }
     }
 
     /// The kept index page that lists a data page: that in the buffer, where it does, or else the first one. So a scan
@@ -154,11 +207,11 @@ impl Index {
         }
     }
 
-    /// The bitmap at a place of an index page with these bytes.
-    fn listed(&self, listing: Listing, bytes: &[u8]) -> Result<Option<u64>, ReadFault>
+    /// The entry at a place of an index page with these bytes.
+    fn listed(&self, listing: Listing, bytes: &[u8]) -> Result<Option<Found>, ReadFault>
         requires size { length bytes.now ≡ self.now.geometry.page }
         requires within { listing.entry < per_page self.now }
-        ensures found { (number : ℕ) → listing.entry ≡ entry_of self.now listing.page number → IsFound self.now listing.page number bytes.now result }
+        ensures found { (number : ℕ) → listing.entry ≡ entry_of self.now listing.page number → IsFound entire self.now listing.page number bytes.now result }
         ensures no_flash { IfErr result (IfUnread (λ e. ⊥)) }
     {
         let PageState::Committed = state_of(bytes) else {
@@ -173,7 +226,17 @@ impl Index {
                 count,
             }));
         }
-        Ok(Some(entry_in(bytes, self.width(), listing.entry)))
+        Ok(Some(found_in(bytes, self.form(), listing.entry)))
+    }
+}
+
+/// The bitmap of an entry, where there is one.
+fn bitmap_found(found: Option<Found>) -> Option<u64>
+    ensures { result ≡ bitmap_found found }
+{
+    match found {
+        Some(found) => Some(found.bitmap),
+        None => None,
     }
 }
 

@@ -1,4 +1,4 @@
-// The seal of the waiting bitmaps.
+// The seal of the waiting entries.
 ghost use Rattle.std.specs.Prelude.{Ok, ◌≡◌, ◌+◌, ◌-◌, ◌<◌, ◌≤◌, ◌^◌, ◌==◌, true, false, if◌then◌else◌, length, slice_index, IsTrue, OnOk, OnErr, IfErr, Some};
 ghost use Rattle.fl_flash.specs.Flash.{Goes, OffChangesNothing, page_at};
 ghost use Rattle.fl_ring.specs.Causes.{CausedBy};
@@ -14,11 +14,11 @@ impl Index {
     ghost use Rattle.fl_model.specs.Work.{Device};
     ghost use Rattle.fl_ring.specs.Ring.{OutsideStands};
     ghost use Rattle.fl_ring.specs.Step.{IsWatched};
-    ghost use Rattle.fl_index.specs.Memory.{is_running, first_waiting, next_in, per_page, ring_shape, waiting_at, waiting_in, width_in, IsSamePlan, LiesOn};
+    ghost use Rattle.fl_index.specs.Memory.{is_running, first_waiting, next_in, per_page, ring_shape, waiting_at, waiting_in, IsSamePlan, LiesOn};
     ghost use Rattle.fl_index.specs.Standing.{Stands};
     ghost use Rattle.fl_index.specs.Outcomes.{MakesRoom, SealEnds};
 
-    /// Seals the waiting bitmaps as an index page where they are as many as it holds. After an error the index is to be
+    /// Seals the waiting entries as an index page where they are as many as it holds. After an error the index is to be
     /// mounted again.
     pub fn make_room<F: Flash>(&mut self, flash: &mut F) -> Result<(), FlashFault>
         requires running { is_running self.old ≡ true }
@@ -48,7 +48,7 @@ impl Index {
         self.seal(flash)
     }
 
-    /// Seals a full list of bitmaps as the next index page.
+    /// Seals a full list of entries as the next index page.
     fn seal<F: Flash>(&mut self, flash: &mut F) -> Result<(), FlashFault>
         requires running { is_running self.old ≡ true }
         requires full { waiting_in self.old ≡ per_page self.old }

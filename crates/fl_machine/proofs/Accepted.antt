@@ -1,15 +1,15 @@
 -- A configuration that is accepted has room: blocks of two pages at least, and three blocks of rows. And it is a small one.
-use Rattle.std.proofs.Common.{◌≡◌, ℕ, zero, suc, ◌+◌, ◌≤◌, Bool, true, false, cond, ◌||◌, nat_lt, Option, Some, None, IfSome, Result, Ok, Err, List, [], ◌∷◌, ◌++◌, refl, sym, ◌∙◌, ap, subst, not, ◌==◌, ◌*◌, ◌-◌, sum_by, arith}
+use Rattle.std.proofs.Common.{◌≡◌, ℕ, zero, suc, ◌+◌, ◌≤◌, Bool, true, false, cond, ◌||◌, nat_lt, Option, Some, None, IfSome, Result, Ok, Err, List, [], ◌∷◌, ◌++◌, refl, sym, ◌∙◌, ap, subst, ◌*◌, sum_by, arith}
 use Rattle.std.specs.List.{AllByRecursion, slice_get}
-use Rattle.std.proofs.lemmas.Bool.{ltb-false, eqb-true}
+use Rattle.std.proofs.lemmas.Bool.{ltb-false}
 use Rattle.std.proofs.lemmas.List.Sums.{sum_by-append}
 use Rattle.std.proofs.Math.Nat.{add-mul}
 use Rattle.fl_base.specs.declared.types.Geometry.{Geometry}
-use Rattle.fl_model.specs.Record.{Plan, Config, blocks_of, content_per_page}
+use Rattle.fl_model.specs.Record.{Plan, Config, blocks_of}
 use Rattle.fl_words.specs.Command as command
 use Rattle.fl_words.specs.Command.{Command, TableLine}
 use Rattle.fl_words.specs.Grammar.{LineFault, command_of}
-use Rattle.fl_words.specs.Config.{Lines, no_lines, ConfigFault, configured, with_device, with_table_line, unless, first_fault, device_faults, table_faults, plan_of, whole_of, bad_blob_limit, too_large, BlockSize, DataBlocks, ErrorBound, BlobLimit, DeviceTooLarge}
+use Rattle.fl_words.specs.Config.{Lines, no_lines, ConfigFault, configured, with_device, with_table_line, unless, first_fault, device_faults, table_faults, plan_of, whole_of, too_large, BlockSize, DataBlocks, ErrorBound, DeviceTooLarge}
 use Rattle.fl_machine.specs.Found.{HasRoom}
 use Rattle.fl_machine.specs.Small.{IsSmallPlan, IsSmall}
 use Rattle.fl_machine.specs.Script.{Start, Ready, Unended, BadLine, BadConfig, start_with, start_config, start_line, start_from, start_of, ended}
@@ -66,19 +66,6 @@ all-append : (P : Plan → Type 0) (plans : List Plan) (plan : Plan) → AllByRe
 all-append P [] plan h k = (k, tt)
 all-append P (p ∷ plans) plan h k = (h.0, all-append P plans plan h.1 k)
 
-blob-small : (plan : Plan) → bad_blob_limit plan ≡ false → plan.blob_limit ≤ 1500
-blob-small plan h = by_ring (plan.var_blocks == 0) h
-  where
-    by_ring : (b : Bool) →
-        cond b (not (plan.blob_limit == 0)) ((plan.blob_limit == 0) || nat_lt 1500 plan.blob_limit || nat_lt (content_per_page plan * ((plan.var_blocks - 1) * plan.geometry.block - 2)) plan.blob_limit) ≡ false →
-        plan.blob_limit ≤ 1500
-    by_ring true h = by_limit (plan.blob_limit == 0) refl h
-      where
-        by_limit : (z : Bool) → (plan.blob_limit == 0) ≡ z → not z ≡ false → plan.blob_limit ≤ 1500
-        by_limit true e h = omega (arith, eqb-true plan.blob_limit 0 e)
-        by_limit false e h = cc
-    by_ring false h = ltb-false 1500 plan.blob_limit (or_right (plan.blob_limit == 0) (nat_lt 1500 plan.blob_limit) (or_left ((plan.blob_limit == 0) || nat_lt 1500 plan.blob_limit) _ h))
-
 device-room : (lines now : Lines) (geometry : Geometry) (before : Option Geometry) → LinesHaveRoom lines → lines.device ≡ before → with_device lines geometry before ≡ Ok now → LinesHaveRoom now
 device-room lines now geometry (Some before) room e h = cc
 device-room lines now geometry None room e h =
@@ -96,14 +83,12 @@ table-small lines line geometry h small =
     let size : Bool × ConfigFault = (too_large geometry plans, DeviceTooLarge) in
     let few = ltb-false 65536 (sum_by blocks_of plans * geometry.block) (or_left _ (nat_lt 67108864 (sum_by blocks_of plans * geometry.block * geometry.page)) (passes 13 size h refl)) in
     let error : Bool × ConfigFault = (nat_lt 255 line.error, ErrorBound) in
-    let blob : Bool × ConfigFault = (bad_blob_limit plan, BlobLimit) in
     let own : sum_by blocks_of plans * geometry.block ≡ sum_by blocks_of lines.plans * geometry.block + blocks_of plan * geometry.block =
     ap (λ n. n * geometry.block) (sum_by-append blocks_of lines.plans (plan ∷ []) ∙ ap (λ n. sum_by blocks_of lines.plans + n) (let one : sum_by blocks_of (plan ∷ []) ≡ blocks_of plan = omega arith in one)) ∙ add-mul (sum_by blocks_of lines.plans) (blocks_of plan) geometry.block in (
       few,
       all-append IsSmallPlan lines.plans plan small (record {
         pages = omega (arith, few, own);
         error = ltb-false 255 line.error (passes 10 error h refl);
-        blobs = blob-small plan (passes 11 blob h refl);
       }),
     )
 
@@ -114,8 +99,11 @@ table-room lines now line (Some geometry) room e h =
     let test : Bool × ConfigFault = (nat_lt line.data_blocks 3 || nat_lt 16384 line.data_blocks, DataBlocks) in
     let blocks : 3 ≤ line.data_blocks = ltb-false line.data_blocks 3 (or_left (nat_lt line.data_blocks 3) (nat_lt 16384 line.data_blocks) (test_passes (table_faults geometry lines.plans line) 5 test ok.0 refl)) in
     let pages : 2 ≤ geometry.block = subst (λ (o : Option Geometry). IfSome o (λ g. 2 ≤ g.block)) e room.device in
-    let room_now = all-append HasRoom lines.plans (plan_of geometry line) room.plans (record { blocks = blocks; pages = pages }) in
+    let room_now = all-append HasRoom lines.plans (plan_of geometry line) room.plans (record { blocks = blocks; pages = pages; log_blocks = λ h. absurd (no_log h); no_var = λ h. absurd (no_log h) }) in
     subst LinesHaveRoom ok.1 (record { device = room.device; plans = room_now; small = subst (λ o. AreSmall o (lines.plans ++ plan_of geometry line ∷ [])) (sym e) (table-small lines line geometry ok.0 (subst (λ o. AreSmall o lines.plans) e room.small).1) })
+  where
+    no_log : false ≡ true → ⊥
+    no_log h = cc
 
 -- what a start that is ready says of its configuration
 abbrev pub StartIsAccepted : Start → Type 0

@@ -4,9 +4,10 @@ use Rattle.std.specs.List.{slice_get, AllByRecursion}
 use Rattle.std.proofs.Math.Seq.{take-length}
 use Rattle.fl_base.specs.declared.types.CutKind.{CutKind}
 use Rattle.fl_model.specs.Record.{Plan, Record, Config}
-use Rattle.fl_model.specs.Table.{Table, Entry, RingName, Refusal, refusal_of, put_seals, put_record, table_seals, flushed}
+use Rattle.fl_model.specs.Table.{Table, Entry, Refusal, refusal_of, put_joined, put_record, lose, table_seals, flushed}
 use Rattle.fl_model.specs.Work.{Operation, Device, cut_now, counted, done, Progress, Outcome, Finished, CutShort, Failed, Performs, PerformsFirst, operations_of, changed_at}
-use Rattle.fl_model.specs.Mount.{Mounts, MountEnd, Mounted, Stopped, Unread, GoesOn, rings_from, renumbered_at, repairs_at}
+use Rattle.fl_model.specs.Puts.{Puts, PutGoesOn, room_operations, join_operations}
+use Rattle.fl_model.specs.Mount.{Turn, Mounts, MountEnd, Mounted, Stopped, Unread, GoesOn, turns_from, turned_at, operations_at}
 use Rattle.fl_model.specs.Query.{BlobState, Without, Lost, Stands, blob_of, entry_at, left_of, moved, selected, begin}
 use Rattle.fl_model.specs.Operators.{select, project, aggregate, key_join}
 use Rattle.fl_words.specs.Command as command
@@ -15,7 +16,7 @@ use Rattle.fl_words.specs.Reply as reply
 use Rattle.fl_words.specs.Reply.{Reply}
 use Rattle.fl_machine.specs.Machine.{Machine, OpenCursor, Cost, NothingYet, OfGet, OfScan, stopped, no_cursors}
 use Rattle.fl_machine.specs.Step.{Moment, StepOf, Says, EndsAs, EndsMount, WithTable, Located, located, LoadsFrom, LoadsOn, NextStep, BlobReplies, Lists, Counts, cursor_at, no_column, load_record, next_random, rows_of, note_of, records_of, group_reply, pair_reply, stat_reply, cost_reply, refused, all_ready}
-use Rattle.fl_machine.specs.Plain.{perform, perform_first, mount_on, mount_rings, says, ends_as, located_or, on_table, ends_mount, mounts, put_or, flushes, plain, blob_replies, blob_reply, next_on, on_cursor, on_columns, loads_on, load_on, or_stuck, loads_from, counted_lines, plain_run}
+use Rattle.fl_machine.specs.Plain.{perform, perform_first, mount_on, mount_turns, put_on, put_performs, says, ends_as, located_or, on_table, ends_mount, mounts, put_or, flushes, plain, blob_replies, blob_reply, next_on, on_cursor, on_columns, loads_on, load_on, or_stuck, loads_from, counted_lines, plain_run}
 use Rattle.fl_machine.specs.Run.{Run, end_of, commands_of, risen_in}
 use Rattle.fl_machine.specs.Determined.{without_reads, reply_without_reads, state_without_reads, replies_of, IsWhole, IsDetermined}
 
@@ -70,6 +71,33 @@ performs-finished plans (operation ∷ operations) device tables end h e =
     by_cut (Some kind) h e go = absurd (cut-not-finished tables e)
     by_cut None (inl failed) e go = absurd (not-both false refl failed.0)
     by_cut None (inr goes) e go = go goes e
+
+puts-finished : (plans : List Plan) (plan : Plan) (place : ℕ) (item : Record) (table : Table) (device : Device) (tables : List Table) (end : Progress) →
+    Puts plans false plan place item table device tables end → (put_performs plans plan place item table device tables).outcome ≡ Finished → end ≡ put_performs plans plan place item table device tables
+puts-finished plans plan place item table device tables end (mid, did, goes) e = by_outcome m.outcome refl e
+  where
+    first : List Operation
+    first = room_operations plan place table
+
+    m : Progress
+    m = perform plans first device tables
+
+    joined : List Table
+    joined = changed_at place (put_joined plan item) tables
+
+    others : Progress
+    others = perform plans (join_operations plan place item table) m.device joined
+
+    by_outcome : (o : Outcome) → m.outcome ≡ o → (put_on o m others).outcome ≡ Finished → end ≡ put_on o m others
+    by_outcome Finished q w =
+        let is : mid ≡ m = performs-finished plans first device tables mid did q in
+        let g : PutGoesOn m.outcome m end (Performs plans false (join_operations plan place item table) m.device joined end) =
+        subst (λ (x : Progress). PutGoesOn x.outcome x end (Performs plans false (join_operations plan place item table) x.device joined end)) is goes in
+        let h : Performs plans false (join_operations plan place item table) m.device joined end =
+        subst (λ (o : Outcome). PutGoesOn o m end (Performs plans false (join_operations plan place item table) m.device joined end)) q g in
+        performs-finished plans (join_operations plan place item table) m.device joined end h w
+    by_outcome (CutShort last) q w = absurd (cut-not-finished last (sym q ∙ w))
+    by_outcome (Failed last) q w = absurd (failed-not-finished last (sym q ∙ w))
 
 ends-finished : (c : Command) (o : Outcome) (old new : Machine) (end : Progress) (before ok : List Reply) → (ends_as c o old end before ok new).last ≡ None → o ≡ Finished
 ends-finished c Finished old new end before ok e = refl
@@ -126,16 +154,20 @@ counts-agree c old new other m lines rose (after, last, lists) same = record {
 -- put and flush
 put-agrees : (config : Config) (c : Command) (old : Machine) (k : Cost) (m : Moment) (item : Record) (at : Located) (o : Option Refusal) → IsAlike k old → m.rose ≡ false →
     MatchOption o
-    ((end : Progress) × Performs config.plans m.rose (operations_of at.plan at.place (put_seals at.plan item at.table) at.table) old.device old.tables end
+    ((end : Progress) × Puts config.plans m.rose at.plan at.place item at.table old.device old.tables end
     × EndsAs end.outcome old m end [] (reply.Done ∷ []) (record old { device = end.device; tables = changed_at at.place (put_record at.plan item) old.tables }))
     (λ refusal. Says m (refused refusal ∷ []) old) →
     IsWhole (put_or config c (recost k old) item at o) → Agrees m (put_or config c (recost k old) item at o)
 put-agrees config c old k m item at (Some refusal) same rose h whole = agrees-says c m old (recost k old) (refused refusal ∷ []) h (alike k old same)
-put-agrees config c old k m item at None same rose h whole =
-    operations-agree c config.plans old (recost k old) m (operations_of at.plan at.place (put_seals at.plan item at.table) at.table) [] (reply.Done ∷ [])
-    (λ end. record old { device = end.device; tables = changed_at at.place (put_record at.plan item) old.tables })
-    (λ end. record (recost k old) { device = end.device; tables = changed_at at.place (put_record at.plan item) old.tables })
-    rose (λ end. ap (λ (cost : Cost). record old { device = end.device; tables = changed_at at.place (put_record at.plan item) old.tables; cost = cost }) same) h whole
+put-agrees config c old k m item at None same rose (end, did, ends) whole =
+    let e = put_performs config.plans at.plan at.place item at.table old.device old.tables in
+    let new : Progress → Machine = λ end. record old { device = end.device; tables = changed_at at.place (put_record at.plan item) old.tables } in
+    let new_other : Progress → Machine = λ end. record (recost k old) { device = end.device; tables = changed_at at.place (put_record at.plan item) old.tables } in
+    let finished : e.outcome ≡ Finished = ends-finished c e.outcome (recost k old) (new_other e) e [] (reply.Done ∷ []) whole in
+    let is : end ≡ e = puts-finished config.plans at.plan at.place item at.table old.device old.tables end (subst (λ (r : Bool). Puts config.plans r at.plan at.place item at.table old.device old.tables end) rose did) finished in
+    ends-agree c old (recost k old) m e.outcome e [] (reply.Done ∷ []) (new e) (new_other e)
+    (ap (λ (cost : Cost). record old { device = e.device; tables = changed_at at.place (put_record at.plan item) old.tables; cost = cost }) same) finished
+    (subst (λ (x : Progress). EndsAs x.outcome old m x [] (reply.Done ∷ []) (new x)) is ends)
 
 flush-agrees : (config : Config) (c : Command) (old : Machine) (k : Cost) (m : Moment) (at : Located) → IsAlike k old → m.rose ≡ false →
     ((end : Progress) × Performs config.plans m.rose (operations_of at.plan at.place (table_seals at.plan at.table) at.table) old.device old.tables end
@@ -228,10 +260,9 @@ loads-agree config c old k m plan place step seed (suc turns) i s loaded device 
     on_finished (Failed last) end P others e h whole go = absurd (failed-not-finished last e)
 
     by_refusal : (table : Table) (item : Record) (o : Option Refusal) →
-        let operations = operations_of plan place (put_seals plan item table) table in
-        let e = perform config.plans operations device tables in
+        let e = put_performs config.plans plan place item table device tables in
         MatchOption o
-        ((end : Progress) × Performs config.plans m.rose operations device tables end
+        ((end : Progress) × Puts config.plans m.rose plan place item table device tables end
         × LoadsOn end.outcome old m end loaded (Goes end.device (changed_at place (put_record plan item) tables)))
         (λ refusal. Says m (reply.Loaded loaded ∷ refused refusal ∷ []) (record old { device = device; tables = tables })) →
         let n = load_on c (recost k old) loaded device tables o (loads_on c e.outcome (recost k old) e loaded (goes e.device (changed_at place (put_record plan item) tables))) in
@@ -239,11 +270,10 @@ loads-agree config c old k m plan place step seed (suc turns) i s loaded device 
     by_refusal table item (Some refusal) h whole go =
         agrees-says c m _ _ (reply.Loaded loaded ∷ refused refusal ∷ []) h (ap (λ (cost : Cost). record old { device = device; tables = tables; cost = cost }) same)
     by_refusal table item None (end, did, on) whole go =
-        let operations = operations_of plan place (put_seals plan item table) table in
-        let e = perform config.plans operations device tables in
+        let e = put_performs config.plans plan place item table device tables in
         let after = changed_at place (put_record plan item) tables in
         let done : e.outcome ≡ Finished = finished e.outcome e (goes e.device after) whole in
-        let is : end ≡ e = performs-finished config.plans operations device tables end (subst (λ (r : Bool). Performs config.plans r operations device tables end) rose did) done in
+        let is : end ≡ e = puts-finished config.plans plan place item table device tables end (subst (λ (r : Bool). Puts config.plans r plan place item table device tables end) rose did) done in
         on_finished e.outcome e (Goes e.device after) (goes e.device after) done
         (subst (λ (x : Progress). LoadsOn x.outcome old m x loaded (Goes x.device after)) is on) whole (go e.device after)
 
@@ -251,13 +281,13 @@ loads-agree config c old k m plan place step seed (suc turns) i s loaded device 
         MatchOption o (Says m [] (record old { device = device; tables = tables })) (λ table.
         let item = load_record plan table step seed i s in
         MatchOption (refusal_of plan table item)
-        ((end : Progress) × Performs config.plans m.rose (operations_of plan place (put_seals plan item table) table) device tables end
+        ((end : Progress) × Puts config.plans m.rose plan place item table device tables end
         × LoadsOn end.outcome old m end loaded (Goes end.device (changed_at place (put_record plan item) tables)))
         (λ refusal. Says m (reply.Loaded loaded ∷ refused refusal ∷ []) (record old { device = device; tables = tables }))) →
         let n = or_stuck c (recost k old) device tables o (λ table.
         let item = load_record plan table step seed i s in
         load_on c (recost k old) loaded device tables (refusal_of plan table item)
-        (let end = perform config.plans (operations_of plan place (put_seals plan item table) table) device tables in
+        (let end = put_performs config.plans plan place item table device tables in
         loads_on c end.outcome (recost k old) end loaded (goes end.device (changed_at place (put_record plan item) tables)))) in
         IsWhole n → ((d : Device) (ts : List Table) → Goes d ts → IsWhole (goes d ts) → Agrees m (goes d ts)) → Agrees m n
     by_table None h whole go = agrees-says c m _ _ [] h (ap (λ (cost : Cost). record old { device = device; tables = tables; cost = cost }) same)
@@ -269,18 +299,18 @@ IsEnd (Mounted end) = Unit {0}
 IsEnd (Stopped end) = end.outcome ≡ Finished
 IsEnd (Unread end) = Unit {0}
 
-rings-agree : (plans : List Plan) (rings : List (ℕ × RingName)) (device : Device) (tables : List Table) (how : MountEnd) →
-    Mounts plans false rings device tables how → IsEnd (mount_rings plans rings device tables) → how ≡ mount_rings plans rings device tables
+rings-agree : (plans : List Plan) (rings : List (ℕ × Turn)) (device : Device) (tables : List Table) (how : MountEnd) →
+    Mounts plans false rings device tables how → IsEnd (mount_turns plans rings device tables) → how ≡ mount_turns plans rings device tables
 rings-agree plans [] device tables how h ends = h
 rings-agree plans (at ∷ rings) device tables how h ends =
-    by_outcome (perform plans (repairs_at plans at (renumbered_at plans at tables)) device (renumbered_at plans at tables)).outcome refl ends
+    by_outcome (perform plans (operations_at plans at (turned_at plans at tables)) device (turned_at plans at tables)).outcome refl ends
     (λ d ts. rings-agree plans rings d ts how) h
   where
     numbered : List Table
-    numbered = renumbered_at plans at tables
+    numbered = turned_at plans at tables
 
     e : Progress
-    e = perform plans (repairs_at plans at numbered) device numbered
+    e = perform plans (operations_at plans at numbered) device numbered
 
     goes_on : (o : Outcome) (end : Progress) (P : Type 0) → o ≡ Finished → GoesOn o end how P → P
     goes_on Finished end P q h = h
@@ -290,25 +320,25 @@ rings-agree plans (at ∷ rings) device tables how h ends =
     others : e.outcome ≡ Finished → Mounts plans false (at ∷ rings) device tables how → Mounts plans false rings e.device e.tables how
     others q (inl (end, unread, is)) = absurd (not-both false refl unread.may_fail)
     others q (inr (end, did, goes)) =
-        let is : end ≡ e = performs-finished plans (repairs_at plans at numbered) device numbered end did q in
+        let is : end ≡ e = performs-finished plans (operations_at plans at numbered) device numbered end did q in
         goes_on e.outcome e (Mounts plans false rings e.device e.tables how) q
         (subst (λ (x : Progress). GoesOn x.outcome x how (Mounts plans false rings x.device x.tables how)) is goes)
 
-    by_outcome : (o : Outcome) → e.outcome ≡ o → IsEnd (mount_on o e (mount_rings plans rings e.device e.tables)) →
-        ((d : Device) (ts : List Table) → Mounts plans false rings d ts how → IsEnd (mount_rings plans rings d ts) → how ≡ mount_rings plans rings d ts) →
-        Mounts plans false (at ∷ rings) device tables how → how ≡ mount_on o e (mount_rings plans rings e.device e.tables)
+    by_outcome : (o : Outcome) → e.outcome ≡ o → IsEnd (mount_on o e (mount_turns plans rings e.device e.tables)) →
+        ((d : Device) (ts : List Table) → Mounts plans false rings d ts how → IsEnd (mount_turns plans rings d ts) → how ≡ mount_turns plans rings d ts) →
+        Mounts plans false (at ∷ rings) device tables how → how ≡ mount_on o e (mount_turns plans rings e.device e.tables)
     by_outcome Finished q ends go h = go e.device e.tables (others q h) ends
     by_outcome (CutShort last) q ends go h = absurd (cut-not-finished last (sym q ∙ ends))
     by_outcome (Failed last) q ends go h = absurd (failed-not-finished last (sym q ∙ ends))
 
 mount-agrees : (config : Config) (old : Machine) (k : Cost) (m : Moment) → IsAlike k old → m.rose ≡ false →
     MatchBool old.mounted (Says m (reply.AlreadyMounted ∷ []) old)
-    ((how : MountEnd) × Mounts config.plans m.rose (rings_from 0 config.plans) old.device old.tables how × EndsMount config old m how) →
+    ((how : MountEnd) × Mounts config.plans m.rose (turns_from 0 config.plans) old.device old.tables how × EndsMount config old m how) →
     IsWhole (mounts config (recost k old)) → Agrees m (mounts config (recost k old))
 mount-agrees config old k m same rose h whole = by_test old.mounted h whole
   where
-    rings : List (ℕ × RingName)
-    rings = rings_from 0 config.plans
+    rings : List (ℕ × Turn)
+    rings = turns_from 0 config.plans
 
     is_end : (how : MountEnd) → IsWhole (ends_mount config (recost k old) how) → IsEnd how
     is_end (Mounted end) w = tt
@@ -321,13 +351,13 @@ mount-agrees config old k m same rose h whole = by_test old.mounted h whole
         (ap (λ (cost : Cost). record old { device = end.device; tables = all_ready config.plans end.tables; mounted = true; cursors = no_cursors; cost = cost }) same)
     by_end (Stopped end) w h = ends-agree command.Mount old (recost k old) m end.outcome end [] [] old (recost k old) (alike k old same) w h
     by_end (Unread end) w h =
-        agrees-says command.Mount m _ _ (reply.DeviceFault ∷ []) h (ap (λ (cost : Cost). record old { device = end.device; tables = end.tables; cost = cost }) same)
+        agrees-says command.Mount m _ _ (reply.DeviceFault ∷ []) h (ap (λ (cost : Cost). record old { device = end.device; tables = map lose end.tables; cost = cost }) same)
 
     by_how : ((how : MountEnd) × Mounts config.plans m.rose rings old.device old.tables how × EndsMount config old m how) →
-        let how = mount_rings config.plans rings old.device old.tables in
+        let how = mount_turns config.plans rings old.device old.tables in
         IsWhole (ends_mount config (recost k old) how) → Agrees m (ends_mount config (recost k old) how)
     by_how (how, did, ends) w =
-        let plain_how = mount_rings config.plans rings old.device old.tables in
+        let plain_how = mount_turns config.plans rings old.device old.tables in
         let end : IsEnd plain_how = is_end plain_how w in
         let is : how ≡ plain_how = rings-agree config.plans rings old.device old.tables how (subst (λ (r : Bool). Mounts config.plans r rings old.device old.tables how) rose did) end in
         by_end plain_how end (subst (λ (x : MountEnd). EndsMount config old m x) is ends)
@@ -335,7 +365,7 @@ mount-agrees config old k m same rose h whole = by_test old.mounted h whole
     by_test : (b : Bool) →
         MatchBool b (Says m (reply.AlreadyMounted ∷ []) old)
         ((how : MountEnd) × Mounts config.plans m.rose rings old.device old.tables how × EndsMount config old m how) →
-        let n = cond b (says command.Mount (reply.AlreadyMounted ∷ []) (recost k old)) (ends_mount config (recost k old) (mount_rings config.plans rings old.device old.tables)) in
+        let n = cond b (says command.Mount (reply.AlreadyMounted ∷ []) (recost k old)) (ends_mount config (recost k old) (mount_turns config.plans rings old.device old.tables)) in
         IsWhole n → Agrees m n
     by_test true h w = agrees-says command.Mount m old (recost k old) (reply.AlreadyMounted ∷ []) h (alike k old same)
     by_test false h w = by_how h w

@@ -4,9 +4,10 @@ use Rattle.std.specs.List.{slice_get, count_by}
 use Rattle.std.proofs.lemmas.List.Sums.{sum_by-cons, sum_by_push, sum_by-take-le}
 use Rattle.fl_base.specs.declared.types.CutKind.{CutKind}
 use Rattle.fl_model.specs.Record.{Plan, Record, Config}
-use Rattle.fl_model.specs.Table.{Table, Entry, RingName, Refusal, BadKey, BadColumns, BadValue, BadBlob, Spent, refusal_of, put_seals, put_record, table_seals, flushed}
+use Rattle.fl_model.specs.Table.{Table, Entry, Refusal, BadKey, BadColumns, BadValue, BadBlob, Spent, refusal_of, put_joined, put_record, table_seals, flushed}
 use Rattle.fl_model.specs.Work.{Operation, Device, cut_now, counted, done, Progress, Outcome, Finished, CutShort, Failed, Performs, PerformsFirst, operations_of, changed_at}
-use Rattle.fl_model.specs.Mount.{Mounts, MountEnd, Mounted, Stopped, Unread, GoesOn, rings_from, renumbered_at, repairs_at}
+use Rattle.fl_model.specs.Puts.{Puts, PutGoesOn, room_operations, join_operations}
+use Rattle.fl_model.specs.Mount.{Turn, Mounts, MountEnd, Mounted, Stopped, Unread, GoesOn, turns_from, turned_at, operations_at}
 use Rattle.fl_model.specs.Query.{BlobState, Without, Lost, Stands, blob_of, entry_at, left_of, moved, selected}
 use Rattle.fl_model.specs.Operators.{select, project, aggregate, key_join}
 use Rattle.fl_words.specs.Command as command
@@ -80,6 +81,19 @@ failed-rose plans rose (operation ∷ operations) device tables end last h e =
     by_cut None (inl failed) go = failed.0
     by_cut None (inr goes) go = go goes
 
+-- .. also of a put
+puts-rose : (plans : List Plan) (rose : Bool) (plan : Plan) (place : ℕ) (item : Record) (table : Table) (device : Device) (tables : List Table) (end : Progress) (last : List Table) →
+    Puts plans rose plan place item table device tables end → end.outcome ≡ Failed last → IsTrue rose
+puts-rose plans rose plan place item table device tables end last (mid, did, goes) e = by_outcome mid.outcome goes
+  where
+    before : mid.outcome ≡ Failed last → IsTrue rose
+    before q = failed-rose plans rose (room_operations plan place table) device tables mid last did q
+
+    by_outcome : (o : Outcome) → PutGoesOn o mid end (Performs plans rose (join_operations plan place item table) mid.device (changed_at place (put_joined plan item) tables) end) → IsTrue rose
+    by_outcome Finished g = failed-rose plans rose (join_operations plan place item table) mid.device (changed_at place (put_joined plan item) tables) end last g e
+    by_outcome (CutShort l) g = before (ap (λ (x : Progress). x.outcome) (sym g) ∙ e)
+    by_outcome (Failed l) g = before (ap (λ (x : Progress). x.outcome) (sym g) ∙ e)
+
 -- they ended so; `before` are replies that tell of no fault
 ends-caused : (old new : Machine) (m : Moment) (o : Outcome) (end : Progress) (before ok : List Reply) → count_by is_fault before ≡ 0 → count_by is_fault (before ++ ok) ≡ 0 →
     ((last : List Table) → o ≡ Failed last → IsTrue m.rose) → EndsAs o old m end before ok new → IsCaused m
@@ -128,16 +142,15 @@ count-one r e = ap (λ (b : Bool). 0 + cond b 1 0) e
 
 put-caused : (config : Config) (old : Machine) (m : Moment) (item : Record) (at : Located) (o : Option Refusal) →
     MatchOption o
-    ((end : Progress) × Performs config.plans m.rose (operations_of at.plan at.place (put_seals at.plan item at.table) at.table) old.device old.tables end
+    ((end : Progress) × Puts config.plans m.rose at.plan at.place item at.table old.device old.tables end
     × EndsAs end.outcome old m end [] (reply.Done ∷ []) (record old { device = end.device; tables = changed_at at.place (put_record at.plan item) old.tables }))
     (λ refusal. Says m (refused refusal ∷ []) old) → IsCaused m
 put-caused config old m item at (Some refusal) h = none-says m (refused refusal ∷ []) old (count-one (refused refusal) (refused-tells refusal)) h
-put-caused config old m item at None h =
-    operations-caused config.plans old m (operations_of at.plan at.place (put_seals at.plan item at.table) at.table) old.device old.tables (reply.Done ∷ [])
-    (λ end. record old { device = end.device; tables = changed_at at.place (put_record at.plan item) old.tables }) refl h
+put-caused config old m item at None (end, did, ends) =
+    ends-caused old _ m end.outcome end [] (reply.Done ∷ []) refl refl (λ last e. puts-rose config.plans m.rose at.plan at.place item at.table old.device old.tables end last did e) ends
 
 -- a mount
-rings-caused : (config : Config) (old : Machine) (m : Moment) (rings : List (ℕ × RingName)) (device : Device) (tables : List Table) (how : MountEnd) →
+rings-caused : (config : Config) (old : Machine) (m : Moment) (rings : List (ℕ × Turn)) (device : Device) (tables : List Table) (how : MountEnd) →
     Mounts config.plans m.rose rings device tables how → EndsMount config old m how → IsCaused m
 rings-caused config old m [] device tables how is ends = ended (subst (λ (x : MountEnd). EndsMount config old m x) is ends)
   where
@@ -150,13 +163,13 @@ rings-caused config old m (at ∷ rings) device tables how (inl (end, unread, is
 rings-caused config old m (at ∷ rings) device tables how (inr (end, did, goes)) ends = by_outcome end.outcome refl goes (λ g. rings-caused config old m rings end.device end.tables how g ends)
   where
     numbered : List Table
-    numbered = renumbered_at config.plans at tables
+    numbered = turned_at config.plans at tables
 
     by_stop : how ≡ Stopped end → IsCaused m
     by_stop is = stop_end (subst (λ (x : MountEnd). EndsMount config old m x) is ends)
       where
         stop_end : EndsMount config old m (Stopped end) → IsCaused m
-        stop_end h = ends-caused old old m end.outcome end [] [] refl refl (λ last e. failed-rose config.plans m.rose (repairs_at config.plans at numbered) device numbered end last did e) h
+        stop_end h = ends-caused old old m end.outcome end [] [] refl refl (λ last e. failed-rose config.plans m.rose (operations_at config.plans at numbered) device numbered end last did e) h
 
     by_outcome : (o : Outcome) → end.outcome ≡ o → GoesOn o end how (Mounts config.plans m.rose rings end.device end.tables how) →
         (Mounts config.plans m.rose rings end.device end.tables how → IsCaused m) → IsCaused m
@@ -166,9 +179,9 @@ rings-caused config old m (at ∷ rings) device tables how (inr (end, did, goes)
 
 mount-caused : (config : Config) (old : Machine) (m : Moment) (b : Bool) →
     MatchBool b (Says m (reply.AlreadyMounted ∷ []) old)
-    ((how : MountEnd) × Mounts config.plans m.rose (rings_from 0 config.plans) old.device old.tables how × EndsMount config old m how) → IsCaused m
+    ((how : MountEnd) × Mounts config.plans m.rose (turns_from 0 config.plans) old.device old.tables how × EndsMount config old m how) → IsCaused m
 mount-caused config old m true h = none-says m (reply.AlreadyMounted ∷ []) old refl h
-mount-caused config old m false (how, did, ends) = rings-caused config old m (rings_from 0 config.plans) old.device old.tables how did ends
+mount-caused config old m false (how, did, ends) = rings-caused config old m (turns_from 0 config.plans) old.device old.tables how did ends
 
 -- lookups and blobs
 found-tells : (plan : Plan) (o : Option Entry) → is_fault (found_reply plan o) ≡ false
@@ -239,7 +252,7 @@ loads-caused config old m plan place step seed (suc turns) i s loaded device tab
 
     by_refusal : (table : Table) (item : Record) (o : Option Refusal) →
         MatchOption o
-        ((end : Progress) × Performs config.plans m.rose (operations_of plan place (put_seals plan item table) table) device tables end
+        ((end : Progress) × Puts config.plans m.rose plan place item table device tables end
         × LoadsOn end.outcome old m end loaded (Goes end.device (changed_at place (put_record plan item) tables)))
         (λ refusal. Says m (reply.Loaded loaded ∷ refused refusal ∷ []) (record old { device = device; tables = tables })) →
         ((d : Device) (ts : List Table) → Goes d ts → IsCaused m) → IsCaused m
@@ -247,14 +260,14 @@ loads-caused config old m plan place step seed (suc turns) i s loaded device tab
         none-says m (reply.Loaded loaded ∷ refused refusal ∷ []) _ (count-one (refused refusal) (refused-tells refusal)) h
     by_refusal table item None (end, did, on) go =
         by_outcome end.outcome end (Goes end.device (changed_at place (put_record plan item) tables))
-        (λ last e. failed-rose config.plans m.rose (operations_of plan place (put_seals plan item table) table) device tables end last did e) on
+        (λ last e. puts-rose config.plans m.rose plan place item table device tables end last did e) on
         (go end.device (changed_at place (put_record plan item) tables))
 
     by_table : (o : Option Table) →
         MatchOption o (Says m [] (record old { device = device; tables = tables })) (λ table.
         let item = load_record plan table step seed i s in
         MatchOption (refusal_of plan table item)
-        ((end : Progress) × Performs config.plans m.rose (operations_of plan place (put_seals plan item table) table) device tables end
+        ((end : Progress) × Puts config.plans m.rose plan place item table device tables end
         × LoadsOn end.outcome old m end loaded (Goes end.device (changed_at place (put_record plan item) tables)))
         (λ refusal. Says m (reply.Loaded loaded ∷ refused refusal ∷ []) (record old { device = device; tables = tables }))) →
         ((d : Device) (ts : List Table) → Goes d ts → IsCaused m) → IsCaused m

@@ -1,25 +1,27 @@
 -- No command reads many pages, where the configuration is a small one.
-use Rattle.std.proofs.Common.{◌≡◌, ℕ, zero, suc, ◌+◌, ◌-◌, ◌*◌, ◌%◌, ◌≤◌, Bool, true, false, cond, ◌&&◌, nat_lt, ◌==◌, Option, Some, None, option_map, unwrap_or, List, [], ◌∷◌, length, count_by, refl, ap, subst, arith, MatchOption, MatchBool, IfSome}
+use Rattle.std.proofs.Common.{◌≡◌, ℕ, zero, suc, ◌+◌, ◌-◌, ◌*◌, ◌/◌, ◌%◌, ◌<◌, ◌≤◌, Bool, true, false, cond, ◌&&◌, nat_lt, nat_le, ◌==◌, Option, Some, None, option_map, unwrap_or, List, [], ◌∷◌, length, count_by, take, drop, length-take, length-drop, refl, sym, ◌∙◌, ap, subst, ◌⊎◌, inl, inr, if◌then◌else◌, arith, MatchOption, MatchBool, IfSome}
 use Rattle.std.specs.List.{slice_get, AllByRecursion}
-use Rattle.std.proofs.lemmas.Bool.{ltb-true}
+use Rattle.std.proofs.lemmas.Bool.{ltb-true, le-ltb, lt-leb, ne_eqb, cases_lt}
 use Rattle.std.proofs.lemmas.List.Sums.{count_by-le-length}
 use Rattle.std.proofs.lemmas.Nat.{mod_below}
-use Rattle.std.proofs.Math.Nat.{suc-mul, add-mul, div-le_self}
+use Rattle.std.proofs.Math.Nat.{suc-mul, add-mul, mul_comm, mul-le-mul_right, div-le_self, div-le_of_le-mul, lt-div-mul-add, div-zero}
 use Rattle.fl_base.specs.declared.types.KeyRange.{KeyRange}
 use Rattle.fl_base.specs.declared.types.Span.{Span}
 use Rattle.fl_model.specs.Record.{Plan, Config, has_index, content_per_page, bytes_equal}
 use Rattle.fl_model.specs.Ring.{Ring, IsRing, oldest}
-use Rattle.fl_model.specs.Table.{Table, Entry, IndexRing, shape_of, full_pages}
-use Rattle.fl_model.specs.Facts.{IsTable, FitsPlan, BlobFits}
-use Rattle.fl_model.specs.Query.{entry_at}
-use Rattle.fl_model.specs.Limits.{scan_limit, is_spanned, is_wanted, in_pages, first_page, last_page, numbers_of, numbers_from}
+use Rattle.fl_model.specs.Table.{Table, Entry, IndexRing, VarRing, shape_of, full_pages}
+use Rattle.fl_model.specs.Content.{ContentPage, content_page}
+use Rattle.fl_model.specs.Agrees.{content_at, reach_of, HoldsBlob, BlobsOf}
+use Rattle.fl_model.specs.Facts.{IsTable, is_some_ring}
+use Rattle.fl_model.specs.Query.{entry_at, page_stands, BlobState, Stands, Lost, blob_in}
+use Rattle.fl_model.specs.Limits.{scan_limit, past, page_behind, is_indexed, is_spanned, is_wanted, in_pages, first_page, last_page, numbers_of, numbers_from}
 use Rattle.fl_model.specs.Spline.{bits, lookup_limit, voids_of, is_pending_key, is_covered, retained}
 use Rattle.fl_words.specs.Command as command
 use Rattle.fl_words.specs.Command.{Command}
 use Rattle.fl_machine.specs.Found.{HasRoom}
 use Rattle.fl_machine.specs.Machine.{Machine, OpenCursor}
 use Rattle.fl_machine.specs.Step.{Moment, Located, located, located_from, cursor_at, no_column}
-use Rattle.fl_machine.specs.Reads.{none_read, pages_in, lowest_of, length_of_blob, blob_limit, OnTable, OnColumns, OnCursor, WithinScan, LimitOf}
+use Rattle.fl_machine.specs.Reads.{none_read, pages_in, lowest_of, length_of, length_of_blob, blob_limit, OnTable, OnColumns, OnCursor, WithinScan, LimitOf}
 use Rattle.fl_machine.specs.Small.{IsSmallPlan, IsSmall, AreTables, most_of_a_command}
 
 -- a ring keeps no more pages than it has
@@ -39,8 +41,8 @@ numbers-length first (suc n) = ap suc (numbers-length (first + 1) n)
 
 -- a table of a small plan
 module _ (knots : ℕ) (plan : Plan) (table : Table) (small : IsSmallPlan plan) (room : HasRoom plan) (is : IsTable plan table) where
-  all-pages : plan.data_blocks * plan.geometry.block + plan.index_blocks * plan.geometry.block ≤ 65536
-  all-pages = omega (arith, small.pages, add-mul (plan.data_blocks + plan.index_blocks) plan.var_blocks plan.geometry.block, add-mul plan.data_blocks plan.index_blocks plan.geometry.block)
+  all-pages : plan.data_blocks * plan.geometry.block + plan.index_blocks * plan.geometry.block + plan.var_blocks * plan.geometry.block ≤ 65536
+  all-pages = omega (arith, small.pages, add-mul (plan.data_blocks + plan.index_blocks + plan.var_blocks) plan.log_blocks plan.geometry.block, add-mul (plan.data_blocks + plan.index_blocks) plan.var_blocks plan.geometry.block, add-mul plan.data_blocks plan.index_blocks plan.geometry.block)
 
   data-pages : length table.rows.counts ≤ plan.data_blocks * plan.geometry.block
   data-pages = ring-short plan.data_blocks plan.geometry.block table.rows.next (length table.rows.counts) (omega (arith, room.blocks)) (omega (arith, room.pages)) is.rows.kept
@@ -70,6 +72,25 @@ module _ (knots : ℕ) (plan : Plan) (table : Table) (small : IsSmallPlan plan) 
           let full = count_by-le-length (nat_lt 0) ring.counts in
           omega (arith, kept, full)
 
+  none-short : 0 / content_per_page plan ≤ plan.var_blocks * plan.geometry.block + 1
+  none-short = let e = div-le_self 0 (content_per_page plan) in omega (arith, e)
+
+  -- the ring of variable data keeps no more pages than it has
+  var-few : (ring : Ring) → table.var ≡ Some ring → ring.next - oldest ring ≤ plan.var_blocks * plan.geometry.block
+  var-few ring is_var =
+      let h : IsRing (shape_of plan VarRing) ring = subst (λ (o : Option Ring). IfSome o (IsRing (shape_of plan VarRing))) is_var is.var in
+      let has : nat_lt 0 plan.var_blocks ≡ true = sym is.has_rings.1 ∙ ap is_some_ring is_var in
+      let some = ltb-true 0 plan.var_blocks has in
+      let kept = ring-short plan.var_blocks plan.geometry.block ring.next (length ring.counts) (omega (arith, some)) (omega (arith, room.pages)) h.kept in
+      omega (arith, kept, h.not_negative)
+
+  past-few : (range : KeyRange) (span : Option Span) → past plan table range span ≤ 1
+  past-few range span = by_test (plan.full_index && is_spanned span && unwrap_or (option_map (is_indexed plan table) (page_behind table range.high)) true)
+    where
+      by_test : (b : Bool) → cond b 0 1 ≤ 1
+      by_test true = omega arith
+      by_test false = omega arith
+
   scan-few : (range : KeyRange) (span : Option Span) (lowest : ℕ) → scan_limit knots plan table range span lowest ≤ 514 + 65536 + 65536 + 65536
   scan-few range span lowest = by_place (is_pending_key table lowest)
     where
@@ -82,30 +103,122 @@ module _ (knots : ℕ) (plan : Plan) (table : Table) (small : IsSmallPlan plan) 
           omega (arith, within, numbers-length (oldest table.rows) (length table.rows.counts), data-pages)
 
       by_place : (p : Bool) →
-          cond p 0 (lookup_limit knots plan table lowest + 2 + voids_of table + cond (has_index plan && is_spanned span) (unwrap_or (option_map (λ (ring : Ring). full_pages ring.counts) table.index) 0) 0 + wanted) ≤ 514 + 65536 + 65536 + 65536
+          cond p 0 (lookup_limit knots plan table lowest + 1 + past plan table range span + voids_of table + cond (has_index plan && is_spanned span) (unwrap_or (option_map (λ (ring : Ring). full_pages ring.counts) table.index) 0) 0 + wanted) ≤ 514 + 65536 + 65536 + 65536
       by_place true = omega arith
-      by_place false = omega (arith, lookup-few lowest, voids-few, data-pages, index-few (is_spanned span), few, all-pages)
+      by_place false = omega (arith, lookup-few lowest, past-few range span, voids-few, data-pages, index-few (is_spanned span), few, all-pages)
 
-  blob-short : (found : Option Entry) → IfSome found (FitsPlan plan) → length_of_blob found ≤ 1500
-  blob-short None h = omega arith
-  blob-short (Some entry) h = by_blob entry.kept.blob h.blob
+  -- the entry of a key stands among the entries
+  found-at : (key : ℕ) (entries : List Entry) (entry : Entry) → entry_at key entries ≡ Some entry → (i : ℕ) × (slice_get entries i ≡ Some entry)
+  found-at key [] entry e = absurd (none e)
     where
-      by_blob : (blob : Option (List ℕ)) → BlobFits plan entry blob → unwrap_or (option_map (λ bytes. length bytes) blob) 0 ≤ 1500
-      by_blob None h = omega arith
-      by_blob (Some bytes) h = omega (arith, h.1, small.blobs)
-
-  entry-fits : (key : ℕ) (entries : List Entry) → AllByRecursion (FitsPlan plan) entries → IfSome (entry_at key entries) (FitsPlan plan)
-  entry-fits key [] all = tt
-  entry-fits key (e ∷ entries) all = by_key (e.kept.key == key) (entry-fits key entries all.1)
+      none : None ≡ Some entry → ⊥
+      none k = cc
+  found-at key (x ∷ entries) entry e = by_key (x.kept.key == key) e (found-at key entries entry)
     where
-      by_key : (b : Bool) → IfSome (entry_at key entries) (FitsPlan plan) → IfSome (cond b (Some e) (entry_at key entries)) (FitsPlan plan)
-      by_key true rest = all.0
-      by_key false rest = rest
+      by_key : (b : Bool) → cond b (Some x) (entry_at key entries) ≡ Some entry → (entry_at key entries ≡ Some entry → (i : ℕ) × (slice_get entries i ≡ Some entry)) →
+          (i : ℕ) × (slice_get (x ∷ entries) i ≡ Some entry)
+      by_key true h go = (0, h)
+      by_key false h go = let k = go h in (suc k.0, k.1)
 
-  blob-few : (key : ℕ) → blob_limit knots plan table key ≤ 2014 + 65536
+  -- a page of which bytes are used is not behind the next one
+  content-short : (ring : Ring) (number : ℕ) (page : ContentPage) → content_at plan table ring number ≡ Some page → 0 < page.used → number ≤ ring.next
+  content-short ring number page e some = elim (cases_lt number ring.next) [
+    | inl lt ↦ omega (arith, lt)
+    | inr ge ↦ by_waiting ge (used_is (subst (λ (b : Bool). cond b (if page_stands ring number then slice_get table.var_pages (full_pages (take (number - oldest ring) ring.counts)) else None) (Some waits) ≡ Some page) (le-ltb number ring.next ge) e))
+  ]
+    where
+      most : ℕ
+      most = content_per_page plan
+
+      bytes : List ℕ
+      bytes = take most (drop ((number - ring.next) * most) table.buffered)
+
+      waits : ContentPage
+      waits = content_page plan bytes
+
+      used_is : Some waits ≡ Some page → length bytes ≡ page.used
+      used_is h = let same : waits ≡ page = cc in ap (λ (p : ContentPage). p.used) same
+
+      by_waiting : ring.next ≤ number → length bytes ≡ page.used → number ≤ ring.next
+      by_waiting ge used = elim (cases_lt ring.next number) [
+        | inl lt ↦
+            let whole : 1 * most ≤ (number - ring.next) * most = mul-le-mul_right most (let k : 1 ≤ number - ring.next = omega (arith, lt) in k) in
+            let a = length-take most (drop ((number - ring.next) * most) table.buffered) in
+            let b = length-drop ((number - ring.next) * most) table.buffered in
+            absurd (omega (arith, whole, a, b, used, some, is.fill))
+        | inr le ↦ le
+      ]
+
+  -- a page that stands isn't before the oldest one
+  stands-kept : (ring : Ring) (number : ℕ) → page_stands ring number ≡ true → oldest ring ≤ number
+  stands-kept ring number e = elim (cases_lt number (oldest ring)) [
+    | inl lt ↦ absurd (gone (nat_le ring.next number) (nat_le (oldest ring) number) (lt-leb ring.next number (omega (arith, lt))) (lt-leb (oldest ring) number lt) e)
+    | inr ge ↦ ge
+  ]
+    where
+      gone : (a b : Bool) → a ≡ false → b ≡ false →
+          cond a true (b && unwrap_or (option_map (λ count. count == 1) (slice_get ring.counts (number - oldest ring))) false) ≡ true → ⊥
+      gone true b k l h = cc
+      gone false true k l h = cc
+      gone false false k l h = cc
+
+  -- the bytes of a blob that stands are in kept pages and the next one
+  stands-short : (ring : Ring) (entry : Entry) (bytes : List ℕ) → table.var ≡ Some ring → page_stands ring entry.page ≡ true → HoldsBlob plan table ring entry bytes →
+      length bytes / content_per_page plan ≤ plan.var_blocks * plan.geometry.block + 1
+  stands-short ring entry bytes is_var stands held =
+      let reach = reach_of plan entry bytes in
+      let last = content-short ring (entry.page + reach) (held.pages reach) (held.there reach (omega arith)) (omega (arith, held.ends)) in
+      let first = stands-kept ring entry.page stands in
+      let kept = var-few ring is_var in
+      let within : length bytes / content_per_page plan ≤ reach + 1 = by_room (cases_lt 0 (content_per_page plan)) in
+      omega (arith, last, first, kept, within)
+    where
+      by_room : (0 < content_per_page plan) ⊎ (content_per_page plan ≤ 0) → length bytes / content_per_page plan ≤ reach_of plan entry bytes + 1
+      by_room (inl some) =
+          let x = entry.offset + length bytes - 1 in
+          let less : x < x / content_per_page plan * content_per_page plan + content_per_page plan = lt-div-mul-add some in
+          let whole : content_per_page plan * (x / content_per_page plan + 1) ≡ x / content_per_page plan * content_per_page plan + content_per_page plan =
+          mul_comm (content_per_page plan) (x / content_per_page plan + 1) ∙ add-mul (x / content_per_page plan) 1 (content_per_page plan) ∙ omega arith in
+          div-le_of_le-mul (content_per_page plan) (omega (arith, less, whole))
+      by_room (inr none) =
+          let zero_room : content_per_page plan ≡ 0 = omega (arith, none) in
+          let e : length bytes / content_per_page plan ≡ 0 = ap (λ n. length bytes / n) zero_room ∙ div-zero (length bytes) in
+          omega (arith, e)
+
+  blob-short : (found : Option Entry) → ((entry : Entry) → found ≡ Some entry → (i : ℕ) × (slice_get table.entries i ≡ Some entry)) →
+      length_of_blob table found / content_per_page plan ≤ plan.var_blocks * plan.geometry.block + 1
+  blob-short None at = none-short
+  blob-short (Some entry) at = by_blob entry.kept.blob refl
+    where
+      by_stands : (bytes : List ℕ) (ring : Ring) → table.var ≡ Some ring → entry.kept.blob ≡ Some bytes → 0 < length bytes → (b : Bool) → page_stands ring entry.page ≡ b →
+          length_of (cond b (Stands bytes) Lost) / content_per_page plan ≤ plan.var_blocks * plan.geometry.block + 1
+      by_stands bytes ring v k some true e =
+          let i = at entry refl in
+          let blobs = subst (λ (o : Option Ring). IfSome o (BlobsOf plan table)) v is.agrees.blobs in
+          stands-short ring entry bytes v e (blobs i.0 entry bytes i.1 k some e)
+      by_stands bytes ring v k some false e = none-short
+
+      by_var : (bytes : List ℕ) (o : Option Ring) → table.var ≡ o → entry.kept.blob ≡ Some bytes → 0 < length bytes →
+          length_of (cond (unwrap_or (option_map (λ ring. page_stands ring entry.page) o) false) (Stands bytes) Lost) / content_per_page plan ≤ plan.var_blocks * plan.geometry.block + 1
+      by_var bytes None v k some = none-short
+      by_var bytes (Some ring) v k some = by_stands bytes ring v k some (page_stands ring entry.page) refl
+
+      by_blob : (blob : Option (List ℕ)) → entry.kept.blob ≡ blob → length_of (blob_in table entry blob) / content_per_page plan ≤ plan.var_blocks * plan.geometry.block + 1
+      by_blob None k = none-short
+      by_blob (Some []) k = none-short
+      by_blob (Some (byte ∷ bytes)) k = by_len (length (byte ∷ bytes) == 0) (ne_eqb (length (byte ∷ bytes)) 0 (λ e. omega (arith, e)))
+        where
+          stood : BlobState
+          stood = cond (unwrap_or (option_map (λ ring. page_stands ring entry.page) table.var) false) (Stands (byte ∷ bytes)) Lost
+
+          by_len : (b : Bool) → b ≡ false → length_of (cond b (Stands []) stood) / content_per_page plan ≤ plan.var_blocks * plan.geometry.block + 1
+          by_len true e = cc
+          by_len false e = by_var (byte ∷ bytes) table.var refl k (omega arith)
+
+  blob-few : (key : ℕ) → blob_limit knots plan table key ≤ 515 + 65536
   blob-few key =
-      let short = blob-short (entry_at key table.entries) (entry-fits key table.entries is.fit) in
-      omega (arith, lookup-few key, all-pages, short, div-le_self (length_of_blob (entry_at key table.entries)) (content_per_page plan))
+      let short = blob-short (entry_at key table.entries) (found-at key table.entries) in
+      omega (arith, lookup-few key, all-pages, short)
 
 -- the plans of a configuration
 at-place : (P : Plan → Type 0) (plans : List Plan) (place : ℕ) (plan : Plan) → AllByRecursion P plans → slice_get plans place ≡ Some plan → P plan

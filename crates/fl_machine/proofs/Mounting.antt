@@ -1,12 +1,13 @@
 -- What a mount leaves at one place: entries are gone just with their pages.
-use Rattle.std.proofs.Common.{◌≡◌, ℕ, zero, suc, Bool, true, false, cond, Option, Some, None, List, [], ◌∷◌, ◌++◌, refl, sym, ap, subst, ◌⊎◌, inl, inr}
+use Rattle.std.proofs.Common.{◌≡◌, ◌≢◌, ◌≤◌, length, ℕ, zero, suc, Bool, true, false, cond, Option, Some, None, List, [], ◌∷◌, ◌++◌, refl, sym, ap, subst, ◌⊎◌, inl, inr}
 use Rattle.std.specs.List.{slice_get, AllByRecursion}
 use Rattle.std.specs.Option.{option_map, unwrap_or}
 use Rattle.fl_model.specs.Record.{Plan}
-use Rattle.fl_model.specs.Table.{Table, RingName, DataRing, IndexRing, VarRing, is_torn, is_dirty, seal_page, shape_of}
-use Rattle.fl_model.specs.Work.{VoidMark, Erase, effect, Operation, done, Device, Progress, Outcome, Finished, CutShort, Failed, Performs, PerformsFirst, Leaves, Either, cut_now, counted, repair_operations, changed_by}
+use Rattle.fl_model.specs.Table.{Table, RingName, DataRing, IndexRing, VarRing, LogRing, is_torn, is_dirty, seal_page, seal_buffer, with_ring, shape_of, table_seals, owed, is_rows_spent}
+use Rattle.fl_model.specs.Ring.{Ring, erased}
+use Rattle.fl_model.specs.Work.{Body, Mark, operations_of, VoidMark, Erase, effect, Operation, done, Device, Progress, Outcome, Finished, CutShort, Failed, Performs, PerformsFirst, Leaves, Either, cut_now, counted, repair_operations, changed_by}
 use Rattle.fl_base.specs.declared.types.CutKind.{CutKind}
-use Rattle.fl_model.specs.Mount.{Mounts, MountEnd, Mounted, Stopped, Unread, GoesOn, renumber, renumbered_at, repairs_at, at_least_of}
+use Rattle.fl_model.specs.Mount.{Turn, Of, Replay, turned, turn_operations, ready, Mounts, MountEnd, Mounted, Stopped, Unread, GoesOn, renumber, turned_at, operations_at, at_least_of}
 use Rattle.fl_machine.specs.Found.{HasRoom}
 use Rattle.fl_machine.proofs.Places.{RelAt, both-trans, both-weaker, rel-changed_by}
 use Rattle.fl_machine.proofs.Effects.{Numbered, StaysNumbered, SamePages, Trims, same-refl, same-trans, trims-same, same-trims, trims-then-same, numbered-same, renumber-other, renumber-trims, repair-trims}
@@ -38,6 +39,11 @@ Phase true = TrimsFrom
 abbrev pub void_at : ℕ → Operation
 void_at p = record { table = p; ring = DataRing; kind = VoidMark }
 
+-- a turn of another table, or of another ring than its data ring
+abbrev pub IsOtherTurn : ℕ → Turn → ℕ → Type 0
+IsOtherTurn p (Of ring) n = IsOther p ring n
+IsOtherTurn p Replay n = n ≢ p
+
 -- operations of a repair: perhaps a void mark first, and then nothing that moves pages
 abbrev pub AtMostOneVoid : ℕ → List Operation → Type 0
 AtMostOneVoid p operations = AllQuiet p operations ⊎ ((others : List Operation) × (operations ≡ void_at p ∷ others) × AllQuiet p others)
@@ -66,7 +72,24 @@ other_by p n ring true false h = (inl h, tt)
 other_by p n ring false true h = (inl h, tt)
 other_by p n ring false false h = tt
 
-repairs_here : (plans : List Plan) (p : ℕ) (tables : List Table) → AtMostOneVoid p (repairs_at plans (p, DataRing) tables)
+-- operations of another table
+other-elsewhere : (p n : ℕ) (ring : RingName) → n ≢ p → IsOther p ring n
+other-elsewhere p n DataRing h = h
+other-elsewhere p n IndexRing h = tt
+other-elsewhere p n VarRing h = tt
+other-elsewhere p n LogRing h = tt
+
+elsewhere-quiet : (p n : ℕ) → n ≢ p → (plan : Plan) (rings : List RingName) (table : Table) → AllQuiet p (operations_of plan n rings table)
+elsewhere-quiet p n h plan [] table = tt
+elsewhere-quiet p n h plan (ring ∷ rings) table = by_dirty (is_dirty ring (seal_buffer plan ring table)) (elsewhere-quiet p n h plan rings (with_ring ring erased (seal_buffer plan ring table)))
+  where
+    by_dirty : (d : Bool) → AllQuiet p (operations_of plan n rings (with_ring ring erased (seal_buffer plan ring table))) →
+        AllQuiet p ((record { table = n; ring = ring; kind = Body } ∷ record { table = n; ring = ring; kind = Mark } ∷ (cond d (record { table = n; ring = ring; kind = Erase } ∷ []) []))
+        ++ operations_of plan n rings (with_ring ring erased (seal_buffer plan ring table)))
+    by_dirty true q = (inl (other-elsewhere p n ring h), (inl (other-elsewhere p n ring h), (inl (other-elsewhere p n ring h), q)))
+    by_dirty false q = (inl (other-elsewhere p n ring h), (inl (other-elsewhere p n ring h), q))
+
+repairs_here : (plans : List Plan) (p : ℕ) (tables : List Table) → AtMostOneVoid p (operations_at plans (p, Of DataRing) tables)
 repairs_here plans p tables = by_plan (slice_get plans p) (slice_get tables p)
   where
     by_plan : (plan : Option Plan) (table : Option Table) → AtMostOneVoid p (unwrap_or (option_map (λ plan. unwrap_or (option_map (repair_operations plan p DataRing) table) []) plan) [])
@@ -75,14 +98,17 @@ repairs_here plans p tables = by_plan (slice_get plans p) (slice_get tables p)
     by_plan (Some plan) (Some table) =
         repair_by p (is_torn DataRing table) (is_dirty DataRing (cond (is_torn DataRing table) (seal_page plan DataRing 0 table) table))
 
-repairs_other : (plans : List Plan) (p n : ℕ) (ring : RingName) (tables : List Table) → IsOther p ring n → AllQuiet p (repairs_at plans (n, ring) tables)
-repairs_other plans p n ring tables h = by_plan (slice_get plans n) (slice_get tables n)
+repairs_other : (plans : List Plan) (p n : ℕ) (turn : Turn) (tables : List Table) → IsOtherTurn p turn n → AllQuiet p (operations_at plans (n, turn) tables)
+repairs_other plans p n turn tables h = by_plan (slice_get plans n) (slice_get tables n)
   where
-    by_plan : (plan : Option Plan) (table : Option Table) → AllQuiet p (unwrap_or (option_map (λ plan. unwrap_or (option_map (repair_operations plan n ring) table) []) plan) [])
+    by_turn : (turn : Turn) → IsOtherTurn p turn n → (plan : Plan) (table : Table) → AllQuiet p (turn_operations plan n turn table)
+    by_turn (Of ring) h plan table = other_by p n ring (is_torn ring table) (is_dirty ring (cond (is_torn ring table) (seal_page plan ring 0 table) table)) h
+    by_turn Replay h plan table = elsewhere-quiet p n h plan (table_seals plan table) table
+
+    by_plan : (plan : Option Plan) (table : Option Table) → AllQuiet p (unwrap_or (option_map (λ plan. unwrap_or (option_map (turn_operations plan n turn) table) []) plan) [])
     by_plan None table = tt
     by_plan (Some plan) None = tt
-    by_plan (Some plan) (Some table) =
-        other_by p n ring (is_torn ring table) (is_dirty ring (cond (is_torn ring table) (seal_page plan ring 0 table) table)) h
+    by_plan (Some plan) (Some table) = by_turn turn h plan table
 
 -- two changes at one place are one
 changed-twice : {P X : Type 0} (n : ℕ) (f g : P → X → X) (plans : List P) (xs : List X) → changed_by n g plans (changed_by n f plans xs) ≡ changed_by n (λ plan x. g plan (f plan x)) plans xs
@@ -92,27 +118,35 @@ changed-twice zero f g (plan ∷ plans) (x ∷ xs) = refl
 changed-twice (suc n) f g (plan ∷ plans) (x ∷ xs) = ap (λ ys. x ∷ ys) (changed-twice n f g plans xs)
 
 -- renumbering
-renumbered-numbered : (plans : List Plan) (p n : ℕ) (ring : RingName) (tables : List Table) → RelAt StaysNumbered p tables (renumbered_at plans (n, ring) tables)
-renumbered-numbered plans p n ring tables = rel-changed_by StaysNumbered (λ x h. h) n p _ plans tables (λ plan x e f g. stays plan x ring)
-  where
-    stays : (plan : Plan) (x : Table) (ring : RingName) → StaysNumbered x (renumber plan ring x)
-    stays plan x DataRing h = (renumbers-renumbered (shape_of plan DataRing) (at_least_of plan DataRing x) x.rows).numbered h
-    stays plan x IndexRing h = h
-    stays plan x VarRing h = h
+joined-rows : (x : Table) (b : Bool) → (cond b x (record x { entries = x.entries ++ owed x; pending = length (owed x) })).rows ≡ x.rows
+joined-rows x true = refl
+joined-rows x false = refl
 
-renumbered-here : (plans : List Plan) (p : ℕ) (tables : List Table) → RelAt TrimsFrom p tables (renumbered_at plans (p, DataRing) tables)
+renumbered-numbered : (plans : List Plan) (p n : ℕ) (turn : Turn) (tables : List Table) → RelAt StaysNumbered p tables (turned_at plans (n, turn) tables)
+renumbered-numbered plans p n turn tables = rel-changed_by StaysNumbered (λ x h. h) n p _ plans tables (λ plan x e f g. stays plan x turn)
+  where
+    stays : (plan : Plan) (x : Table) (turn : Turn) → StaysNumbered x (turned plan turn x)
+    stays plan x (Of DataRing) h = (renumbers-renumbered (shape_of plan DataRing) (at_least_of plan DataRing x) x.rows).numbered h
+    stays plan x (Of IndexRing) h = h
+    stays plan x (Of VarRing) h = h
+    stays plan x (Of LogRing) h = h
+    stays plan x Replay h = subst (λ (r : Ring). length r.counts ≤ r.next) (sym (joined-rows (ready plan x) (is_rows_spent (ready plan x)))) h
+
+renumbered-here : (plans : List Plan) (p : ℕ) (tables : List Table) → RelAt TrimsFrom p tables (turned_at plans (p, Of DataRing) tables)
 renumbered-here plans p tables =
     rel-changed_by TrimsFrom (λ x h. trims-same x x (same-refl x)) p p _ plans tables (λ plan x e f g h. renumber-trims plan x)
 
-renumbered-other : (plans : List Plan) (p n : ℕ) (ring : RingName) (tables : List Table) → IsOther p ring n → RelAt SamePages p tables (renumbered_at plans (n, ring) tables)
-renumbered-other plans p n ring tables h = rel-changed_by SamePages same-refl n p _ plans tables (λ plan x e f g. elsewhere ring h plan x e)
+renumbered-other : (plans : List Plan) (p n : ℕ) (turn : Turn) (tables : List Table) → IsOtherTurn p turn n → RelAt SamePages p tables (turned_at plans (n, turn) tables)
+renumbered-other plans p n turn tables h = rel-changed_by SamePages same-refl n p _ plans tables (λ plan x e f g. elsewhere turn h plan x e)
   where
-    elsewhere : (ring : RingName) → IsOther p ring n → (plan : Plan) (x : Table) → n ≡ p → SamePages x (renumber plan ring x)
-    elsewhere DataRing h plan x e = absurd (h e)
-    elsewhere IndexRing h plan x e = renumber-other plan IndexRing x (λ e. cc)
-    elsewhere VarRing h plan x e = renumber-other plan VarRing x (λ e. cc)
+    elsewhere : (turn : Turn) → IsOtherTurn p turn n → (plan : Plan) (x : Table) → n ≡ p → SamePages x (turned plan turn x)
+    elsewhere (Of DataRing) h plan x e = absurd (h e)
+    elsewhere (Of IndexRing) h plan x e = renumber-other plan IndexRing x (λ e. cc)
+    elsewhere (Of VarRing) h plan x e = renumber-other plan VarRing x (λ e. cc)
+    elsewhere (Of LogRing) h plan x e = renumber-other plan LogRing x (λ e. cc)
+    elsewhere Replay h plan x e = absurd (h e)
 
-voided-here : (plans : List Plan) (p : ℕ) (tables : List Table) → AllByRecursion HasRoom plans → RelAt TrimsFrom p tables (done plans (void_at p) (renumbered_at plans (p, DataRing) tables))
+voided-here : (plans : List Plan) (p : ℕ) (tables : List Table) → AllByRecursion HasRoom plans → RelAt TrimsFrom p tables (done plans (void_at p) (turned_at plans (p, Of DataRing) tables))
 voided-here plans p tables room =
     subst (λ (ts : List Table). RelAt TrimsFrom p tables ts) (sym (changed-twice p (λ plan x. renumber plan DataRing x) (λ plan x. effect plan DataRing VoidMark x) plans tables))
     (rel-changed_by TrimsFrom (λ x h. trims-same x x (same-refl x)) p p _ plans tables (λ plan x e f g h. repair-trims plan x (room_at plans p plan room f) h))
@@ -140,37 +174,37 @@ performs-first plans rose operation operations device tables end h = first (cut_
 
 -- a turn of the data ring at p
 turn-here : (plans : List Plan) (rose : Bool) (operations : List Operation) (device : Device) (tables : List Table) (end : Progress) (p : ℕ) → AllByRecursion HasRoom plans →
-    AtMostOneVoid p operations → Performs plans rose operations device (renumbered_at plans (p, DataRing) tables) end → RelAt TrimsFrom p tables end.tables
+    AtMostOneVoid p operations → Performs plans rose operations device (turned_at plans (p, Of DataRing) tables) end → RelAt TrimsFrom p tables end.tables
 turn-here plans rose operations device tables end p room (inl q) h =
-    trims_same_trans p tables (renumbered_at plans (p, DataRing) tables) end.tables (renumbered-here plans p tables)
-    (performs-quiet plans rose operations device (renumbered_at plans (p, DataRing) tables) end p q h)
+    trims_same_trans p tables (turned_at plans (p, Of DataRing) tables) end.tables (renumbered-here plans p tables)
+    (performs-quiet plans rose operations device (turned_at plans (p, Of DataRing) tables) end p q h)
 turn-here plans rose operations device tables end p room (inr q) h =
-    let h' = subst (λ (ops : List Operation). Performs plans rose ops device (renumbered_at plans (p, DataRing) tables) end) q.1 h in
-    by_end (performs-first plans rose (void_at p) q.0 device (renumbered_at plans (p, DataRing) tables) end h')
+    let h' = subst (λ (ops : List Operation). Performs plans rose ops device (turned_at plans (p, Of DataRing) tables) end) q.1 h in
+    by_end (performs-first plans rose (void_at p) q.0 device (turned_at plans (p, Of DataRing) tables) end h')
   where
-    left : Leaves Either (renumbered_at plans (p, DataRing) tables) (done plans (void_at p) (renumbered_at plans (p, DataRing) tables)) end.tables → RelAt TrimsFrom p tables end.tables
+    left : Leaves Either (turned_at plans (p, Of DataRing) tables) (done plans (void_at p) (turned_at plans (p, Of DataRing) tables)) end.tables → RelAt TrimsFrom p tables end.tables
     left (inl e) = subst (λ (ts : List Table). RelAt TrimsFrom p tables ts) (sym e) (renumbered-here plans p tables)
     left (inr e) = subst (λ (ts : List Table). RelAt TrimsFrom p tables ts) (sym e) (voided-here plans p tables room)
 
-    by_end : Leaves Either (renumbered_at plans (p, DataRing) tables) (done plans (void_at p) (renumbered_at plans (p, DataRing) tables)) end.tables
-        ⊎ Performs plans rose q.0 (counted VoidMark device) (done plans (void_at p) (renumbered_at plans (p, DataRing) tables)) end → RelAt TrimsFrom p tables end.tables
+    by_end : Leaves Either (turned_at plans (p, Of DataRing) tables) (done plans (void_at p) (turned_at plans (p, Of DataRing) tables)) end.tables
+        ⊎ Performs plans rose q.0 (counted VoidMark device) (done plans (void_at p) (turned_at plans (p, Of DataRing) tables)) end → RelAt TrimsFrom p tables end.tables
     by_end (inl k) = left k
     by_end (inr k) =
-        trims_same_trans p tables (done plans (void_at p) (renumbered_at plans (p, DataRing) tables)) end.tables (voided-here plans p tables room)
-        (performs-quiet plans rose q.0 _ (done plans (void_at p) (renumbered_at plans (p, DataRing) tables)) end p q.2 k)
+        trims_same_trans p tables (done plans (void_at p) (turned_at plans (p, Of DataRing) tables)) end.tables (voided-here plans p tables room)
+        (performs-quiet plans rose q.0 _ (done plans (void_at p) (turned_at plans (p, Of DataRing) tables)) end p q.2 k)
 
 -- a turn of another ring
-turn-other : (plans : List Plan) (rose : Bool) (operations : List Operation) (device : Device) (tables : List Table) (end : Progress) (p n : ℕ) (ring : RingName) → IsOther p ring n →
-    AllQuiet p operations → Performs plans rose operations device (renumbered_at plans (n, ring) tables) end → RelAt SamePages p tables end.tables
-turn-other plans rose operations device tables end p n ring other q h =
-    same_same_trans p tables (renumbered_at plans (n, ring) tables) end.tables (renumbered-other plans p n ring tables other)
-    (performs-quiet plans rose operations device (renumbered_at plans (n, ring) tables) end p q h)
+turn-other : (plans : List Plan) (rose : Bool) (operations : List Operation) (device : Device) (tables : List Table) (end : Progress) (p n : ℕ) (turn : Turn) → IsOtherTurn p turn n →
+    AllQuiet p operations → Performs plans rose operations device (turned_at plans (n, turn) tables) end → RelAt SamePages p tables end.tables
+turn-other plans rose operations device tables end p n turn other q h =
+    same_same_trans p tables (turned_at plans (n, turn) tables) end.tables (renumbered-other plans p n turn tables other)
+    (performs-quiet plans rose operations device (turned_at plans (n, turn) tables) end p q h)
 
 -- the data ring at p has at most one turn, and none any more once it had it
-abbrev pub HasTurns : ℕ → Bool → List (ℕ × RingName) → Type 0
+abbrev pub HasTurns : ℕ → Bool → List (ℕ × Turn) → Type 0
 HasTurns p had [] = Unit {0}
-HasTurns p true (at ∷ rings) = IsOther p at.1 at.0 × HasTurns p true rings
-HasTurns p false (at ∷ rings) = (IsOther p at.1 at.0 × HasTurns p false rings) ⊎ ((at ≡ (p, DataRing)) × HasTurns p true rings)
+HasTurns p true (at ∷ rings) = IsOtherTurn p at.1 at.0 × HasTurns p true rings
+HasTurns p false (at ∷ rings) = (IsOtherTurn p at.1 at.0 × HasTurns p false rings) ⊎ ((at ≡ (p, Of DataRing)) × HasTurns p true rings)
 
 -- what a mount leaves, however it ended: trimmed tables
 abbrev pub MountLeaves : List Plan → ℕ → List Table → MountEnd → Type 0
@@ -190,11 +224,11 @@ phase-other p true start tables after h k = trims_same_trans p start tables afte
 phase-other p false start tables after h k = same_same_trans p start tables after h k
 
 -- one turn
-turn : (plans : List Plan) (rose : Bool) (at : ℕ × RingName) (rings : List (ℕ × RingName)) (operations : List Operation) (device : Device) (tables start : List Table) (end : Progress) (p : ℕ) (had : Bool) →
+turn : (plans : List Plan) (rose : Bool) (at : ℕ × Turn) (rings : List (ℕ × Turn)) (operations : List Operation) (device : Device) (tables start : List Table) (end : Progress) (p : ℕ) (had : Bool) →
     AllByRecursion HasRoom plans → HasTurns p had (at ∷ rings) →
-    ((n : ℕ) (ring : RingName) → (n, ring) ≡ at → IsOther p ring n → AllQuiet p operations) →
-    ((n : ℕ) → (p, DataRing) ≡ at → AtMostOneVoid p operations) →
-    PhaseAt p had start tables → Performs plans rose operations device (renumbered_at plans at tables) end →
+    ((n : ℕ) (turn : Turn) → (n, turn) ≡ at → IsOtherTurn p turn n → AllQuiet p operations) →
+    ((n : ℕ) → (p, Of DataRing) ≡ at → AtMostOneVoid p operations) →
+    PhaseAt p had start tables → Performs plans rose operations device (turned_at plans at tables) end →
     (now : Bool) × HasTurns p now rings × PhaseAt p now start end.tables
 turn plans rose at rings operations device tables start end p true room turns quiet void phase h =
     (true, turns.1, phase-other p true start tables end.tables phase (turn-other plans rose operations device tables end p at.0 at.1 turns.0 (quiet at.0 at.1 refl turns.0) h))
@@ -205,43 +239,43 @@ turn plans rose at rings operations device tables start end p false room (inr tu
   turns.1,
   same_trims_trans p start tables end.tables phase
       (turn-here plans rose operations device tables end p room (void 0 (sym turns.0))
-      (subst (λ (a : ℕ × RingName). Performs plans rose operations device (renumbered_at plans a tables) end) turns.0 h)),
+      (subst (λ (a : ℕ × Turn). Performs plans rose operations device (turned_at plans a tables) end) turns.0 h)),
 )
 
 -- the operations of a turn, or a front of them
-turn_quiet : (plans : List Plan) (p : ℕ) (at : ℕ × RingName) (tables : List Table) (n : ℕ) (ring : RingName) → (n, ring) ≡ at → IsOther p ring n → AllQuiet p (repairs_at plans at tables)
-turn_quiet plans p at tables n ring e h = subst (λ (a : ℕ × RingName). AllQuiet p (repairs_at plans a tables)) e (repairs_other plans p n ring tables h)
+turn_quiet : (plans : List Plan) (p : ℕ) (at : ℕ × Turn) (tables : List Table) (n : ℕ) (turn : Turn) → (n, turn) ≡ at → IsOtherTurn p turn n → AllQuiet p (operations_at plans at tables)
+turn_quiet plans p at tables n turn e h = subst (λ (a : ℕ × Turn). AllQuiet p (operations_at plans a tables)) e (repairs_other plans p n turn tables h)
 
-turn_void : (plans : List Plan) (p : ℕ) (at : ℕ × RingName) (tables : List Table) → (p, DataRing) ≡ at → AtMostOneVoid p (repairs_at plans at tables)
-turn_void plans p at tables e = subst (λ (a : ℕ × RingName). AtMostOneVoid p (repairs_at plans a tables)) e (repairs_here plans p tables)
+turn_void : (plans : List Plan) (p : ℕ) (at : ℕ × Turn) (tables : List Table) → (p, Of DataRing) ≡ at → AtMostOneVoid p (operations_at plans at tables)
+turn_void plans p at tables e = subst (λ (a : ℕ × Turn). AtMostOneVoid p (operations_at plans a tables)) e (repairs_here plans p tables)
 
-pub mounts-leave : (plans : List Plan) (rose : Bool) (rings : List (ℕ × RingName)) (device : Device) (start tables : List Table) (how : MountEnd) (p : ℕ) (had : Bool) →
+pub mounts-leave : (plans : List Plan) (rose : Bool) (rings : List (ℕ × Turn)) (device : Device) (start tables : List Table) (how : MountEnd) (p : ℕ) (had : Bool) →
     AllByRecursion HasRoom plans → HasTurns p had rings → PhaseAt p had start tables → RelAt StaysNumbered p start tables →
     Mounts plans rose rings device tables how → MountLeaves plans p start how
 mounts-leave plans rose [] device start tables how p had room turns phase numbered h =
     subst (MountLeaves plans p start) (sym h) (trims_at p had start tables phase, numbered)
 mounts-leave plans rose (at ∷ rings) device start tables how p had room turns phase numbered (inl h) =
     let unread = h.1 in
-    let repairs = repairs_at plans at (renumbered_at plans at tables) in
-    let ends = performs-numbered plans rose unread.front device (renumbered_at plans at tables) h.0 p unread.did in
+    let repairs = operations_at plans at (turned_at plans at tables) in
+    let ends = performs-numbered plans rose unread.front device (turned_at plans at tables) h.0 p unread.did in
     let t = turn plans rose at rings unread.front device tables start h.0 p had room turns
-    (λ n ring e other. quiet_front p unread.front unread.others (subst (AllQuiet p) unread.split (turn_quiet plans p at (renumbered_at plans at tables) n ring e other)))
-    (λ n e. one_void_front p unread.front unread.others (subst (AtMostOneVoid p) unread.split (turn_void plans p at (renumbered_at plans at tables) e)))
+    (λ n turn e other. quiet_front p unread.front unread.others (subst (AllQuiet p) unread.split (turn_quiet plans p at (turned_at plans at tables) n turn e other)))
+    (λ n e. one_void_front p unread.front unread.others (subst (AtMostOneVoid p) unread.split (turn_void plans p at (turned_at plans at tables) e)))
     phase unread.did in
     subst (MountLeaves plans p start) (sym h.2) (
       trims_at p t.0 start h.0.tables t.2,
-      rel-trans p start tables h.0.tables numbered (rel-trans p tables (renumbered_at plans at tables) h.0.tables (renumbered-numbered plans p at.0 at.1 tables)
-          (ends-stay plans p (renumbered_at plans at tables) h.0.tables h.0.outcome ends)),
+      rel-trans p start tables h.0.tables numbered (rel-trans p tables (turned_at plans at tables) h.0.tables (renumbered-numbered plans p at.0 at.1 tables)
+          (ends-stay plans p (turned_at plans at tables) h.0.tables h.0.outcome ends)),
     )
 mounts-leave plans rose (at ∷ rings) device start tables how p had room turns phase numbered (inr h) =
-    let repairs = repairs_at plans at (renumbered_at plans at tables) in
-    let ends = performs-numbered plans rose repairs device (renumbered_at plans at tables) h.0 p h.1 in
+    let repairs = operations_at plans at (turned_at plans at tables) in
+    let ends = performs-numbered plans rose repairs device (turned_at plans at tables) h.0 p h.1 in
     let t = turn plans rose at rings repairs device tables start h.0 p had room turns
-    (λ n ring e other. turn_quiet plans p at (renumbered_at plans at tables) n ring e other)
-    (λ n e. turn_void plans p at (renumbered_at plans at tables) e)
+    (λ n turn e other. turn_quiet plans p at (turned_at plans at tables) n turn e other)
+    (λ n e. turn_void plans p at (turned_at plans at tables) e)
     phase h.1 in
-    let stays = rel-trans p start tables h.0.tables numbered (rel-trans p tables (renumbered_at plans at tables) h.0.tables (renumbered-numbered plans p at.0 at.1 tables)
-    (ends-stay plans p (renumbered_at plans at tables) h.0.tables h.0.outcome ends)) in
+    let stays = rel-trans p start tables h.0.tables numbered (rel-trans p tables (turned_at plans at tables) h.0.tables (renumbered-numbered plans p at.0 at.1 tables)
+    (ends-stay plans p (turned_at plans at tables) h.0.tables h.0.outcome ends)) in
     goes_on h.0.outcome h.2 (trims_at p t.0 start h.0.tables t.2, stays)
     (λ rest. mounts-leave plans rose rings h.0.device start h.0.tables how p t.0 room t.1 t.2 stays rest)
   where

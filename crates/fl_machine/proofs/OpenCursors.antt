@@ -5,9 +5,10 @@ use Rattle.std.proofs.lemmas.Bool.{leb-true}
 use Rattle.fl_base.specs.declared.types.KeyRange.{KeyRange}
 use Rattle.fl_base.specs.declared.types.Span.{Span}
 use Rattle.fl_model.specs.Record.{Plan, Record, Config}
-use Rattle.fl_model.specs.Table.{Table, Entry, Refusal, refusal_of, put_seals, put_record, last_entry}
-use Rattle.fl_model.specs.Work.{Device, Progress, Outcome, Finished, CutShort, Failed, Performs, operations_of, changed_at}
-use Rattle.fl_model.specs.Mount.{Mounts, MountEnd, Mounted, Stopped, Unread, rings_from}
+use Rattle.fl_model.specs.Table.{Table, Entry, Refusal, refusal_of, put_record, last_entry}
+use Rattle.fl_model.specs.Work.{Device, Progress, Outcome, Finished, CutShort, Failed, changed_at}
+use Rattle.fl_model.specs.Puts.{Puts}
+use Rattle.fl_model.specs.Mount.{Mounts, MountEnd, Mounted, Stopped, Unread, turns_from}
 use Rattle.fl_model.specs.Query.{Cursor, begin, left_of, moved, in_span, is_above, is_up_to}
 use Rattle.fl_words.specs.Command as command
 use Rattle.fl_words.specs.Command.{Command}
@@ -111,7 +112,7 @@ on-cursor old n m P h go = by_cases old.mounted (cursor_at old n) (λ k. within-
 
 put-keeps : (config : Config) (old : Machine) (m : Moment) (item : Record) (at : Located) (o : Option Refusal) →
     MatchOption o
-    ((end : Progress) × Performs config.plans m.rose (operations_of at.plan at.place (put_seals at.plan item at.table) at.table) old.device old.tables end
+    ((end : Progress) × Puts config.plans m.rose at.plan at.place item at.table old.device old.tables end
     × EndsAs end.outcome old m end [] (reply.Done ∷ []) (record old { device = end.device; tables = changed_at at.place (put_record at.plan item) old.tables }))
     (λ refusal. Says m (refused refusal ∷ []) old) → Keeps old m
 put-keeps config old m item at (Some refusal) h = says-keeps old old m (refused refusal ∷ []) (λ k. k) h
@@ -119,7 +120,7 @@ put-keeps config old m item at None (end, did, ends) = ends-keeps old _ m end.ou
 
 mount-keeps : (config : Config) (old : Machine) (m : Moment) (b : Bool) →
     MatchBool b (Says m (reply.AlreadyMounted ∷ []) old)
-    ((how : MountEnd) × Mounts config.plans m.rose (rings_from 0 config.plans) old.device old.tables how × EndsMount config old m how) → Keeps old m
+    ((how : MountEnd) × Mounts config.plans m.rose (turns_from 0 config.plans) old.device old.tables how × EndsMount config old m how) → Keeps old m
 mount-keeps config old m true h = says-keeps old old m (reply.AlreadyMounted ∷ []) (λ k. k) h
 mount-keeps config old m false (Mounted end, did, ends) = says-keeps old _ m (reply.Done ∷ []) (λ k. none-within) ends
 mount-keeps config old m false (Stopped end, did, ends) = ends-keeps old old m end.outcome end [] [] (λ k. k) ends
@@ -160,7 +161,7 @@ loads-keep config old m plan place step seed (suc turns) i s loaded device table
 
     by_refusal : (table : Table) (item : Record) (o : Option Refusal) →
         MatchOption o
-        ((end : Progress) × Performs config.plans m.rose (operations_of plan place (put_seals plan item table) table) device tables end
+        ((end : Progress) × Puts config.plans m.rose plan place item table device tables end
         × LoadsOn end.outcome old m end loaded (Goes end.device (changed_at place (put_record plan item) tables)))
         (λ refusal. Says m (reply.Loaded loaded ∷ refused refusal ∷ []) (record old { device = device; tables = tables })) →
         ((d : Device) (ts : List Table) → Goes d ts → Keeps old m) → Keeps old m
@@ -172,7 +173,7 @@ loads-keep config old m plan place step seed (suc turns) i s loaded device table
         MatchOption o (Says m [] (record old { device = device; tables = tables })) (λ table.
         let item = load_record plan table step seed i s in
         MatchOption (refusal_of plan table item)
-        ((end : Progress) × Performs config.plans m.rose (operations_of plan place (put_seals plan item table) table) device tables end
+        ((end : Progress) × Puts config.plans m.rose plan place item table device tables end
         × LoadsOn end.outcome old m end loaded (Goes end.device (changed_at place (put_record plan item) tables)))
         (λ refusal. Says m (reply.Loaded loaded ∷ refused refusal ∷ []) (record old { device = device; tables = tables }))) →
         ((d : Device) (ts : List Table) → Goes d ts → Keeps old m) → Keeps old m

@@ -3,17 +3,18 @@ use Rattle.std.proofs.Common.{◌≡◌, ℕ, zero, suc, ◌+◌, ◌<◌, Bool,
 use Rattle.std.specs.List.{slice_get}
 use Rattle.fl_base.specs.declared.types.CutKind.{CutKind}
 use Rattle.fl_model.specs.Record.{Plan, Record, Config}
-use Rattle.fl_model.specs.Table.{Table, RingName, Refusal, refusal_of, put_seals, put_record, table_seals}
+use Rattle.fl_model.specs.Table.{Table, Refusal, refusal_of, put_joined, put_record, table_seals}
 use Rattle.fl_model.specs.Work.{Kind, Body, Mark, VoidMark, Erase, Operation, Device, cut_now, counted, done, Progress, Outcome, Finished, CutShort, Failed, Performs, PerformsFirst, operations_of, changed_at}
 use Rattle.fl_model.specs.Within.{all_done}
-use Rattle.fl_model.specs.Mount.{Mounts, MountEnd, Mounted, Stopped, Unread, GoesOn, rings_from, renumbered_at, repairs_at}
+use Rattle.fl_model.specs.Puts.{Puts, PutGoesOn, room_operations, join_operations}
+use Rattle.fl_model.specs.Mount.{Turn, Mounts, MountEnd, Mounted, Stopped, Unread, GoesOn, turns_from, turned_at, operations_at}
 use Rattle.fl_words.specs.Command as command
 use Rattle.fl_words.specs.Command.{Command}
 use Rattle.fl_words.specs.Reply as reply
 use Rattle.fl_words.specs.Reply.{Reply}
 use Rattle.fl_machine.specs.Machine.{Machine, OpenCursor}
 use Rattle.fl_machine.specs.Step.{Moment, StepOf, Says, EndsAs, EndsMount, WithTable, Located, located, LoadsFrom, LoadsOn, NextStep, cursor_at, no_column, load_record, next_random, refused}
-use Rattle.fl_machine.specs.Operations.{programs_in, erases_in, unless_refused, of_table, load_operations, mount_operations, of_located, operations_by, Counts, CountsFront, CountsMoment, OperationsAreExact}
+use Rattle.fl_machine.specs.Operations.{programs_in, erases_in, unless_refused, of_table, load_operations, mount_operations, accepted_operations, of_located, operations_by, Counts, CountsFront, CountsMoment, OperationsAreExact}
 
 -- nothing fails in a moment
 record IsWhole (m : Moment) : Type 0 where
@@ -146,6 +147,49 @@ performs-front plans rose (operation ∷ operations) device tables end h =
       counts = counts-more device (counted operation.kind device) end.device (operation ∷ []) g.front (counts-one operation device) g.counts;
     }
 
+-- a put
+puts-did : (plans : List Plan) (rose : Bool) (plan : Plan) (place : ℕ) (item : Record) (table : Table) (device : Device) (tables : List Table) (end : Progress) →
+    Puts plans rose plan place item table device tables end → end.outcome ≡ Finished → Counts device (accepted_operations plan place item table) end.device
+puts-did plans rose plan place item table device tables end (mid, did, goes) e = by_outcome mid.outcome refl goes
+  where
+    by_outcome : (o : Outcome) → mid.outcome ≡ o → PutGoesOn o mid end (Performs plans rose (join_operations plan place item table) mid.device (changed_at place (put_joined plan item) tables) end) →
+        Counts device (accepted_operations plan place item table) end.device
+    by_outcome Finished q g =
+        counts-more device mid.device end.device (room_operations plan place table) (join_operations plan place item table)
+        (performs-did plans rose (room_operations plan place table) device tables mid did q).counts
+        (performs-did plans rose (join_operations plan place item table) mid.device (changed_at place (put_joined plan item) tables) end g e).counts
+    by_outcome (CutShort last) q g = absurd (cut-not-finished last (sym q ∙ (ap (λ (x : Progress). x.outcome) (sym g) ∙ e)))
+    by_outcome (Failed last) q g = absurd (failed-not-finished last (sym q ∙ (ap (λ (x : Progress). x.outcome) (sym g) ∙ e)))
+
+puts-front : (plans : List Plan) (rose : Bool) (plan : Plan) (place : ℕ) (item : Record) (table : Table) (device : Device) (tables : List Table) (end : Progress) →
+    Puts plans rose plan place item table device tables end → CountsFront device (accepted_operations plan place item table) end.device
+puts-front plans rose plan place item table device tables end (mid, did, goes) = by_outcome mid.outcome refl goes
+  where
+    xs : List Operation
+    xs = room_operations plan place table
+
+    ys : List Operation
+    ys = join_operations plan place item table
+
+    part_done : end ≡ mid → CountsFront device (xs ++ ys) end.device
+    part_done g =
+        let h = performs-front plans rose xs device tables mid did in
+        subst (λ (x : Progress). CountsFront device (xs ++ ys) x.device) (sym g)
+        (record { front = h.front; others = h.others ++ ys; split = sym (append_assoc h.front h.others ys) ∙ ap (λ zs. zs ++ ys) h.split; counts = h.counts })
+
+    by_outcome : (o : Outcome) → mid.outcome ≡ o → PutGoesOn o mid end (Performs plans rose ys mid.device (changed_at place (put_joined plan item) tables) end) → CountsFront device (xs ++ ys) end.device
+    by_outcome Finished q g =
+        let h = performs-did plans rose xs device tables mid did q in
+        let k = performs-front plans rose ys mid.device (changed_at place (put_joined plan item) tables) end g in
+        record {
+          front = xs ++ k.front;
+          others = k.others;
+          split = append_assoc xs k.front k.others ∙ ap (λ zs. xs ++ zs) k.split;
+          counts = counts-more device mid.device end.device xs k.front h.counts k.counts;
+        }
+    by_outcome (CutShort last) q g = part_done g
+    by_outcome (Failed last) q g = part_done g
+
 -- a moment in which an operation failed
 stops-broken : (m : Moment) (before : List Table) → m.last ≡ Some before → IsWhole m → ⊥
 stops-broken m before e w = some-not-none m before e w.last
@@ -180,14 +224,25 @@ operations-counted plans old m operations ok new same (end, did, ends) = by_outc
 
 put-counted : (config : Config) (old : Machine) (m : Moment) (item : Record) (at : Located) (o : Option Refusal) →
     MatchOption o
-    ((end : Progress) × Performs config.plans m.rose (operations_of at.plan at.place (put_seals at.plan item at.table) at.table) old.device old.tables end
+    ((end : Progress) × Puts config.plans m.rose at.plan at.place item at.table old.device old.tables end
     × EndsAs end.outcome old m end [] (reply.Done ∷ []) (record old { device = end.device; tables = changed_at at.place (put_record at.plan item) old.tables }))
     (λ refusal. Says m (refused refusal ∷ []) old) →
-    Counted old (unless_refused o (operations_of at.plan at.place (put_seals at.plan item at.table) at.table)) m
+    Counted old (unless_refused o (accepted_operations at.plan at.place item at.table)) m
 put-counted config old m item at (Some refusal) h = says-none old m (refused refusal ∷ []) old h refl refl
-put-counted config old m item at None h =
-    operations-counted config.plans old m (operations_of at.plan at.place (put_seals at.plan item at.table) at.table) (reply.Done ∷ [])
-    (λ end. record old { device = end.device; tables = changed_at at.place (put_record at.plan item) old.tables }) (λ end. refl) h
+put-counted config old m item at None (end, did, ends) = by_outcome end.outcome refl ends
+  where
+    operations : List Operation
+    operations = accepted_operations at.plan at.place item at.table
+
+    stopped_front : m.after.device ≡ end.device → CountsFront old.device operations m.after.device
+    stopped_front e = front-to old.device operations end.device m.after.device e (puts-front config.plans m.rose at.plan at.place item at.table old.device old.tables end did)
+
+    by_outcome : (o : Outcome) → end.outcome ≡ o → EndsAs o old m end [] (reply.Done ∷ []) (record old { device = end.device; tables = changed_at at.place (put_record at.plan item) old.tables }) → Does m old.device operations
+    by_outcome Finished e h =
+        does-all m old.device operations
+        (subst (λ (d : Device). Counts old.device operations d) (sym (ap (λ (x : Machine). x.device) h.after_is)) (puts-did config.plans m.rose at.plan at.place item at.table old.device old.tables end did e))
+    by_outcome (CutShort before) e h = does-part m old.device operations (stopped_front (ap (λ (x : Machine). x.device) h.after_is)) (stops-broken m before h.last_is)
+    by_outcome (Failed before) e h = does-part m old.device operations (stopped_front (ap (λ (x : Machine). x.device) h.after_is)) (stops-broken m before h.last_is)
 
 -- the end of a load, behind which it does nothing
 load-ends : (m : Moment) (old : Machine) (device : Device) (tables : List Table) (replies : List Reply) → Says m replies (record old { device = device; tables = tables }) → Does m device []
@@ -207,39 +262,41 @@ loads-counted config old m plan place step seed (suc turns) i s loaded device ta
     others : List Table → List Operation
     others ts = load_operations plan place step seed turns (i + 1) (next_random s) ts
 
-    by_outcome : (operations : List Operation) (after : List Table) (o : Outcome) (end : Progress) → end.outcome ≡ o → Performs config.plans m.rose operations device tables end →
-        LoadsOn o old m end loaded (Goes end.device after) → ((d : Device) (ts : List Table) → Goes d ts → Does m d (others ts)) → Does m device (operations ++ others after)
-    by_outcome operations after Finished end e did on go =
-        does-more m device end.device operations (others after) (performs-did config.plans m.rose operations device tables end did e).counts (go end.device after on)
-    by_outcome operations after (CutShort before) end e did on go =
-        does-front m device operations (others after) (front-to device operations end.device m.after.device (ap (λ (x : Machine). x.device) on.after_is) (performs-front config.plans m.rose operations device tables end did))
+    by_outcome : (item : Record) (table : Table) (after : List Table) (o : Outcome) (end : Progress) → end.outcome ≡ o → Puts config.plans m.rose plan place item table device tables end →
+        LoadsOn o old m end loaded (Goes end.device after) → ((d : Device) (ts : List Table) → Goes d ts → Does m d (others ts)) → Does m device (accepted_operations plan place item table ++ others after)
+    by_outcome item table after Finished end e did on go =
+        does-more m device end.device (accepted_operations plan place item table) (others after) (puts-did config.plans m.rose plan place item table device tables end did e) (go end.device after on)
+    by_outcome item table after (CutShort before) end e did on go =
+        does-front m device (accepted_operations plan place item table) (others after)
+        (front-to device (accepted_operations plan place item table) end.device m.after.device (ap (λ (x : Machine). x.device) on.after_is) (puts-front config.plans m.rose plan place item table device tables end did))
         (stops-broken m before on.last_is)
-    by_outcome operations after (Failed before) end e did on go =
-        does-front m device operations (others after) (front-to device operations end.device m.after.device (ap (λ (x : Machine). x.device) on.after_is) (performs-front config.plans m.rose operations device tables end did))
+    by_outcome item table after (Failed before) end e did on go =
+        does-front m device (accepted_operations plan place item table) (others after)
+        (front-to device (accepted_operations plan place item table) end.device m.after.device (ap (λ (x : Machine). x.device) on.after_is) (puts-front config.plans m.rose plan place item table device tables end did))
         (stops-broken m before on.last_is)
 
     by_refusal : (table : Table) (item : Record) (o : Option Refusal) →
         MatchOption o
-        ((end : Progress) × Performs config.plans m.rose (operations_of plan place (put_seals plan item table) table) device tables end
+        ((end : Progress) × Puts config.plans m.rose plan place item table device tables end
         × LoadsOn end.outcome old m end loaded (Goes end.device (changed_at place (put_record plan item) tables)))
         (λ refusal. Says m (reply.Loaded loaded ∷ refused refusal ∷ []) (record old { device = device; tables = tables })) →
         ((d : Device) (ts : List Table) → Goes d ts → Does m d (others ts)) →
-        Does m device (unless_refused o (operations_of plan place (put_seals plan item table) table ++ others (changed_at place (put_record plan item) tables)))
+        Does m device (unless_refused o (accepted_operations plan place item table ++ others (changed_at place (put_record plan item) tables)))
     by_refusal table item (Some refusal) h go = load-ends m old device tables (reply.Loaded loaded ∷ refused refusal ∷ []) h
     by_refusal table item None (end, did, on) go =
-        by_outcome (operations_of plan place (put_seals plan item table) table) (changed_at place (put_record plan item) tables) end.outcome end refl did on go
+        by_outcome item table (changed_at place (put_record plan item) tables) end.outcome end refl did on go
 
     by_table : (o : Option Table) →
         MatchOption o (Says m [] (record old { device = device; tables = tables })) (λ table.
         let item = load_record plan table step seed i s in
         MatchOption (refusal_of plan table item)
-        ((end : Progress) × Performs config.plans m.rose (operations_of plan place (put_seals plan item table) table) device tables end
+        ((end : Progress) × Puts config.plans m.rose plan place item table device tables end
         × LoadsOn end.outcome old m end loaded (Goes end.device (changed_at place (put_record plan item) tables)))
         (λ refusal. Says m (reply.Loaded loaded ∷ refused refusal ∷ []) (record old { device = device; tables = tables }))) →
         ((d : Device) (ts : List Table) → Goes d ts → Does m d (others ts)) →
         Does m device (of_table o (λ table.
         let item = load_record plan table step seed i s in
-        unless_refused (refusal_of plan table item) (operations_of plan place (put_seals plan item table) table ++ others (changed_at place (put_record plan item) tables))))
+        unless_refused (refusal_of plan table item) (accepted_operations plan place item table ++ others (changed_at place (put_record plan item) tables))))
     by_table None h go = load-ends m old device tables [] h
     by_table (Some table) h go = by_refusal table (load_record plan table step seed i s) (refusal_of plan table (load_record plan table step seed i s)) h go
 
@@ -247,7 +304,7 @@ loads-counted config old m plan place step seed (suc turns) i s loaded device ta
 not-true : (b : Bool) → b ≡ false → IsTrue b → ⊥
 not-true b e h = cc
 
-rings-counted : (config : Config) (old : Machine) (m : Moment) (rings : List (ℕ × RingName)) (device : Device) (tables : List Table) (how : MountEnd) →
+rings-counted : (config : Config) (old : Machine) (m : Moment) (rings : List (ℕ × Turn)) (device : Device) (tables : List Table) (how : MountEnd) →
     Mounts config.plans m.rose rings device tables how → EndsMount config old m how → Does m device (mount_operations config.plans rings tables)
 rings-counted config old m [] device tables how is ends = ended (subst (λ (x : MountEnd). EndsMount config old m x) is ends)
   where
@@ -257,10 +314,10 @@ rings-counted config old m (at ∷ rings) device tables how (inl (end, unread, i
     unread_end (subst (λ (x : MountEnd). EndsMount config old m x) is ends)
   where
     numbered : List Table
-    numbered = renumbered_at config.plans at tables
+    numbered = turned_at config.plans at tables
 
     repairs : List Operation
-    repairs = repairs_at config.plans at numbered
+    repairs = operations_at config.plans at numbered
 
     unread_end : EndsMount config old m (Unread end) → Does m device (repairs ++ mount_operations config.plans rings (all_done (done config.plans) repairs numbered))
     unread_end h =
@@ -272,10 +329,10 @@ rings-counted config old m (at ∷ rings) device tables how (inr (end, did, goes
     by_outcome end.outcome refl goes (λ g. rings-counted config old m rings end.device end.tables how g ends)
   where
     numbered : List Table
-    numbered = renumbered_at config.plans at tables
+    numbered = turned_at config.plans at tables
 
     repairs : List Operation
-    repairs = repairs_at config.plans at numbered
+    repairs = operations_at config.plans at numbered
 
     others : List Operation
     others = mount_operations config.plans rings (all_done (done config.plans) repairs numbered)
@@ -297,10 +354,10 @@ rings-counted config old m (at ∷ rings) device tables how (inr (end, did, goes
 
 mount-counted : (config : Config) (old : Machine) (m : Moment) (b : Bool) →
     MatchBool b (Says m (reply.AlreadyMounted ∷ []) old)
-    ((how : MountEnd) × Mounts config.plans m.rose (rings_from 0 config.plans) old.device old.tables how × EndsMount config old m how) →
-    Counted old (cond b [] (mount_operations config.plans (rings_from 0 config.plans) old.tables)) m
+    ((how : MountEnd) × Mounts config.plans m.rose (turns_from 0 config.plans) old.device old.tables how × EndsMount config old m how) →
+    Counted old (cond b [] (mount_operations config.plans (turns_from 0 config.plans) old.tables)) m
 mount-counted config old m true h = says-none old m (reply.AlreadyMounted ∷ []) old h refl refl
-mount-counted config old m false (how, did, ends) = rings-counted config old m (rings_from 0 config.plans) old.device old.tables how did ends
+mount-counted config old m false (how, did, ends) = rings-counted config old m (turns_from 0 config.plans) old.device old.tables how did ends
 
 -- a command on a table
 on-table : (config : Config) (old : Machine) (name : List ℕ) (m : Moment) (P : Located → Type 0) (f : Located → List Operation) → WithTable config old m name P →

@@ -2,11 +2,12 @@
 use Rattle.std.proofs.Common.{◌≡◌, ◌≢◌, ℕ, Bool, cond, Option, Some, None, List, [], ◌∷◌, sym, ◌∙◌, subst, ◌⊎◌, inl, inr}
 use Rattle.std.specs.List.{slice_get}
 use Rattle.fl_base.specs.declared.types.CutKind.{CutKind}
-use Rattle.fl_model.specs.Record.{Plan}
-use Rattle.fl_model.specs.Table.{Table, RingName, DataRing, IndexRing, VarRing}
-use Rattle.fl_model.specs.Work.{Kind, Erase, effect, Operation, done, Ending, AsBefore, AsAfter, Either, Leaves, ending_of, Device, Progress, Outcome, Finished, CutShort, Failed, Performs, PerformsFirst, cut_now, counted}
-use Rattle.fl_machine.proofs.Places.{RelAt, both-refl, both-trans, rel-changed_by}
-use Rattle.fl_machine.proofs.Effects.{StaysNumbered, SamePages, same-refl, effect-other, effect-numbered, effect-erase}
+use Rattle.fl_model.specs.Record.{Record, Plan}
+use Rattle.fl_model.specs.Table.{Table, RingName, DataRing, IndexRing, VarRing, LogRing, put_joined, put_record, join_seals, make_room_seals}
+use Rattle.fl_model.specs.Puts.{Puts, PutGoesOn, room_operations, join_operations}
+use Rattle.fl_model.specs.Work.{Kind, Erase, effect, Operation, done, Ending, AsBefore, AsAfter, Either, Leaves, ending_of, Device, Progress, Outcome, Finished, CutShort, Failed, Performs, PerformsFirst, cut_now, counted, changed_at}
+use Rattle.fl_machine.proofs.Places.{RelAt, both-refl, both-trans, rel-changed_by, rel-changed_at}
+use Rattle.fl_machine.proofs.Effects.{StaysNumbered, SamePages, same-refl, effect-other, effect-numbered, effect-erase, after_seals-numbered}
 
 -- either end of an operation
 pub leaves_either : {S : Type 0} (ending : Ending) (before after left : S) → Leaves ending before after left → Leaves Either before after left
@@ -78,16 +79,43 @@ performs-numbered plans rose (operation ∷ operations) device tables end p h =
         (record { numbered = stays p tables; operation = operation; leaves = h.3 })
     first None (inr h) go = ends-after plans p tables (done plans operation tables) end.tables end.outcome (done-numbered plans p operation tables) (go h)
 
+-- no page number is negative after a put
+put-numbered : (plan : Plan) (item : Record) (x : Table) → StaysNumbered x (put_joined plan item x)
+put-numbered plan item x h = after_seals-numbered plan (make_room_seals plan x) x h
+
+pub logged-numbered : (plan : Plan) (item : Record) (x : Table) → StaysNumbered x (put_record plan item x)
+logged-numbered plan item x h = after_seals-numbered plan (join_seals plan (put_joined plan item x)) (put_joined plan item x) (put-numbered plan item x h)
+
+pub puts-numbered : (plans : List Plan) (rose : Bool) (plan : Plan) (place : ℕ) (item : Record) (table : Table) (device : Device) (tables : List Table) (end : Progress) (p : ℕ) →
+    Puts plans rose plan place item table device tables end → EndsNumbered plans p tables end.tables end.outcome
+puts-numbered plans rose plan place item table device tables end p (mid, did, goes) =
+    by_outcome mid.outcome (performs-numbered plans rose (room_operations plan place table) device tables mid p did) goes
+  where
+    -- the seals ended, and nothing more was done
+    ended : (o : Outcome) → EndsNumbered plans p tables mid.tables mid.outcome → end ≡ mid → EndsNumbered plans p tables end.tables end.outcome
+    ended o h e = subst (λ (x : Progress). EndsNumbered plans p tables x.tables x.outcome) (sym e) h
+
+    by_outcome : (o : Outcome) → EndsNumbered plans p tables mid.tables mid.outcome → PutGoesOn o mid end (Performs plans rose (join_operations plan place item table) mid.device (changed_at place (put_joined plan item) tables) end) →
+        EndsNumbered plans p tables end.tables end.outcome
+    by_outcome Finished h g =
+        ends-after plans p tables (changed_at place (put_joined plan item) tables) end.tables end.outcome
+        (rel-changed_at StaysNumbered (λ x h. h) place p (put_joined plan item) tables (λ x e. put-numbered plan item x))
+        (performs-numbered plans rose (join_operations plan place item table) mid.device (changed_at place (put_joined plan item) tables) end p g)
+    by_outcome (CutShort last) h g = ended (CutShort last) h g
+    by_outcome (Failed last) h g = ended (Failed last) h g
+
 -- an operation of another ring than the data ring at p
 abbrev pub IsOther : ℕ → RingName → ℕ → Type 0
 IsOther p DataRing n = n ≢ p
 IsOther p IndexRing n = Unit {0}
 IsOther p VarRing n = Unit {0}
+IsOther p LogRing n = Unit {0}
 
 pub effect-elsewhere : (p n : ℕ) (plan : Plan) (ring : RingName) (kind : Kind) (x : Table) → IsOther p ring n → n ≡ p → SamePages x (effect plan ring kind x)
 effect-elsewhere p n plan DataRing kind x h e = absurd (h e)
 effect-elsewhere p n plan IndexRing kind x h e = effect-other plan IndexRing kind x (λ e. cc)
 effect-elsewhere p n plan VarRing kind x h e = effect-other plan VarRing kind x (λ e. cc)
+effect-elsewhere p n plan LogRing kind x h e = effect-other plan LogRing kind x (λ e. cc)
 
 abbrev pub AllOther : ℕ → List Operation → Type 0
 AllOther p [] = Unit {0}

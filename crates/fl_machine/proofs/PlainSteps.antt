@@ -4,9 +4,10 @@ use Rattle.std.specs.List.{slice_get}
 use Rattle.std.proofs.Math.Seq.{take-length}
 use Rattle.fl_base.specs.declared.types.CutKind.{CutKind}
 use Rattle.fl_model.specs.Record.{Plan, Record, Config}
-use Rattle.fl_model.specs.Table.{Table, Entry, RingName, Refusal, refusal_of, put_seals, put_record, table_seals, flushed}
+use Rattle.fl_model.specs.Table.{Table, Entry, Refusal, refusal_of, put_joined, put_record, table_seals, flushed}
 use Rattle.fl_model.specs.Work.{Operation, Ending, AsBefore, AsAfter, Either, ending_of, Leaves, Device, cut_now, counted, done, Progress, Outcome, Finished, CutShort, Failed, Performs, PerformsFirst, operations_of, changed_at}
-use Rattle.fl_model.specs.Mount.{Mounts, MountEnd, Mounted, Stopped, Unread, GoesOn, rings_from, renumbered_at, repairs_at}
+use Rattle.fl_model.specs.Puts.{Puts, PutGoesOn, room_operations, join_operations}
+use Rattle.fl_model.specs.Mount.{Turn, Mounts, MountEnd, Mounted, Stopped, Unread, GoesOn, turns_from, turned_at, operations_at}
 use Rattle.fl_model.specs.Query.{BlobState, Without, Lost, Stands, blob_of, entry_at, left_of, moved}
 use Rattle.fl_words.specs.Command as command
 use Rattle.fl_words.specs.Command.{Command, TableLine}
@@ -16,7 +17,7 @@ use Rattle.fl_words.specs.Reply.{Reply}
 use Rattle.fl_machine.specs.Machine.{Machine, OpenCursor}
 use Rattle.fl_machine.specs.Step.{Moment, StepOf, Says, Stops, EndsAs, EndsMount, MountStep, PutStep, FlushStep, WhenMounted, WithTable, WithColumns, Located, located, LoadsFrom, LoadsOn, NextStep, BlobReplies, cursor_at, no_column, load_record, next_random, rows_of, LoadStep, GetStep, BlobStep, ScanStep, OpenStep, Counts, note_of, records_of, group_reply, pair_reply, stat_reply, cost_reply, refused}
 use Rattle.fl_model.specs.Operators.{select, project, aggregate, key_join}
-use Rattle.fl_machine.specs.Plain.{chosen, perform, perform_first, mount_on, mount_rings, says, stops, ends_as, located_or, if_mounted, on_table, ends_mount, mounts, put_or, flushes, plain, blob_replies, blob_reply, next_on, on_cursor, on_columns, loads_on, load_on, or_stuck, loads_from, IsRun, AlwaysGoesOn, plain_run}
+use Rattle.fl_machine.specs.Plain.{chosen, perform, perform_first, mount_on, mount_turns, put_on, put_performs, says, stops, ends_as, located_or, if_mounted, on_table, ends_mount, mounts, put_or, flushes, plain, blob_replies, blob_reply, next_on, on_cursor, on_columns, loads_on, load_on, or_stuck, loads_from, IsRun, AlwaysGoesOn, plain_run}
 
 chosen-leaves : {S : Type 0} (ending : Ending) (before after : S) → Leaves ending before after (chosen ending before after)
 chosen-leaves AsBefore before after = refl
@@ -35,20 +36,37 @@ performs-perform plans (operation ∷ operations) device tables =
     (λ end. Performs plans false operations (counted operation.kind device) (done plans operation tables) end)
     (performs-perform plans operations (counted operation.kind device) (done plans operation tables))
 
+put-goes : (o : Outcome) (mid others : Progress) (P : Progress → Type 0) → P others → PutGoesOn o mid (put_on o mid others) (P (put_on o mid others))
+put-goes Finished mid others P h = h
+put-goes (CutShort last) mid others P h = refl
+put-goes (Failed last) mid others P h = refl
+
+puts-perform : (plans : List Plan) (plan : Plan) (place : ℕ) (item : Record) (table : Table) (device : Device) (tables : List Table) →
+    Puts plans false plan place item table device tables (put_performs plans plan place item table device tables)
+puts-perform plans plan place item table device tables =
+    let first = room_operations plan place table in
+    let mid = perform plans first device tables in
+    let joined = changed_at place (put_joined plan item) tables in (
+      mid,
+      performs-perform plans first device tables,
+      put-goes mid.outcome mid (perform plans (join_operations plan place item table) mid.device joined) (λ end. Performs plans false (join_operations plan place item table) mid.device joined end)
+          (performs-perform plans (join_operations plan place item table) mid.device joined),
+    )
+
 goes-on : (o : Outcome) (end : Progress) (others : MountEnd) (P : MountEnd → Type 0) → P others → GoesOn o end (mount_on o end others) (P (mount_on o end others))
 goes-on Finished end others P h = h
 goes-on (CutShort last) end others P h = refl
 goes-on (Failed last) end others P h = refl
 
-mounts-rings : (plans : List Plan) (rings : List (ℕ × RingName)) (device : Device) (tables : List Table) → Mounts plans false rings device tables (mount_rings plans rings device tables)
+mounts-rings : (plans : List Plan) (rings : List (ℕ × Turn)) (device : Device) (tables : List Table) → Mounts plans false rings device tables (mount_turns plans rings device tables)
 mounts-rings plans [] device tables = refl
 mounts-rings plans (at ∷ rings) device tables =
-    let numbered = renumbered_at plans at tables in
-    let end = perform plans (repairs_at plans at numbered) device numbered in
+    let numbered = turned_at plans at tables in
+    let end = perform plans (operations_at plans at numbered) device numbered in
     inr (
       end,
-      performs-perform plans (repairs_at plans at numbered) device numbered,
-      goes-on end.outcome end (mount_rings plans rings end.device end.tables) (λ how. Mounts plans false rings end.device end.tables how) (mounts-rings plans rings end.device end.tables),
+      performs-perform plans (operations_at plans at numbered) device numbered,
+      goes-on end.outcome end (mount_turns plans rings end.device end.tables) (λ how. Mounts plans false rings end.device end.tables how) (mounts-rings plans rings end.device end.tables),
     )
 
 says-says : (c : Command) (old new : Machine) (replies : List Reply) → Says (says c replies new) replies new
@@ -103,13 +121,18 @@ put-step config c old item at = by_refusal (refusal_of at.plan at.table item)
   where
     by_refusal : (o : Option Refusal) → let m = put_or config c old item at o in
         MatchOption o
-        ((end : Progress) × Performs config.plans m.rose (operations_of at.plan at.place (put_seals at.plan item at.table) at.table) old.device old.tables end
+        ((end : Progress) × Puts config.plans m.rose at.plan at.place item at.table old.device old.tables end
         × EndsAs end.outcome old m end [] (reply.Done ∷ []) (record old { device = end.device; tables = changed_at at.place (put_record at.plan item) old.tables }))
         (λ refusal. Says m (refused refusal ∷ []) old)
     by_refusal (Some refusal) = says-says c old old (refused refusal ∷ [])
     by_refusal None =
-        performed config c old (λ end. record old { device = end.device; tables = changed_at at.place (put_record at.plan item) old.tables })
-        (operations_of at.plan at.place (put_seals at.plan item at.table) at.table) [] (reply.Done ∷ [])
+        let end = put_performs config.plans at.plan at.place item at.table old.device old.tables in
+        let new = record old { device = end.device; tables = changed_at at.place (put_record at.plan item) old.tables } in (
+          end,
+          subst (λ (r : Bool). Puts config.plans r at.plan at.place item at.table old.device old.tables end) (sym (ends-rose c end.outcome old new end [] (reply.Done ∷ [])))
+              (puts-perform config.plans at.plan at.place item at.table old.device old.tables),
+          ends-ends c end.outcome old new end [] (reply.Done ∷ []),
+        )
 
 flush-step : (config : Config) (c : Command) (old : Machine) (at : Located) → FlushStep config old (flushes config c old at) at
 flush-step config c old at =
@@ -129,12 +152,12 @@ mount-step config old = by_test old.mounted
     rose (Stopped end) = ends-rose command.Mount end.outcome old old end [] []
     rose (Unread end) = refl
 
-    by_test : (b : Bool) → let m = cond b (says command.Mount (reply.AlreadyMounted ∷ []) old) (ends_mount config old (mount_rings config.plans (rings_from 0 config.plans) old.device old.tables)) in
-        MatchBool b (Says m (reply.AlreadyMounted ∷ []) old) ((how : MountEnd) × Mounts config.plans m.rose (rings_from 0 config.plans) old.device old.tables how × EndsMount config old m how)
+    by_test : (b : Bool) → let m = cond b (says command.Mount (reply.AlreadyMounted ∷ []) old) (ends_mount config old (mount_turns config.plans (turns_from 0 config.plans) old.device old.tables)) in
+        MatchBool b (Says m (reply.AlreadyMounted ∷ []) old) ((how : MountEnd) × Mounts config.plans m.rose (turns_from 0 config.plans) old.device old.tables how × EndsMount config old m how)
     by_test true = says-says command.Mount old old (reply.AlreadyMounted ∷ [])
     by_test false =
-        let how = mount_rings config.plans (rings_from 0 config.plans) old.device old.tables in
-        (how, subst (λ (r : Bool). Mounts config.plans r (rings_from 0 config.plans) old.device old.tables how) (sym (rose how)) (mounts-rings config.plans (rings_from 0 config.plans) old.device old.tables), by_end how)
+        let how = mount_turns config.plans (turns_from 0 config.plans) old.device old.tables in
+        (how, subst (λ (r : Bool). Mounts config.plans r (turns_from 0 config.plans) old.device old.tables how) (sym (rose how)) (mounts-rings config.plans (turns_from 0 config.plans) old.device old.tables), by_end how)
 
 blob-replies : (state : BlobState) → BlobReplies false state (blob_replies state)
 blob-replies Without = refl
@@ -198,13 +221,13 @@ loads-rose config c old plan place step seed (suc turns) i s loaded device table
         (or_stuck c old device tables o (λ table.
         let item = load_record plan table step seed i s in
         load_on c old loaded device tables (refusal_of plan table item)
-        (let end = perform config.plans (operations_of plan place (put_seals plan item table) table) device tables in
+        (let end = put_performs config.plans plan place item table device tables in
         loads_on c end.outcome old end loaded
         (loads_from config c old plan place step seed turns (i + 1) (next_random s) (loaded + 1) end.device (changed_at place (put_record plan item) tables))))).rose ≡ false
     by_table None h = refl
     by_table (Some table) h =
         let item = load_record plan table step seed i s in
-        let end = perform config.plans (operations_of plan place (put_seals plan item table) table) device tables in
+        let end = put_performs config.plans plan place item table device tables in
         by_refusal (refusal_of plan table item) _ (by_outcome end.outcome end _ (h end.device (changed_at place (put_record plan item) tables)))
 
 loads-steps : (config : Config) (c : Command) (old : Machine) (plan : Plan) (place step seed turns i s loaded : ℕ) (device : Device) (tables : List Table) (m : Moment) →
@@ -227,7 +250,7 @@ loads-steps config c old plan place step seed (suc turns) i s loaded device tabl
         m ≡ or_stuck c old device tables o (λ table.
         let item = load_record plan table step seed i s in
         load_on c old loaded device tables (refusal_of plan table item)
-        (let end = perform config.plans (operations_of plan place (put_seals plan item table) table) device tables in
+        (let end = put_performs config.plans plan place item table device tables in
         loads_on c end.outcome old end loaded
         (loads_from config c old plan place step seed turns (i + 1) (next_random s) (loaded + 1) end.device (changed_at place (put_record plan item) tables)))) →
         ((d : Device) (ts : List Table) → m ≡ loads_from config c old plan place step seed turns (i + 1) (next_random s) (loaded + 1) d ts →
@@ -235,19 +258,18 @@ loads-steps config c old plan place step seed (suc turns) i s loaded device tabl
         MatchOption o (Says m [] (record old { device = device; tables = tables })) (λ table.
         let item = load_record plan table step seed i s in
         MatchOption (refusal_of plan table item)
-        ((end : Progress) × Performs config.plans m.rose (operations_of plan place (put_seals plan item table) table) device tables end
+        ((end : Progress) × Puts config.plans m.rose plan place item table device tables end
         × LoadsOn end.outcome old m end loaded
         (LoadsFrom config old m plan place step seed turns (i + 1) (next_random s) (loaded + 1) end.device (changed_at place (put_record plan item) tables)))
         (λ refusal. Says m (reply.Loaded loaded ∷ refused refusal ∷ []) (record old { device = device; tables = tables })))
     by_table None e go = says-eq c old _ [] m e
     by_table (Some table) e go =
         let item = load_record plan table step seed i s in
-        let operations = operations_of plan place (put_seals plan item table) table in
-        let end = perform config.plans operations device tables in
+        let end = put_performs config.plans plan place item table device tables in
         by_refusal (refusal_of plan table item) _ _ e
         (λ q. (
           end,
-          subst (λ (r : Bool). Performs config.plans r operations device tables end) (sym rose) (performs-perform config.plans operations device tables),
+          subst (λ (r : Bool). Puts config.plans r plan place item table device tables end) (sym rose) (puts-perform config.plans plan place item table device tables),
           by_outcome end.outcome end _ _ q (λ z. go end.device (changed_at place (put_record plan item) tables) z),
         ))
 
@@ -345,14 +367,14 @@ mount-of config old = by_test old.mounted
     by_end (Stopped end) = ends-of command.Mount end.outcome old old end [] []
     by_end (Unread end) = refl
 
-    by_test : (b : Bool) → (cond b (says command.Mount (reply.AlreadyMounted ∷ []) old) (ends_mount config old (mount_rings config.plans (rings_from 0 config.plans) old.device old.tables))).command ≡ command.Mount
+    by_test : (b : Bool) → (cond b (says command.Mount (reply.AlreadyMounted ∷ []) old) (ends_mount config old (mount_turns config.plans (turns_from 0 config.plans) old.device old.tables))).command ≡ command.Mount
     by_test true = refl
-    by_test false = by_end (mount_rings config.plans (rings_from 0 config.plans) old.device old.tables)
+    by_test false = by_end (mount_turns config.plans (turns_from 0 config.plans) old.device old.tables)
 
 put-of : (config : Config) (c : Command) (old : Machine) (item : Record) (at : Located) (o : Option Refusal) → (put_or config c old item at o).command ≡ c
 put-of config c old item at (Some refusal) = refl
 put-of config c old item at None =
-    let end = perform config.plans (operations_of at.plan at.place (put_seals at.plan item at.table) at.table) old.device old.tables in
+    let end = put_performs config.plans at.plan at.place item at.table old.device old.tables in
     ends-of c end.outcome old (record old { device = end.device; tables = changed_at at.place (put_record at.plan item) old.tables }) end [] (reply.Done ∷ [])
 
 flush-of : (config : Config) (c : Command) (old : Machine) (at : Located) → (flushes config c old at).command ≡ c
@@ -399,13 +421,13 @@ loads-of config c old plan place step seed (suc turns) i s loaded device tables 
         (or_stuck c old device tables o (λ table.
         let item = load_record plan table step seed i s in
         load_on c old loaded device tables (refusal_of plan table item)
-        (let end = perform config.plans (operations_of plan place (put_seals plan item table) table) device tables in
+        (let end = put_performs config.plans plan place item table device tables in
         loads_on c end.outcome old end loaded
         (loads_from config c old plan place step seed turns (i + 1) (next_random s) (loaded + 1) end.device (changed_at place (put_record plan item) tables))))).command ≡ c
     by_table None h = refl
     by_table (Some table) h =
         let item = load_record plan table step seed i s in
-        let end = perform config.plans (operations_of plan place (put_seals plan item table) table) device tables in
+        let end = put_performs config.plans plan place item table device tables in
         by_refusal (refusal_of plan table item) _ (by_outcome end.outcome end _ (h end.device (changed_at place (put_record plan item) tables)))
 
 pub plain-of : (config : Config) (old : Machine) (c : Command) → (plain config old c).command ≡ c
@@ -413,7 +435,7 @@ plain-of config old command.Nothing = refl
 plain-of config old command.Mount = mount-of config old
 plain-of config old command.Off = refl
 plain-of config old (command.Cut n kind) = refl
-plain-of config old (command.Put name key values blob) = on_table-of config (command.Put name key values blob) old name _ (λ at. put-of config _ old _ at _)
+plain-of config old (command.Put name key values blob) = on_table-of config (command.Put name key values blob) old name _ (λ at. put-of config _ old (record { key = key; values = values; blob = blob }) at _)
 plain-of config old (command.Flush name) = on_table-of config (command.Flush name) old name _ (λ at. flush-of config _ old at)
 plain-of config old (command.Get name key) = on_table-of config (command.Get name key) old name _ (λ at. refl)
 plain-of config old (command.Blob name key) = on_table-of config (command.Blob name key) old name _ (λ at. refl)

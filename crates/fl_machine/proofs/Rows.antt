@@ -1,5 +1,5 @@
 -- Worked scripts, computed on the plain machine.
-use Rattle.std.proofs.Common.{◌≡◌, ℕ, zero, suc, ◌+◌, true, pos, negsuc, Option, Some, None, List, [], ◌∷◌, ◌++◌, drop, replicate, refl, codes}
+use Rattle.std.proofs.Common.{◌≡◌, ℕ, zero, suc, ◌+◌, ◌-◌, ◌*◌, ◌/◌, true, false, pos, negsuc, Option, Some, None, List, [], ◌∷◌, ◌++◌, drop, map, replicate, refl, codes}
 use Rattle.std.specs.List.{flat_map}
 use Rattle.fl_base.specs.declared.types.CutKind.TheVariants.{Before, After, Half}
 use Rattle.fl_model.specs.Record.{Plan, rows_per_page, entries_per_page, content_per_page, row_len, Config}
@@ -9,7 +9,11 @@ use Rattle.fl_words.specs.Reply as reply
 use Rattle.fl_words.specs.Reply.{Reply, NoRing, NoneKept, Length}
 use Rattle.fl_machine.specs.Machine.{begins, fresh_tables}
 use Rattle.fl_machine.specs.Plain.{plain_run}
-use Rattle.fl_machine.proofs.Examples.{c1}
+use Rattle.fl_machine.specs.Run.{end_of}
+use Rattle.fl_model.specs.Table.{Table, firsts}
+use Rattle.fl_model.specs.Limits.{past, page_behind, scan_limit, numbers_of}
+use Rattle.fl_model.specs.MountLimit.{mount_limit}
+use Rattle.fl_machine.proofs.Examples.{c1, full}
 
 abbrev pub config1 : Config
 config1 = record { geometry = record { page = 128; block = 4 }; plans = c1 ∷ []; knots = 64 }
@@ -83,11 +87,13 @@ c2 = record {
   data_blocks = 40;
   index_blocks = 3;
   var_blocks = 4;
+  log_blocks = 0;
   bits = 64;
   base = pos 0;
   width = 100;
   error = 1;
   blob_limit = 300;
+  full_index = false;
 }
 
 abbrev pub config2 : Config
@@ -124,11 +130,13 @@ c3 = record {
   data_blocks = 3;
   index_blocks = 0;
   var_blocks = 3;
+  log_blocks = 0;
   bits = 0;
   base = pos 0;
   width = 1;
   error = 1;
   blob_limit = 224;
+  full_index = false;
 }
 
 abbrev pub config3 : Config
@@ -152,3 +160,68 @@ row18 : drop 98 (said config1 (command.Mount ∷ puts 1 97 ++ command.Open 0 (co
     ∷ puts 98 24 ++ command.Next 0 2 ∷ command.Next 0 100 ∷ command.Next 0 1 ∷ command.Close 0 ∷ command.Close 0 ∷ []))
     ≡ reply.Done ∷ rows 33 5 ++ reply.More ∷ replicate 24 reply.Done ++ rows 65 2 ++ reply.More ∷ rows 67 31 ++ reply.CursorEnd ∷ reply.CursorEnd ∷ reply.Done ∷ reply.NoCursor ∷ []
 row18 = refl
+
+-- full index entries: an index page holds six, and its entry for each page that was sealed before it
+abbrev pub config_full : Config
+config_full = record { geometry = record { page = 128; block = 4 }; plans = full ∷ []; knots = 64 }
+
+abbrev pub put_full : ℕ → ℕ → Command
+put_full key value = command.Put (codes "s") key (pos value ∷ []) None
+
+-- so many records from a key on, whose value is ten times the number of the page in which they stand
+abbrev pub full_puts : ℕ → ℕ → List Command
+full_puts first zero = []
+full_puts first (suc n) = put_full first (10 * ((first - 1) / 8)) ∷ full_puts (first + 1) n
+
+abbrev pub full_rows : ℕ → ℕ → List Reply
+full_rows first zero = []
+full_rows first (suc n) = reply.Row first (pos 20 ∷ []) NoRing ∷ full_rows (first + 1) n
+
+full_scan : drop 66 (said config_full (command.Mount ∷ full_puts 1 65 ++ command.Stat (codes "s") ∷ command.Scan (codes "s") (record { low = 17; high = 24 }) (Some (record { low = pos 20; high = pos 29 })) ∷ []))
+    ≡ reply.Stat 65 1 8 0 18 0 ∷ full_rows 17 8 ++ reply.EndCount 8 ∷ []
+full_scan = refl
+
+-- the tables after commands
+abbrev pub tables_after : Config → List Command → List Table
+tables_after config commands = (end_of (begins (fresh_tables config)) (plain_run config (begins (fresh_tables config)) commands)).tables
+
+-- the page behind the range is indexed, so that the scan reads it not
+full_past : map {B = Option ℕ × ℕ} (λ (table : Table). (page_behind table 24, past full table (record { low = 17; high = 24 }) (Some (record { low = pos 20; high = pos 29 })))) (tables_after config_full (command.Mount ∷ full_puts 1 65))
+    ≡ (Some 3, 0) ∷ []
+full_past = refl
+
+full_scan_limit : map (λ (table : Table). scan_limit 64 full table (record { low = 17; high = 24 }) (Some (record { low = pos 20; high = pos 29 })) 17) (tables_after config_full (command.Mount ∷ full_puts 1 65)) ≡ 7 ∷ []
+full_scan_limit = refl
+
+-- a mount after the flush: no more than this
+abbrev flushed_full : List Command
+flushed_full = command.Mount ∷ full_puts 1 65 ++ command.Flush (codes "s") ∷ command.Off ∷ []
+
+full_mount : map (λ (table : Table). mount_limit full table) (tables_after config_full flushed_full) ≡ 66 ∷ []
+full_mount = refl
+
+-- a data ring of void pages alone gets numbers that no index page lists
+abbrev pub small_full : Plan
+small_full = record c1 { geometry = record { page = 128; block = 2 }; index_blocks = 3; full_index = true }
+
+abbrev pub small_full_config : Config
+small_full_config = record { geometry = record { page = 128; block = 2 }; plans = small_full ∷ []; knots = 64 }
+
+abbrev pub put_each : ℕ → ℕ → List Command
+put_each first zero = []
+put_each first (suc n) = put first ∷ command.Flush (codes "t") ∷ put_each (first + 1) n
+
+abbrev pub torn_again : ℕ → List Command
+torn_again zero = []
+torn_again (suc n) = put 8 ∷ command.Cut 1 Half ∷ command.Flush (codes "t") ∷ command.Mount ∷ torn_again n
+
+abbrev pub all_void : List Command
+all_void = command.Mount ∷ put_each 1 7 ++ torn_again 6
+
+-- the index page lists data pages 0 to 5, and the void pages 10, 11 and 12 are kept
+full_void : map {B = List ℕ × List ℕ} (λ (table : Table). (firsts table, numbers_of table)) (tables_after small_full_config all_void) ≡ (0 ∷ [], 10 ∷ 11 ∷ 12 ∷ []) ∷ []
+full_void = refl
+
+void_index : drop 39 (said small_full_config (all_void ++ put 8 ∷ command.Flush (codes "t") ∷ command.Off ∷ command.Mount ∷ scan ∷ command.Stat (codes "t") ∷ []))
+    ≡ reply.Done ∷ reply.Done ∷ reply.Done ∷ reply.Done ∷ row 8 ∷ reply.EndCount 1 ∷ reply.Stat 1 0 4 3 30 5 ∷ []
+void_index = refl

@@ -3,7 +3,7 @@ use Rattle.std.proofs.Common.{◌≡◌, ℕ, Bool, true, false, inl, List, [], 
 use Rattle.std.specs.Prelude.{MatchBool}
 use Rattle.fl_model.specs.Image.{bytes_at, page_bytes}
 use Rattle.fl_model.specs.Record.{Config}
-use Rattle.fl_model.specs.Table.{Table, DataRing, IndexRing, VarRing, lose}
+use Rattle.fl_model.specs.Table.{Table, DataRing, IndexRing, VarRing, LogRing, lose}
 use Rattle.fl_words.specs.Command as command
 use Rattle.fl_words.specs.Command.{Command}
 use Rattle.fl_words.specs.Medium.{IsImage}
@@ -24,11 +24,12 @@ tables-same config bytes now tables after e = λ place plan old new p b a. recor
   rows = λ number from below. ap (λ c. bytes_at config c place plan DataRing number) e;
   index = λ before later i j number from below. ap (λ c. bytes_at config c place plan IndexRing number) e;
   var = λ before later i j number from below. ap (λ c. bytes_at config c place plan VarRing number) e;
+  log = λ before later i j number from below. ap (λ c. bytes_at config c place plan LogRing number) e;
 }
 
 mount-same : (config : Config) (mounted : Bool) (bytes now : List ℕ) → now ≡ bytes → MatchBool mounted (now ≡ bytes) (PagesAreRepaired config bytes now)
 mount-same config true bytes now e = e
-mount-same config false bytes now e = λ page within. inl (ap (λ c. page_bytes config c page) e)
+mount-same config false bytes now e = λ page within. inl (inl (ap (λ c. page_bytes config c page) e))
 
 mounted-same : (config : Config) (mounted : Bool) (bytes now : List ℕ) (tables after : List Table) → now ≡ bytes → MatchBool mounted (TablesStay config bytes now tables after) (now ≡ bytes)
 mounted-same config true bytes now tables after e = tables-same config bytes now tables after e

@@ -1,10 +1,11 @@
 -- The operations on the flash that a command does, and how the totals rise by them.
 use Rattle.std.specs.Prelude.{◌≡◌, ℕ, zero, suc, ◌+◌, ◌-◌, ◌^◌, ◌<◌, false, Option, Some, None, List, [], ◌∷◌, ◌++◌, slice_get, if◌then◌else◌}
 use Rattle.fl_model.specs.Record.{Record, Plan, Config}
-use Rattle.fl_model.specs.Table.{Table, RingName, Refusal, refusal_of, put_seals, put_record, table_seals}
+use Rattle.fl_model.specs.Table.{Table, Refusal, refusal_of, put_record, table_seals}
 use Rattle.fl_model.specs.Work.{Operation, Device, is_erase, done, operations_of, changed_at}
 use Rattle.fl_model.specs.Within.{all_done}
-use Rattle.fl_model.specs.Mount.{rings_from, renumbered_at, repairs_at}
+use Rattle.fl_model.specs.Puts.{room_operations, join_operations}
+use Rattle.fl_model.specs.Mount.{Turn, turns_from, turned_at, operations_at}
 use Rattle.fl_words.specs.Command as command
 use Rattle.fl_words.specs.Command.{Command}
 use Rattle.fl_machine.specs.Machine.{Machine}
@@ -25,8 +26,11 @@ abbrev pub unless_refused : Option Refusal → List Operation → List Operation
 unless_refused None operations = operations
 unless_refused (Some refusal) operations = []
 
+abbrev pub accepted_operations : Plan → ℕ → Record → Table → List Operation
+accepted_operations plan place item table = room_operations plan place table ++ join_operations plan place item table
+
 abbrev pub put_operations : Plan → ℕ → Record → Table → List Operation
-put_operations plan place item table = unless_refused (refusal_of plan table item) (operations_of plan place (put_seals plan item table) table)
+put_operations plan place item table = unless_refused (refusal_of plan table item) (accepted_operations plan place item table)
 
 -- those of the puts of a load, up to the first record that is refused; `turns` puts are left, from the i-th on
 abbrev pub of_table : Option Table → (Table → List Operation) → List Operation
@@ -39,16 +43,16 @@ load_operations plan place step seed (suc turns) i s tables =
     of_table (slice_get tables place) (λ table.
     let item = load_record plan table step seed i s in
     unless_refused (refusal_of plan table item)
-    (operations_of plan place (put_seals plan item table) table
+    (accepted_operations plan place item table
     ++ load_operations plan place step seed turns (i + 1) (next_random s) (changed_at place (put_record plan item) tables)))
 
--- those of a mount, the repairs of each ring in order
-abbrev pub mount_operations : List Plan → List (ℕ × RingName) → List Table → List Operation
+-- those of a mount, turn by turn
+abbrev pub mount_operations : List Plan → List (ℕ × Turn) → List Table → List Operation
 mount_operations plans [] tables = []
-mount_operations plans (at ∷ rings) tables =
-    let numbered = renumbered_at plans at tables in
-    let repairs = repairs_at plans at numbered in
-    repairs ++ mount_operations plans rings (all_done (done plans) repairs numbered)
+mount_operations plans (at ∷ turns) tables =
+    let begun = turned_at plans at tables in
+    let operations = operations_at plans at begun in
+    operations ++ mount_operations plans turns (all_done (done plans) operations begun)
 
 -- those of a command on the table of a name, which has none where it isn't executed
 abbrev pub of_located : Option Located → (Located → List Operation) → List Operation
@@ -60,7 +64,7 @@ of_named config old name f = if old.mounted then of_located (located config old 
 
 -- The operations of a command. A command other than these has none.
 abbrev pub operations_by : Config → Machine → Command → List Operation
-operations_by config old command.Mount = if old.mounted then [] else mount_operations config.plans (rings_from 0 config.plans) old.tables
+operations_by config old command.Mount = if old.mounted then [] else mount_operations config.plans (turns_from 0 config.plans) old.tables
 operations_by config old (command.Put name key values blob) =
     of_named config old name (λ at. put_operations at.plan at.place (record { key = key; values = values; blob = blob }) at.table)
 operations_by config old (command.Flush name) = of_named config old name (λ at. operations_of at.plan at.place (table_seals at.plan at.table) at.table)

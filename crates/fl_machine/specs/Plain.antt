@@ -2,9 +2,10 @@
 use Rattle.std.specs.Prelude.{ℕ, zero, suc, ◌+◌, true, false, ◌==◌, Option, Some, None, List, [], ◌∷◌, ◌++◌, length, take, map, slice_get, slice_set, if◌then◌else◌}
 use Rattle.fl_base.specs.declared.types.CutKind.{CutKind}
 use Rattle.fl_model.specs.Record.{Record, Plan, Config}
-use Rattle.fl_model.specs.Table.{Table, Entry, RingName, Refusal, refusal_of, put_seals, put_record, table_seals, flushed}
+use Rattle.fl_model.specs.Table.{Table, Entry, Refusal, refusal_of, put_joined, put_record, table_seals, flushed, lose}
 use Rattle.fl_model.specs.Work.{Operation, Ending, AsBefore, AsAfter, Either, ending_of, Device, cut_now, counted, fired, done, Progress, Outcome, Finished, CutShort, Failed, operations_of, changed_at}
-use Rattle.fl_model.specs.Mount.{MountEnd, Mounted, Stopped, Unread, rings_from, renumbered_at, repairs_at}
+use Rattle.fl_model.specs.Puts.{room_operations, join_operations}
+use Rattle.fl_model.specs.Mount.{MountEnd, Mounted, Stopped, Unread, Turn, turns_from, turned_at, operations_at}
 use Rattle.fl_model.specs.Query.{begin, left_of, moved, selected, entry_at, BlobState, Without, Lost, Stands, blob_of}
 use Rattle.fl_model.specs.Spline.{lookup_limit}
 use Rattle.fl_model.specs.Operators.{select, project, aggregate, key_join}
@@ -36,12 +37,12 @@ mount_on Finished end others = others
 mount_on (CutShort last) end others = Stopped end
 mount_on (Failed last) end others = Stopped end
 
-abbrev pub mount_rings : List Plan → List (ℕ × RingName) → Device → List Table → MountEnd
-mount_rings plans [] device tables = Mounted (record { outcome = Finished; device = device; tables = tables })
-mount_rings plans (at ∷ rings) device tables =
-    let numbered = renumbered_at plans at tables in
-    let end = perform plans (repairs_at plans at numbered) device numbered in
-    mount_on end.outcome end (mount_rings plans rings end.device end.tables)
+abbrev pub mount_turns : List Plan → List (ℕ × Turn) → Device → List Table → MountEnd
+mount_turns plans [] device tables = Mounted (record { outcome = Finished; device = device; tables = tables })
+mount_turns plans (at ∷ turns) device tables =
+    let begun = turned_at plans at tables in
+    let end = perform plans (operations_at plans at begun) device begun in
+    mount_on end.outcome end (mount_turns plans turns end.device end.tables)
 
 abbrev pub says : Command → List Reply → Machine → Moment
 says c replies new = record { command = c; rose = false; reads = 0; last = None; replies = replies; after = new }
@@ -75,17 +76,28 @@ abbrev pub ends_mount : Config → Machine → MountEnd → Moment
 ends_mount config old (Mounted end) =
     says command.Mount (reply.Done ∷ []) (record old { device = end.device; tables = all_ready config.plans end.tables; mounted = true; cursors = no_cursors })
 ends_mount config old (Stopped end) = ends_as command.Mount end.outcome old end [] [] old
-ends_mount config old (Unread end) = says command.Mount (reply.DeviceFault ∷ []) (record old { device = end.device; tables = end.tables })
+ends_mount config old (Unread end) = says command.Mount (reply.DeviceFault ∷ []) (record old { device = end.device; tables = map lose end.tables })
 
 abbrev pub mounts : Config → Machine → Moment
 mounts config old =
     if old.mounted then says command.Mount (reply.AlreadyMounted ∷ []) old
-    else ends_mount config old (mount_rings config.plans (rings_from 0 config.plans) old.device old.tables)
+    else ends_mount config old (mount_turns config.plans (turns_from 0 config.plans) old.device old.tables)
+
+-- a put of an accepted record
+abbrev pub put_on : Outcome → Progress → Progress → Progress
+put_on Finished mid others = others
+put_on (CutShort last) mid others = mid
+put_on (Failed last) mid others = mid
+
+abbrev pub put_performs : List Plan → Plan → ℕ → Record → Table → Device → List Table → Progress
+put_performs plans plan place item table device tables =
+    let mid = perform plans (room_operations plan place table) device tables in
+    put_on mid.outcome mid (perform plans (join_operations plan place item table) mid.device (changed_at place (put_joined plan item) tables))
 
 abbrev pub put_or : Config → Command → Machine → Record → Located → Option Refusal → Moment
 put_or config c old item at (Some refusal) = says c (refused refusal ∷ []) old
 put_or config c old item at None =
-    let end = perform config.plans (operations_of at.plan at.place (put_seals at.plan item at.table) at.table) old.device old.tables in
+    let end = put_performs config.plans at.plan at.place item at.table old.device old.tables in
     ends_as c end.outcome old end [] (reply.Done ∷ []) (record old { device = end.device; tables = changed_at at.place (put_record at.plan item) old.tables })
 
 abbrev pub flushes : Config → Command → Machine → Located → Moment
@@ -144,7 +156,7 @@ loads_from config c old plan place step seed (suc turns) i s loaded device table
     or_stuck c old device tables (slice_get tables place) (λ table.
     let item = load_record plan table step seed i s in
     load_on c old loaded device tables (refusal_of plan table item)
-    (let end = perform config.plans (operations_of plan place (put_seals plan item table) table) device tables in
+    (let end = put_performs config.plans plan place item table device tables in
     loads_on c end.outcome old end loaded
     (loads_from config c old plan place step seed turns (i + 1) (next_random s) (loaded + 1) end.device (changed_at place (put_record plan item) tables))))
 

@@ -1,11 +1,11 @@
 -- How many pages a moment reads.
-use Rattle.std.specs.Prelude.{◌≡◌, ℕ, ◌+◌, ◌-◌, ◌*◌, ◌/◌, ◌^◌, ◌≤◌, min, Bool, true, false, not, ◌&&◌, Option, None, is_some, option_map, unwrap_or, List, [], ◌∷◌, sum_by, IsTrue, MatchBool, MatchOption, slice_get}
+use Rattle.std.specs.Prelude.{◌≡◌, ℕ, ◌+◌, ◌-◌, ◌*◌, ◌/◌, ◌^◌, ◌≤◌, min, Bool, true, false, not, ◌&&◌, Option, None, is_some, option_map, unwrap_or, List, [], ◌∷◌, length, sum_by, IsTrue, MatchBool, MatchOption, slice_get}
 use Rattle.std.specs.List.{last_or}
 use Rattle.fl_base.specs.declared.types.KeyRange.{KeyRange}
 use Rattle.fl_base.specs.declared.types.Span.{Span}
 use Rattle.fl_model.specs.Record.{Plan, Config, blocks_of, content_per_page}
-use Rattle.fl_model.specs.Table.{Table, Entry, written, blob_len}
-use Rattle.fl_model.specs.Query.{Cursor, entry_at}
+use Rattle.fl_model.specs.Table.{Table, Entry, written}
+use Rattle.fl_model.specs.Query.{Cursor, entry_at, BlobState, Without, Lost, Stands, blob_of}
 use Rattle.fl_model.specs.Spline.{retained, is_covered, is_pending_key, lookup_limit, lookup_reads}
 use Rattle.fl_model.specs.Limits.{scan_limit, least_reads}
 use Rattle.fl_words.specs.Command as command
@@ -66,14 +66,19 @@ OnCursor config old moment cursor P =
 abbrev pub FaultHasRead : Moment → Type 0
 FaultHasRead moment = IsTrue (is_unread moment) → 1 ≤ moment.reads
 
--- how long the blob of an entry is, 0 where there is no entry or it has none
-abbrev pub length_of_blob : Option Entry → ℕ
-length_of_blob found = unwrap_or (option_map (λ entry. blob_len entry.kept) found) 0
+-- how many bytes of an entry's blob stand, 0 where there is no entry, it has none or they are gone
+abbrev pub length_of : BlobState → ℕ
+length_of Without = 0
+length_of Lost = 0
+length_of (Stands bytes) = length bytes
+
+abbrev pub length_of_blob : Table → Option Entry → ℕ
+length_of_blob table found = unwrap_or (option_map (λ entry. length_of (blob_of table entry)) found) 0
 
 -- no more pages than the lookup of a key may read, and those of its blob with two more
 abbrev pub blob_limit : ℕ → Plan → Table → ℕ → ℕ
 blob_limit knots plan table key =
-    lookup_limit knots plan table key + length_of_blob (entry_at key table.entries) / content_per_page plan + 2
+    lookup_limit knots plan table key + length_of_blob table (entry_at key table.entries) / content_per_page plan + 2
 
 -- The greatest number of reads of a command. An operator reads no more than a scan of its range, and a join no more than
 -- two.

@@ -7,7 +7,7 @@ use Rattle.fl_words.specs.Command.{Command}
 use Rattle.fl_machine.specs.Machine.{Machine, begins, fresh_tables}
 use Rattle.fl_machine.specs.Step.{Moment}
 use Rattle.fl_machine.specs.Run.{Run, end_of, commands_of, written_by, risen_in}
-use Rattle.fl_machine.specs.Found.{Finds, stop_at}
+use Rattle.fl_machine.specs.Found.{FindsAt}
 use Rattle.fl_machine.specs.Reads.{RunLimits, RunExact}
 use Rattle.fl_machine.specs.Small.{most_of_a_command}
 use Rattle.fl_machine.specs.Stays.{StaysEach}
@@ -122,7 +122,7 @@ pub record Ran (config : Config) (old : Machine) (commands : List Command) (stan
   -- the medium's faults rose in no more of them than it failed
   pub rose : RoseBy (risen_in moments) faults faults_now
   -- each mount that succeeds finds the records of each table
-  pub found : (place : ℕ) → Finds place (stop_at place old.tables) old moments
+  pub found : (place : ℕ) → FindsAt config place old moments
   pub told_all : Appends told told_now (written_by moments)
 
 -- .. and into the reply of the last of them, in which the sink failed
@@ -136,7 +136,7 @@ pub record RanInto (config : Config) (old : Machine) (commands : List Command) (
   pub few : AllByRecursion (λ moment. moment.reads ≤ most_of_a_command) moments
   pub stays : StaysEach config old moments content content_now
   pub rose : RoseBy (risen_in moments) faults faults_now
-  pub found : (place : ℕ) → Finds place (stop_at place old.tables) old moments
+  pub found : (place : ℕ) → FindsAt config place old moments
   -- the replies before those of the last are written whole
   pub before : List Moment
   pub last : Moment

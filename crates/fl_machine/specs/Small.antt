@@ -6,11 +6,10 @@ use Rattle.fl_model.specs.Table.{Table}
 use Rattle.fl_model.specs.Facts.{IsTable}
 use Rattle.fl_machine.specs.Reads.{pages_in}
 
--- the pages, the error and the blobs of a table
+-- the pages and the error of a table
 pub record IsSmallPlan (plan : Plan) : Type 0 where
   pub pages : blocks_of plan * plan.geometry.block ≤ 65536
   pub error : plan.error ≤ 255
-  pub blobs : plan.blob_limit ≤ 1500
 
 -- .. of all its tables
 pub record IsSmall (config : Config) : Type 0 where

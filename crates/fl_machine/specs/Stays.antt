@@ -1,11 +1,11 @@
 -- The bytes of a medium after each command of a run: they stand for the state, and what the command's operations don't
 -- touch is as it was.
-use Rattle.std.specs.Prelude.{◌≡◌, ◌⊎◌, ℕ, ◌-◌, ◌*◌, ◌<◌, ◌≤◌, true, false, Some, None, List, [], ◌∷◌, ◌++◌, map, take, replicate, slice_get, sum_by, MatchBool}
-use Rattle.fl_model.specs.Image.{bytes_at, page_bytes}
+use Rattle.std.specs.Prelude.{◌≡◌, ◌⊎◌, ℕ, ◌-◌, ◌*◌, ◌<◌, ◌≤◌, true, false, Some, None, List, [], ◌∷◌, ◌++◌, map, take, replicate, slice_get, sum_by, MatchBool, IsTrue}
+use Rattle.fl_model.specs.Image.{bytes_at, page_bytes, first_block}
 use Rattle.fl_model.specs.Layout.{is_blank, IsTornPage}
-use Rattle.fl_model.specs.Record.{Plan, Config, blocks_of}
+use Rattle.fl_model.specs.Record.{Plan, Config, blocks_of, has_log}
 use Rattle.fl_model.specs.Ring.{Ring, oldest}
-use Rattle.fl_model.specs.Table.{Table, RingName, DataRing, IndexRing, VarRing, lose}
+use Rattle.fl_model.specs.Table.{Table, RingName, DataRing, IndexRing, VarRing, LogRing, lose}
 use Rattle.fl_words.specs.Command as command
 use Rattle.fl_words.specs.Command.{Command}
 use Rattle.fl_words.specs.Medium.{IsImage}
@@ -23,6 +23,7 @@ pub record TableStays (config : Config) (bytes now : List ℕ) (place : ℕ) (pl
   pub rows : RingStays config bytes now place plan DataRing before.rows after.rows
   pub index : (old new : Ring) → before.index ≡ Some old → after.index ≡ Some new → RingStays config bytes now place plan IndexRing old new
   pub var : (old new : Ring) → before.var ≡ Some old → after.var ≡ Some new → RingStays config bytes now place plan VarRing old new
+  pub log : (old new : Ring) → before.log ≡ Some old → after.log ≡ Some new → RingStays config bytes now place plan LogRing old new
 
 -- .. of each table
 abbrev pub TablesStay : Config → List ℕ → List ℕ → List Table → List Table → Type 0
@@ -35,9 +36,20 @@ abbrev pub IsRepaired : Config → List ℕ → List ℕ → Type 0
 IsRepaired config old new =
     (new ≡ old) ⊎ ((IsTornPage old × (new ≡ take (config.geometry.page - 4) old ++ replicate 4 0)) ⊎ (is_blank new ≡ true))
 
+-- .. or it was blank, in the data or index ring of a table with a log, whose records are sealed at the end of the mount
+pub record IsReplayed (config : Config) (page : ℕ) (old : List ℕ) : Type 0 where
+  pub place : ℕ
+  pub plan : Plan
+  pub is : slice_get config.plans place ≡ Some plan
+  pub logged : IsTrue (has_log plan)
+  pub from : first_block config place plan DataRing * config.geometry.block ≤ page
+  pub below : page < first_block config place plan VarRing * config.geometry.block
+  pub blank : is_blank old ≡ true
+
 abbrev pub PagesAreRepaired : Config → List ℕ → List ℕ → Type 0
 PagesAreRepaired config bytes now =
-    (page : ℕ) → page < sum_by blocks_of config.plans * config.geometry.block → IsRepaired config (page_bytes config bytes page) (page_bytes config now page)
+    (page : ℕ) → page < sum_by blocks_of config.plans * config.geometry.block →
+    IsRepaired config (page_bytes config bytes page) (page_bytes config now page) ⊎ IsReplayed config page (page_bytes config bytes page)
 
 -- what a command of which each operation was done leaves as it was
 abbrev pub CommandStays : Config → Machine → Command → Machine → List ℕ → List ℕ → Type 0

@@ -2,10 +2,11 @@
 use Rattle.std.specs.Prelude.{◌≡◌, ℕ, zero, suc, ◌+◌, ◌-◌, ◌*◌, ◌/◌, ◌%◌, ◌^◌, ◌<◌, ◌≤◌, min, Bool, true, nat_lt, ◌==◌, ◌⊎◌, ℤ, pos, ◌-ℤ◌, Option, Some, None, option_map, unwrap_or, MatchOption, MatchBool, List, [], ◌∷◌, ◌++◌, length, take, map, find, slice_get, slice_set, if◌then◌else◌, IsTrue}
 use Rattle.fl_base.specs.declared.types.KeyRange.{KeyRange}
 use Rattle.fl_base.specs.declared.types.Span.{Span}
-use Rattle.fl_model.specs.Record.{Record, Column, Plan, Config, bytes_equal, has_var}
-use Rattle.fl_model.specs.Table.{Table, Entry, refusal_of, put_seals, put_record, table_seals, flushed, last_entry, Refusal, BadKey, BadColumns, BadValue, BadBlob, Spent}
+use Rattle.fl_model.specs.Record.{Record, Column, Plan, Config, bytes_equal, has_var, has_log}
+use Rattle.fl_model.specs.Table.{Table, Entry, refusal_of, put_record, table_seals, flushed, lose, last_entry, Refusal, BadKey, BadColumns, BadValue, BadBlob, Spent}
 use Rattle.fl_model.specs.Work.{Device, Progress, Outcome, Finished, CutShort, Failed, Performs, operations_of, changed_at}
-use Rattle.fl_model.specs.Mount.{Mounts, MountEnd, Mounted, Stopped, Unread, rings_from, ready}
+use Rattle.fl_model.specs.Puts.{Puts}
+use Rattle.fl_model.specs.Mount.{Mounts, MountEnd, Mounted, Stopped, Unread, turns_from, ready}
 use Rattle.fl_model.specs.Query.{begin, left_of, moved, selected, entry_at, BlobState, Without, Lost, Stands, blob_of}
 use Rattle.fl_model.specs.Spline.{lookup_limit, voids_of}
 use Rattle.fl_model.specs.Operators.{Group, select, project, aggregate, key_join}
@@ -86,11 +87,14 @@ abbrev pub WithTable : Config → Machine → Moment → List ℕ → (Located �
 WithTable config old moment name P =
     WhenMounted old moment (MatchOption (located config old name) (Says moment (reply.NoTable ∷ []) old) P)
 
--- each table made ready by its plan
+-- each table made ready by its plan; one with a log was, before the records of its log joined it
+abbrev pub made_ready : Plan → Table → Table
+made_ready plan table = if has_log plan then table else ready plan table
+
 abbrev pub all_ready : List Plan → List Table → List Table
 all_ready [] tables = tables
 all_ready (plan ∷ plans) [] = []
-all_ready (plan ∷ plans) (table ∷ tables) = ready plan table ∷ all_ready plans tables
+all_ready (plan ∷ plans) (table ∷ tables) = made_ready plan table ∷ all_ready plans tables
 
 -- a mount
 abbrev pub EndsMount : Config → Machine → Moment → MountEnd → Type 0
@@ -98,19 +102,19 @@ EndsMount config old moment (Mounted end) =
     Says moment (reply.Done ∷ []) (record old { device = end.device; tables = all_ready config.plans end.tables; mounted = true; cursors = no_cursors })
 EndsMount config old moment (Stopped end) = EndsAs end.outcome old moment end [] [] old
 EndsMount config old moment (Unread end) =
-    Says moment (reply.DeviceFault ∷ []) (record old { device = end.device; tables = end.tables })
+    Says moment (reply.DeviceFault ∷ []) (record old { device = end.device; tables = map lose end.tables })
 
 abbrev pub MountStep : Config → Machine → Moment → Type 0
 MountStep config old moment =
     MatchBool old.mounted
     (Says moment (reply.AlreadyMounted ∷ []) old)
-    ((how : MountEnd) × Mounts config.plans moment.rose (rings_from 0 config.plans) old.device old.tables how × EndsMount config old moment how)
+    ((how : MountEnd) × Mounts config.plans moment.rose (turns_from 0 config.plans) old.device old.tables how × EndsMount config old moment how)
 
 -- a put of this record, and a flush
 abbrev pub PutStep : Config → Machine → Moment → Record → Located → Type 0
 PutStep config old moment item at =
     MatchOption (refusal_of at.plan at.table item)
-    ((end : Progress) × Performs config.plans moment.rose (operations_of at.plan at.place (put_seals at.plan item at.table) at.table) old.device old.tables end
+    ((end : Progress) × Puts config.plans moment.rose at.plan at.place item at.table old.device old.tables end
     × EndsAs end.outcome old moment end [] (reply.Done ∷ []) (record old { device = end.device; tables = changed_at at.place (put_record at.plan item) old.tables }))
     (λ refusal. Says moment (refused refusal ∷ []) old)
 
@@ -151,7 +155,7 @@ LoadsFrom config old moment plan place step seed (suc turns) i s loaded device t
     MatchOption (slice_get tables place) (Says moment [] (record old { device = device; tables = tables })) (λ table.
     let item = load_record plan table step seed i s in
     MatchOption (refusal_of plan table item)
-    ((end : Progress) × Performs config.plans moment.rose (operations_of plan place (put_seals plan item table) table) device tables end
+    ((end : Progress) × Puts config.plans moment.rose plan place item table device tables end
     × LoadsOn end.outcome old moment end loaded
     (LoadsFrom config old moment plan place step seed turns (i + 1) (next_random s) (loaded + 1) end.device (changed_at place (put_record plan item) tables)))
     (λ refusal. Says moment (reply.Loaded loaded ∷ refused refusal ∷ []) (record old { device = device; tables = tables })))

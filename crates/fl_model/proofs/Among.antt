@@ -5,9 +5,10 @@ use Rattle.std.specs.Option.{option_map, unwrap_or}
 use Rattle.fl_base.specs.declared.types.CutKind.{CutKind}
 use Rattle.fl_model.specs.Record.{Plan}
 use Rattle.fl_model.specs.Ring.{Ring, begun, erased}
-use Rattle.fl_model.specs.Table.{Table, RingName, DataRing, IndexRing, VarRing, is_dirty, is_torn, seal_buffer, seal_page, after_seal, after_seals, with_ring}
+use Rattle.fl_model.specs.Table.{Table, RingName, DataRing, IndexRing, VarRing, LogRing, is_dirty, is_torn, seal_buffer, seal_page, after_seal, after_seals, with_ring, table_seals}
+use Rattle.fl_model.specs.Mount.{Turn, Of, Replay, turn_operations}
 use Rattle.fl_model.specs.Work.{Kind, Body, Mark, VoidMark, Erase, effect, done, Ending, AsBefore, AsAfter, Either, Leaves, ending_of, Device, Progress, CutShort, Failed, Performs, PerformsFirst, cut_now, counted, changed_at, changed_by, operations_of, repair_operations, PartEnd, Whole, CutIn, FailedIn, PartProgress, PartFirst}
-use Rattle.fl_model.specs.Within.{seal_within, seals_within, repair_within, at_place, effect_within, TablePerforms, all_done, with_table, outcome_at, progress_at}
+use Rattle.fl_model.specs.Within.{seal_within, seals_within, repair_within, turn_within, at_place, effect_within, TablePerforms, all_done, with_table, outcome_at, progress_at}
 
 map-append : {A B : Type 0} (f : A → B) (xs ys : List A) → map f (xs ++ ys) ≡ map f xs ++ map f ys
 map-append f [] ys = refl
@@ -35,6 +36,10 @@ repair-at plan place ring table = by_tests (is_torn ring table) (is_dirty ring (
     by_tests true false = refl
     by_tests false true = refl
     by_tests false false = refl
+
+pub turn-at : (plan : Plan) (place : ℕ) (turn : Turn) (table : Table) → turn_operations plan place turn table ≡ map (at_place place) (turn_within plan turn table)
+turn-at plan place (Of ring) table = repair-at plan place ring table
+turn-at plan place Replay table = seals-at plan place (table_seals plan table) table
 
 -- a change of the table at a place
 pub changed-by : {P X : Type 0} (n : ℕ) (f : P → X → X) (plans : List P) (xs : List X) (plan : P) (x : X) → slice_get plans n ≡ Some plan → slice_get xs n ≡ Some x →
@@ -151,6 +156,11 @@ with_erased-clean VarRing table e = ap (λ (r : Option Ring). record table { var
     clean : (o : Option Ring) → unwrap_or (option_map (λ ring. ring.dirty) o) false ≡ false → option_map erased o ≡ o
     clean None e = refl
     clean (Some ring) e = ap (λ r. Some r) (erased-clean ring e)
+with_erased-clean LogRing table e = ap (λ (r : Option Ring). record table { log = r }) (clean table.log e)
+  where
+    clean : (o : Option Ring) → unwrap_or (option_map (λ ring. ring.dirty) o) false ≡ false → option_map erased o ≡ o
+    clean None e = refl
+    clean (Some ring) e = ap (λ r. Some r) (erased-clean ring e)
 
 -- a page that was begun is sealed as if it weren't
 pub seal-begun : (plan : Plan) (ring : RingName) (table : Table) → seal_buffer plan ring (with_ring ring begun table) ≡ seal_buffer plan ring table
@@ -163,6 +173,11 @@ seal-begun plan IndexRing table = by_ring table.index refl
 seal-begun plan VarRing table = by_ring table.var refl
   where
     by_ring : (o : Option Ring) → table.var ≡ o → seal_buffer plan VarRing (with_ring VarRing begun table) ≡ seal_buffer plan VarRing table
+    by_ring None e = rw e refl
+    by_ring (Some ring) e = rw e refl
+seal-begun plan LogRing table = by_ring table.log refl
+  where
+    by_ring : (o : Option Ring) → table.log ≡ o → seal_buffer plan LogRing (with_ring LogRing begun table) ≡ seal_buffer plan LogRing table
     by_ring None e = rw e refl
     by_ring (Some ring) e = rw e refl
 

@@ -1,16 +1,9 @@
--- A table without an index is renumbered, and keeps its facts.
-use Rattle.std.proofs.Common.{◌≡◌, ℕ, ◌+◌, ◌-◌, ◌*◌, ◌/◌, ◌%◌, ◌<◌, ◌≤◌, Bool, true, false, cond, nat_lt, length, refl, sym, ◌∙◌, ap, subst, arith, ◌⊎◌, inl, inr}
-use Rattle.std.proofs.Math.Nat.{mod-lt, mod-add-div', mod-eq_of_lt, add-mod_right, mul-le-mul_right, mul_assoc, add-mul, add-mul-mod_self_right, dvd-mod_iff, dvd-mul_left}
+-- The least number that is alike.
+use Rattle.std.proofs.Common.{◌≡◌, ℕ, ◌+◌, ◌-◌, ◌*◌, ◌/◌, ◌%◌, ◌<◌, ◌≤◌, sym, ◌∙◌, ap, arith, ◌⊎◌, inl, inr}
+use Rattle.std.proofs.Math.Nat.{mod-lt, mod-add-div', mod-eq_of_lt, add-mod_right, mul-le-mul_right, add-mul}
 use Rattle.std.proofs.lemmas.Nat.{mod-mul-add}
-use Rattle.std.proofs.lemmas.Nat.Gcd.{mod-eq-zero_of_dvd, dvd-zero}
 use Rattle.std.proofs.lemmas.Bool.{cases_lt}
-use Rattle.std.specs.List.{list_any}
-use Rattle.std.specs.Int.{◌∣◌}
-use Rattle.fl_model.specs.Record.{Plan}
-use Rattle.fl_model.specs.Ring.{Shape, IsShape, Ring, IsRing, oldest}
-use Rattle.fl_model.specs.Table.{Table, DataRing, shape_of}
-use Rattle.fl_model.specs.Mount.{least_alike, renumber, at_least_of}
-use Rattle.fl_model.proofs.Plain.{IsPlainTable}
+use Rattle.fl_model.specs.Mount.{least_alike}
 
 -- one multiple more
 more : (a m : ℕ) → (a + 1) * m ≡ a * m + m
@@ -60,61 +53,3 @@ least-alike m n least some le = ap (λ k. least + k) (by_order (cases_lt (n % m)
               let e : n / m ≡ (n / m - least / m) + least / m = omega (arith, up) in ap (λ k. k * m) e ∙ add-mul (n / m - least / m) (least / m) m in
               first ∙ sym (whole (n / m - least / m) (n % m - least % m) d (omega (arith, pn, pl, q, ge)))
         ]
-
--- the room of a ring
-room_some : (b p : ℕ) → 3 ≤ b → 2 ≤ p → 0 < b * p
-room_some b p hb hp = let k : 3 * p ≤ b * p = mul-le-mul_right p hb in omega (arith, k, hp)
-
--- a ring that has the same pages at lower numbers, by whole rounds
-ring-lower : (shape : Shape) (ring : Ring) → IsShape shape → IsRing shape ring →
-    IsRing shape (record ring { next = length ring.counts + oldest ring % (shape.blocks * shape.pages) })
-ring-lower shape ring s h =
-    let c = length ring.counts in
-    let room = shape.blocks * shape.pages in
-    let old = oldest ring in
-    let now : c + old % room - c ≡ old % room = omega arith in
-    let rounds : ring.next ≡ (c + old % room) + old / room * shape.blocks * shape.pages =
-    omega (arith, mod-add-div' old room, mul_assoc (old / room) shape.blocks shape.pages, h.not_negative) in
-    let same : (c + old % room) % shape.pages ≡ ring.next % shape.pages = sym (ap (λ k. k % shape.pages) rounds ∙ add-mul-mod_self_right (c + old % room) (old / room * shape.blocks) shape.pages) in
-    let dvd_pages : shape.pages ∣ room = dvd-mul_left shape.pages shape.blocks in
-    record {
-      not_negative = omega arith;
-      whole_blocks = subst (λ n. shape.pages ∣ n) (sym now) ((dvd-mod_iff shape.pages {m = old} {n = room} dvd_pages).1 h.whole_blocks);
-      whole_rounds = λ few. subst (λ n. room ∣ n) (sym (now ∙ mod-eq-zero_of_dvd room (h.whole_rounds few))) (dvd-zero room);
-      kept = rw same h.kept;
-      kept_at_end = λ e. h.kept_at_end (sym same ∙ e);
-      dirty_at_end = λ d. (same ∙ (h.dirty_at_end d).0, (h.dirty_at_end d).1);
-      not_both = h.not_both;
-    }
-
-pub plain-renumber : (plan : Plan) (table : Table) → IsShape (shape_of plan DataRing) → IsPlainTable plan table → table.pending ≡ 0 → table.waiting ≡ 0 → IsPlainTable plan (renumber plan DataRing table)
-plain-renumber plan table shape h none idle = by_test (list_any (nat_lt 0) table.rows.counts)
-  where
-    at_least : at_least_of plan DataRing table ≡ 0
-    at_least = rw h.firsts refl
-
-    c : ℕ
-    c = length table.rows.counts
-
-    next : least_alike (plan.data_blocks * plan.geometry.block) table.rows.next (at_least_of plan DataRing table + length table.rows.counts) ≡ length table.rows.counts + oldest table.rows % (plan.data_blocks * plan.geometry.block)
-    next =
-        ap (λ n. least_alike (plan.data_blocks * plan.geometry.block) table.rows.next n) (let e : at_least_of plan DataRing table + length table.rows.counts ≡ length table.rows.counts = omega (arith, at_least) in e)
-        ∙ least-alike (plan.data_blocks * plan.geometry.block) table.rows.next (length table.rows.counts) (room_some plan.data_blocks plan.geometry.block shape.blocks shape.pages) h.rows.not_negative
-
-    lower : length table.rows.counts + oldest table.rows % (plan.data_blocks * plan.geometry.block) ≤ table.rows.next
-    lower = let k = mod-add-div' (oldest table.rows) (plan.data_blocks * plan.geometry.block) in omega (arith, k, h.rows.not_negative)
-
-    by_test : (t : Bool) → IsPlainTable plan (record table { rows = cond t table.rows (record table.rows { next = least_alike (plan.data_blocks * plan.geometry.block) table.rows.next (at_least_of plan DataRing table + length table.rows.counts) }) })
-    by_test true = h
-    by_test false = rw next (record {
-      rows = ring-lower (shape_of plan DataRing) table.rows shape h.rows;
-      kept = h.kept;
-      few_pending = h.few_pending;
-      index = h.index;
-      var = h.var;
-      firsts = h.firsts;
-      fill = h.fill;
-      waiting = omega (arith, idle);
-      number = omega (arith, h.number, lower);
-      number_pending = λ some. absurd (some none);
-    })

@@ -5,8 +5,8 @@ use Rattle.fl_base.specs.declared.types.KeyRange.{KeyRange}
 use Rattle.fl_base.specs.declared.types.Span.{Span}
 use Rattle.fl_model.specs.Record.{Plan, has_index, entries_per_page}
 use Rattle.fl_model.specs.Ring.{Ring, oldest}
-use Rattle.fl_model.specs.Table.{Table, Entry, full_pages}
-use Rattle.fl_model.specs.Spline.{lookup_limit, voids_of, is_pending_key, pages_of, page_at}
+use Rattle.fl_model.specs.Table.{Table, Entry, full_pages, firsts}
+use Rattle.fl_model.specs.Spline.{lookup_limit, voids_of, is_pending_key, pages_of, page_at, page_key}
 use Rattle.fl_model.specs.Layout.{bitmap_of, bucket_of}
 use Rattle.fl_model.specs.Query.{matches}
 
@@ -20,13 +20,16 @@ mask_of plan span =
     if int_le span.low span.high
     then bits_from (bucket_of plan span.low) (bucket_of plan span.high + 1 - bucket_of plan span.low) else 0
 
--- an index page lists a data page, or its bitmap waits
+-- an index page lists a data page
 abbrev pub is_listed : Plan → Table → ℕ → Bool
-is_listed plan table number = list_any (λ first. nat_le first number && nat_lt number (first + entries_per_page plan)) table.firsts
+is_listed plan table number = list_any (λ first. nat_le first number && nat_lt number (first + entries_per_page plan)) (firsts table)
+
+-- .. or its entry waits, as it does of the last data pages
+abbrev pub waits : Table → ℕ → Bool
+waits table number = nat_le (table.rows.next - length table.waiting) number && nat_lt number table.rows.next
 
 abbrev pub is_indexed : Plan → Table → ℕ → Bool
-is_indexed plan table number =
-    has_index plan && (nat_le (table.rows.next - table.waiting) number || is_listed plan table number)
+is_indexed plan table number = has_index plan && (waits table number || is_listed plan table number)
 
 -- the rows of a kept page; a void page has none
 abbrev pub rows_of_page : Table → ℕ → List Entry
@@ -62,12 +65,21 @@ abbrev pub is_spanned : Option Span → Bool
 is_spanned None = false
 is_spanned (Some span) = true
 
+-- the first page with rows behind those whose first key is at most the high key
+abbrev pub page_behind : Table → ℕ → Option ℕ
+page_behind table high = option_map (λ page. page.0) (slice_get (filter (λ page. nat_lt high (page_key page)) (pages_of table)) 0)
+
+-- the page behind the range, which is read for its first key; a full index entry tells that, and there may be no such page
+abbrev pub past : Plan → Table → KeyRange → Option Span → ℕ
+past plan table range span =
+    if plan.full_index && is_spanned span && unwrap_or (option_map (is_indexed plan table) (page_behind table range.high)) true then 0 else 1
+
 -- the greatest number of reads from the lowest key wanted on
 abbrev pub scan_limit : ℕ → Plan → Table → KeyRange → Option Span → ℕ → ℕ
 scan_limit knots plan table range span lowest =
     if is_pending_key table lowest then 0
     else
-    lookup_limit knots plan table lowest + 2 + voids_of table
+    lookup_limit knots plan table lowest + 1 + past plan table range span + voids_of table
     + (if has_index plan && is_spanned span then unwrap_or (option_map (λ (ring : Ring). full_pages ring.counts) table.index) 0 else 0)
     + count_by (λ number. in_pages (first_page table lowest) (last_page table range.high) number && is_wanted plan table span number) (numbers_of table)
 
@@ -83,5 +95,5 @@ least_reads plan table range span =
     + (if asks_values span
     then count_by (λ first. list_any (λ (page : ℕ × List Entry).
     nat_le first page.0 && nat_lt page.0 (first + entries_per_page plan)
-    && nat_lt (first_page table range.low) page.0 && in_pages (first_page table range.low) (last_page table range.high) page.0) (pages_of table)) table.firsts
+    && nat_lt (first_page table range.low) page.0 && in_pages (first_page table range.low) (last_page table range.high) page.0) (pages_of table)) (firsts table)
     else 0)

@@ -23,7 +23,8 @@ greatest column = if column.signed then pos (2 ^ (8 * column.width - 1) - 1) els
 abbrev pub fits : Column → ℤ → Bool
 fits column value = int_le (least column) value && int_le value (greatest column)
 
--- a table as it is configured; `index` and `var` are 0 where it has no such ring, and `bits` is 0 where it has no bitmaps
+-- a table as it is configured; the blocks of a ring are 0 where it has no such ring, and `bits` is 0 where it has no bitmaps;
+-- `full_index` says that an index page tells more of a data page than its bitmap
 pub record Plan : Type 0 where
   pub geometry : Geometry
   pub name : List ℕ
@@ -32,17 +33,23 @@ pub record Plan : Type 0 where
   pub data_blocks : ℕ
   pub index_blocks : ℕ
   pub var_blocks : ℕ
+  -- the ring in which each put seals the pending rows
+  pub log_blocks : ℕ
   pub bits : ℕ
   pub base : ℤ
   pub width : ℕ
   pub error : ℕ
   pub blob_limit : ℕ
+  pub full_index : Bool
 
 abbrev pub has_index : Plan → Bool
 has_index plan = nat_lt 0 plan.index_blocks
 
 abbrev pub has_var : Plan → Bool
 has_var plan = nat_lt 0 plan.var_blocks
+
+abbrev pub has_log : Plan → Bool
+has_log plan = nat_lt 0 plan.log_blocks
 
 -- the form of a table's rows: how many bytes a key has, the columns, and whether a row can refer to a blob
 pub record RowLayout : Type 0 where
@@ -68,9 +75,13 @@ row_len plan = layout_len (row_layout plan)
 abbrev pub rows_per_page : Plan → ℕ
 rows_per_page plan = (plan.geometry.page - 24) / row_len plan
 
--- how many bitmaps an index page holds
+-- the bytes of an index entry: a bitmap, and in a full one a first key, a count of rows and where blobs end
+abbrev pub entry_len : Plan → ℕ
+entry_len plan = plan.bits / 8 + (if plan.full_index then 14 else 0)
+
+-- how many entries an index page holds
 abbrev pub entries_per_page : Plan → ℕ
-entries_per_page plan = (plan.geometry.page - 24) / (plan.bits / 8)
+entries_per_page plan = (plan.geometry.page - 24) / entry_len plan
 
 -- how many bytes of content a variable-data page holds
 abbrev pub content_per_page : Plan → ℕ
@@ -104,4 +115,4 @@ bytes_equal (a ∷ as') [] = false
 
 -- the blocks of a table
 abbrev pub blocks_of : Plan → ℕ
-blocks_of plan = plan.data_blocks + plan.index_blocks + plan.var_blocks
+blocks_of plan = plan.data_blocks + plan.index_blocks + plan.var_blocks + plan.log_blocks

@@ -1,8 +1,8 @@
 -- The operations of one table alone: the ring that each is done to, and its kind.
 use Rattle.std.specs.Prelude.{◌≡◌, ℕ, Bool, IsTrue, ◌⊎◌, List, [], ◌∷◌, ◌++◌, if◌then◌else◌, map}
 use Rattle.fl_model.specs.Record.{Plan}
-use Rattle.fl_model.specs.Table.{Table, RingName, is_dirty, is_torn, seal_buffer, seal_page, after_seal}
-use Rattle.fl_model.specs.Mount.{renumber, Mounts, MountEnd, Stopped, Unread}
+use Rattle.fl_model.specs.Table.{Table, RingName, is_dirty, is_torn, seal_buffer, seal_page, after_seal, table_seals}
+use Rattle.fl_model.specs.Mount.{Turn, Of, Replay, turned, Mounts, MountEnd, Stopped, Unread}
 use Rattle.fl_model.specs.Work.{Kind, Body, Mark, VoidMark, Erase, effect, Operation, Device, counted, Outcome, Finished, CutShort, Failed, Progress, changed_at, PartEnd, Whole, CutIn, FailedIn, PartProgress, PartPerforms}
 
 -- the operations of a whole seal of a ring
@@ -21,6 +21,11 @@ repair_within plan ring table =
     let voided = if is_torn ring table then seal_page plan ring 0 table else table in
     (if is_torn ring table then (ring, VoidMark) ∷ [] else [])
     ++ (if is_dirty ring voided then (ring, Erase) ∷ [] else [])
+
+-- .. and of a turn
+abbrev pub turn_within : Plan → Turn → Table → List (RingName × Kind)
+turn_within plan (Of ring) table = repair_within plan ring table
+turn_within plan Replay table = seals_within plan (table_seals plan table) table
 
 -- an operation of the table at a place among all tables
 abbrev pub at_place : ℕ → RingName × Kind → Operation
@@ -63,37 +68,37 @@ pub data TableMountEnd : Type 0 where
   TableStopped : (now : PartProgress Table) → TableMountEnd
   TableUnread : (now : PartProgress Table) → TableMountEnd
 
--- a read failed: what was repaired until then stays, and no operation failed
-pub record TableUnreads (plan : Plan) (rose : Bool) (repairs : List (RingName × Kind)) (device : Device) (table : Table) (now : PartProgress Table) : Type 0 where
+-- a read failed: what was done until then stays, and no operation failed
+pub record TableUnreads (plan : Plan) (rose : Bool) (operations : List (RingName × Kind)) (device : Device) (table : Table) (now : PartProgress Table) : Type 0 where
   pub may_fail : IsTrue rose
   pub front : List (RingName × Kind)
   pub others : List (RingName × Kind)
-  pub split : repairs ≡ front ++ others
+  pub split : operations ≡ front ++ others
   pub did : TablePerforms plan rose front device table now
   pub whole : now.end ≡ Whole
 
--- a ring's repairs ended; the mount goes on only where they were all done
+-- the operations of a turn ended; the mount goes on only where they were all done
 abbrev pub TableGoesOn : PartEnd Table → PartProgress Table → TableMountEnd → Type 0 → Type 0
 TableGoesOn Whole now how others = others
 TableGoesOn (CutIn before) now how others = how ≡ TableStopped now
 TableGoesOn (FailedIn before) now how others = how ≡ TableStopped now
 
--- these rings of one table are mounted in order
-abbrev pub TableMounts : Plan → Bool → List RingName → Device → Table → TableMountEnd → Type 0
+-- these turns of one table come in order
+abbrev pub TableMounts : Plan → Bool → List Turn → Device → Table → TableMountEnd → Type 0
 TableMounts plan rose [] device table how = how ≡ TableMounted (record { end = Whole; device = device; state = table })
-TableMounts plan rose (ring ∷ rings) device table how =
-    let numbered = renumber plan ring table in
-    let repairs = repair_within plan ring numbered in
-    ((now : PartProgress Table) × TableUnreads plan rose repairs device numbered now × (how ≡ TableUnread now))
-    ⊎ ((now : PartProgress Table) × TablePerforms plan rose repairs device numbered now
-    × TableGoesOn now.end now how (TableMounts plan rose rings now.device now.state how))
+TableMounts plan rose (turn ∷ turns) device table how =
+    let begun = turned plan turn table in
+    let operations = turn_within plan turn begun in
+    ((now : PartProgress Table) × TableUnreads plan rose operations device begun now × (how ≡ TableUnread now))
+    ⊎ ((now : PartProgress Table) × TablePerforms plan rose operations device begun now
+    × TableGoesOn now.end now how (TableMounts plan rose turns now.device now.state how))
 
--- .. as part of the mount of all tables, where other rings are mounted after them
-abbrev pub MountsAlong : List Plan → Bool → ℕ → List RingName → List (ℕ × RingName) → Device → List Table → TableMountEnd → Type 0
-MountsAlong plans rose place rings others device tables (TableMounted now) =
+-- .. as part of the mount of all tables, where other turns come after them
+abbrev pub MountsAlong : List Plan → Bool → ℕ → List Turn → List (ℕ × Turn) → Device → List Table → TableMountEnd → Type 0
+MountsAlong plans rose place turns others device tables (TableMounted now) =
     (how : MountEnd) → Mounts plans rose others now.device (with_table place tables now.state) how →
-    Mounts plans rose (map (λ ring. (place, ring)) rings ++ others) device tables how
-MountsAlong plans rose place rings others device tables (TableStopped now) =
-    Mounts plans rose (map (λ ring. (place, ring)) rings ++ others) device tables (Stopped (progress_at place tables now))
-MountsAlong plans rose place rings others device tables (TableUnread now) =
-    Mounts plans rose (map (λ ring. (place, ring)) rings ++ others) device tables (Unread (progress_at place tables now))
+    Mounts plans rose (map (λ turn. (place, turn)) turns ++ others) device tables how
+MountsAlong plans rose place turns others device tables (TableStopped now) =
+    Mounts plans rose (map (λ turn. (place, turn)) turns ++ others) device tables (Stopped (progress_at place tables now))
+MountsAlong plans rose place turns others device tables (TableUnread now) =
+    Mounts plans rose (map (λ turn. (place, turn)) turns ++ others) device tables (Unread (progress_at place tables now))

@@ -32,3 +32,8 @@ Explains read (Some Late) = (c : Command) × (read ≡ Ok c) × (configures c �
 -- the line is refused behind those lines, for this reason
 abbrev pub IsRefusedFor : Lines → Command → ConfigReason → Type 0
 IsRefusedFor lines c reason = IsSomeAnd (fault_of reason.refusal) (λ fault. configured lines c ≡ Err fault)
+
+-- the line is taken, or refused for this reason, and then changes nothing
+abbrev pub TakesOr : Lines → Command → Option ConfigReason → Lines → Type 0
+TakesOr old c None new = configured old c ≡ Ok new
+TakesOr old c (Some reason) new = IsRefusedFor old c reason × (new ≡ old)

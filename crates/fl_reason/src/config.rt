@@ -1,7 +1,6 @@
 // Why a line of a configuration is refused.
-ghost use Rattle.std.specs.Prelude.{IfSome};
 ghost use Rattle.fl_script.specs.CommandView.{command_view};
-ghost use Rattle.fl_reason.specs.Reason.{IsRefusedFor};
+ghost use Rattle.fl_reason.specs.Reason.{TakesOr};
 
 use crate::tail::Tail;
 use crate::word::Word;
@@ -47,8 +46,8 @@ pub struct ConfigLine {
 }
 
 impl ConfigLine {
-    // A device line.
-    fn of_device(page: u64, block: u64) -> ConfigLine {
+    /// A device line.
+    pub fn of_device(page: u64, block: u64) -> ConfigLine {
         ConfigLine {
             page,
             block,
@@ -120,14 +119,15 @@ fn line_of(command: &Command, room: &LineRoom, device: &ConfigLine, config: &Con
     }
 }
 
-/// Takes one more line of a configuration, behind this device line, and tells why it is refused, if it is.
+/// Takes one more line of a configuration, behind this device line, and tells why it is refused, if it is; then it changes
+/// nothing.
 pub fn refusal_of(
     config: &mut Config,
     command: &Command,
     room: &LineRoom,
     device: &ConfigLine,
 ) -> Option<ConfigReason>
-    ensures { IfSome result (λ reason. IsRefusedFor config.old (command_view command.now room.now) reason) }
+    ensures takes { TakesOr config.old (command_view command.now room.now) result config.new }
 {
     let line = line_of(command, room, device, config);
     match config.add(command, room) {

@@ -11,7 +11,7 @@ use Rattle.fl_machine.specs.Script.{Unended, BadLine, BadConfig, start_with, sta
 use Rattle.fl_script.specs.declared.command.Command as code
 use Rattle.fl_script.specs.CommandView.{command_view}
 use Rattle.fl_lines.specs.Texts.{most_bytes, lines_read, lines_within, is_long}
-use Rattle.fl_session.specs.Ends.{start_in}
+use Rattle.fl_session.specs.ScriptEnds.{start_in}
 use Rattle.fl_lines.specs.Given.{Given}
 use Rattle.fl_lines.specs.Stream.{LinesState, Gives, TakesPart, TakesAhead}
 use Rattle.fl_session.specs.Taken.{TakesLine, TakesBegin, IsUnended}

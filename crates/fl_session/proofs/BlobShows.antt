@@ -1,6 +1,6 @@
 -- What is said of the blob of a record.
 use Rattle.std.proofs.Common.{◌≡◌, ◌⊎◌, ℕ, ◌+◌, ◌-◌, ◌/◌, ◌^◌, ◌<◌, ◌≤◌, Bool, true, false, cond, inl, inr, IsTrue, Option, Some, None, Result, Ok, Err, List, [], ◌∷◌, length, take, drop, refl, sym, ◌∙◌, ap, subst, arith}
-use Rattle.std.specs.Prelude.{MatchOption, is_some, option_map, unwrap_or, slice_get}
+use Rattle.std.specs.Prelude.{IfOk, IfSome, OnErr, MatchOption, if◌then◌else◌, ◌==◌, is_some, option_map, unwrap_or, slice_get}
 use Rattle.std.proofs.lemmas.Bool.{eq-eqb}
 use Rattle.fl_base.specs.Causes.{Rose}
 use Rattle.fl_base.specs.declared.types.BlobRef.{BlobRef}
@@ -8,8 +8,10 @@ use Rattle.fl_base.specs.declared.types.Geometry.{Geometry}
 use Rattle.fl_flash.specs.Buffer.{BufferState}
 use Rattle.fl_flash.specs.Flash.{FlashState}
 use Rattle.fl_flash.specs.declared.flash.FlashFault.TheVariants.{PowerLost, Media}
-use Rattle.fl_machine.specs.Reads.{is_read_fault, length_of_blob}
+use Rattle.fl_machine.specs.Reads.{is_read_fault, length_of, length_of_blob}
 use Rattle.fl_machine.specs.Step.{BlobReplies}
+use Rattle.fl_model.specs.Agrees.{HoldsBlob, BlobsOf}
+use Rattle.fl_model.specs.Facts.{IsTable}
 use Rattle.fl_model.specs.Query.{BlobState, Lost, Stands as StandsWith, blob_in, blob_of, page_stands, entry_at}
 use Rattle.fl_model.specs.Record.{Plan, RowLayout, columns_len, content_per_page}
 use Rattle.fl_model.specs.Row.{Row, stored_row, reference_in}
@@ -40,7 +42,7 @@ use Rattle.fl_var.specs.Blobs.{IsWhole, contents_from}
 use Rattle.fl_var.specs.Content.{content_of}
 use Rattle.fl_var.specs.Memory.{LiesOn, next_in, room_in, var_shape, image_in}
 use Rattle.fl_var.specs.Reading as reading
-use Rattle.fl_var.specs.Reading.{bytes_left, Reads, IsWholeIn}
+use Rattle.fl_var.specs.Reading.{bytes_left, count_left, pages_left, Reads, IsWholeIn}
 use Rattle.fl_var.specs.declared.reader.BlobReader.{BlobReader}
 use Rattle.fl_var.specs.declared.var_data.VarData.{VarData}
 use Rattle.fl_var.proofs.Wholes.{images-same}
@@ -143,6 +145,26 @@ module _ (r : BlobReader) (f g : FlashState) (n : ℕ) (only : looking.OnlyReads
 pub opened-ready : (v : VarData) (f : FlashState) (at : BlobRef) (stands : Result Bool ReadFault) (r : BlobReader) → reading.Opens v f at (reading.turned stands r) → stands ≡ Ok true → Reads r f
 opened-ready v f at stands r opens is = let o = rw is at opens in o.reads
 
+-- the pages on which its bytes stand, which are none where it wasn't opened
+none-left : (r : BlobReader) → count_left r ≡ 0 → pages_left r ≡ 0
+none-left r e = ap (λ (n : ℕ). if n == 0 then 0 else (r.end + n - 1) / room_in r.var.now) e
+
+pub few-left : (stands : Result Bool ReadFault) (r : BlobReader) (table : model.Table) (entry : Entry) (bytes : List ℕ) (f : FlashState) (len room : ℕ) → reading.Finds table entry bytes f (reading.turned stands r) → length bytes ≡ len → pages_left r ≤ len / room + 1 →
+    IfOk stands (λ stands. count_left r ≡ (if stands then len else 0)) → OnErr stands (count_left r ≡ 0) → pages_left r ≤ length_of (blob_of table entry) / room + 1
+few-left (Ok true) r table entry bytes f len room finds size few left none =
+    let same : len / room ≡ length_of (blob_of table entry) / room = ap (λ n. n / room) (sym size ∙ sym (ap length_of finds.0)) in
+    omega (arith, few, same)
+few-left (Ok false) r table entry bytes f len room finds size few left none = omega (arith, none-left r left)
+few-left (Err e) r table entry bytes f len room finds size few left none = omega (arith, none-left r none)
+
+-- the blobs of a table in its ring
+blobs-of : (plan : Plan) (table : model.Table) (ring : Ring) → IsTable plan table → table.var ≡ Some ring → BlobsOf plan table ring
+blobs-of plan table ring facts e = subst (λ (o : Option Ring). IfSome o (BlobsOf plan table)) e facts.agrees.blobs
+
+pub holds-blob : (plan : Plan) (table : model.Table) (i : ℕ) (entry : Entry) (bytes : List ℕ) → IsTable plan table → slice_get table.entries i ≡ Some entry → entry.kept.blob ≡ Some bytes →
+    (ring : Ring) → table.var ≡ Some ring → page_stands ring entry.page ≡ true → 0 < length bytes → HoldsBlob plan table ring entry bytes
+holds-blob plan table i entry bytes facts slot blob ring is kept some = blobs-of plan table ring facts is i entry bytes slot blob some kept
+
 -- ---- what is said of it
 
 -- a count rose behind one that is no lower
@@ -215,11 +237,6 @@ unread-rose f g (BadPage bad) table entry bytes on fails finds = absurd finds
 pub content-same : (t : Table 64 64) (f : FlashState) (first : ℕ) (plan : Plan) (table : model.Table) → Stands t f first plan table → content_in t ≡ content_per_page plan
 content-same t f first plan table h = ap (λ (g : Geometry). g.page - 16) (sym h.planned.geometry)
 
-length-named : (table : model.Table) (key : ℕ) (at : BlobRef) → NamesBlob table key at → length_of_blob (entry_at key table.entries) ≡ at.length
-length-named table key at h =
-    ap length_of_blob h.found
-    ∙ (ap (λ (o : Option (List ℕ)). unwrap_or (option_map (λ bytes. length bytes) o) 0) h.blob_is ∙ sym (ap (λ (a : BlobRef). a.length) h.at_is))
-
 module _ {E : Type 0} (plan : Plan) (table : model.Table) (key : ℕ) (told now : Option (List ℕ)) (faults faults_now reads reads_now : ℕ) (result : Result (Unit {0}) E) where
   -- no record has the key
   pub shows-absent : entry_at key table.entries ≡ None → Written told now result (text words.Absent) → reads_now ≤ reads + lookup_limit 64 plan table key → ShowsBlob plan table key told now faults faults_now reads reads_now result
@@ -248,10 +265,10 @@ module _ {E : Type 0} (plan : Plan) (table : model.Table) (key : ℕ) (told now 
 
   -- what is left of it was said
   pub shows-said : (at : BlobRef) (names : NamesBlob table key at) (content mid before : ℕ) → content ≡ content_per_page plan → SaysBlob (blob_of table names.entry) told now before faults_now mid reads_now result → faults ≤ before → (mid < 2 ^ 64 - 1 → reads ≤ mid) →
-      mid ≤ reads + lookup_limit 64 plan table key → reads_now ≤ mid + at.length / content + 2 → ShowsBlob plan table key told now faults faults_now reads reads_now result
+      mid ≤ reads + lookup_limit 64 plan table key → reads_now ≤ mid + length_of (blob_of table names.entry) / content + 2 → ShowsBlob plan table key told now faults faults_now reads reads_now result
   shows-said at names content mid before content_is says later begun first second =
-      let same : at.length / content ≡ length_of_blob (entry_at key table.entries) / content_per_page plan =
-      ap (λ n. n / content) (sym (length-named table key at names)) ∙ ap (λ n. length_of_blob (entry_at key table.entries) / n) content_is in
+      let same : length_of (blob_of table names.entry) / content ≡ length_of_blob table (entry_at key table.entries) / content_per_page plan =
+      ap (λ n. n / content) (sym (ap (length_of_blob table) names.found)) ∙ ap (λ n. length_of_blob table (entry_at key table.entries) / n) content_is in
       record {
         rose = says.rose;
         risen = λ t. let rose : Rose before faults_now = says.risen t in omega (arith, later, rose);

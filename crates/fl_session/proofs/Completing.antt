@@ -7,7 +7,8 @@ use Rattle.fl_words.specs.Command.{Command}
 use Rattle.fl_words.specs.Medium.{header}
 use Rattle.fl_machine.specs.Script.{Ready}
 use Rattle.fl_session.specs.Complete.{IsInPlace, Completes}
-use Rattle.fl_session.specs.Ends.{Told, Ends, IsOwn, IsOther, Differs, RunsAll, EndsDone, EndsLine, EndsConfig, EndsOther, IsNew, new_content}
+use Rattle.fl_session.specs.Ends.{Told, Ends, IsOwn, IsOther, Differs, RunsAll, IsNew, effects_of, new_content}
+use Rattle.fl_session.specs.ScriptEnds.{EndsDone, EndsLine, EndsConfig, EndsOther}
 use Rattle.fl_session.specs.declared.status.Status.{Status}
 use Rattle.fl_session.specs.declared.status.Status.TheVariants.{Done, Usage, Line, ScriptRead, OutWrite, MediaMake, Config as BadConfiguration, OtherConfig, ScriptLong, NoMemory}
 
@@ -32,21 +33,21 @@ new-unbegun config n lines told (inr e) = inr e
 pub completes : (knots : ℕ) (text : List ℕ) (config : Config) (commands : List Command) (told : Told) (status : Status) → Ends knots text told status → IsInPlace knots text config commands → IsOwn config told.content →
     (status ≡ Usage → ⊥) → (status ≡ ScriptRead → ⊥) → (status ≡ OutWrite → ⊥) → (status ≡ MediaMake → ⊥) → Completes config commands told status
 completes knots text config commands told Done h p own a b c d =
-    let done : EndsDone (Ready config p.number p.lines) told = subst (λ s. EndsDone s told) p.starts h.1 in
+    let done : EndsDone (effects_of told) (Ready config p.number p.lines) = subst (λ s. EndsDone (effects_of told) s) p.starts h.1 in
     subst (λ cs. RunsAll config cs told) p.commands_are done.1
 completes knots text config commands told NoMemory h p own a b c d =
-    record { written = h.0; content = new-unbegun config p.number p.lines told (subst (λ s. (told.content_now ≡ told.content) ⊎ IsNew s told) p.starts h.1) }
+    record { written = h.0.0; content = new-unbegun config p.number p.lines told (subst (λ s. (told.content_now ≡ told.content) ⊎ IsNew s told) p.starts h.0.1) }
 completes knots text config commands told Usage h p own a b c d = a refl
 completes knots text config commands told (Line n) h p own a b c d =
-    let line : EndsLine (Ready config p.number p.lines) told n = subst (λ s. EndsLine s told n) p.starts h.0 in none (sym p.accepts ∙ line.0)
+    let line : EndsLine (effects_of told) (Ready config p.number p.lines) n = subst (λ s. EndsLine (effects_of told) s n) p.starts h.0 in none (sym p.accepts ∙ line.0)
   where
     none : None ≡ Some n → ⊥
     none e = cc
 completes knots text config commands told ScriptRead h p own a b c d = b refl
 completes knots text config commands told OutWrite h p own a b c d = c refl
 completes knots text config commands told MediaMake h p own a b c d = d refl
-completes knots text config commands told (BadConfiguration n) h p own a b c d = subst (λ s. EndsConfig s told n) p.starts h.0
+completes knots text config commands told (BadConfiguration n) h p own a b c d = subst (λ s. EndsConfig (effects_of told) s n) p.starts h.0
 completes knots text config commands told (OtherConfig wanted found at) h p own a b c d =
-    let other : EndsOther (Ready config p.number p.lines) told wanted found at = subst (λ s. EndsOther s told wanted found at) p.starts h.0 in
+    let other : EndsOther (effects_of told) (Ready config p.number p.lines) wanted found at = subst (λ s. EndsOther (effects_of told) s wanted found at) p.starts h.0 in
     own-other config told.content wanted found at own other.0
 completes knots text config commands told ScriptLong h p own a b c d = absurd (omega (arith, p.short, h.0))

@@ -19,34 +19,35 @@ use Rattle.std.proofs.lemmas.List.Sums.{sum_by-append}
 use Rattle.fl_script.specs.declared.command.Command as code
 use Rattle.fl_session.specs.Run.{tail_of, RunsFrom, IsOfCommands}
 use Rattle.fl_session.specs.Begin.{AtCommand, AtEnd, EndsBegin, BeginsAt}
-use Rattle.fl_session.specs.Ends.{Told, IsUntouched, IsOwn, IsFormed, opened, RunsAll, RunsInto, start_in, EndsEarly, EndsDone, EndsLine, EndsInto, EndsConfig, Ends, IsEarlyBy}
+use Rattle.fl_session.specs.Ends.{Told, IsOwn, IsFormed, opened, RunsAll, RunsInto, effects_of, Ends, IsEarlyBy}
+use Rattle.fl_session.specs.ScriptEnds.{Effects, unsaid, start_in, EndsEarly, EndsDone, EndsLine, EndsInto, EndsConfig, EndsMaking, EndsOther, EndsWith, ScriptEnds}
 use Rattle.fl_session.specs.declared.status.Status.{Status}
-use Rattle.fl_session.specs.declared.status.Status.TheVariants.{Done, Line, ScriptRead, OutWrite, Config as BadConfiguration, ScriptLong}
+use Rattle.fl_session.specs.declared.status.Status.TheVariants.{Done, Line, ScriptRead, OutWrite, MediaMake, Config as BadConfiguration, OtherConfig, ScriptLong}
 use Rattle.fl_session.proofs.Beginning.{command-takes}
 use Rattle.fl_session.proofs.Running.{ran-none, ran-seen, ran_into-seen}
 use Rattle.fl_session.proofs.Ready.{after-alike}
 use Rattle.fl_session.proofs.Plainly.{ran-plainly, ran_into-plainly}
 
-unended-untouched : (start : Start) (told : Told) → IsUnended start → IsUntouched told → EndsEarly start told
-unended-untouched (Unended config n) told u h = h
-unended-untouched (Ready config n lines) told u h = absurd u
-unended-untouched (BadLine n) told u h = absurd u
-unended-untouched (BadConfig n) told u h = absurd u
+unended-untouched : (effects : Effects) (start : Start) → IsUnended start → effects.untouched → EndsEarly effects start
+unended-untouched effects (Unended config n) u h = h
+unended-untouched effects (Ready config n lines) u h = absurd u
+unended-untouched effects (BadLine n) u h = absurd u
+unended-untouched effects (BadConfig n) u h = absurd u
 
 -- the run ends while the configuration is read
-pub ends-in_begin : (knots : ℕ) (text : List ℕ) (left : Option (List ℕ)) (told : Told) (status : Status) → EndsBegin knots text left status → told.left_now ≡ left → IsUntouched told → Ends knots text told status
-ends-in_begin knots text left told (Line n) h e u = (subst (λ s. EndsLine s told n) (sym h.0) (refl, u), subst (λ l. TakesLine text n l) (sym e) h.1)
-ends-in_begin knots text left told (BadConfiguration n) h e u = (subst (λ s. EndsConfig s told n) (sym h.0) (refl, u), subst (λ l. TakesBegin knots text l) (sym e) h.1)
-ends-in_begin knots text left told ScriptRead h e u = record {
+pub ends-in_begin : (effects : Effects) (knots : ℕ) (text : List ℕ) (left : Option (List ℕ)) (status : Status) → EndsBegin knots text left status → effects.untouched → EndsWith effects knots text left status
+ends-in_begin effects knots text left (Line n) h u = (subst (λ s. EndsLine effects s n) (sym h.0) (refl, u), h.1)
+ends-in_begin effects knots text left (BadConfiguration n) h u = (subst (λ s. EndsConfig effects s n) (sym h.0) (refl, u), h.1)
+ends-in_begin effects knots text left ScriptRead h u = record {
   taken = h.taken;
   within = h.within;
   most = h.few;
   short = h.short;
-  left = e ∙ h.left;
-  ends = unended-untouched (start_of knots (whole_lines (take h.taken text))) told h.unended u;
+  left = h.left;
+  ends = unended-untouched effects (start_of knots (whole_lines (take h.taken text))) h.unended u;
 }
-ends-in_begin knots text left told ScriptLong h e u = (h.0, unended-untouched (start_of knots (lines_read text)) told h.1 u, subst (λ l. HasTaken text (most_bytes + 1) l) (sym e) h.2)
-ends-in_begin knots text left told status h e u = absurd h
+ends-in_begin effects knots text left ScriptLong h u = (h.0, unended-untouched effects (start_of knots (lines_read text)) h.1 u, h.2)
+ends-in_begin effects knots text left status h u = absurd h
 
 start-of_lines : (knots : ℕ) (text : List ℕ) (now : Lines) (number : ℕ) (state : LinesState) (left_now : Option (List ℕ)) (config : Config) →
     (a : AtCommand knots text now number state left_now) → whole knots now ≡ Some config → start_of knots (lines_read text) ≡ Ready config number (state.line ∷ lines_within state.most (state.ahead ++ a.left))
@@ -240,18 +241,24 @@ tail-over knots text now number state left_now left a more h =
     still-open true h = absurd (h refl)
     still-open false h = refl
 
-pub ends-of_commands : (knots : ℕ) (text : List ℕ) (now : Lines) (number : ℕ) (state : LinesState) (left_now : Option (List ℕ)) (config : Config) (told : Told) (around : Around) (stands stands_now : Machine → Type 0) (status : Status) →
-    (a : AtCommand knots text now number state left_now) → whole knots now ≡ Some config → Over config told around stands stands_now →
-    EndsCommands (tail_of number state a.left) told.left_now around stands stands_now status → Ends knots text told status
-ends-of_commands knots text now number state left_now config told around stands stands_now Done a w o h = (
+-- what was run in the session gives what is said of it
+pub record Says (effects : Effects) (config : Config) (around : Around) (stands stands_now : Machine → Type 0) : Type 0 where
+  pub all : (commands : List Command) → RanAll around stands stands_now commands → effects.all config commands
+  pub into : (commands : List Command) → RanPart around stands stands_now commands → effects.into config commands
+  pub none : around.told_now ≡ around.told → around.content_now ≡ around.content → ((m : Machine) → stands m → stands_now m) → effects.all config []
+
+ends-of_commands : (effects : Effects) (knots : ℕ) (text : List ℕ) (now : Lines) (number : ℕ) (state : LinesState) (left left_now : Option (List ℕ)) (config : Config) (around : Around) (stands stands_now : Machine → Type 0) (status : Status) →
+    (a : AtCommand knots text now number state left) → whole knots now ≡ Some config → Says effects config around stands stands_now →
+    EndsCommands (tail_of number state a.left) left_now around stands stands_now status → EndsWith effects knots text left_now status
+ends-of_commands effects knots text now number state left left_now config around stands stands_now Done a w s h = (
   ltb-false most_bytes (length text) (a.given.long ∙ le-ltb state.most (length (state.ahead ++ a.left)) h.0),
-  subst (λ s. EndsDone s told) (sym (start-at_command knots text now number state left_now config a w)) (h.1.accepts, runs-all config told around stands stands_now _ o h.1.runs),
+  subst (λ x. EndsDone effects x) (sym (start-at_command knots text now number state left config a w)) (h.1.accepts, s.all _ h.1.runs),
   h.2,
 )
-ends-of_commands knots text now number state left_now config told around stands stands_now (Line n) a w o h =
-    (subst (λ s. EndsLine s told n) (sym (start-at_command knots text now number state left_now config a w)) (h.0.refuses, runs-all config told around stands stands_now _ o h.0.runs), tail-line knots text now number state left_now n told.left_now a h.1)
-ends-of_commands knots text now number state left_now config told around stands stands_now ScriptRead a w o h =
-    let t = taken-whole knots text now number state left_now h.taken a h.is_open in
+ends-of_commands effects knots text now number state left left_now config around stands stands_now (Line n) a w s h =
+    (subst (λ x. EndsLine effects x n) (sym (start-at_command knots text now number state left config a w)) (h.0.refuses, s.all _ h.0.runs), tail-line knots text now number state left n left_now a h.1)
+ends-of_commands effects knots text now number state left left_now config around stands stands_now ScriptRead a w s h =
+    let t = taken-whole knots text now number state left h.taken a h.is_open in
     let count : length text ≡ length a.given.front + length (state.ahead ++ a.left) = ap length (a.given.split h.is_open) ∙ length-append a.given.front (state.ahead ++ a.left) in
     let lines : whole_lines (take (length a.given.front + h.taken) text) ≡ a.before ++ state.line ∷ whole_lines (take h.taken (state.ahead ++ a.left)) =
     ap whole_lines t.0
@@ -263,44 +270,41 @@ ends-of_commands knots text now number state left_now config told around stands 
       short = omega (arith, h.short, ap length (ap rest_of t.0 ∙ a.given.behind h.is_open (take h.taken (state.ahead ++ a.left))));
       left = h.left ∙ ap Some (sym t.1);
       ends =
-          subst (λ s. EndsEarly s told)
-          (sym (ap (start_of knots) lines ∙ start-behind knots text now number state left_now config (whole_lines (take h.taken (state.ahead ++ a.left))) a w))
-          (h.accepts, runs-all config told around stands stands_now _ o h.runs);
+          subst (λ x. EndsEarly effects x)
+          (sym (ap (start_of knots) lines ∙ start-behind knots text now number state left config (whole_lines (take h.taken (state.ahead ++ a.left))) a w))
+          (h.accepts, s.all _ h.runs);
     }
-ends-of_commands knots text now number state left_now config told around stands stands_now OutWrite a w o h =
-    subst (λ s. EndsInto text s told) (sym (start-at_command knots text now number state left_now config a w))
+ends-of_commands effects knots text now number state left left_now config around stands stands_now OutWrite a w s h =
+    subst (λ x. EndsInto effects text x left_now) (sym (start-at_command knots text now number state left config a w))
     (record {
       commands = h.commands;
       others = h.others;
       split = h.split;
-      runs = runs-into config told around stands stands_now h.commands o h.runs;
+      runs = s.into h.commands h.runs;
       number = h.number;
       number_is = h.number_is;
-      takes = tail-line knots text now number state left_now h.number told.left_now a h.takes;
+      takes = tail-line knots text now number state left h.number left_now a h.takes;
     })
-ends-of_commands knots text now number state left_now config told around stands stands_now ScriptLong a w o h = (
+ends-of_commands effects knots text now number state left left_now config around stands stands_now ScriptLong a w s h = (
   ltb-true most_bytes (length text) (a.given.long ∙ lt-ltb state.most (length (state.ahead ++ a.left)) h.0),
-  subst (λ s. EndsEarly s told) (sym (start-of_lines knots text now number state left_now config a w)) (h.1.accepts, runs-all config told around stands stands_now _ o h.1.runs),
-  tail-over knots text now number state left_now told.left_now a h.0 h.2,
+  subst (λ x. EndsEarly effects x) (sym (start-of_lines knots text now number state left config a w)) (h.1.accepts, s.all _ h.1.runs),
+  tail-over knots text now number state left left_now a h.0 h.2,
 )
-ends-of_commands knots text now number state left_now config told around stands stands_now status a w o h = absurd h
+ends-of_commands effects knots text now number state left left_now config around stands stands_now status a w s h = absurd h
 
 -- a script without commands
-pub ends-empty : (knots : ℕ) (text : List ℕ) (now : Lines) (number : ℕ) (config : Config) (told : Told) (left : Option (List ℕ)) → AtEnd knots text now number left → told.left_now ≡ left → whole knots now ≡ Some config →
-    IsOwn config told.content → IsFormed config told.content_now → ((old : Machine) → StandsFor config told.content old → StandsAfter config (Some told.content_now) old) → told.faults ≤ told.faults_now → told.written_now ≡ told.written → told.content_now ≡ opened config told.content →
-    Ends knots text told Done
-ends-empty knots text now number config told left a same w own formed stands later written kept = (
-  a.short,
-  subst (λ s. EndsDone s told) (sym (start-at_end knots text now number left config a w)) (
-    refl,
+ends-empty : (effects : Effects) (knots : ℕ) (text : List ℕ) (now : Lines) (number : ℕ) (config : Config) (left : Option (List ℕ)) → AtEnd knots text now number left → whole knots now ≡ Some config → effects.all config [] → EndsWith effects knots text left Done
+ends-empty effects knots text now number config left a w none = (a.short, subst (λ x. EndsDone effects x) (sym (start-at_end knots text now number left config a w)) (refl, none), a.nothing)
+
+-- no command was run over the medium
+runs-none : (config : Config) (told : Told) → IsOwn config told.content → IsFormed config told.content_now → ((old : Machine) → StandsFor config told.content old → StandsAfter config (Some told.content_now) old) →
+    told.faults ≤ told.faults_now → told.written_now ≡ told.written → told.content_now ≡ opened config told.content → RunsAll config [] told
+runs-none config told own formed stands later written kept =
     runs-with config [] told own formed (λ old s.
-        ran-earlier config old [] (StandsAfter config (Some told.content_now)) (opened config told.content) told.content_now told.faults told.faults_now told.faults_now told.written told.written_now later
-        (subst (λ c. Ran config old [] (StandsAfter config (Some told.content_now)) (opened config told.content) c told.faults_now told.faults_now told.written told.written_now) (sym kept)
-        (subst (λ t. Ran config old [] (StandsAfter config (Some told.content_now)) (opened config told.content) (opened config told.content) told.faults_now told.faults_now told.written t) (sym written)
-        (ran-none config old (StandsAfter config (Some told.content_now)) (opened config told.content) told.faults_now told.written (stands old s))))),
-  ),
-  same ∙ a.nothing,
-)
+    ran-earlier config old [] (StandsAfter config (Some told.content_now)) (opened config told.content) told.content_now told.faults told.faults_now told.faults_now told.written told.written_now later
+    (subst (λ c. Ran config old [] (StandsAfter config (Some told.content_now)) (opened config told.content) c told.faults_now told.faults_now told.written told.written_now) (sym kept)
+    (subst (λ t. Ran config old [] (StandsAfter config (Some told.content_now)) (opened config told.content) (opened config told.content) told.faults_now told.faults_now told.written t) (sym written)
+    (ran-none config old (StandsAfter config (Some told.content_now)) (opened config told.content) told.faults_now told.written (stands old s)))))
 
 all-seen : (around : Around) (s s' r r' : Machine → Type 0) (commands : List Command) → ((m : Machine) → r m → s m) → ((m : Machine) → s' m → r' m) → RanAll around s s' commands → RanAll around r r' commands
 all-seen around s s' r r' commands f g h old k ready =
@@ -332,14 +336,35 @@ runs-seen None number state left left_now around s s' r r' status f g h = record
 runs-seen (Some first) number state left left_now around s s' r r' status f g h = λ l e ended. commands-seen (tail_of number state l) left_now around s s' r r' status f g (h l e ended)
 
 -- how a run ends over an image that was opened
-pub ends-of_run : (knots : ℕ) (text : List ℕ) (now : Lines) (first : Option code.Command) (number : ℕ) (state : LinesState) (left : Option (List ℕ)) (config : Config) (told : Told) (around : Around) (stands stands_now : Machine → Type 0) (status : Status) →
+ends-of_run : (effects : Effects) (knots : ℕ) (text : List ℕ) (now : Lines) (first : Option code.Command) (number : ℕ) (state : LinesState) (left left_now : Option (List ℕ)) (config : Config) (around : Around) (stands stands_now : Machine → Type 0) (status : Status) →
+    BeginsAt knots text now first number state left → whole knots now ≡ Some config → Says effects config around stands stands_now →
+    RunsFrom first number state left left_now around stands stands_now status → EndsWith effects knots text left_now status
+ends-of_run effects knots text now None number state left left_now config around stands stands_now status a w s h =
+    subst (λ x. EndsWith effects knots text left_now x) (sym h.done)
+    (subst (λ l. EndsWith effects knots text l Done) (sym h.untaken)
+    (ends-empty effects knots text now number config left a w (s.none h.written h.content h.goes_on)))
+ends-of_run effects knots text now (Some first) number state left left_now config around stands stands_now status a w s h =
+    ends-of_commands effects knots text now number state left left_now config around stands stands_now status a w s (h a.left a.left_is a.given.ended)
+
+-- .. over a medium that tells its content
+pub ends-over : (knots : ℕ) (text : List ℕ) (now : Lines) (first : Option code.Command) (number : ℕ) (state : LinesState) (left : Option (List ℕ)) (config : Config) (told : Told) (around : Around) (stands stands_now : Machine → Type 0) (status : Status) →
     BeginsAt knots text now first number state left → whole knots now ≡ Some config → Over config told around stands stands_now → told.faults ≤ told.faults_now →
     RunsFrom first number state left told.left_now around stands stands_now status → Ends knots text told status
-ends-of_run knots text now None number state left config told around stands stands_now status a w o later h =
-    subst (λ s. Ends knots text told s) (sym h.done)
-    (ends-empty knots text now number config told left a h.untaken w o.own o.formed (λ old s. o.ends old (h.goes_on old (o.begins old s).0)) later (sym o.written_now ∙ (h.written ∙ o.written)) (sym o.content_now ∙ (h.content ∙ o.content)))
-ends-of_run knots text now (Some first) number state left config told around stands stands_now status a w o later h =
-    ends-of_commands knots text now number state left config told around stands stands_now status a w o (h a.left a.left_is a.given.ended)
+ends-over knots text now first number state left config told around stands stands_now status a w o later h =
+    ends-of_run (effects_of told) knots text now first number state left told.left_now config around stands stands_now status a w
+    (record {
+      all = λ commands ran. runs-all config told around stands stands_now commands o ran;
+      into = λ commands ran. runs-into config told around stands stands_now commands o ran;
+      none = λ written content goes_on.
+          runs-none config told o.own o.formed (λ old s. o.ends old (goes_on old (o.begins old s).0)) later (sym o.written_now ∙ (written ∙ o.written)) (sym o.content_now ∙ (content ∙ o.content));
+    })
+    h
+
+-- .. and over any
+pub script-over : (knots : ℕ) (text : List ℕ) (now : Lines) (first : Option code.Command) (number : ℕ) (state : LinesState) (left left_now : Option (List ℕ)) (config : Config) (around : Around) (stands stands_now : Machine → Type 0) (status : Status) →
+    BeginsAt knots text now first number state left → whole knots now ≡ Some config → RunsFrom first number state left left_now around stands stands_now status → ScriptEnds knots text left_now status
+script-over knots text now first number state left left_now config around stands stands_now status a w h =
+    ends-of_run unsaid knots text now first number state left left_now config around stands stands_now status a w (record { all = λ commands ran. tt; into = λ commands ran. tt; none = λ written content goes_on. tt }) h
 
 -- the configuration is ready
 pub begins-ready : (knots : ℕ) (text : List ℕ) (now : Lines) (first : Option code.Command) (number : ℕ) (state : LinesState) (left : Option (List ℕ)) (config : Config) → BeginsAt knots text now first number state left → whole knots now ≡ Some config →
@@ -351,6 +376,17 @@ begins-ready knots text now (Some first) number state left config a w = (number,
 pub begins-takes : (knots : ℕ) (text : List ℕ) (now : Lines) (first : Option code.Command) (number : ℕ) (state : LinesState) (left : Option (List ℕ)) → BeginsAt knots text now first number state left → TakesBegin knots text left
 begins-takes knots text now None number state left a = a.takes
 begins-takes knots text now (Some first) number state left a = command-takes knots text now number state left a
+
+-- how a run ends whose image isn't opened
+pub ends-making : (effects : Effects) (knots : ℕ) (text : List ℕ) (now : Lines) (first : Option code.Command) (number : ℕ) (state : LinesState) (left : Option (List ℕ)) (config : Config) →
+    BeginsAt knots text now first number state left → whole knots now ≡ Some config → effects.making config → EndsWith effects knots text left MediaMake
+ends-making effects knots text now first number state left config a w h =
+    let ready = begins-ready knots text now first number state left config a w in (subst (λ s. EndsMaking effects s) (sym ready.2) h, begins-takes knots text now first number state left a)
+
+pub ends-other : (effects : Effects) (knots : ℕ) (text : List ℕ) (now : Lines) (first : Option code.Command) (number : ℕ) (state : LinesState) (left : Option (List ℕ)) (config : Config) (wanted found at : ℕ) →
+    BeginsAt knots text now first number state left → whole knots now ≡ Some config → effects.other config wanted found at → EndsWith effects knots text left (OtherConfig wanted found at)
+ends-other effects knots text now first number state left config wanted found at a w h =
+    let ready = begins-ready knots text now first number state left config a w in (subst (λ s. EndsOther effects s wanted found at) (sym ready.2) h, begins-takes knots text now first number state left a)
 
 pub some-of : {X : Type 0} (o : Option X) → is_some o ≡ true → (x : X) × (o ≡ Some x)
 some-of None e = cc

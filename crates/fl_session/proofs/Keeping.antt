@@ -1,15 +1,15 @@
 -- The pages of the tables on a medium that commands keep.
-use Rattle.std.proofs.Common.{◌≡◌, ℕ, ◌≤◌, Bool, true, inl, inr, Option, Some, None, List, length, refl, sym, ◌∙◌, ap, subst, le_trans, arith}
+use Rattle.std.proofs.Common.{◌≡◌, ℕ, ◌≤◌, Bool, true, false, nat_lt, inl, inr, Option, Some, None, List, length, refl, sym, ◌∙◌, ap, subst, le_trans, arith}
 use Rattle.std.specs.Prelude.{MatchBool}
 use Rattle.std.specs.List.{slice_get}
 use Rattle.std.proofs.lemmas.Bool.Decides.{eqb_tells}
 use Rattle.std.proofs.lemmas.Option.{slice_get_within}
 use Rattle.fl_flash.specs.Flash.{FlashState, page_at}
-use Rattle.fl_model.specs.Facts.{is_some_ring}
+use Rattle.fl_model.specs.Facts.{IsTable, is_some_ring}
 use Rattle.fl_model.specs.Image.{bytes_at}
 use Rattle.fl_model.specs.Record.{Config, Plan}
 use Rattle.fl_model.specs.Ring.{Ring, oldest}
-use Rattle.fl_model.specs.Table.{Table, RingName, DataRing, IndexRing, VarRing}
+use Rattle.fl_model.specs.Table.{Table, RingName, DataRing, IndexRing, VarRing, LogRing}
 use Rattle.fl_model.proofs.Lists.{slice_get-some}
 use Rattle.fl_machine.specs.Stays.{RingStays, TablesStay}
 use Rattle.fl_ring.specs.Kept.{PagesStand}
@@ -41,6 +41,7 @@ pub record TableKeeps (config : Config) (bytes now : List ℕ) (place : ℕ) (pl
   pub rows : RingKeeps config bytes now place plan DataRing before.rows after.rows
   pub index : OptionKeeps (RingKeeps config bytes now place plan IndexRing) before.index after.index
   pub var : OptionKeeps (RingKeeps config bytes now place plan VarRing) before.var after.var
+  pub log : OptionKeeps (RingKeeps config bytes now place plan LogRing) before.log after.log
 
 pub record TablesKeep (config : Config) (bytes now : List ℕ) (tables after : List Table) : Type 0 where
   pub as_many : length after ≡ length tables
@@ -69,6 +70,7 @@ table-on config a b c place plan x y z h k = record {
   rows = ring-on config a b c place plan DataRing x.rows y.rows z.rows h.rows k.rows;
   index = option-on (RingKeeps config a b place plan IndexRing) (RingKeeps config b c place plan IndexRing) (RingKeeps config a c place plan IndexRing) (ring-on config a b c place plan IndexRing) x.index y.index z.index h.index k.index;
   var = option-on (RingKeeps config a b place plan VarRing) (RingKeeps config b c place plan VarRing) (RingKeeps config a c place plan VarRing) (ring-on config a b c place plan VarRing) x.var y.var z.var h.var k.var;
+  log = option-on (RingKeeps config a b place plan LogRing) (RingKeeps config b c place plan LogRing) (RingKeeps config a c place plan LogRing) (ring-on config a b c place plan LogRing) x.log y.log z.log h.log k.log;
 }
 
 pub tables-on : (config : Config) (a b c : List ℕ) (xs ys zs : List Table) → TablesKeep config a b xs ys → TablesKeep config b c ys zs → TablesKeep config a c xs zs
@@ -95,6 +97,7 @@ tables-keep_all config bytes tables = record {
     rows = ring-same config bytes bytes place plan DataRing x.rows (λ number. refl);
     index = option-same (RingKeeps config bytes bytes place plan IndexRing) x.index (λ r e. ring-same config bytes bytes place plan IndexRing r (λ number. refl));
     var = option-same (RingKeeps config bytes bytes place plan VarRing) x.var (λ r e. ring-same config bytes bytes place plan VarRing r (λ number. refl));
+    log = option-same (RingKeeps config bytes bytes place plan LogRing) x.log (λ r e. ring-same config bytes bytes place plan LogRing r (λ number. refl));
   });
 }
 
@@ -104,6 +107,7 @@ pub bytes-are : (config : Config) (f : FlashState) → IsOnMedium config f → (
 bytes-are config f h place plan DataRing number = ap (λ (page : ℕ → List ℕ). bytes_in page (first_of config.plans place) plan DataRing number) (pages-medium config f h.start h.geometry)
 bytes-are config f h place plan IndexRing number = ap (λ (page : ℕ → List ℕ). bytes_in page (first_of config.plans place) plan IndexRing number) (pages-medium config f h.start h.geometry)
 bytes-are config f h place plan VarRing number = ap (λ (page : ℕ → List ℕ). bytes_in page (first_of config.plans place) plan VarRing number) (pages-medium config f h.start h.geometry)
+bytes-are config f h place plan LogRing number = ap (λ (page : ℕ → List ℕ). bytes_in page (first_of config.plans place) plan LogRing number) (pages-medium config f h.start h.geometry)
 
 pub bytes-same : (config : Config) (f g : FlashState) → IsOnMedium config f → IsOnMedium config g → (place : ℕ) (plan : Plan) (ring : RingName) (number : ℕ) →
     bytes_in (page_at g) (first_of config.plans place) plan ring number ≡ bytes_in (page_at f) (first_of config.plans place) plan ring number → bytes_at config g.media.content place plan ring number ≡ bytes_at config f.media.content place plan ring number
@@ -115,6 +119,13 @@ option-of P None (Some y) e h = cc
 option-of P (Some x) None e h = cc
 option-of P (Some x) (Some y) e h = h x y refl refl
 
+-- no log is there, where a plan has none
+no-log : (plan : Plan) (table : Table) → plan.log_blocks ≡ 0 → IsTable plan table → (ring : Ring) → table.log ≡ Some ring → ⊥
+no-log plan table none facts ring e = absurd (no (sym (ap is_some_ring e) ∙ (facts.has_rings.2 ∙ ap (λ (n : ℕ). nat_lt 0 n) none)))
+  where
+    no : true ≡ false → ⊥
+    no k = cc
+
 -- the pages that a table's call keeps
 pub table-keeps : (config : Config) (f g : FlashState) (place : ℕ) (plan : Plan) (t u : code.Table 64 64) (before after : Table) → IsOnMedium config f → IsOnMedium config g → KeptStand (first_of config.plans place) plan before after (page_at f) (page_at g) →
     Stands t f (first_of config.plans place) plan before → Stands u g (first_of config.plans place) plan after → TableKeeps config f.media.content g.media.content place plan before after
@@ -122,6 +133,7 @@ table-keeps config f g place plan t u before after h k kept stood stands = recor
   rows = ring-of DataRing before.rows after.rows kept.rows;
   index = option-of (RingKeeps config f.media.content g.media.content place plan IndexRing) before.index after.index (stood.facts.has_rings.0 ∙ sym stands.facts.has_rings.0) (λ x y i j. ring-of IndexRing x y (kept.index x y i j));
   var = option-of (RingKeeps config f.media.content g.media.content place plan VarRing) before.var after.var (stood.facts.has_rings.1 ∙ sym stands.facts.has_rings.1) (λ x y i j. ring-of VarRing x y (kept.var x y i j));
+  log = option-of (RingKeeps config f.media.content g.media.content place plan LogRing) before.log after.log (stood.facts.has_rings.2 ∙ sym stands.facts.has_rings.2) (λ x y i j. absurd (no-log plan before stood.planned.log stood.facts x i));
 }
   where
     ring-of : (ring : RingName) (x y : Ring) → PagesStand x (bytes_in (page_at f) (first_of config.plans place) plan ring) y (bytes_in (page_at g) (first_of config.plans place) plan ring) → RingKeeps config f.media.content g.media.content place plan ring x y
@@ -153,6 +165,7 @@ module _ (config : Config) (f g : FlashState) (entries : List Entry) (tables aft
             ring-same config f.media.content g.media.content place plan IndexRing r (λ n. bytes-same config f g h k place plan IndexRing n (pages.index (sym has.0 ∙ ap is_some_ring is) n)));
         var = option-same (RingKeeps config f.media.content g.media.content place plan VarRing) x.var (λ r is.
             ring-same config f.media.content g.media.content place plan VarRing r (λ n. bytes-same config f g h k place plan VarRing n (pages.var (sym has.1 ∙ ap is_some_ring is) n)));
+        log = option-same (RingKeeps config f.media.content g.media.content place plan LogRing) x.log (λ r is. absurd (no-log plan x there.planned.log there.facts r is));
       }
 
   pub tables-keep_changed : length after ≡ length tables → slice_get after at ≡ Some new → ((i : ℕ) → (at ≡ i → ⊥) → slice_get after i ≡ slice_get tables i) → TableKeeps config f.media.content g.media.content at own table new →
@@ -177,6 +190,7 @@ tables-stay config bytes now tables after h = λ place plan old new p i j.
       rows = k.rows.stays;
       index = λ x y a b. (option-stays (RingKeeps config bytes now place plan IndexRing) old.index new.index x y k.index a b).stays;
       var = λ x y a b. (option-stays (RingKeeps config bytes now place plan VarRing) old.var new.var x y k.var a b).stays;
+      log = λ x y a b. (option-stays (RingKeeps config bytes now place plan LogRing) old.log new.log x y k.log a b).stays;
     }
 
 -- .. which is what a command of a mounted session leaves

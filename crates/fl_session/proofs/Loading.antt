@@ -11,9 +11,11 @@ use Rattle.fl_table.specs.Mounting.{OutsideStands}
 use Rattle.fl_ring.specs.Step.{IsWatched}
 use Rattle.fl_model.specs.Record.{Config, Plan, Record}
 use Rattle.fl_model.specs.Table as model
-use Rattle.fl_model.specs.Table.{refusal_of, put_seals, put_record, last_entry, Refusal, BadKey, BadColumns, BadValue, BadBlob, Spent}
-use Rattle.fl_model.specs.Work.{Device, Progress, Performs, operations_of, changed_at, PartEnd, Whole, CutIn, FailedIn, PartProgress}
+use Rattle.fl_model.specs.Table.{refusal_of, put_record, last_entry, Refusal, BadKey, BadColumns, BadValue, BadBlob, Spent}
+use Rattle.fl_model.specs.Work.{Device, Progress, changed_at, PartEnd, Whole, CutIn, FailedIn, PartProgress}
 use Rattle.fl_model.specs.Within.{with_table, progress_at, outcome_at}
+use Rattle.fl_model.specs.Puts.{Puts}
+use Rattle.fl_model.proofs.Putting.{puts-at}
 use Rattle.fl_words.specs.Command as command
 use Rattle.fl_words.specs.Command.{Command}
 use Rattle.fl_words.specs.Reply as reply
@@ -42,7 +44,7 @@ use Rattle.fl_session.proofs.Answering.{step-is, table-step}
 use Rattle.fl_session.proofs.Keeping.{TablesKeep, tables-keep_all, tables-on, tables-stay, mounted-stays}
 use Rattle.fl_session.proofs.Owning.{Own, own-of}
 use Rattle.fl_session.proofs.Rested.{session-ends}
-use Rattle.fl_session.proofs.Working.{has_risen, risen-rose, performs-all, stands-done, stands-broken, keeps-done, last_of, not-whole}
+use Rattle.fl_session.proofs.Working.{has_risen, risen-rose, stands-done, stands-broken, keeps-done, last_of, not-whole}
 
 -- the machine in the midst of a load
 abbrev pub amid : Machine → Device → List model.Table → Machine
@@ -101,7 +103,7 @@ abbrev PutsNext : Config → Machine → Moment → Plan → ℕ → ℕ → ℕ
 PutsNext config old moment plan at step seed turns i s loaded device tables table refusal =
     let item = load_record plan table step seed i s in
     MatchOption refusal
-    ((end : Progress) × Performs config.plans moment.rose (operations_of plan at (put_seals plan item table) table) device tables end
+    ((end : Progress) × Puts config.plans moment.rose plan at item table device tables end
     × LoadsOn end.outcome old moment end loaded
     (LoadsFrom config old moment plan at step seed turns (i + 1) (next_random s) (loaded + 1) end.device (changed_at at (put_record plan item) tables)))
     (λ refusal. Says moment (reply.Loaded loaded ∷ refused refusal ∷ []) (amid old device tables))
@@ -244,10 +246,10 @@ module _ (config : Config) (entries : List Entry) (at : ℕ) (entry : Entry) (as
         whole = λ moment r l.
             let end = progress_at at so_far.tables fin.now in
             let others = LoadsFrom config old moment own.plan at step seed (count - (loaded + 1)) (loaded + 1 + 1) (next_random random) (loaded + 1) fin.now.device after in
-            let does = performs-all config mid_old own.plan own.table at rose (put_seals own.plan item own.table) fin.now own.plan_is own.table_is fin.did in
+            let does = puts-at config.plans own.plan at rose item so_far.device so_far.tables own.table fin.now own.plan_is own.table_is fin.did in
             loads-so moment None r ends.0 (
               end,
-              subst (λ b. Performs config.plans b (operations_of own.plan at (put_seals own.plan item own.table) own.table) so_far.device so_far.tables end) (sym r) does,
+              subst (λ b. Puts config.plans b own.plan at item own.table so_far.device so_far.tables end) (sym r) does,
               subst (λ e. LoadsOn (outcome_at at so_far.tables e) old moment end loaded others) (sym fin.whole) l,
             );
       }
@@ -266,7 +268,7 @@ module _ (config : Config) (entries : List Entry) (at : ℕ) (entry : Entry) (as
       let b = ends.1 in
       let moment = stopped_so old (command.Load asked count step seed) rose at loaded so_far.tables b.now fault in
       let others = LoadsFrom config old moment own.plan at step seed (count - (loaded + 1)) (loaded + 1 + 1) (next_random random) (loaded + 1) b.now.device (changed_at at (put_record own.plan item) so_far.tables) in
-      let does = performs-all config mid_old own.plan own.table at rose (put_seals own.plan item own.table) b.now own.plan_is own.table_is b.did in
+      let does = puts-at config.plans own.plan at rose item so_far.device so_far.tables own.table b.now own.plan_is own.table_is b.did in
       let loads = loads-so moment None refl ends.0 (progress_at at so_far.tables b.now, does, stops-load old (command.Load asked count step seed) rose at loaded so_far.tables b.now fault g others b.now.end refl b.answer) in
       let broken = stands-broken config mid_old mid_entries at (entry_now entry t) asked notes u f g so_far.stands (entry-there entries at entry t here) own goes same outside b.now.state b.now.device b.counts b.rests in
       ends-load config entries (entries_with entries at entry u) at entry asked notes old before g count step seed false own.plan moment stood here named refl risen refl own.plan_is loads

@@ -9,7 +9,7 @@ use Rattle.fl_model.proofs.Lists.{slice_get-some}
 use Rattle.fl_base.specs.declared.types.Geometry.{Geometry}
 use Rattle.fl_flash.specs.Flash.{FlashState}
 use Rattle.fl_model.specs.Record.{Config, Plan, blocks_of}
-use Rattle.fl_model.specs.Mount.{Mounts, MountEnd, Mounted, Stopped, Unread, rings_from}
+use Rattle.fl_model.specs.Mount.{Mounts, MountEnd, Mounted, Stopped, Unread, turns_from}
 use Rattle.fl_model.specs.Work.{Outcome, Progress, Finished, CutShort, Failed}
 use Rattle.fl_words.specs.Command as command
 use Rattle.fl_words.specs.Reply as reply
@@ -55,8 +55,8 @@ end-again config old moment n (Unread end) h = says-again moment n _ _ h
 mount-again : (config : Config) (old : Machine) (moment : Moment) (n : ℕ) → StepOf config old moment command.Mount → StepOf config old (again moment n) command.Mount
 mount-again config old moment n h = by_mounted old.mounted h
   where
-    by_mounted : (b : Bool) → MatchBool b (Says moment (reply.AlreadyMounted ∷ []) old) ((how : MountEnd) × Mounts config.plans moment.rose (rings_from 0 config.plans) old.device old.tables how × EndsMount config old moment how) →
-        MatchBool b (Says (again moment n) (reply.AlreadyMounted ∷ []) old) ((how : MountEnd) × Mounts config.plans moment.rose (rings_from 0 config.plans) old.device old.tables how × EndsMount config old (again moment n) how)
+    by_mounted : (b : Bool) → MatchBool b (Says moment (reply.AlreadyMounted ∷ []) old) ((how : MountEnd) × Mounts config.plans moment.rose (turns_from 0 config.plans) old.device old.tables how × EndsMount config old moment how) →
+        MatchBool b (Says (again moment n) (reply.AlreadyMounted ∷ []) old) ((how : MountEnd) × Mounts config.plans moment.rose (turns_from 0 config.plans) old.device old.tables how × EndsMount config old (again moment n) how)
     by_mounted true h = says-again moment n _ _ h
     by_mounted false (how, did, ends) = (how, did, end-again config old moment n how ends)
 
@@ -91,7 +91,7 @@ module _ (config : Config) (old : Machine) (entries : List Entry) (notes : Notes
       let block : plan.index_blocks * plan.geometry.block ≡ plan.index_blocks * config.geometry.block = ap (λ (k : Geometry). plan.index_blocks * k.block) (s.geometry ∙ h.medium.geometry) in
       let var = var-room entry.table.blobs (first_of config.plans i + plan.data_blocks + plan.index_blocks) plan s.planned.var in
       let block_var : plan.var_blocks * plan.geometry.block ≡ plan.var_blocks * config.geometry.block = ap (λ (k : Geometry). plan.var_blocks * k.block) (s.geometry ∙ h.medium.geometry) in
-      omega (arith, rows, index, block, var, block_var, add-mul plan.data_blocks plan.index_blocks config.geometry.block, add-mul (plan.data_blocks + plan.index_blocks) plan.var_blocks config.geometry.block))
+      omega (arith, rows, index, block, var, block_var, add-mul plan.data_blocks plan.index_blocks config.geometry.block, add-mul (plan.data_blocks + plan.index_blocks) plan.var_blocks config.geometry.block, add-mul (plan.data_blocks + plan.index_blocks + plan.var_blocks) plan.log_blocks config.geometry.block))
 
   mount-limit : (moment : Moment) → ReadsMount mounted f g (4 * pages_of entries) → moment.reads ≡ g.work.reads - f.work.reads → LimitOf config old moment command.Mount
   mount-limit moment few is = subst (λ b. MatchBool b (none_read moment) (moment.reads ≤ 4 * machine.pages_in config)) (sym h.is_mounted) (by_mounted mounted few)

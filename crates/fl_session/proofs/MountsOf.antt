@@ -9,9 +9,9 @@ use Rattle.std.proofs.lemmas.Bool.{le-leb, false≢true}
 use Rattle.std.specs.Prelude.{◌+◌, ◌-◌, ◌*◌, ◌^◌, ◌<◌, min, sum_by, MatchBool, is_ok, OnOk}
 use Rattle.fl_model.specs.Record.{Config, Plan, blocks_of}
 use Rattle.fl_model.specs.Table as model
-use Rattle.fl_model.specs.Table.{RingName, lose}
+use Rattle.fl_model.specs.Table.{lose}
 use Rattle.fl_model.specs.Work.{Device, Progress, Outcome, Finished, CutShort, Failed}
-use Rattle.fl_model.specs.Mount.{Mounts, GoesOn, MountEnd, Mounted, Stopped, Unread, rings_from}
+use Rattle.fl_model.specs.Mount.{Mounts, GoesOn, MountEnd, Mounted, Stopped, Unread, Turn, turns_from}
 use Rattle.fl_words.specs.Command as command
 use Rattle.fl_words.specs.Reply as reply
 use Rattle.fl_words.specs.Reply.{Reply, text}
@@ -56,9 +56,9 @@ mount-watched config entries notes f g m h on = record { told = h.medium.told; o
 
 -- a mount where a session is mounted, and where none is
 by-mounted : (config : Config) (old : Machine) (moment : Moment) (mounted : Bool) → old.mounted ≡ mounted →
-    MatchBool mounted (Says moment (reply.AlreadyMounted ∷ []) old) ((how : MountEnd) × Mounts config.plans moment.rose (rings_from 0 config.plans) old.device old.tables how × EndsMount config old moment how) → MountStep config old moment
+    MatchBool mounted (Says moment (reply.AlreadyMounted ∷ []) old) ((how : MountEnd) × Mounts config.plans moment.rose (turns_from 0 config.plans) old.device old.tables how × EndsMount config old moment how) → MountStep config old moment
 by-mounted config old moment mounted e step =
-    subst (λ b. MatchBool b (Says moment (reply.AlreadyMounted ∷ []) old) ((how : MountEnd) × Mounts config.plans moment.rose (rings_from 0 config.plans) old.device old.tables how × EndsMount config old moment how)) (sym e) step
+    subst (λ b. MatchBool b (Says moment (reply.AlreadyMounted ∷ []) old) ((how : MountEnd) × Mounts config.plans moment.rose (turns_from 0 config.plans) old.device old.tables how × EndsMount config old moment how)) (sym e) step
 
 -- nothing is done where it is mounted
 pub answers-already : (config : Config) (old : Machine) (entries : List Entry) (notes : Notes) (f : FlashState) → SessionStands config entries f true notes old →
@@ -86,21 +86,21 @@ unread-later rose end (Failed before) now others e later = absurd (none e)
     none : Unread end ≡ Stopped now → ⊥
     none k = cc
 
-unread-rose : (plans : List Plan) (rose : Bool) (rings : List (ℕ × RingName)) (device : Device) (tables : List model.Table) (end : Progress) → Mounts plans rose rings device tables (Unread end) → IsTrue rose
+unread-rose : (plans : List Plan) (rose : Bool) (turns : List (ℕ × Turn)) (device : Device) (tables : List model.Table) (end : Progress) → Mounts plans rose turns device tables (Unread end) → IsTrue rose
 unread-rose plans rose [] device tables end h = absurd (none h)
   where
     none : Unread end ≡ Mounted (record { outcome = Finished; device = device; tables = tables }) → ⊥
     none e = cc
-unread-rose plans rose (at ∷ rings) device tables end (inl u) = u.1.may_fail
-unread-rose plans rose (at ∷ rings) device tables end (inr (now, did, goes)) =
-    unread-later rose end now.outcome now (Mounts plans rose rings now.device now.tables (Unread end)) goes (λ more. unread-rose plans rose rings now.device now.tables end more)
+unread-rose plans rose (at ∷ turns) device tables end (inl u) = u.1.may_fail
+unread-rose plans rose (at ∷ turns) device tables end (inr (now, did, goes)) =
+    unread-later rose end now.outcome now (Mounts plans rose turns now.device now.tables (Unread end)) goes (λ more. unread-rose plans rose turns now.device now.tables end more)
 
 -- A session that isn't mounted, before a mount of its tables and after it.
 module _ (config : Config) (old : Machine) (notes : Notes) (entries now : List Entry) (f g : FlashState) (h : SessionStands config entries f false notes old) (goes : Goes f g) where
-  mount-step : (moment : Moment) → moment.command ≡ command.Mount → moment.rose ≡ has_risen f g → (how : MountEnd) → Mounts config.plans (has_risen f g) (rings_from 0 config.plans) old.device old.tables how → EndsMount config old moment how → Step config old moment
+  mount-step : (moment : Moment) → moment.command ≡ command.Mount → moment.rose ≡ has_risen f g → (how : MountEnd) → Mounts config.plans (has_risen f g) (turns_from 0 config.plans) old.device old.tables how → EndsMount config old moment how → Step config old moment
   mount-step moment is risen how m e =
       step-is config old moment command.Mount is
-      (by-mounted config old moment false h.is_mounted (how, subst (λ rose. Mounts config.plans rose (rings_from 0 config.plans) old.device old.tables how) (sym risen) m, e))
+      (by-mounted config old moment false h.is_mounted (how, subst (λ rose. Mounts config.plans rose (turns_from 0 config.plans) old.device old.tables how) (sym risen) m, e))
 
   answers-well : TablesMounted config.plans old.tables (has_risen f g) old.device now g → Repairs f g entries → Answers config old command.Mount (SessionStands config now g true (without_cursors notes)) f g (text reply.Done)
   answers-well w repaired =
@@ -143,6 +143,10 @@ module _ (config : Config) (old : Machine) (notes : Notes) (entries now : List E
     power = λ k. cc;
   }
 
+  -- what is in memory is lost
+  rest-lost : (end : Progress) → TablesStand g (λ i. false) config.plans now end.tables → TablesStand g (λ i. false) config.plans now (map lose end.tables)
+  rest-lost end rest = tables-become g g (λ i. false) (λ i. false) config.plans now end.tables lose rest (λ i plan e x k. entry-off e g false (first_of config.plans i) plan x k)
+
   -- an operation of a repair failed
   abbrev last_in : Outcome → Option (List model.Table)
   last_in Finished = None
@@ -169,12 +173,11 @@ module _ (config : Config) (old : Machine) (notes : Notes) (entries now : List E
   not-whole fault (CutShort before) x e = let no : ◌≡◌ {A = Option (List model.Table)} (Some before) None = e in cc
   not-whole fault (Failed before) x e = let no : ◌≡◌ {A = Option (List model.Table)} (Some before) None = e in cc
 
-  answers-stopped : (fault : FlashFault) (end : Progress) → Mounts config.plans (has_risen f g) (rings_from 0 config.plans) old.device old.tables (Stopped end) → FaultIs end.outcome fault → SameDevice g end.device → TablesStand g (λ i. false) config.plans now end.tables →
+  answers-stopped : (fault : FlashFault) (end : Progress) → Mounts config.plans (has_risen f g) (turns_from 0 config.plans) old.device old.tables (Stopped end) → FaultIs end.outcome fault → SameDevice g end.device → TablesStand g (λ i. false) config.plans now end.tables →
       Answers config old command.Mount (SessionStands config now g false (without_cursors notes)) f g (text (fault_reply fault))
   answers-stopped fault end did answer counts rest =
       let moment = stopped_so end fault in
-      let stands = stands-bad (map lose end.tables) end.device counts
-      (tables-become g g (λ i. false) (λ i. false) config.plans now end.tables lose rest (λ i plan e x k. entry-off e g false (first_of config.plans i) plan x k)) moment.after refl refl refl refl refl in
+      let stands = stands-bad (map lose end.tables) end.device counts (rest-lost end rest) moment.after refl refl refl refl refl in
       record {
         moment = moment;
         command_is = refl;
@@ -187,19 +190,19 @@ module _ (config : Config) (old : Machine) (notes : Notes) (entries now : List E
       }
 
   -- a read failed
-  answers-unread : (fault : FlashFault) (end : Progress) → Mounts config.plans (has_risen f g) (rings_from 0 config.plans) old.device old.tables (Unread end) → fault ≡ Media → SameDevice g end.device → TablesStand g (λ i. false) config.plans now end.tables →
+  answers-unread : (fault : FlashFault) (end : Progress) → Mounts config.plans (has_risen f g) (turns_from 0 config.plans) old.device old.tables (Unread end) → fault ≡ Media → SameDevice g end.device → TablesStand g (λ i. false) config.plans now end.tables →
       Answers config old command.Mount (SessionStands config now g false (without_cursors notes)) f g (text (fault_reply fault))
   answers-unread fault end did is counts rest =
-      let after : Machine = record old { device = end.device; tables = end.tables } in
+      let after : Machine = record old { device = end.device; tables = map lose end.tables } in
       let moment : Moment = record { command = command.Mount; rose = has_risen f g; reads = 0; last = None; replies = reply.DeviceFault ∷ []; after = after } in
-      let stands = stands-bad end.tables end.device counts rest after refl h.is_mounted h.cursors refl refl in
+      let stands = stands-bad (map lose end.tables) end.device counts (rest-lost end rest) after refl h.is_mounted h.cursors refl refl in
       record {
         moment = moment;
         command_is = refl;
         none = refl;
         step = mount-step moment refl refl (Unread end) did (record { replies_are = refl; after_is = refl; last_is = refl });
         stands_after = stands;
-        stays = record { image = session-ends config now (without_cursors notes) g false after stands; stays = λ calm whole. absurd (both calm (unread-rose config.plans (has_risen f g) (rings_from 0 config.plans) old.device old.tables end did)) };
+        stays = record { image = session-ends config now (without_cursors notes) g false after stands; stays = λ calm whole. absurd (both calm (unread-rose config.plans (has_risen f g) (turns_from 0 config.plans) old.device old.tables end did)) };
         rose = risen-rose f g;
         said_is = one-text reply.DeviceFault ∙ ap (λ x. text (fault_reply x)) (sym is);
       }
@@ -210,8 +213,8 @@ module _ (config : Config) (old : Machine) (notes : Notes) (entries now : List E
   answers-bad : (fault : FlashFault) → TablesBroken config.plans old.tables (has_risen f g) old.device fault now g → Answers config old command.Mount (SessionStands config now g false (without_cursors notes)) f g (text (fault_reply fault))
   answers-bad fault b = by_how b.did
     where
-      by_how : (Mounts config.plans (has_risen f g) (rings_from 0 config.plans) old.device old.tables (Stopped b.end) × FaultIs b.end.outcome fault)
-          ⊎ (Mounts config.plans (has_risen f g) (rings_from 0 config.plans) old.device old.tables (Unread b.end) × (fault ≡ Media)) →
+      by_how : (Mounts config.plans (has_risen f g) (turns_from 0 config.plans) old.device old.tables (Stopped b.end) × FaultIs b.end.outcome fault)
+          ⊎ (Mounts config.plans (has_risen f g) (turns_from 0 config.plans) old.device old.tables (Unread b.end) × (fault ≡ Media)) →
           Answers config old command.Mount (SessionStands config now g false (without_cursors notes)) f g (text (fault_reply fault))
       by_how (inl x) = answers-stopped fault b.end x.0 x.1 b.counts b.rest
       by_how (inr x) = answers-unread fault b.end x.0 x.1 b.counts b.rest

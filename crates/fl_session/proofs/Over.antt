@@ -26,7 +26,7 @@ use Rattle.fl_session.specs.declared.status.Status.{Status}
 use Rattle.fl_lines.specs.Stream.{LinesState}
 use Rattle.fl_session.specs.Notes.{no_notes}
 use Rattle.fl_session.specs.declared.notes.Notes.{Notes}
-use Rattle.fl_session.specs.Standing.{SessionStands, IsSound, RestsOn, HasRooms}
+use Rattle.fl_session.specs.Standing.{SessionStands, IsSound, RestsTold, HasRooms}
 use Rattle.fl_session.specs.declared.notes.TableCursor.{TableCursor}
 use Rattle.fl_session.specs.declared.buffers.Buffers.{Buffers}
 use Rattle.fl_session.specs.Run.{RunsFrom, around_of, IsOfCommands, refused_status}
@@ -37,14 +37,15 @@ use Rattle.fl_base.specs.Causes.{Rose}
 use Rattle.fl_lines.specs.Texts.{is_long, lines_read}
 use Rattle.fl_session.specs.Begin.{BeginsAt}
 use Rattle.fl_session.specs.Opening.{Opened, HalfOpened, Foreign, OpensAs, KeepsForm, MediaGoes}
-use Rattle.fl_session.specs.Ends.{Ends, IsFormed, told_of, start_in, EndsMaking, EndsOther, IsEarlyBy, Differs}
+use Rattle.fl_session.specs.Ends.{Ends, IsFormed, told_of, effects_of, IsEarlyBy, Differs}
+use Rattle.fl_session.specs.ScriptEnds.{unsaid, start_in, ScriptEnds}
 use Rattle.fl_words.specs.Medium.{header}
 use Rattle.fl_config.specs.Opening as opening
 use Rattle.fl_config.specs.Opening.{Opens}
 use Rattle.fl_config.specs.Whole.{is_whole, is_whole_of, Makes}
 use Rattle.fl_session.proofs.Running.{nothing-added}
 use Rattle.fl_session.proofs.Ready.{ready-accepted, stands-ready}
-use Rattle.fl_session.proofs.Ending.{runs-seen, ends-of_run, begins-ready, begins-takes}
+use Rattle.fl_session.proofs.Ending.{runs-seen, ends-over, begins-ready, ends-making, ends-other}
 use Rattle.fl_session.proofs.Rested.{session-begins, session-ends, opened-rests, opened-content, opened-formed}
 
 -- the parts of a whole configuration
@@ -120,22 +121,22 @@ new-sound entries entries' lines f f' buf buf' notes entries_are f_is buf_is fre
 
 -- what was run in the session was run over the medium
 pub session-runs : (config : Config) (lines : Lines) (entries entries' : List Entry) (notes notes' : Notes) (f f' : FlashState) (old new : MediaState) (mounted mounted' : Bool) (geometry : Geometry) (blocks : ℕ) (origin : GName) →
-    f ≡ on_medium geometry blocks 1024 origin true None 0 (record { reads = 0; programs = 0; erases = 0 }) old → geometry ≡ config.geometry → new ≡ f'.media → IsTrue old.tells →
+    f ≡ on_medium geometry blocks 1024 origin true None 0 (record { reads = 0; programs = 0; erases = 0 }) old → geometry ≡ config.geometry → new ≡ f'.media →
     lines.device ≡ Some config.geometry → lines.plans ≡ config.plans → AreNewTables entries lines → mounted ≡ false → notes ≡ no_notes → config.knots ≡ 64 →
     (first : Option code.Command) (number : ℕ) (state : LinesState) (left left_now told told_now : Option (List ℕ)) (status : Status) →
     RunsFrom first number state left left_now (around_of config f.media f'.media told told_now) (SessionStands config entries f mounted notes) (SessionStands config entries' f' mounted' notes') status →
-    RunsFrom first number state left left_now (around_of config old new told told_now) (RestsOn config old.content) (StandsAfter config (Some new.content)) status
-session-runs config lines entries entries' notes notes' f f' old new mounted mounted' geometry blocks origin is g_is media tells device plans made off fresh knots first number state left left_now told told_now status h =
-    let begin : (m : Machine) → RestsOn config old.content m → SessionStands config entries f mounted notes m =
+    RunsFrom first number state left left_now (around_of config old new told told_now) (RestsTold config old) (StandsAfter config (Some new.content)) status
+session-runs config lines entries entries' notes notes' f f' old new mounted mounted' geometry blocks origin is g_is media device plans made off fresh knots first number state left left_now told told_now status h =
+    let begin : (m : Machine) → RestsTold config old m → SessionStands config entries f mounted notes m =
     λ m r. subst (λ b. SessionStands config entries f b notes m) (sym off)
     (subst (λ x. SessionStands config entries x false notes m) (sym is)
-    (session-begins config lines entries notes (on_medium geometry blocks 1024 origin true None 0 (record { reads = 0; programs = 0; erases = 0 }) old) m fresh tells refl g_is refl refl refl device plans made knots r)) in
+    (session-begins config lines entries notes (on_medium geometry blocks 1024 origin true None 0 (record { reads = 0; programs = 0; erases = 0 }) old) m fresh r.0 refl g_is refl refl refl device plans made knots r.1)) in
     let end : (m : Machine) → SessionStands config entries' f' mounted' notes' m → StandsAfter config (Some f'.media.content) m = λ m s. session-ends config entries' notes' f' mounted' m s in
     let seen = runs-seen first number state left left_now (around_of config f.media f'.media told told_now) (SessionStands config entries f mounted notes) (SessionStands config entries' f' mounted' notes')
-    (RestsOn config old.content) (StandsAfter config (Some f'.media.content)) status begin end h in
-    let from : RunsFrom first number state left left_now (around_of config old f'.media told told_now) (RestsOn config old.content) (StandsAfter config (Some f'.media.content)) status =
-    subst (λ (x : FlashState). RunsFrom first number state left left_now (around_of config x.media f'.media told told_now) (RestsOn config old.content) (StandsAfter config (Some f'.media.content)) status) is seen in
-    subst (λ x. RunsFrom first number state left left_now (around_of config old x told told_now) (RestsOn config old.content) (StandsAfter config (Some x.content)) status) (sym media) from
+    (RestsTold config old) (StandsAfter config (Some f'.media.content)) status begin end h in
+    let from : RunsFrom first number state left left_now (around_of config old f'.media told told_now) (RestsTold config old) (StandsAfter config (Some f'.media.content)) status =
+    subst (λ (x : FlashState). RunsFrom first number state left left_now (around_of config x.media f'.media told told_now) (RestsTold config old) (StandsAfter config (Some f'.media.content)) status) is seen in
+    subst (λ x. RunsFrom first number state left left_now (around_of config old x told told_now) (RestsTold config old) (StandsAfter config (Some x.content)) status) (sym media) from
 
 -- the medium reaches to the end of the flash
 pub reach-of : (knots : ℕ) (lines : Lines) (config : Config) (len : ℕ) (geometry : Geometry) → AreParts knots lines config → lines.device ≡ Some geometry → len ≡ medium_len config → 1024 + extent geometry (sum_by blocks_of lines.plans) ≤ len
@@ -164,13 +165,13 @@ session-keeps f f' old new geometry blocks origin is media goes =
 -- a run over an image that was opened
 pub ends-opened : (knots : ℕ) (text : List ℕ) (lines : Lines) (first : Option code.Command) (number : ℕ) (state : LinesState) (left left_now told told_now : Option (List ℕ)) (config : Config) (old mid new : MediaState) (origin : GName) (status : Status) →
     BeginsAt knots text lines first number state left → whole knots lines ≡ Some config → IsTrue old.tells → Opened config old mid → KeepsForm mid new → mid.tells ≡ old.tells → old.faults ≤ mid.faults → mid.faults ≤ new.faults →
-    RunsFrom first number state left left_now (around_of config mid new told told_now) (RestsOn config mid.content) (StandsAfter config (Some new.content)) status →
+    RunsFrom first number state left left_now (around_of config mid new told told_now) (RestsTold config mid) (StandsAfter config (Some new.content)) status →
     Ends knots text (told_of old new left_now told told_now) status
 ends-opened knots text lines first number state left left_now told told_now config old mid new origin status begins w tells opened kept same_tells later later' h =
     let ready = begins-ready knots text lines first number state left config begins w in
     let accepted = ready-accepted config ready.0 ready.1 (start_in knots text) (start-accepted knots text) ready.2 in
     let f : FlashState = record { geometry = config.geometry; blocks = 0; start = 1024; origin = origin; media = mid; is_on = true; armed = None; cuts = 0; work = record { reads = 0; programs = 0; erases = 0 } } in
-    ends-of_run knots text lines first number state left config (told_of old new left_now told told_now) (around_of config mid new told told_now) (RestsOn config mid.content) (StandsAfter config (Some new.content)) status begins w
+    ends-over knots text lines first number state left config (told_of old new left_now told told_now) (around_of config mid new told told_now) (RestsTold config mid) (StandsAfter config (Some new.content)) status begins w
     (record {
       config_is = refl;
       content = opened-content config old mid tells opened;
@@ -181,7 +182,7 @@ ends-opened knots text lines first number state left left_now told told_now conf
       written_now = refl;
       own = opened.own tells;
       formed = kept-formed config mid new (opened-formed config old mid tells opened) (subst IsTrue (sym same_tells) tells) kept;
-      begins = λ m s. (opened-rests config old mid f m refl refl refl accepted.room tells opened s, stands-ready config old.content m accepted s);
+      begins = λ m s. ((subst IsTrue (sym same_tells) tells, opened-rests config old mid f m refl refl refl accepted.room tells opened s), stands-ready config old.content m accepted s);
       ends = λ m s. s;
     })
     (le_trans later later') h
@@ -190,14 +191,12 @@ ends-opened knots text lines first number state left left_now told told_now conf
 pub ends-half : (knots : ℕ) (text : List ℕ) (lines : Lines) (first : Option code.Command) (number : ℕ) (state : LinesState) (left told : Option (List ℕ)) (config : Config) (old new : MediaState) →
     BeginsAt knots text lines first number state left → whole knots lines ≡ Some config → IsTrue old.tells → HalfOpened config old new → Ends knots text (told_of old new left told told) MediaMake
 ends-half knots text lines first number state left told config old new begins w tells h =
-    let ready = begins-ready knots text lines first number state left config begins w in
-    (subst (λ s. EndsMaking s (told_of old new left told told)) (sym ready.2) (nothing-added told, h.kept tells, h.part tells), begins-takes knots text lines first number state left begins)
+    ends-making (effects_of (told_of old new left told told)) knots text lines first number state left config begins w (record { written = nothing-added told; kept = h.kept tells; part = h.part tells })
 
 pub ends-foreign : (knots : ℕ) (text : List ℕ) (lines : Lines) (first : Option code.Command) (number : ℕ) (state : LinesState) (left told : Option (List ℕ)) (config : Config) (old new : MediaState) (wanted found at : ℕ) →
     BeginsAt knots text lines first number state left → whole knots lines ≡ Some config → IsTrue old.tells → Foreign config old new wanted found at → Ends knots text (told_of old new left told told) (OtherConfig wanted found at)
 ends-foreign knots text lines first number state left told config old new wanted found at begins w tells h =
-    let ready = begins-ready knots text lines first number state left config begins w in
-    (subst (λ s. EndsOther s (told_of old new left told told) wanted found at) (sym ready.2) (h.other tells, record { content = h.kept tells; written = nothing-added told }), begins-takes knots text lines first number state left begins)
+    ends-other (effects_of (told_of old new left told told)) knots text lines first number state left config wanted found at begins w (h.other tells, record { content = h.kept tells; written = nothing-added told })
 
 -- the statuses of the commands
 pub commands-words : (status : Status) → IsOfCommands status → status ≡ Usage → ⊥
@@ -208,6 +207,12 @@ pub ends-refused : (knots : ℕ) (text : List ℕ) (lines : Lines) (first : Opti
 ends-refused knots text lines first number state left told config old new Media begins w tells h = ends-half knots text lines first number state left told config old new begins w tells h
 ends-refused knots text lines first number state left told config old new (Other wanted found at) begins w tells h =
     ends-foreign knots text lines first number state left told config old new wanted found at begins w tells h
+
+-- .. whatever the medium tells
+pub script-refused : (knots : ℕ) (text : List ℕ) (lines : Lines) (first : Option code.Command) (number : ℕ) (state : LinesState) (left : Option (List ℕ)) (config : Config) (refusal : ImageRefusal) →
+    BeginsAt knots text lines first number state left → whole knots lines ≡ Some config → ScriptEnds knots text left (refused_status refusal)
+script-refused knots text lines first number state left config Media begins w = ends-making unsaid knots text lines first number state left config begins w tt
+script-refused knots text lines first number state left config (Other wanted found at) begins w = ends-other unsaid knots text lines first number state left config wanted found at begins w tt
 
 pub early-refused : (config : Config) (old new : MediaState) (told : Option (List ℕ)) (refusal : ImageRefusal) → OpensAs config old (Err refusal) new → IsEarlyBy old new told told (refused_status refusal)
 early-refused config old new told Media h = record { written = nothing-added told; content = h.kept }

@@ -56,8 +56,9 @@ pages-repaired config entries tables f g mounted h k stand each page within =
     let len : length (page_at f page) ≡ f.geometry.page = page_length (record f { blocks = blocks }) page reaches inside in
     let size : f.geometry.page ≡ config.geometry.page = ap (λ (x : Geometry). x.page) h.geometry in
     let now : repaired.IsRepaired config.geometry.page (page_at f page) (page_at g page) = subst (λ n. repaired.IsRepaired n (page_at f page) (page_at g page)) size (each page inside) in
-    subst (λ (old : ℕ → List ℕ). IsRepaired config (old page) (page_bytes config g.media.content page)) (sym (pages-medium config f h.start h.geometry))
-    (subst (λ (new : ℕ → List ℕ). IsRepaired config (page_at f page) (new page)) (sym (pages-medium config g k.start k.geometry)) (by-repair (page_at f page) (page_at g page) (len ∙ size) (omega (arith, least, size)) now))
+    inl
+    (subst (λ (old : ℕ → List ℕ). IsRepaired config (old page) (page_bytes config g.media.content page)) (sym (pages-medium config f h.start h.geometry))
+    (subst (λ (new : ℕ → List ℕ). IsRepaired config (page_at f page) (new page)) (sym (pages-medium config g k.start k.geometry)) (by-repair (page_at f page) (page_at g page) (len ∙ size) (omega (arith, least, size)) now)))
   where
     by-repair : (old new : List ℕ) → length old ≡ config.geometry.page → 8 ≤ config.geometry.page → repaired.IsRepaired config.geometry.page old new → IsRepaired config old new
     by-repair old new len least (inl same) = inl same

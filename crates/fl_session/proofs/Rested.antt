@@ -1,5 +1,5 @@
 -- A session that isn't mounted, and the medium on which it stands.
-use Rattle.std.proofs.Common.{◌≡◌, ℕ, zero, suc, ◌+◌, ◌-◌, ◌*◌, ◌≤◌, Bool, true, false, inl, inr, IsTrue, Some, None, List, [], ◌∷◌, ◌++◌, map, length, take, drop, slice_range, refl, sym, ◌∙◌, ap, subst, length-append, arith}
+use Rattle.std.proofs.Common.{◌≡◌, ℕ, zero, suc, ◌+◌, ◌-◌, ◌*◌, ◌≤◌, Bool, true, false, cond, inl, inr, IsTrue, IfSome, Some, None, List, [], ◌∷◌, ◌++◌, map, length, take, drop, slice_range, refl, sym, ◌∙◌, ap, subst, length-append, arith}
 use Rattle.std.specs.Prelude.{replicate, option_map}
 use Rattle.std.specs.List.{AllByRecursion, slice_get}
 use Rattle.std.proofs.lemmas.List.{drop-replicate, length-replicate, length-map}
@@ -8,10 +8,11 @@ use Rattle.std.proofs.Math.Seq.{drop-append-add, take-append_seam}
 use Rattle.fl_flash.specs.Flash.{FlashState, page_at}
 use Rattle.fl_flash.specs.Media.{MediaState}
 use Rattle.fl_ring.specs.Device.{SameDevice, ArmsAs}
-use Rattle.fl_model.specs.Record.{Plan, Config}
-use Rattle.fl_model.specs.Table.{Table, RingName, fresh_table, lose}
+use Rattle.fl_model.specs.Record.{Plan, Config, has_log}
+use Rattle.fl_model.specs.Ring.{fresh}
+use Rattle.fl_model.specs.Table.{Table, RingName, LogRing, shape_of, fresh_table, lose}
 use Rattle.fl_model.specs.Layout.{is_blank}
-use Rattle.fl_model.specs.Image.{medium_len, IsTableImage, AreTableImages}
+use Rattle.fl_model.specs.Image.{medium_len, bytes_at, HoldsLogged, IsRingImage, IsTableImage, AreTableImages}
 use Rattle.fl_model.proofs.Lists.{slice_get-some}
 use Rattle.fl_words.specs.Config.{Lines}
 use Rattle.fl_words.specs.Medium.{header, IsImage}
@@ -27,12 +28,12 @@ use Rattle.fl_tables.specs.declared.tables.Entry.{Entry}
 use Rattle.fl_session.specs.Ends.{IsOwn, IsFormed, new_content, opened}
 use Rattle.fl_session.specs.Opening.{Opened}
 use Rattle.fl_table.specs.Memory.{IsPlanned}
-use Rattle.fl_table.specs.Pages.{place_in}
+use Rattle.fl_table.specs.Pages.{HoldsTable, Rests, place_in}
 use Rattle.fl_session.specs.Cost.{cost_of}
 use Rattle.fl_session.specs.Notes.{no_notes}
 use Rattle.fl_session.specs.declared.notes.Notes.{Notes}
 use Rattle.fl_session.specs.Standing.{SessionStands, RestsOn}
-use Rattle.fl_table.proofs.Images.{image-rests, rests-image, blank-rests}
+use Rattle.fl_table.proofs.Images.{image-rests, rests-image, blank-rests, pages-medium}
 
 -- the images of tables, each at its place
 images-of : (config : Config) (content : List ℕ) (place : ℕ) (plans : List Plan) (tables : List Table) → length tables ≡ length plans →
@@ -46,13 +47,13 @@ images-of config content place (plan ∷ plans) (table ∷ tables) n each = (
       subst (λ q. IsTableImage config content q p t) (let m : place + suc i ≡ place + 1 + i = omega arith in m) (each (suc i) p t e k)),
 )
 
-images-many : (config : Config) (content : List ℕ) (place : ℕ) (plans : List Plan) (tables : List Table) → AreTableImages config content place plans tables → length tables ≡ length plans
+pub images-many : (config : Config) (content : List ℕ) (place : ℕ) (plans : List Plan) (tables : List Table) → AreTableImages config content place plans tables → length tables ≡ length plans
 images-many config content place [] [] h = refl
 images-many config content place [] (table ∷ tables) h = absurd h
 images-many config content place (plan ∷ plans) [] h = absurd h
 images-many config content place (plan ∷ plans) (table ∷ tables) h = ap suc (images-many config content (place + 1) plans tables h.1)
 
-images-at : (config : Config) (content : List ℕ) (place : ℕ) (plans : List Plan) (tables : List Table) → AreTableImages config content place plans tables → (i : ℕ) (plan : Plan) (table : Table) → slice_get plans i ≡ Some plan → slice_get tables i ≡ Some table →
+pub images-at : (config : Config) (content : List ℕ) (place : ℕ) (plans : List Plan) (tables : List Table) → AreTableImages config content place plans tables → (i : ℕ) (plan : Plan) (table : Table) → slice_get plans i ≡ Some plan → slice_get tables i ≡ Some table →
     IsTableImage config content (place + i) plan table
 images-at config content place [] tables h i plan table e k = absurd (none e)
   where
@@ -81,6 +82,42 @@ blank-part head n at end h =
     ap (λ m. drop m (head ++ replicate n 255)) at_is ∙ (drop-append-add head (replicate n 255) k ∙ drop-replicate k n 255) in
     ap (λ l. is_blank (take (end - at) l)) cut ∙ blank-take (end - at) (n - k)
 
+-- the log of an image, where its table has one
+abbrev IsLogImage : Config → List ℕ → ℕ → Plan → Table → Type 0
+IsLogImage config content place plan table = IfSome table.log (λ ring. IsRingImage (shape_of plan LogRing) ring (bytes_at config content place plan LogRing) (HoldsLogged plan table ring))
+
+-- a table that rests on a flash, on whose medium its log stands
+logged-image : (config : Config) (place : ℕ) (plan : Plan) (table : Table) (f : FlashState) → f.start ≡ 1024 → f.geometry ≡ config.geometry → IsLogImage config f.media.content place plan table →
+    Rests f (first_of config.plans place) plan table → IsTableImage config f.media.content place plan table
+logged-image config place plan table f start geometry log h =
+    let k = subst (λ (page : ℕ → List ℕ). HoldsTable page (first_of config.plans place) plan table) (sym (pages-medium config f start geometry)) h.pages in
+    record { settled = h.settled; rows = k.rows; index = k.index; var = k.var; log = log }
+
+-- an empty one on blank pages
+blank-log : (config : Config) (place : ℕ) (plan : Plan) (f : FlashState) → f.start ≡ 1024 → f.geometry ≡ config.geometry → ((n : ℕ) → is_blank (page_at f (place_in (first_of config.plans place) plan LogRing n)) ≡ true) →
+    IsLogImage config f.media.content place plan (fresh_table plan)
+blank-log config place plan f start geometry blank = by-log (has_log plan)
+  where
+    at : (n : ℕ) → is_blank (bytes_at config f.media.content place plan LogRing n) ≡ true
+    at = subst (λ (page : ℕ → List ℕ). (n : ℕ) → is_blank (page (place_in (first_of config.plans place) plan LogRing n)) ≡ true) (sym (pages-medium config f start geometry)) blank
+
+    no : false ≡ true → ⊥
+    no e = cc
+
+    nothing : {n : ℕ} → None ≡ Some n → ⊥
+    nothing e = cc
+
+    by-log : (b : Bool) → IfSome (cond b (Some fresh) None) (λ ring. IsRingImage (shape_of plan LogRing) ring (bytes_at config f.media.content place plan LogRing) (HoldsLogged plan (fresh_table plan) ring))
+    by-log true = record {
+      void = λ i e. absurd (nothing e);
+      kept = λ i count e some. absurd (nothing e);
+      blank_next = λ e. at 0;
+      torn_next = λ e. absurd (no e);
+      dirty = λ e. absurd (no e);
+      others = λ k some few clear. at (0 + k);
+    }
+    by-log false = tt
+
 -- a medium that was opened stands for a state between two runs
 pub new-header : (config : Config) (old new : MediaState) → Opened config old new → new.content ≡ new_content config → length (header config) ≡ 1024
 new-header config old new h e =
@@ -107,7 +144,7 @@ new-rests config old new f start geometry content room h e = record {
         let blank : (ring : RingName) (n : ℕ) → is_blank (page_at f (place_in first plan ring n)) ≡ true =
         λ ring n. ap (λ c. is_blank (slice_range c (f.start + place_in first plan ring n * f.geometry.page) (f.start + place_in first plan ring n * f.geometry.page + f.geometry.page))) (content ∙ e)
         ∙ blank-part (header config) (medium_len config - 1024) (f.start + place_in first plan ring n * f.geometry.page) (f.start + place_in first plan ring n * f.geometry.page + f.geometry.page) (omega (arith, size, start)) in
-        subst (λ c. IsTableImage config c i plan (fresh_table plan)) content (rests-image config i plan (fresh_table plan) f start geometry (blank-rests f first plan blank))
+        subst (λ c. IsTableImage config c i plan (fresh_table plan)) content (logged-image config i plan (fresh_table plan) f start geometry (blank-log config i plan f start geometry (blank LogRing)) (blank-rests f first plan blank))
 
 -- .. and holds what it had, or is new
 pub opened-content : (config : Config) (old new : MediaState) → IsTrue old.tells → Opened config old new → new.content ≡ opened config old.content
@@ -182,7 +219,7 @@ session-ends config entries notes f mounted m h =
       tables_are = images-of config f.media.content 0 config.plans (map lose m.tables) off.all (λ i plan table p r.
           let entry = slice_get-some entries i (omega (arith, slice_get_within config.plans i plan p, off.as_many)) in
           subst (λ n. IsTableImage config f.media.content n plan table) (let m : i ≡ 0 + i = omega arith in m)
-          (rests-image config i plan table f h.medium.start h.medium.geometry (off.each i plan entry.0 table p entry.1 r).on_flash));
+          (let own = off.each i plan entry.0 table p entry.1 r in rests-image config i plan table f own.planned.log h.medium.start h.medium.geometry own.on_flash));
     }
 
 -- a command that leaves its content as it is

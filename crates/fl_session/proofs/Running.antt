@@ -1,18 +1,19 @@
 -- A run goes on by one command.
 use Rattle.std.proofs.Common.{◌≡◌, ℕ, ◌+◌, ◌-◌, ◌*◌, ◌^◌, ◌<◌, ◌≤◌, Bool, true, false, inl, inr, IsTrue, Option, Some, None, Result, Ok, Err, List, [], ◌∷◌, ◌++◌, cond, refl, sym, ◌∙◌, ap, subst, length, append-nil, append_assoc, add-zero, arith}
-use Rattle.std.specs.Prelude.{MatchBool, MatchOption}
+use Rattle.std.specs.Prelude.{IfSome, MatchBool, MatchOption, slice_get}
 use Rattle.std.proofs.lemmas.List.{length-map, map-append}
 use Rattle.std.specs.List.{AllByRecursion}
 use Rattle.std.proofs.lemmas.Grind.{flat_map-append}
 use Rattle.std.proofs.lemmas.Bool.{cases_lt}
 use Rattle.fl_base.specs.Causes.{Rose, Appends}
 use Rattle.fl_flash.specs.Flash.{FlashState}
-use Rattle.fl_model.specs.Record.{Config}
+use Rattle.fl_model.specs.Record.{Plan, Config, has_log}
 use Rattle.fl_model.specs.Spline.{lookup_limit}
 use Rattle.fl_words.specs.Command as command
 use Rattle.fl_words.specs.Command.{Command}
 use Rattle.fl_words.specs.Reply.{texts}
 use Rattle.fl_machine.specs.Machine.{Machine}
+use Rattle.fl_machine.specs.Found.{Finds, FindsAt, FindsOf, LoggedFinds, logged_stop_at, stop_at}
 use Rattle.fl_machine.specs.OpenCursors.{AreWithin}
 use Rattle.fl_machine.proofs.OpenCursors.{run-within}
 use Rattle.fl_machine.specs.Reads.{none_read, OnTable, OnColumns, WithinScan, GetExact, ScanExact, LimitOf, RunLimits, ExactOf, RunExact}
@@ -179,6 +180,18 @@ abbrev pub RanSoFar : Config → Machine → List Command → (Machine → Type 
 RanSoFar config old commands stands content content_now faults now reads told told_now =
     (ran : Ran config old commands stands content content_now faults now told told_now) × (reads ≤ reads_in ran.moments)
 
+-- a run without a moment has no mount that could find anything
+finds-none : (config : Config) (place : ℕ) (old : Machine) → FindsAt config place old []
+finds-none config place old = by_plan (slice_get config.plans place)
+  where
+    by_log : (l : Bool) → MatchBool l (LoggedFinds place (logged_stop_at place old.tables) old []) (Finds place (stop_at place old.tables) old [])
+    by_log true = tt
+    by_log false = tt
+
+    by_plan : (o : Option Plan) → IfSome o (λ plan. FindsOf plan place old [])
+    by_plan None = tt
+    by_plan (Some plan) = by_log (has_log plan)
+
 -- before any command
 pub ran-none : (config : Config) (old : Machine) (stands : Machine → Type 0) (content : List ℕ) (faults : ℕ) (told : Option (List ℕ)) → stands old → Ran config old [] stands content content faults faults told told
 ran-none config old stands content faults told h = record {
@@ -189,7 +202,7 @@ ran-none config old stands content faults told h = record {
   reads = record { limits = tt; few = tt; exact = tt };
   stays = refl;
   rose = inl (omega arith);
-  found = λ place. tt;
+  found = λ place. finds-none config place old;
   told_all = nothing-added told;
 }
 
@@ -230,7 +243,7 @@ ran-more {E} config old commands command stands stands_now content faults mid no
         };
         stays = stays-more config old h.moments e.moment content mid.media.content now.media.content h.stays e.stays;
         rose = rw risen-more (rose-more (risen_in h.moments) faults mid.media.faults now.media.faults e.moment.rose h.rose later e.rose);
-        found = λ place. finds config old (h.moments ++ e.moment ∷ []) place ready.room ready.off ready.rest run;
+        found = λ place. finds config old (h.moments ++ e.moment ∷ []) place ready.room ready.off ready.rest (ready.logs place) run;
         told_all = rw written-more (appends-more told told_mid told_now (written_by h.moments) (texts e.moment.replies) h.told_all e.told_all);
       },
       omega (arith, reads-more h.moments e.moment, counted, more),
@@ -255,7 +268,7 @@ ran-into config old commands command stands stands_now content faults mid now to
       few = few-more h.moments e.moment h.reads.few limited.1;
       stays = stays-more config old h.moments e.moment content mid.media.content now.media.content h.stays e.stays;
       rose = rw risen-more (rose-more (risen_in h.moments) faults mid.media.faults now.media.faults e.moment.rose h.rose later e.rose);
-      found = λ place. finds config old (h.moments ++ e.moment ∷ []) place ready.room ready.off ready.rest run;
+      found = λ place. finds config old (h.moments ++ e.moment ∷ []) place ready.room ready.off ready.rest (ready.logs place) run;
       before = h.moments;
       last = e.moment;
       split = refl;

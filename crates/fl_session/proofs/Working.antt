@@ -13,10 +13,12 @@ use Rattle.fl_table.specs.Mounting.{OutsideStands}
 use Rattle.fl_ring.specs.Step.{IsWatched}
 use Rattle.fl_model.specs.Record.{Config, Plan, Record}
 use Rattle.fl_model.specs.Table as model
-use Rattle.fl_model.specs.Table.{RingName, lose, refusal_of, put_seals, put_record, table_seals, flushed, Refusal, BadKey, BadColumns, BadValue, BadBlob, Spent}
+use Rattle.fl_model.specs.Table.{RingName, lose, refusal_of, put_record, table_seals, flushed, Refusal, BadKey, BadColumns, BadValue, BadBlob, Spent}
 use Rattle.fl_model.specs.Work.{Device, Progress, Performs, operations_of, changed_at, PartEnd, Whole, CutIn, FailedIn, PartProgress}
 use Rattle.fl_model.specs.Within.{TablePerforms, seals_within, with_table, progress_at, outcome_at}
+use Rattle.fl_model.specs.Puts.{Puts, TablePuts}
 use Rattle.fl_model.proofs.Among.{seals-at, performs-at, changed-at, changed-there, changed-elsewhere}
+use Rattle.fl_model.proofs.Putting.{puts-at}
 use Rattle.fl_words.specs.Command as command
 use Rattle.fl_words.specs.Command.{Command}
 use Rattle.fl_words.specs.Reply as reply
@@ -31,7 +33,7 @@ use Rattle.fl_table.specs.declared.faults.FlushFault.{FlushFault}
 use Rattle.fl_table.specs.declared.faults.FlushFault.TheVariants as flush
 use Rattle.fl_table.specs.Causes.{RefusedSame, put_breaks, flush_breaks}
 use Rattle.fl_table.specs.Memory.{IsSamePlan}
-use Rattle.fl_table.specs.Outcomes.{Finishes, FaultEnds, Breaks, PutEnds, FlushEnds}
+use Rattle.fl_table.specs.Outcomes.{BySeals, Finishes, FaultEnds, Breaks, PutEnds, FlushEnds}
 use Rattle.fl_table.specs.Pages.{KeptStand, Rests}
 use Rattle.fl_table.specs.Standing.{Stands}
 use Rattle.fl_table.proofs.SealAnswers.{planned-same}
@@ -70,16 +72,15 @@ session-watched config entries notes f g m h =
     record { told = h.medium.told; on = h.power refl; risen = λ r. le-leb (min (f.media.faults + 1) (2 ^ 64 - 1)) g.media.faults r; counts = h.device }
 
 -- what the table at a place performs, all tables perform
-pub performs-all : (config : Config) (old : Machine) (plan : Plan) (table : model.Table) (at : ℕ) (rose : Bool) (rings : List RingName) (now : PartProgress model.Table) → slice_get config.plans at ≡ Some plan → slice_get old.tables at ≡ Some table →
+performs-all : (config : Config) (old : Machine) (plan : Plan) (table : model.Table) (at : ℕ) (rose : Bool) (rings : List RingName) (now : PartProgress model.Table) → slice_get config.plans at ≡ Some plan → slice_get old.tables at ≡ Some table →
     TablePerforms plan rose (seals_within plan rings table) old.device table now → Performs config.plans rose (operations_of plan at rings table) old.device old.tables (progress_at at old.tables now)
 performs-all config old plan table at rose rings now e k did =
     subst (λ ops. Performs config.plans rose ops old.device old.tables (progress_at at old.tables now)) (sym (seals-at plan at rings table))
     (performs-at config.plans plan at rose (seals_within plan rings table) old.device old.tables table now e k did)
 
--- the operations of a command, and the tables after it
-abbrev pub Works : Config → Machine → Moment → Plan → ℕ → List RingName → model.Table → Machine → Type 0
-Works config old moment plan at rings table new =
-    (end : Progress) × Performs config.plans moment.rose (operations_of plan at rings table) old.device old.tables end × EndsAs end.outcome old moment end [] (reply.Done ∷ []) (record new { device = end.device })
+-- a command did so by whether the medium's faults rose, and the tables after it
+abbrev pub Works : Machine → Moment → (Bool → Progress → Type 0) → Machine → Type 0
+Works old moment Did new = (end : Progress) × Did moment.rose end × EndsAs end.outcome old moment end [] (reply.Done ∷ []) (record new { device = end.device })
 
 -- all were done
 abbrev done_so : Command → Bool → Machine → Moment
@@ -188,13 +189,16 @@ module _ (config : Config) (old : Machine) (entries : List Entry) (at : ℕ) (en
       (length-changed at (after own.table) old.tables) (changed-there at own.table (after own.table) old.tables own.table_is) (λ i other. changed-elsewhere at i (after own.table) old.tables other)
       (table-keeps config f g at own.plan entry.table u own.table (after own.table) h.medium now kept own.stands.on_flash stands))
 
-  -- the operations were done, or one failed
-  answers-done : (c : Command) (rings : List RingName) (after : model.Table → model.Table) →
-      Finishes first own.plan (seals_within own.plan rings own.table) own.table (after own.table) (has_risen f g) old.device u f g →
+  -- What the table does is what all tables do. Its operations were done, or one failed.
+  abbrev IsOfAll : (PartProgress model.Table → Type 0) → (Bool → Progress → Type 0) → Type 0
+  IsOfAll Does Did = (now : PartProgress model.Table) → Does now → Did (has_risen f g) (progress_at at old.tables now)
+
+  answers-done : (c : Command) (Does : PartProgress model.Table → Type 0) (Did : Bool → Progress → Type 0) (after : model.Table → model.Table) → IsOfAll Does Did →
+      Finishes first own.plan Does own.table (after own.table) u f g →
       ((bytes now : List ℕ) (m : Machine) → TablesStay config bytes now old.tables m.tables → CommandStays config old c m bytes now) →
-      ((moment : Moment) → Works config old moment own.plan at rings own.table (record old { tables = changed_at at after old.tables }) → moment.command ≡ c → Step config old moment) →
+      ((moment : Moment) → Works old moment Did (record old { tables = changed_at at after old.tables }) → moment.command ≡ c → Step config old moment) →
       Answers config old c (SessionStands config (entries_with entries at entry u) g true notes) f g (text reply.Done)
-  answers-done c rings after fin says step =
+  answers-done c Does Did after all fin says step =
       let after_is : Machine = record old { device = fin.now.device; tables = changed_at at after old.tables } in
       let moment = done_so c (has_risen f g) after_is in
       let stands = stands-done after fin.now.device fin.counts fin.power fin.stands in
@@ -203,7 +207,7 @@ module _ (config : Config) (old : Machine) (entries : List Entry) (at : ℕ) (en
         command_is = refl;
         step = step moment (
           progress_at at old.tables fin.now,
-          performs-all config old own.plan own.table at (has_risen f g) rings fin.now own.plan_is own.table_is fin.did,
+          all fin.now fin.did,
           ends-whole old moment at fin.now.end (progress_at at old.tables fin.now) after_is fin.whole (record { replies_are = refl; after_is = refl; last_is = refl }),
         ) refl;
         none = refl;
@@ -216,10 +220,10 @@ module _ (config : Config) (old : Machine) (entries : List Entry) (at : ℕ) (en
         said_is = one-text reply.Done;
       }
 
-  answers-broken : (c : Command) (rings : List RingName) (new : Machine) (fault : FlashFault) → Breaks first own.plan (seals_within own.plan rings own.table) own.table (has_risen f g) old.device fault g →
-      ((moment : Moment) → Works config old moment own.plan at rings own.table new → moment.command ≡ c → Step config old moment) →
+  answers-broken : (c : Command) (Does : PartProgress model.Table → Type 0) (Did : Bool → Progress → Type 0) (new : Machine) (fault : FlashFault) → IsOfAll Does Did → Breaks first own.plan Does fault g →
+      ((moment : Moment) → Works old moment Did new → moment.command ≡ c → Step config old moment) →
       Answers config old c (SessionStands config (entries_with entries at entry u) g false notes) f g (text (fault_reply fault))
-  answers-broken c rings new fault b step =
+  answers-broken c Does Did new fault all b step =
       let moment = broken_so c (has_risen f g) old at b.now fault in
       let stands = stands-broken b.now.state b.now.device b.counts b.rests in
       record {
@@ -227,7 +231,7 @@ module _ (config : Config) (old : Machine) (entries : List Entry) (at : ℕ) (en
         command_is = refl;
         step = step moment (
           progress_at at old.tables b.now,
-          performs-all config old own.plan own.table at (has_risen f g) rings b.now own.plan_is own.table_is b.did,
+          all b.now b.did,
           ends-broken c (has_risen f g) old at b.now fault g b.now.end (record new { device = b.now.device }) refl b.answer,
         ) refl;
         none = refl;
@@ -249,8 +253,17 @@ module _ (config : Config) (old : Machine) (entries : List Entry) (at : ℕ) (en
     abbrev pub item : Record
     item = record { key = key; values = values; blob = blob }
 
+    abbrev PutsTable : PartProgress model.Table → Type 0
+    PutsTable = TablePuts own.plan (has_risen f g) item old.device own.table
+
+    abbrev PutsAll : Bool → Progress → Type 0
+    PutsAll rose = Puts config.plans rose own.plan at item own.table old.device old.tables
+
+    puts-all : IsOfAll PutsTable PutsAll
+    puts-all now did = puts-at config.plans own.plan at (has_risen f g) item old.device old.tables own.table now own.plan_is own.table_is did
+
     put-works : refusal_of own.plan own.table item ≡ None → (moment : Moment) →
-        Works config old moment own.plan at (put_seals own.plan item own.table) own.table (record old { tables = changed_at at (put_record own.plan item) old.tables }) → moment.command ≡ command.Put asked key values blob → Step config old moment
+        Works old moment PutsAll (record old { tables = changed_at at (put_record own.plan item) old.tables }) → moment.command ≡ command.Put asked key values blob → Step config old moment
     put-works none moment w is =
         let step : PutStep config old moment item at_own = rw none w in
         step-is config old moment (command.Put asked key values blob) is (table-step config old moment asked (PutStep config old moment item) at_own h.is_mounted own.found step)
@@ -268,9 +281,9 @@ module _ (config : Config) (old : Machine) (entries : List Entry) (at : ℕ) (en
         PutEnds first own.plan item own.table (has_risen f g) old.device result u f g → IfErr result (λ e. RefusedSame entry.table f e u g) →
         Answers config old (command.Put asked key values blob) (SessionStands config (entries_with entries at entry u) g mounted notes) f g (text (put_reply result))
     put-answers (Ok done) mounted m ends r =
-        rw m (answers-done (command.Put asked key values blob) (put_seals own.plan item own.table) (put_record own.plan item) ends.1 (λ bytes now m stay. mounted-stays config old.mounted bytes now old.tables m.tables h.is_mounted stay) (put-works ends.0))
+        rw m (answers-done (command.Put asked key values blob) PutsTable PutsAll (put_record own.plan item) puts-all ends.1 (λ bytes now m stay. mounted-stays config old.mounted bytes now old.tables m.tables h.is_mounted stay) (put-works ends.0))
     put-answers (Err (put.Flash fault)) mounted m ends r =
-        rw m (answers-broken (command.Put asked key values blob) (put_seals own.plan item own.table) (record old { tables = changed_at at (put_record own.plan item) old.tables }) fault ends.1 (put-works ends.0))
+        rw m (answers-broken (command.Put asked key values blob) PutsTable PutsAll (record old { tables = changed_at at (put_record own.plan item) old.tables }) fault puts-all ends.1 (put-works ends.0))
     put-answers (Err (put.Key last)) mounted m ends r = rw m (put-refused (BadKey last) r.0 r.1 ends)
     put-answers (Err (put.Columns wanted)) mounted m ends r = rw m (put-refused (BadColumns wanted) r.0 r.1 ends)
     put-answers (Err (put.Value column)) mounted m ends r = rw m (put-refused (BadValue column) r.0 r.1 ends)
@@ -279,13 +292,22 @@ module _ (config : Config) (old : Machine) (entries : List Entry) (at : ℕ) (en
     put-answers (Err put.Stopped) mounted m ends r = absurd ends
 
   -- a flush
-  flush-works : (moment : Moment) → Works config old moment own.plan at (table_seals own.plan own.table) own.table (record old { tables = changed_at at (flushed own.plan) old.tables }) → moment.command ≡ command.Flush asked → Step config old moment
+  abbrev FlushesTable : PartProgress model.Table → Type 0
+  FlushesTable = BySeals own.plan (table_seals own.plan own.table) own.table (has_risen f g) old.device
+
+  abbrev FlushesAll : Bool → Progress → Type 0
+  FlushesAll rose = Performs config.plans rose (operations_of own.plan at (table_seals own.plan own.table) own.table) old.device old.tables
+
+  flushes-all : IsOfAll FlushesTable FlushesAll
+  flushes-all now did = performs-all config old own.plan own.table at (has_risen f g) (table_seals own.plan own.table) now own.plan_is own.table_is did
+
+  flush-works : (moment : Moment) → Works old moment FlushesAll (record old { tables = changed_at at (flushed own.plan) old.tables }) → moment.command ≡ command.Flush asked → Step config old moment
   flush-works moment w is =
       step-is config old moment (command.Flush asked) is (table-step config old moment asked (FlushStep config old moment) at_own h.is_mounted own.found w)
 
   pub flush-answers : (result : Result (Unit {0}) FlushFault) (mounted : Bool) → mounted ≡ not (flush_breaks result) → FlushEnds first own.plan own.table (has_risen f g) old.device result u f g →
       Answers config old (command.Flush asked) (SessionStands config (entries_with entries at entry u) g mounted notes) f g (text (flush_reply result))
-  flush-answers (Ok done) mounted m ends = rw m (answers-done (command.Flush asked) (table_seals own.plan own.table) (flushed own.plan) ends (λ bytes now m stay. mounted-stays config old.mounted bytes now old.tables m.tables h.is_mounted stay) flush-works)
+  flush-answers (Ok done) mounted m ends = rw m (answers-done (command.Flush asked) FlushesTable FlushesAll (flushed own.plan) flushes-all ends (λ bytes now m stay. mounted-stays config old.mounted bytes now old.tables m.tables h.is_mounted stay) flush-works)
   flush-answers (Err (flush.Flash fault)) mounted m ends =
-      rw m (answers-broken (command.Flush asked) (table_seals own.plan own.table) (record old { tables = changed_at at (flushed own.plan) old.tables }) fault ends flush-works)
+      rw m (answers-broken (command.Flush asked) FlushesTable FlushesAll (record old { tables = changed_at at (flushed own.plan) old.tables }) fault flushes-all ends flush-works)
   flush-answers (Err flush.Stopped) mounted m ends = absurd ends

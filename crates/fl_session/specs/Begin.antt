@@ -7,7 +7,7 @@ use Rattle.fl_session.specs.Runnable.{IsRunnable}
 use Rattle.fl_session.specs.Taken.{TakesLine, TakesBegin, IsUnended}
 use Rattle.fl_lines.specs.Taken.{HasTaken, TakesFew}
 use Rattle.fl_lines.specs.Texts.{most_bytes, whole_lines, rest_of, lines_read}
-use Rattle.fl_session.specs.Ends.{start_in}
+use Rattle.fl_session.specs.ScriptEnds.{start_in}
 use Rattle.fl_session.specs.Next.{IsToRun}
 use Rattle.fl_script.specs.declared.command.Command as code
 use Rattle.fl_script.specs.CommandView.{command_view}

@@ -4,7 +4,8 @@ use Rattle.fl_base.specs.Causes.{Appends}
 use Rattle.fl_model.specs.Record.{Config}
 use Rattle.fl_words.specs.Command.{Command}
 use Rattle.fl_machine.specs.Script.{Ready, accepted, first_refused}
-use Rattle.fl_session.specs.Ends.{Told, RunsAll, start_in, new_content}
+use Rattle.fl_session.specs.Ends.{Told, RunsAll, new_content}
+use Rattle.fl_session.specs.ScriptEnds.{start_in}
 use Rattle.fl_lines.specs.Texts.{most_bytes}
 use Rattle.fl_session.specs.declared.status.Status.{Status}
 use Rattle.fl_session.specs.declared.status.Status.TheVariants.{Done, Usage, Line, ScriptRead, OutWrite, MediaMake, Config as BadConfiguration, OtherConfig, ScriptLong, NoMemory}

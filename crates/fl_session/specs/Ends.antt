@@ -1,5 +1,5 @@
 -- How a run over a script and a medium ends, by its status.
-use Rattle.std.specs.Prelude.{◌≡◌, ℕ, ◌+◌, ◌-◌, ◌<◌, ◌≤◌, ◌⊎◌, IsTrue, Option, Some, None, List, [], ◌∷◌, ◌++◌, length, take, drop, replicate, slice_get, if◌then◌else◌}
+use Rattle.std.specs.Prelude.{◌≡◌, ℕ, ◌-◌, ◌≤◌, ◌⊎◌, IsTrue, Option, Some, List, [], ◌∷◌, ◌++◌, length, take, replicate, slice_get}
 use Rattle.fl_base.specs.Causes.{Rose, Appends}
 use Rattle.fl_flash.specs.Media.{MediaState}
 use Rattle.fl_model.specs.Record.{Config}
@@ -7,13 +7,11 @@ use Rattle.fl_model.specs.Image.{medium_len}
 use Rattle.fl_words.specs.Command.{Command}
 use Rattle.fl_words.specs.Medium.{header}
 use Rattle.fl_machine.specs.Machine.{Machine}
-use Rattle.fl_machine.specs.Script.{Start, Ready, Unended, BadLine, BadConfig, start_of, ended, accepted, first_refused, StandsFor, StandsAfter, Ran, RanInto}
+use Rattle.fl_machine.specs.Script.{Start, Ready, Unended, BadLine, BadConfig, StandsFor, StandsAfter, Ran, RanInto}
 use Rattle.fl_session.specs.Determined.{IsUncut, RanPlainly, RanPlainlyInto}
-use Rattle.fl_session.specs.Taken.{TakesLine, TakesBegin}
-use Rattle.fl_lines.specs.Taken.{HasTaken}
-use Rattle.fl_lines.specs.Texts.{most_bytes, whole_lines, rest_of, is_long, lines_read}
+use Rattle.fl_session.specs.ScriptEnds.{Effects, EndsWith}
 use Rattle.fl_session.specs.declared.status.Status.{Status}
-use Rattle.fl_session.specs.declared.status.Status.TheVariants.{Done, Usage, Line, ScriptRead, OutWrite, MediaMake, Config as BadConfiguration, OtherConfig, ScriptLong, NoMemory}
+use Rattle.fl_session.specs.declared.status.Status.TheVariants.{Usage, MediaMake, Config as BadConfiguration, OtherConfig, NoMemory}
 
 -- what the outside tells before and after: the medium's content, what the source has left, the bytes that are written,
 -- and the medium's faults
@@ -86,98 +84,32 @@ IsOther config content wanted found at =
     × (((wanted ≡ medium_len config) × (found ≡ length content) × (at ≡ 1024) × (wanted ≡ found → ⊥))
     ⊎ ((length content ≡ medium_len config) × Differs (header config) (take 1024 content) at wanted found))
 
--- how the configuration of a script ends; the end of a long one isn't reached
-abbrev pub start_in : ℕ → List ℕ → Start
-start_in knots text = if is_long text then start_of knots (lines_read text) else ended (start_of knots (lines_read text))
-
--- The reading ended behind these lines: where a command line had ended the configuration, all lines behind it were run,
--- none of them refused; where none had, nothing was done.
-abbrev pub EndsEarly : Start → Told → Type 0
-EndsEarly (Ready config n lines) told = (first_refused n lines ≡ None) × RunsAll config (accepted lines) told
-EndsEarly (Unended config n) told = IsUntouched told
-EndsEarly (BadLine n) told = ⊥
-EndsEarly (BadConfig n) told = ⊥
-
-abbrev pub EndsDone : Start → Told → Type 0
-EndsDone (Ready config n lines) told = (first_refused n lines ≡ None) × RunsAll config (accepted lines) told
-EndsDone (Unended config n) told = ⊥
-EndsDone (BadLine n) told = ⊥
-EndsDone (BadConfig n) told = ⊥
-
--- a line is refused, and those before it were run
-abbrev pub EndsLine : Start → Told → ℕ → Type 0
-EndsLine (Ready config n lines) told line = (first_refused n lines ≡ Some line) × RunsAll config (accepted lines) told
-EndsLine (Unended config n) told line = ⊥
-EndsLine (BadLine n) told line = (n ≡ line) × IsUntouched told
-EndsLine (BadConfig n) told line = ⊥
-
--- some of the commands were run, and the sink failed in the reply of the last
-pub record IntoReply (text : List ℕ) (config : Config) (n : ℕ) (lines : List (List ℕ)) (told : Told) : Type 0 where
-  pub commands : List Command
-  pub others : List Command
-  pub split : commands ++ others ≡ accepted lines
-  pub runs : RunsInto config commands told
-  -- the line of the last one was in hand
-  pub number : ℕ
-  pub number_is : number + 1 ≡ n + length commands
-  pub takes : TakesLine text number told.left_now
-
-abbrev pub EndsInto : List ℕ → Start → Told → Type 0
-EndsInto text (Ready config n lines) told = IntoReply text config n lines told
-EndsInto text (Unended config n) told = ⊥
-EndsInto text (BadLine n) told = ⊥
-EndsInto text (BadConfig n) told = ⊥
-
--- the medium failed while the header or the blank image was read or written
-abbrev pub EndsMaking : Start → Told → Type 0
-EndsMaking (Ready config n lines) told =
-    Appends told.written told.written_now [] × ((told.content ≡ [] → ⊥) → told.content_now ≡ told.content)
-    × ((told.content ≡ []) → length told.content_now ≤ medium_len config)
-EndsMaking (Unended config n) told = ⊥
-EndsMaking (BadLine n) told = ⊥
-EndsMaking (BadConfig n) told = ⊥
-
-abbrev pub EndsConfig : Start → Told → ℕ → Type 0
-EndsConfig (BadConfig n) told line = (n ≡ line) × IsUntouched told
-EndsConfig (Ready config n lines) told line = ⊥
-EndsConfig (Unended config n) told line = ⊥
-EndsConfig (BadLine n) told line = ⊥
-
-abbrev pub EndsOther : Start → Told → ℕ → ℕ → ℕ → Type 0
-EndsOther (Ready config n lines) told wanted found at = IsOther config told.content wanted found at × IsUntouched told
-EndsOther (Unended config n) told wanted found at = ⊥
-EndsOther (BadLine n) told wanted found at = ⊥
-EndsOther (BadConfig n) told wanted found at = ⊥
-
 abbrev pub IsNew : Start → Told → Type 0
 IsNew (Ready config n lines) told = (told.content ≡ []) × (told.content_now ≡ new_content config)
 IsNew (Unended config n) told = ⊥
 IsNew (BadLine n) told = ⊥
 IsNew (BadConfig n) told = ⊥
 
--- a source that was read up to so many bytes: the whole lines of these were run, and no line behind them is too long yet
-pub record EndsRead (knots : ℕ) (text : List ℕ) (told : Told) : Type 0 where
-  pub taken : ℕ
-  pub within : taken ≤ length text
-  pub most : taken ≤ most_bytes
-  pub short : length (rest_of (take taken text)) ≤ 4096
-  pub left : told.left_now ≡ Some (drop taken text)
-  pub ends : EndsEarly (start_of knots (whole_lines (take taken text))) told
+-- the medium failed while the header or the blank image was read or written
+pub record IsMakingFailed (config : Config) (told : Told) : Type 0 where
+  pub written : Appends told.written told.written_now []
+  pub kept : (told.content ≡ [] → ⊥) → told.content_now ≡ told.content
+  pub part : (told.content ≡ []) → length told.content_now ≤ medium_len config
+
+-- what is said of the medium and of the replies
+abbrev pub effects_of : Told → Effects
+effects_of told = record {
+  all = λ config commands. RunsAll config commands told;
+  into = λ config commands. RunsInto config commands told;
+  untouched = IsUntouched told;
+  making = λ config. IsMakingFailed config told;
+  other = λ config wanted found at. IsOther config told.content wanted found at × IsUntouched told;
+  unbegun = λ start. Appends told.written told.written_now [] × ((told.content_now ≡ told.content) ⊎ IsNew start told);
+}
 
 -- `text` is the script
 abbrev pub Ends : ℕ → List ℕ → Told → Status → Type 0
-Ends knots text told Done = (length text ≤ most_bytes) × EndsDone (start_in knots text) told × (told.left_now ≡ Some [])
-Ends knots text told Usage = IsUntouched told × (told.left_now ≡ Some text)
-Ends knots text told (Line n) = EndsLine (start_in knots text) told n × TakesLine text n told.left_now
-Ends knots text told ScriptRead = EndsRead knots text told
-Ends knots text told OutWrite = EndsInto text (start_in knots text) told
-Ends knots text told MediaMake = EndsMaking (start_in knots text) told × TakesBegin knots text told.left_now
-Ends knots text told (BadConfiguration n) = EndsConfig (start_in knots text) told n × TakesBegin knots text told.left_now
-Ends knots text told (OtherConfig wanted found at) = EndsOther (start_in knots text) told wanted found at × TakesBegin knots text told.left_now
-Ends knots text told ScriptLong = (most_bytes < length text) × EndsEarly (start_of knots (lines_read text)) told × HasTaken text (most_bytes + 1) told.left_now
-Ends knots text told NoMemory =
-    Appends told.written told.written_now [] × ((told.content_now ≡ told.content) ⊎ IsNew (start_in knots text) told)
-    × ((told.left_now ≡ Some text) ⊎ TakesBegin knots text told.left_now)
+Ends knots text told status = EndsWith (effects_of told) knots text told.left_now status
 
 -- what the outside told before and after
 abbrev pub told_of : MediaState → MediaState → Option (List ℕ) → Option (List ℕ) → Option (List ℕ) → Told

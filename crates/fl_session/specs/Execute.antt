@@ -8,7 +8,7 @@ use Rattle.fl_words.specs.Command.{Command}
 use Rattle.fl_words.specs.Reply.{texts}
 use Rattle.fl_machine.specs.Machine.{Machine}
 use Rattle.fl_machine.specs.Step.{Moment, Step}
-use Rattle.fl_machine.specs.Found.{HasRoom, IsAtRest}
+use Rattle.fl_machine.specs.Found.{HasRoom, IsAtRest, RestsAt}
 use Rattle.fl_machine.specs.OpenCursors.{AreWithin}
 use Rattle.fl_machine.specs.Script.{Ran, RanInto}
 use Rattle.fl_machine.specs.Small.{IsSmall}
@@ -46,6 +46,7 @@ pub record IsReady (config : Config) (old : Machine) : Type 0 where
   pub small : IsSmall config
   pub off : old.mounted ≡ false
   pub rest : AllByRecursion IsAtRest old.tables
+  pub logs : (place : ℕ) → RestsAt config place old.tables
 
 -- a session stands for a state but for the cursors
 abbrev pub StandsAlike : (Machine → Type 0) → Machine → Type 0

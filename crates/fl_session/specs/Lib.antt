@@ -4,6 +4,7 @@ pub mod BlobNotes
 pub mod BlobShown
 pub mod Words
 pub mod Runnable
+pub mod ScriptEnds
 pub mod Taken
 pub mod Ends
 pub mod Number

@@ -1,6 +1,7 @@
 -- A session, and the states of the machine for which it stands.
 use Rattle.std.specs.Prelude.{◌≡◌, ℕ, ◌<◌, Bool, true, IsTrue, List, length, take, Some, slice_get, if◌then◌else◌}
 use Rattle.fl_flash.specs.Flash.{FlashState}
+use Rattle.fl_flash.specs.Media.{MediaState}
 use Rattle.fl_ring.specs.Device.{SameDevice}
 use Rattle.fl_model.specs.Record.{Config}
 use Rattle.fl_model.specs.Table as model
@@ -49,3 +50,7 @@ pub record IsSound (entries : List Entry) (f : FlashState) (buf : Buffers) (moun
 -- a medium stands for a state between two runs; it is no empty one
 abbrev pub RestsOn : Config → List ℕ → Machine → Type 0
 RestsOn config content m = (tables : List model.Table) × IsImage config content tables × (m ≡ begins tables)
+
+-- .. and tells its content
+abbrev pub RestsTold : Config → MediaState → Machine → Type 0
+RestsTold config media m = IsTrue media.tells × RestsOn config media.content m

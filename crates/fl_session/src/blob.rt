@@ -1,6 +1,7 @@
 // The blob of a record, looked up by its key.
 ghost use Rattle.std.specs.Prelude.{◌≡◌, ◌+◌, ◌/◌, ◌≤◌, ℕ, true, Some, List, length, slice_get, IsTrue, IfOk, IfErr};
 ghost use Rattle.fl_base.specs.Causes.{HasCause};
+ghost use Rattle.fl_machine.specs.Reads.{length_of};
 ghost use Rattle.fl_model.specs.Query.{blob_of};
 ghost use Rattle.fl_model.specs.Record.{Plan};
 ghost use Rattle.fl_model.specs.Spline.{lookup_limit};
@@ -117,7 +118,7 @@ fn show_at<F: Flash, K: Sink>(
         → SaysBlob (blob_of t entry) (K.written out.old) (K.written out.new) (F.state flash.old).media.faults (F.state flash.new).media.faults (F.state flash.old).work.reads (F.state flash.new).work.reads result }
     ensures reads { (first : ℕ) (plan : Plan) (t : model.Table) (i : ℕ) (entry : Entry) (bytes : List ℕ) → IsTrue (F.state flash.old).media.tells → Stands table.now (F.state flash.old) first plan t
         → slice_get t.entries i ≡ Some entry → entry.kept.blob ≡ Some bytes → at ≡ record { page = entry.page; offset = entry.offset; length = length bytes }
-        → (F.state flash.new).work.reads ≤ (F.state flash.old).work.reads + at.length / content_in table.now + 2 }
+        → (F.state flash.new).work.reads ≤ (F.state flash.old).work.reads + length_of (blob_of t entry) / content_in table.now + 2 }
 {
     if at.length == 0 {
         return write_reply(&Reply::BytesEmpty, out);

@@ -14,9 +14,10 @@ ghost use Rattle.fl_session.specs.Begin.{HoldsFirst};
 ghost use Rattle.fl_session.specs.Words.{image_named};
 ghost use Rattle.fl_session.specs.Complete.{IsInPlace, Completes};
 ghost use Rattle.fl_session.specs.Ends.{Ends, told_of, IsEarlyBy, IsOwn};
+ghost use Rattle.fl_session.specs.ScriptEnds.{ScriptEnds};
 ghost use Rattle.fl_session.specs.Opening.{MediaGoes, KeepsForm, IsBlankBehind};
 ghost use Rattle.fl_session.specs.Run.{RunsFrom, HasRoom, around_of, IsOfCommands, refused_status};
-ghost use Rattle.fl_session.specs.Standing.{RestsOn, HasRooms};
+ghost use Rattle.fl_session.specs.Standing.{RestsTold, HasRooms};
 ghost use Rattle.fl_machine.specs.Script.{StandsAfter};
 
 use crate::begin::{Begun, read_config};
@@ -126,9 +127,9 @@ fn run_session<M: Media, S: Source, K: Sink>(
     requires tables { AreNewTables rooms.tables.entries.items config.now }
     requires page { (g : Geometry) → config.now.device ≡ Some g → HasRooms rooms.buf g.page }
     requires flash { (g : Geometry) → config.now.device ≡ Some g → HasRoom rooms.flash g (sum_by blocks_of config.now.plans) }
-    ensures runs { (configured : Configuration) → whole KNOTS config.now ≡ Some configured → IsTrue (M.state media.old).tells →
+    ensures runs { (configured : Configuration) → whole KNOTS config.now ≡ Some configured →
         RunsFrom begun.first begun.number lines.old (S.left script.old) (S.left script.new) (around_of configured (M.state media.old) (M.state media.new) (K.written out.old) (K.written out.new))
-        (RestsOn configured (M.state media.old).content) (StandsAfter configured (Some (M.state media.new).content)) result }
+        (RestsTold configured (M.state media.old)) (StandsAfter configured (Some (M.state media.new).content)) result }
     ensures form { KeepsForm (M.state media.old) (M.state media.new) }
     ensures goes { MediaGoes (M.state media.old) (M.state media.new) }
     ensures read { result ≡ Status.ScriptRead → Rose (S.faults script.old) (S.faults script.new) }
@@ -164,6 +165,7 @@ fn run_script<M: Media, S: Source, K: Sink>(
 ) -> Status
     ensures ends { (text : List ℕ) → IsTrue (M.state media.old).tells → S.left script.old ≡ Some text →
         Ends KNOTS text (told_of (M.state media.old) (M.state media.new) (S.left script.new) (K.written out.old) (K.written out.new)) result }
+    ensures script { (text : List ℕ) → S.left script.old ≡ Some text → ScriptEnds KNOTS text (S.left script.new) result }
     ensures words { result ≡ Status.Usage → ⊥ }
     ensures read { result ≡ Status.ScriptRead → Rose (S.faults script.old) (S.faults script.new) }
     ensures write { result ≡ Status.OutWrite → Rose (K.faults out.old) (K.faults out.new) }
@@ -209,6 +211,9 @@ pub fn run<M: Media, S: Source, K: Sink>(
     // command ended well the bytes that it doesn't touch are as they were.
     ensures run { (text : List ℕ) → IsTrue (M.state media.old).tells → S.left script.old ≡ Some text →
         Ends KNOTS text (told_of (M.state media.old) (M.state media.new) (S.left script.new) (K.written out.old) (K.written out.new)) result }
+
+    // What the script alone decides, whatever the medium tells.
+    ensures script { (text : List ℕ) → S.left script.old ≡ Some text → ScriptEnds KNOTS text (S.left script.new) result }
 
     // Each status has its cause.
     ensures usage { (result ≡ Status.Usage) ↔ (image_named (map (λ word. string_bytes word) words.now) ≡ None) }

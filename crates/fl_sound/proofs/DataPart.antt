@@ -35,7 +35,6 @@ use Rattle.fl_table.proofs.Planning.{few-blobs}
 use Rattle.fl_table.proofs.Repaired.{IsIdle, lost-idle}
 use Rattle.fl_table.proofs.States.{state_of, state-count, to-ring, HaveSize}
 use Rattle.fl_check.specs.Entries.{header_bitmap}
-use Rattle.fl_check.specs.KeptPages.{IsWithin}
 use Rattle.fl_check.specs.Marks.{kept_page}
 use Rattle.fl_check.specs.Rising.{KeysAscend}
 use Rattle.fl_check.specs.Whole.{Fits, layout_in, rows_shape, IsRowsForm}
@@ -77,13 +76,10 @@ module _ (label : Label) (config : TableConfig) (f : FlashState) (table : Table)
   idle = lost-idle table is.rests.settled.lost
 
   pub plain : IsPlainTable (plan_of_table label config) table
-  plain = table-parts (plan_of_table label config) table facts
+  plain = table-parts (plan_of_table label config) table (refl, refl) facts
 
   pub counted : sum table.rows.counts ≡ length table.entries
   counted = let k = facts in let i = idle in omega (arith, k.counted, i.pending)
-
-  pub within : IsWithin (plan_of_table label config)
-  within = record { page = is.fits.limits.geometry.page_high; blob = few-blobs config is.fits.passes }
 
   size : HaveSize config.rows.first_block (plan_of_table label config) (page_at f)
   size = sizes f config.geometry config.rows.first_block config.rows.blocks is.reaches is.fits.geometry is.fits.rows (omega (arith, is.fits.limits.rows.0)) (omega (arith, is.fits.limits.geometry.block_low))
@@ -146,7 +142,7 @@ module _ (label : Label) (config : TableConfig) (f : FlashState) (table : Table)
       let p = page_at f (place (rows_shape config) (model.oldest table.rows + i)) in
       is_data_page plan (layout_in config) config.buckets (model.oldest table.rows + i) p
       (record { layout_is = refl; buckets_are = has-buckets label config; size_is = sym (size (model.oldest table.rows + i)) })
-      (good.rows plan table i c p within facts e some (is.rests.pages.rows.kept i c e some))
+      (good.rows plan table i c p facts e some (is.rests.pages.rows.kept i c e some))
 
   pub data-sound : SoundRing (IsRowsForm config) (Some (layout_in config)) (page_at f) (rows_shape config) (index_end (plan_of_table label config) table) table.rows
   data-sound = sound-ring (IsRowsForm config) (Some (layout_in config)) f d (index_end plan table) (state_of plan table) shape good-data table.rows is-of forms keys

@@ -116,12 +116,16 @@ tables-short geometry before [] taken = omega arith
 tables-short geometry before (plan ∷ plans) taken =
     omega (arith, length-append (table_text plan) (flat_map table_text plans), taken-short geometry before plan taken.0, tables-short geometry (before ++ plan ∷ []) plans taken.1)
 
+-- the lines of a configuration that was made were taken one behind another
+pub made-stands : (lines : Lines) (config : Config) → IsAccepted lines → Makes lines config → Stands (Some config.geometry) config.plans
+made-stands lines config accepted makes =
+    let made = made-by lines config makes in
+    subst (λ (device : Option Geometry). Stands device config.plans) made.geometry_is (subst (λ (plans : List Plan). Stands lines.device plans) made.plans_are (accepted-stands lines accepted))
+
 -- the header has its 1,024 bytes
 pub header-length : (lines : Lines) (config : Config) → IsAccepted lines → Makes lines config → length (header config) ≡ 1024
 header-length lines config accepted makes =
-    let made = made-by lines config makes in
-    let stands : Stands (Some config.geometry) config.plans =
-    subst (λ (device : Option Geometry). Stands device config.plans) made.geometry_is (subst (λ (plans : List Plan). Stands lines.device plans) made.plans_are (accepted-stands lines accepted)) in
+    let stands = made-stands lines config accepted makes in
     let device = device-short config.geometry stands.0.page stands.0.block in
     let tables = tables-short config.geometry [] config.plans stands.1 in
     let few = tables-few config.geometry [] config.plans stands.1 (omega arith) in

@@ -9,17 +9,18 @@ use Rattle.fl_bitmap.specs.Widths.{is_bits}
 use Rattle.fl_flash.specs.Flash.{FlashState, page_at}
 use Rattle.fl_index.specs.Standing.{HasIndex, HoldsIndex}
 use Rattle.fl_index.proofs.Gathering.{bitmap-small}
-use Rattle.fl_index.proofs.Lists.{below-end}
+use Rattle.fl_index.proofs.Lists.{below-end, first-at, firsts-length}
 use Rattle.fl_index.proofs.Mountings.{good-ring, state-len}
 use Rattle.fl_index.proofs.Showing.{index-page}
 use Rattle.fl_index.proofs.State.{shape_in, full_count, HaveSize, Found, to-state, to-index}
 use Rattle.fl_model.specs.Facts.{is_some_ring, counts_in}
-use Rattle.fl_model.specs.Image.{IsRingImage, HoldsBitmaps}
+use Rattle.fl_model.specs.Image.{IsRingImage, HoldsEntries}
+use Rattle.fl_model.specs.Layout.{IndexEntry, IndexPage}
 use Rattle.fl_model.specs.Mount.{index_end}
 use Rattle.fl_model.specs.Record.{Plan, entries_per_page}
 use Rattle.fl_model.specs.Ring as model
-use Rattle.fl_model.specs.Table.{Table, IndexRing, shape_of, full_pages}
-use Rattle.fl_model.proofs.Lists.{slice_get-short}
+use Rattle.fl_model.specs.Table.{Table, IndexRing, shape_of, firsts, full_pages}
+use Rattle.fl_model.proofs.Lists.{slice_get-short, each-at}
 use Rattle.fl_plan.specs.Limits.{IsRingSize}
 use Rattle.fl_plan.specs.Plan.{Label, bits_in, blocks_in, plan_of_table}
 use Rattle.fl_plan.specs.declared.table_config.TableConfig.{TableConfig}
@@ -34,9 +35,11 @@ use Rattle.fl_check.specs.Tally.{listed_to}
 use Rattle.fl_check.specs.Whole.{OfRing, shape_in as ring_shape, rows_shape, width_in, end_in, indexing, IsIndexForm, IsIndexSound}
 use Rattle.fl_check.specs.Whole as whole
 use Rattle.fl_check.specs.declared.numbering.Numbering.{Numbering}
+use Rattle.fl_check.proofs.IndexPages.{len-bare}
 use Rattle.fl_check.proofs.Wholes.{of_ring, of_none}
 use Rattle.fl_sound.proofs.ConfigFacts.{some-bits, some-room}
 use Rattle.fl_sound.proofs.DataPart.{StandsOn, plain, idle, headers}
+use Rattle.fl_sound.proofs.DataPart as parts
 use Rattle.fl_sound.proofs.IndexRule.{ListsPages, end-is, have-entries}
 use Rattle.fl_sound.proofs.RingReads.{IsOf, Reads}
 use Rattle.fl_sound.proofs.RingSound.{SoundRing, AreFormed, sizes, counts-some, sound-ring}
@@ -79,8 +82,11 @@ module _ (label : Label) (config : TableConfig) (f : FlashState) (table : Table)
     bits : IsTrue (is_bits (bits_in config.buckets))
     bits = some-bits label config at at_is is.fits.limits
 
+    per : entries_in config.geometry.page (width_in config) ≡ entries_per_page (plan_of_table label config)
+    per = ap (λ (k : ℕ). (config.geometry.page - 24) / k) (sym (len-bare plan refl))
+
     some : 0 < entries_per_page (plan_of_table label config)
-    some = some-room config.geometry.page (bits_in config.buckets) bits large
+    some = subst (λ (k : ℕ). 0 < k) per (some-room config.geometry.page (bits_in config.buckets) bits large)
 
     size : HaveSize (config.rows.first_block + config.rows.blocks) (plan_of_table label config) (page_at f)
     size = sizes f config.geometry first (blocks_in config.index) is.reaches is.fits.geometry (omega (arith, blocks_is, reach, begins)) (omega (arith, blocks_is, limit.0)) (omega (arith, is.fits.limits.geometry.block_low))
@@ -93,8 +99,8 @@ module _ (label : Label) (config : TableConfig) (f : FlashState) (table : Table)
 
     found : Found (config.rows.first_block + config.rows.blocks) (plan_of_table label config) (page_at f) size shape some table
     found = to-state first plan (page_at f) size shape some table ring_there
-        (has-index plan table ring_there ring_is (plain label config f table is) (let i = idle label config f table is in omega (arith, i.waiting)))
-        (subst (λ (o : Option model.Ring). IfSome o (λ ring. IsRingImage (shape_of plan IndexRing) ring (bytes_in (page_at f) config.rows.first_block plan IndexRing) (HoldsBitmaps plan table ring))) ring_is is.rests.pages.index)
+        (has-index plan table ring_there ring_is (plain label config f table is) (let i = idle label config f table is in omega (arith, ap (λ (waiting : List IndexEntry). length waiting) i.waiting)))
+        (subst (λ (o : Option model.Ring). IfSome o (λ ring. IsRingImage (shape_of plan IndexRing) ring (bytes_in (page_at f) config.rows.first_block plan IndexRing) (HoldsEntries plan table ring))) ring_is is.rests.pages.index)
 
     abbrev ring : model.Ring
     ring = found.is.ring
@@ -115,16 +121,22 @@ module _ (label : Label) (config : TableConfig) (f : FlashState) (table : Table)
       some = λ i c e. counts-some (full_count plan) (λ body. some) found.s.kept i c (sym (ap (λ (r : model.Ring). slice_get r.counts i) found.is.counts) ∙ e);
     }
 
-    low-first : (i first_page : ℕ) → slice_get table.firsts (full_pages (take i found.is.ring.counts)) ≡ Some first_page → first_page < 2 ^ 32
+    low-first : (i first_page : ℕ) → slice_get (firsts table) (full_pages (take i found.is.ring.counts)) ≡ Some first_page → first_page < 2 ^ 32
     low-first i first_page listed =
         let h = facts in
-        let end = below-end (entries_per_page plan) table.firsts (full_pages (take i ring.counts)) first_page h.firsts listed in
+        let end = below-end (entries_per_page plan) (firsts table) (full_pages (take i ring.counts)) first_page h.firsts listed in
         omega (arith, end, h.listed, h.rows_number)
+
+    first-listed : (i : ℕ) (held : IndexPage) → slice_get table.index_pages (full_pages (take i found.is.ring.counts)) ≡ Some held → slice_get (firsts table) (full_pages (take i found.is.ring.counts)) ≡ Some held.first
+    first-listed i held e = first-at table.index_pages (full_pages (take i ring.counts)) held e
+
+    many : (i : ℕ) (held : IndexPage) → slice_get table.index_pages (full_pages (take i found.is.ring.counts)) ≡ Some held → length held.entries ≡ entries_per_page (plan_of_table label config)
+    many i held e = each-at (λ (p : IndexPage). length p.entries ≡ entries_per_page plan) table.index_pages (full_pages (take i ring.counts)) held (let h = facts in h.index_fit) e
 
     forms : AreFormed (IsIndexForm config) (page_at f) (shape_in (config.rows.first_block + config.rows.blocks) (plan_of_table label config)) found.is.ring
     forms i c e some_count =
         let h = image.kept i c e some_count in
-        (size (model.oldest ring + i), record { first = h.first; bitmaps = h.bitmaps; small = low-first i h.first h.listed; full = h.length; bytes = h.bytes })
+        (size (model.oldest ring + i), record { first = h.holds.first; entries = h.holds.entries; small = low-first i h.holds.first (first-listed i h.holds h.is); full = many i h.holds h.is; bytes = h.bytes })
 
     sound : SoundRing (IsIndexForm config) None (page_at f) (shape_in (config.rows.first_block + config.rows.blocks) (plan_of_table label config)) 0 found.is.ring
     sound = sound-ring (IsIndexForm config) None f (shape_in first plan) 0 found.s shape good ring is-of forms (λ n reads. tt)
@@ -137,18 +149,27 @@ module _ (label : Label) (config : TableConfig) (f : FlashState) (table : Table)
         let k = facts in
         let small : model.oldest ring + i < 2 ^ 32 = omega (arith, lt, k.is_ring.not_negative, k.number) in
         let short = is.fits.limits.geometry.page_high in
-        let few : entries_per_page plan < 2 ^ 16 = omega (arith, div-le_self (config.geometry.page - 24) (bits_in config.buckets / 8), short) in
+        let few : entries_per_page plan < 2 ^ 16 = omega (arith, div-le_self (config.geometry.page - 24) (bits_in config.buckets / 8), short, per) in
         let p = page_at f (kept_page (shape_in first plan) sound.n.marks i) in
-        let shows = index-page plan (model.oldest ring + i) h.first h.bitmaps p small (low-first i h.first h.listed) h.length few (sound.reads.at i lt ∙ h.bytes) in
-        record { first = h.first; bitmaps = h.bitmaps; first_is = shows.first_is; listed = h.listed; at = shows.at; each = h.each }
+        let listed = first-listed i h.holds h.is in
+        let shows = index-page plan (model.oldest ring + i) h.holds.first h.holds.entries p small (low-first i h.holds.first listed) (many i h.holds h.is) few (sound.reads.at i lt ∙ h.bytes) in
+        record {
+          first = h.holds.first;
+          entries = h.holds.entries;
+          first_is = shows.first_is;
+          listed = listed;
+          full = many i h.holds h.is;
+          at = λ j entry e. (shows.at j entry e).bitmap;
+          tell = k.tell (full_pages (take i ring.counts)) h.holds h.is;
+        }
 
     index-here : IndexAt label config f table (shape_in (config.rows.first_block + config.rows.blocks) (plan_of_table label config))
     index-here = record {
       n = sound.n;
       sound = sound.sound;
-      end = end-is plan (page_at f) (shape_in first plan) (rows_shape config) (index_end plan table) (width_in config) table ring sound.n sound.n facts sound.reads refl listings;
+      end = end-is plan (page_at f) (shape_in first plan) (rows_shape config) (index_end plan table) (width_in config) table ring sound.n sound.n facts sound.reads per listings;
       entries = λ rows reads.
-          have-entries plan (page_at f) (shape_in first plan) (rows_shape config) (index_end plan table) (width_in config) table ring sound.n rows facts sound.reads refl listings
+          have-entries plan (page_at f) (shape_in first plan) (rows_shape config) (index_end plan table) (width_in config) table ring sound.n rows facts sound.reads per listings
           reads (let h = plain label config f table is in h.rows.not_negative) refl (λ entries. bitmap-small plan entries bits) (headers label config f table is rows reads bits);
     }
 
@@ -173,11 +194,11 @@ module _ (label : Label) (config : TableConfig) (f : FlashState) (table : Table)
   index-none none ring_none = record {
     n = None;
     sound = of_none (λ place n. IsRingSound (IsIndexForm config) None (page_at f) (ring_shape config place) 0 n) config.index none;
-    end = ap (λ (o : Option RingPlace). end_in config (page_at f) o None) none ∙ sym (ends table.firsts (let h = plain label config f table is in h.index.first_each ∙ ap (λ (o : Option model.Ring). full_pages (counts_in o)) ring_none));
+    end = ap (λ (o : Option RingPlace). end_in config (page_at f) o None) none ∙ sym (ends (firsts table) (let h = parts.facts label config f table is in firsts-length table.index_pages ∙ h.index_each ∙ ap (λ (o : Option model.Ring). full_pages (counts_in o)) ring_none));
     entries = λ rows reads. of_none (λ place n. HaveEntries (page_at f) (ring_shape config place) (rows_shape config) (indexing config n rows)) config.index none;
   }
     where
-      ends : (firsts : List ℕ) → length firsts ≡ 0 → unwrap_or (option_map (λ page. page + entries_per_page (plan_of_table label config)) (last_or None firsts)) 0 ≡ 0
+      ends : (xs : List ℕ) → length xs ≡ 0 → unwrap_or (option_map (λ page. page + entries_per_page (plan_of_table label config)) (last_or None xs)) 0 ≡ 0
       ends [] e = refl
       ends (x ∷ xs) e = absurd (omega (arith, e))
 

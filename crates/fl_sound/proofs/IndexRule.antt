@@ -1,39 +1,41 @@
 -- The rule on the entries of an index holds where its pages are those of a table's index.
-use Rattle.std.proofs.Common.{◌≡◌, ◌⊎◌, inl, inr, ℕ, zero, suc, ◌+◌, ◌%◌, ◌^◌, ◌<◌, ◌≤◌, Bool, true, cond, nat_lt, Option, Some, None, IfSome, List, [], ◌∷◌, length, take, sym, ◌∙◌, ap, subst, arith}
+use Rattle.std.proofs.Common.{◌≡◌, ◌⊎◌, inl, inr, ℕ, zero, suc, ◌+◌, ◌%◌, ◌^◌, ◌<◌, ◌≤◌, Bool, true, cond, nat_lt, Option, Some, None, IfSome, IsTrue, List, [], ◌∷◌, length, take, refl, sym, ◌∙◌, ap, subst, arith}
 use Rattle.std.specs.List.{slice_get, last_or}
 use Rattle.std.specs.Option.{option_map, unwrap_or}
 use Rattle.std.proofs.lemmas.Bool.{cases_lt, lt-ltb, ltb-true}
 use Rattle.std.proofs.lemmas.List.{take_all}
-use Rattle.fl_index.specs.Page.{page_first, entry_at}
+use Rattle.fl_index.specs.Page.{page_first}
 use Rattle.fl_index.specs.Standing.{HasIndex}
-use Rattle.fl_index.proofs.Firsts.{full-append, full-one, full-void, full-below}
-use Rattle.fl_index.proofs.Lists.{below-end}
+use Rattle.fl_model.proofs.FullPages.{full-append, full-one, full-void, full-below}
+use Rattle.fl_index.proofs.Lists.{below-end, firsts-length}
+use Rattle.fl_index.proofs.Showing.{told-some}
 use Rattle.fl_mark.specs.Mark.{state_of_page}
 use Rattle.fl_model.specs.Image.{rows_at}
-use Rattle.fl_model.specs.Layout.{bitmap_of}
+use Rattle.fl_model.specs.Agrees.{TellsAt, TellPages, is_told}
+use Rattle.fl_model.specs.Layout.{IndexEntry, bitmap_of}
 use Rattle.fl_model.specs.Mount.{index_end}
 use Rattle.fl_model.specs.Record.{Plan, entries_per_page}
 use Rattle.fl_model.specs.Ring as model
-use Rattle.fl_model.specs.Table.{Table, Entry, full_pages}
+use Rattle.fl_model.specs.Table.{Table, Entry, firsts, full_pages}
 use Rattle.fl_model.proofs.Lists.{slice_get-some, last_or-push}
 use Rattle.fl_ring.specs.Newest.{commits}
 use Rattle.fl_ring.specs.Ring.{Shape}
-use Rattle.fl_check.specs.Entries.{entries_in, header_bitmap, IsEntry, Lists, first_listed, HaveEntries}
+use Rattle.fl_check.specs.Entries.{entries_in, entry_at, header_bitmap, IsEntry, Lists, first_listed, HaveEntries}
 use Rattle.fl_check.specs.Marks.{kept_page}
 use Rattle.fl_check.specs.Tally.{listed_to}
 use Rattle.fl_check.specs.declared.numbering.Numbering.{Numbering}
 use Rattle.fl_sound.proofs.Lists.{take-none, take-next}
 use Rattle.fl_sound.proofs.RingReads.{Reads}
 
--- an index page lists the data pages from its first one on, with their bitmaps
+-- an index page lists the data pages from its first one on, with entries that tell of them
 pub record ListsPages (plan : Plan) (table : Table) (ring : model.Ring) (width i : ℕ) (page : List ℕ) : Type 0 where
   pub first : ℕ
-  pub bitmaps : List ℕ
+  pub entries : List IndexEntry
   pub first_is : page_first page ≡ first
-  pub listed : slice_get table.firsts (full_pages (take i ring.counts)) ≡ Some first
-  pub at : (j b : ℕ) → slice_get bitmaps j ≡ Some b → entry_at width page j ≡ b % 256 ^ width
-  pub each : (j m : ℕ) → j < entries_per_page plan → first + j ≡ model.oldest table.rows + m → IfSome (slice_get table.rows.counts m) (λ rows. 0 < rows →
-      slice_get bitmaps j ≡ Some (bitmap_of plan (rows_at table m rows)))
+  pub listed : slice_get (firsts table) (full_pages (take i ring.counts)) ≡ Some first
+  pub full : length entries ≡ entries_per_page plan
+  pub at : (j : ℕ) (entry : IndexEntry) → slice_get entries j ≡ Some entry → entry_at width page j ≡ entry.bitmap % 256 ^ width
+  pub tell : TellPages plan table first entries
 
 module _ (plan : Plan) (page : ℕ → List ℕ) (x d : Shape) (at_least width : ℕ) (table : Table) (ring : model.Ring) (index n : Numbering) (facts : HasIndex plan table ring)
     (reads_x : Reads page x 0 ring index) (per : entries_in x.size width ≡ entries_per_page plan)
@@ -46,8 +48,8 @@ module _ (plan : Plan) (page : ℕ → List ℕ) (x d : Shape) (at_least width :
   full-next : (i c : ℕ) → slice_get ring.counts i ≡ Some c → full_pages (take (suc i) ring.counts) ≡ full_pages (take i ring.counts) + full_pages (c ∷ [])
   full-next i c e = ap full_pages (take-next ring.counts i c e) ∙ full-append (take i ring.counts) (c ∷ [])
 
-  listed-at : (i : ℕ) → i ≤ length ring.counts → listed_to (entries_in x.size width) page x index.marks i ≡ ended (take (full_pages (take i ring.counts)) table.firsts)
-  listed-at zero le = sym (ap (λ (l : List ℕ). ended (take (full_pages l) table.firsts)) (take-none ring.counts) ∙ ap ended (take-none table.firsts))
+  listed-at : (i : ℕ) → i ≤ length ring.counts → listed_to (entries_in x.size width) page x index.marks i ≡ ended (take (full_pages (take i ring.counts)) (firsts table))
+  listed-at zero le = sym (ap (λ (l : List ℕ). ended (take (full_pages l) (firsts table))) (take-none ring.counts) ∙ ap ended (take-none (firsts table)))
   listed-at (suc i) le =
       let c = slice_get-some ring.counts i (omega (arith, le)) in
       by_count (listed-at i (omega (arith, le))) c.0 c.1 (cases_lt 0 c.0)
@@ -55,28 +57,28 @@ module _ (plan : Plan) (page : ℕ → List ℕ) (x d : Shape) (at_least width :
       bytes : List ℕ
       bytes = page (kept_page x index.marks i)
 
-      by_count : listed_to (entries_in x.size width) page x index.marks i ≡ ended (take (full_pages (take i ring.counts)) table.firsts) → (c : ℕ) → slice_get ring.counts i ≡ Some c → (0 < c) ⊎ (c ≤ 0)
-          → listed_to (entries_in x.size width) page x index.marks (suc i) ≡ ended (take (full_pages (take (suc i) ring.counts)) table.firsts)
+      by_count : listed_to (entries_in x.size width) page x index.marks i ≡ ended (take (full_pages (take i ring.counts)) (firsts table)) → (c : ℕ) → slice_get ring.counts i ≡ Some c → (0 < c) ⊎ (c ≤ 0)
+          → listed_to (entries_in x.size width) page x index.marks (suc i) ≡ ended (take (full_pages (take (suc i) ring.counts)) (firsts table))
       by_count before_is c e (inl some) =
           let l = listings i c e some in
           let k = full_pages (take i ring.counts) in
           let more : full_pages (take (suc i) ring.counts) ≡ suc (full_pages (take i ring.counts)) = omega (arith, full-next i c e, full-one c some) in
           ap (λ (b : Bool). cond b (page_first bytes + entries_in x.size width) (listed_to (entries_in x.size width) page x index.marks i)) (reads_x.committed i c e ∙ lt-ltb 0 c some)
           ∙ ap (λ (m : ℕ). m + entries_in x.size width) l.first_is
-          ∙ sym (ap (λ (m : ℕ). ended (take m table.firsts)) more ∙ ap ended (take-next table.firsts k l.first l.listed)
-          ∙ ap (λ (o : Option ℕ). unwrap_or (option_map (λ first. first + entries_in x.size width) o) 0) (last_or-push None (take k table.firsts) l.first))
+          ∙ sym (ap (λ (m : ℕ). ended (take m (firsts table))) more ∙ ap ended (take-next (firsts table) k l.first l.listed)
+          ∙ ap (λ (o : Option ℕ). unwrap_or (option_map (λ first. first + entries_in x.size width) o) 0) (last_or-push None (take k (firsts table)) l.first))
       by_count before_is c e (inr none) =
           let same : full_pages (take (suc i) ring.counts) ≡ full_pages (take i ring.counts) = omega (arith, full-next i c e, full-void c none) in
           let z : c ≡ 0 = omega (arith, none) in
           ap (λ (b : Bool). cond b (page_first bytes + entries_in x.size width) (listed_to (entries_in x.size width) page x index.marks i)) (reads_x.committed i c e ∙ ap (nat_lt 0) z)
-          ∙ before_is ∙ ap (λ (m : ℕ). ended (take m table.firsts)) (sym same)
+          ∙ before_is ∙ ap (λ (m : ℕ). ended (take m (firsts table))) (sym same)
 
   pub end-is : listed_to (entries_in x.size width) page x index.marks index.marks.kept ≡ index_end plan table
   end-is =
       ap (listed_to (entries_in x.size width) page x index.marks) reads_x.kept ∙ listed-at (length ring.counts) (omega arith)
-      ∙ ap (λ (l : List ℕ). ended (take (full_pages l) table.firsts)) (take_all (length ring.counts) ring.counts (omega arith))
-      ∙ ap ended (take_all (full_pages ring.counts) table.firsts (omega (arith, facts.first_each)))
-      ∙ ap (λ (k : ℕ). unwrap_or (option_map (λ first. first + k) (last_or None table.firsts)) 0) per
+      ∙ ap (λ (l : List ℕ). ended (take (full_pages l) (firsts table))) (take_all (length ring.counts) ring.counts (omega arith))
+      ∙ ap ended (take_all (full_pages ring.counts) (firsts table) (omega (arith, facts.index_each, firsts-length table.index_pages)))
+      ∙ ap (λ (k : ℕ). unwrap_or (option_map (λ first. first + k) (last_or None (firsts table))) 0) per
 
   -- ---- the entries
 
@@ -117,14 +119,19 @@ module _ (plan : Plan) (page : ℕ → List ℕ) (x d : Shape) (at_least width :
         let b = rows-count m lt_m committed in
         let next = reads_d.next m b.c b.here b.some in
         let number : l.first + j ≡ model.oldest table.rows + m = omega (arith, at, l.first_is, next, reads_d.kept, lt_m, known) in
-        let bitmap = subst (λ (o : Option ℕ). IfSome o (λ rows. 0 < rows → slice_get l.bitmaps j ≡ Some (bitmap_of plan (rows_at table m rows)))) b.here (l.each j m (omega (arith, few, per)) number) b.some in
-        l.at j (bitmap_of plan (rows_at table m b.c)) bitmap ∙ small (rows_at table m b.c) ∙ sym (headers m b.c b.here b.some)
+        let tells = subst (λ (o : Option ℕ). IfSome o (λ count. IsTrue (is_told plan count) → TellsAt plan (rows_at table m count) (slice_get l.entries j))) b.here (l.tell j m (omega (arith, few, per, l.full)) number) (told-some plan b.c b.some) in
+        by_entry l (rows_at table m b.c) (slice_get l.entries j) refl tells ∙ small (rows_at table m b.c) ∙ sym (headers m b.c b.here b.some)
+      where
+        by_entry : (l : ListsPages plan table ring width i (page (kept_page x index.marks i))) (rows : List Entry) (o : Option IndexEntry) → slice_get l.entries j ≡ o → TellsAt plan rows o →
+            entry_at width (page (kept_page x index.marks i)) j ≡ bitmap_of plan rows % 256 ^ width
+        by_entry l rows None e h = absurd h
+        by_entry l rows (Some entry) e h = l.at j entry e ∙ ap (λ (n : ℕ). n % 256 ^ width) h.bitmap
 
     ends : (i : ℕ) → i < index.marks.kept → Lists page x index.marks i → first_listed page x index.marks i + entries_in x.size width ≤ n.next
     ends i lt lists =
         let a = index-count i lt lists in
         let l = listings i a.c a.here a.some in
-        let end = below-end (entries_per_page plan) table.firsts (full_pages (take i ring.counts)) l.first facts.firsts l.listed in
+        let end = below-end (entries_per_page plan) (firsts table) (full_pages (take i ring.counts)) l.first facts.firsts l.listed in
         elim reads_d.least [
           | inl same ↦ omega (arith, end, per, l.first_is, facts.listed, same)
           | inr behind ↦ omega (arith, end, per, l.first_is, begins, behind)

@@ -1,23 +1,23 @@
 -- The rule on the references of rows holds where the pages of variable data hold a table's blobs.
-use Rattle.std.proofs.Common.{◌≡◌, ◌⊎◌, inl, inr, ℕ, zero, suc, ◌+◌, ◌-◌, ◌/◌, ◌%◌, ◌<◌, ◌≤◌, Bool, true, false, cond, ◌&&◌, ◌==◌, Option, Some, None, List, [], ◌∷◌, length, map, take, drop, max, refl, sym, ◌∙◌, ap, subst, arith}
+use Rattle.std.proofs.Common.{◌≡◌, ◌⊎◌, inl, inr, ℕ, zero, suc, ◌+◌, ◌-◌, ◌*◌, ◌/◌, ◌%◌, ◌<◌, ◌≤◌, Bool, true, false, cond, ◌&&◌, ◌==◌, Option, Some, None, List, [], ◌∷◌, length, map, take, drop, max, refl, sym, ◌∙◌, ap, subst, arith}
 use Rattle.std.specs.List.{slice_get, sum}
 use Rattle.std.specs.Option.{option_map, unwrap_or}
 use Rattle.std.specs.Prelude.{nat_le}
-use Rattle.std.proofs.lemmas.Bool.{ltb-true, le-leb, lt-leb, ne_eqb}
+use Rattle.std.proofs.lemmas.Bool.{and_parts, eqb-true, leb-true, ltb-true, le-leb, lt-leb, lt-ltb, ne_eqb}
 use Rattle.fl_base.specs.declared.types.BlobRef.{BlobRef}
 use Rattle.fl_mark.specs.Mark.{state_of_page}
-use Rattle.fl_model.specs.Image.{rows_at, HoldsBlob}
+use Rattle.fl_model.specs.Agrees.{BlobsOf, HoldsBlob, content_at, reach_of}
+use Rattle.fl_model.specs.Image.{rows_at}
+use Rattle.fl_model.specs.Content.{ContentPage, content_page}
 use Rattle.fl_model.specs.Query.{page_stands}
 use Rattle.fl_model.specs.Record.{Plan, RowLayout, content_per_page}
 use Rattle.fl_model.specs.Ring as model
-use Rattle.fl_model.specs.Row.{Row, stored_row, le}
-use Rattle.fl_model.specs.Row as bytes
-use Rattle.fl_model.specs.Table.{Table, Entry}
-use Rattle.fl_model.proofs.Lists.{slice_get-drop, slice_get-front, slice_get-some, slice_get-short}
+use Rattle.fl_model.specs.Row.{Row, stored_row}
+use Rattle.fl_model.specs.Table.{Table, Entry, full_pages}
+use Rattle.fl_model.proofs.Lists.{slice_get-drop, slice_get-front, slice_get-some}
 use Rattle.fl_page.specs.Header.{page_count}
 use Rattle.fl_ring.specs.Newest.{commits, page_back}
 use Rattle.fl_ring.specs.Ring.{Shape, place}
-use Rattle.fl_schema.proofs.Numbers.{number_of-le}
 use Rattle.fl_check.specs.Marks.{kept_page}
 use Rattle.fl_check.specs.References.{numbered, IsThere, last_part, HoldsPart, IsWhole, Leads, BlobLeads, RowsLead, PageLeads}
 use Rattle.fl_check.specs.Tally.{reference_end, blobs_end}
@@ -78,11 +78,14 @@ row-at (x ∷ entries) (suc i) entry e = row-at entries i entry e
 pub record HasBlobs (plan : Plan) (table : Table) (ring : model.Ring) (at : ℕ → List ℕ) : Type 0 where
   pub known : length ring.counts ≤ ring.next
   pub places : (i : ℕ) (entry : Entry) (blob : List ℕ) → slice_get table.entries i ≡ Some entry → entry.kept.blob ≡ Some blob → 0 < length blob →
-      (entry.page < model.oldest ring) ⊎ ((model.oldest ring ≤ entry.page) × (slice_get ring.counts (entry.page - model.oldest ring) ≡ Some 1))
-  pub holds : (i : ℕ) (entry : Entry) (blob : List ℕ) → slice_get table.entries i ≡ Some entry → entry.kept.blob ≡ Some blob → 0 < length blob →
-      page_stands ring entry.page ≡ true → HoldsBlob plan ring at entry blob
+      (entry.page < model.oldest ring)
+      ⊎ ((model.oldest ring ≤ entry.page) × (slice_get ring.counts (entry.page - model.oldest ring) ≡ Some 1) × (entry.page + reach_of plan entry blob < ring.next))
+  pub holds : BlobsOf plan table ring
+  -- each kept page says how many bytes of its content are used
+  pub used : (number : ℕ) (content : ContentPage) → model.oldest ring ≤ number → slice_get ring.counts (number - model.oldest ring) ≡ Some 1 →
+      slice_get table.var_pages (full_pages (take (number - model.oldest ring) ring.counts)) ≡ Some content → page_count (at number) ≡ content.used
 
-module _ (plan : Plan) (short : plan.geometry.page ≤ 4096) (page : ℕ → List ℕ) (first blocks per_block least : ℕ) (table : Table) (ring : model.Ring) (v : Numbering) where
+module _ (plan : Plan) (page : ℕ → List ℕ) (first blocks per_block least : ℕ) (table : Table) (ring : model.Ring) (v : Numbering) where
   abbrev r : Shape
   r = record { first = first; blocks = blocks; per_block = per_block; size = plan.geometry.page }
 
@@ -103,10 +106,27 @@ module _ (plan : Plan) (short : plan.geometry.page ≤ 4096) (page : ℕ → Lis
         reads.back (v.next - number) (omega (arith, same, low)) (omega (arith, same, high))
         ∙ ap (λ (k : ℕ). page (place r k)) (omega (arith, same, low))
 
-    count-is : (number used : ℕ) → v.next ≡ ring.next → number < ring.next → ring.next ≤ number + length ring.counts → used ≤ content_per_page plan
-        → take 2 (drop 4 (page (place r number))) ≡ le 2 used → page_count (numbered page r v number) ≡ used
-    count-is number used same low high few e =
-        ap page_count (numbered-is number same low high) ∙ ap bytes.number_of e ∙ number_of-le 2 used (omega (arith, few, short))
+    -- a page before the next one that stands is kept
+    stood : (number : ℕ) → number < ring.next → page_stands ring number ≡ true → (model.oldest ring ≤ number) × (slice_get ring.counts (number - model.oldest ring) ≡ Some 1)
+    stood number low h =
+        let b = and_parts (nat_le (model.oldest ring) number) (unwrap_or (option_map (λ count. count == 1) (slice_get ring.counts (number - model.oldest ring))) false)
+        (sym (ap (λ (b : Bool). cond b true (nat_le (model.oldest ring) number && unwrap_or (option_map (λ count. count == 1) (slice_get ring.counts (number - model.oldest ring))) false)) (lt-leb ring.next number low)) ∙ h) in
+        (leb-true (model.oldest ring) number b.0, by_count (slice_get ring.counts (number - model.oldest ring)) b.1)
+      where
+        by_count : (o : Option ℕ) → unwrap_or (option_map (λ count. count == 1) o) false ≡ true → o ≡ Some 1
+        by_count None k = cc
+        by_count (Some count) k = ap (λ (n : ℕ). Some n) (eqb-true count 1 k)
+
+    -- .. and has its content
+    content-there : (number : ℕ) (content : ContentPage) → number < ring.next → content_at plan table ring number ≡ Some content →
+        (page_stands ring number ≡ true) × (slice_get table.var_pages (full_pages (take (number - model.oldest ring) ring.counts)) ≡ Some content)
+    content-there number content low e =
+        by_test (page_stands ring number) (sym (ap (λ (b : Bool). cond b (cond (page_stands ring number) (slice_get table.var_pages (full_pages (take (number - model.oldest ring) ring.counts))) None) (Some (content_page plan (take (content_per_page plan) (drop ((number - ring.next) * content_per_page plan) table.buffered))))) (lt-ltb number ring.next low)) ∙ e)
+      where
+        by_test : (b : Bool) → cond b (slice_get table.var_pages (full_pages (take (number - model.oldest ring) ring.counts))) None ≡ Some content →
+            (b ≡ true) × (slice_get table.var_pages (full_pages (take (number - model.oldest ring) ring.counts)) ≡ Some content)
+        by_test true k = (refl, k)
+        by_test false k = cc
 
     module _ (m : ℕ) (entry : Entry) (blob : List ℕ) (here : slice_get table.entries m ≡ Some entry) (blob_is : entry.kept.blob ≡ Some blob) (some : 0 < length blob) where
       abbrev at : BlobRef
@@ -119,7 +139,7 @@ module _ (plan : Plan) (short : plan.geometry.page ≤ 4096) (page : ℕ → Lis
       sealed = elim reads.least [
         | inl same ↦ elim (blobs.places m entry blob here blob_is some) [
           | inl gone ↦ omega (arith, gone, same)
-          | inr kept ↦ let lt = slice_get-short ring.counts (entry.page - model.oldest ring) 1 kept.1 in omega (arith, kept.0, lt, same, blobs.known)
+          | inr kept ↦ omega (arith, kept.2, same)
         ]
         | inr behind ↦
             let end = ends-behind 0 (map stored_row table.entries) m (stored_row entry) (row-at table.entries m entry here) in
@@ -152,15 +172,29 @@ module _ (plan : Plan) (short : plan.geometry.page ≤ 4096) (page : ℕ → Lis
             ∙ ap (λ (b : Bool). b && unwrap_or (option_map (λ count. count == 1) (slice_get ring.counts (entry.page - model.oldest ring))) false) (le-leb (model.oldest ring) entry.page not-gone)
             ∙ ap (λ (o : Option ℕ). unwrap_or (option_map (λ count. count == 1) o) false) count-there
 
-        h : HoldsBlob plan ring (λ number. page (place r number)) entry blob
+        h : HoldsBlob plan table ring entry blob
         h = blobs.holds m entry blob here blob_is some stands
-
-        -- the pages that it needs are kept
-        part-low : (j : ℕ) → j ≤ last → entry.page + j < ring.next
-        part-low j le = let lt = slice_get-short ring.counts (entry.page + j - model.oldest ring) 1 (h.all_kept j le) in let low = not-gone in omega (arith, lt, low, blobs.known)
 
         part-high : (j : ℕ) → ring.next ≤ entry.page + j + length ring.counts
         part-high j = let low = not-gone in omega (arith, low)
+
+        -- the pages that it needs are kept
+        part-low : (j : ℕ) → j ≤ last → entry.page + j < ring.next
+        part-low j le = elim (blobs.places m entry blob here blob_is some) [
+          | inl gone ↦ absurd (let low = not-gone in omega (arith, gone, low))
+          | inr kept ↦ omega (arith, kept.2, le)
+        ]
+
+        part-content : (j : ℕ) → j ≤ last → (page_stands ring (entry.page + j) ≡ true) × (slice_get table.var_pages (full_pages (take (entry.page + j - model.oldest ring) ring.counts)) ≡ Some (h.pages j))
+        part-content j le = content-there (entry.page + j) (h.pages j) (part-low j le) (h.there j le)
+
+        part-kept : (j : ℕ) → j ≤ last → (model.oldest ring ≤ entry.page + j) × (slice_get ring.counts (entry.page + j - model.oldest ring) ≡ Some 1)
+        part-kept j le = stood (entry.page + j) (part-low j le) (part-content j le).0
+
+        part-used : (j : ℕ) → j ≤ last → page_count (numbered page r v (entry.page + j)) ≡ (h.pages j).used
+        part-used j le =
+            ap page_count (numbered-is (entry.page + j) same (part-low j le) (part-high j))
+            ∙ blobs.used (entry.page + j) (h.pages j) (part-kept j le).0 (part-kept j le).1 (part-content j le).1
 
         part-there : (j : ℕ) → j ≤ last → IsThere page r v (entry.page + j)
         part-there j le =
@@ -171,21 +205,21 @@ module _ (plan : Plan) (short : plan.geometry.page ≤ 4096) (page : ℕ → Lis
             record {
               sealed = omega (arith, low, k);
               kept = omega (arith, high, k, reads.kept);
-              committed = ap (λ (b : ℕ). commits (state_of_page (page (page_back r v.marks.at b)))) (sym e) ∙ reads.committed (entry.page + j - model.oldest ring) 1 (h.all_kept j le);
+              committed = ap (λ (b : ℕ). commits (state_of_page (page (page_back r v.marks.at b)))) (sym e) ∙ reads.committed (entry.page + j - model.oldest ring) 1 (part-kept j le).1;
             }
 
         part : (j : ℕ) → j < last_part r at + 1 → HoldsPart page r v at j
         part j lt = record {
           there = part-there j (omega (arith, lt));
-          full = λ before. count-is (entry.page + j) (content_per_page plan) same (part-low j (omega (arith, lt))) (part-high j) (omega arith) (h.full j before);
+          full = λ before. part-used j (omega (arith, lt)) ∙ h.full j before;
           ends = λ e.
-              let count = count-is (entry.page + j) h.last same (part-low j (omega (arith, lt))) (part-high j) h.last_most (ap (λ (k : ℕ). take 2 (drop 4 (page (place r (entry.page + k))))) e ∙ h.last_head) in
-              subst (λ (k : ℕ). (entry.offset + length blob - 1) % content_per_page plan < k) (sym count) h.ends;
+              subst (λ (k : ℕ). (entry.offset + length blob - 1) % content_per_page plan < k) (sym (part-used j (omega (arith, lt)) ∙ ap (λ (k : ℕ). (h.pages k).used) e)) h.ends;
         }
 
         whole : IsWhole page r v at
         whole =
-            let count = count-is entry.page h.used same (let k = same in omega (arith, k, there.sealed)) (let low = not-gone in omega (arith, low)) h.most h.head in
+            let first : entry.page + 0 ≡ entry.page = omega arith in
+            let count = sym (ap (λ (k : ℕ). page_count (numbered page r v k)) first) ∙ part-used 0 (omega arith) in
             record { begins = subst (λ (k : ℕ). entry.offset < k) (sym count) h.within; parts = part }
 
       leads : Leads page r v at

@@ -1,21 +1,23 @@
 -- The rules of the ring of variable data hold where a flash stands for a table.
-use Rattle.std.proofs.Common.{◌≡◌, ◌⊎◌, inl, inr, ℕ, suc, ◌+◌, ◌-◌, ◌*◌, ◌^◌, ◌<◌, ◌≤◌, Bool, true, false, cond, ◌==◌, nat_lt, Option, Some, None, IfSome, is_some, option_map, List, [], ◌∷◌, ◌++◌, length, map, max, take, drop, replicate, get_or, length-append, refl, sym, ◌∙◌, ap, subst, arith}
+use Rattle.std.proofs.Common.{◌≡◌, ◌⊎◌, inl, inr, ℕ, suc, ◌+◌, ◌-◌, ◌*◌, ◌^◌, ◌<◌, ◌≤◌, Bool, true, false, cond, ◌==◌, nat_lt, Option, Some, None, IfSome, is_some, option_map, List, [], ◌∷◌, ◌++◌, length, map, max, take, get_or, length-append, refl, sym, ◌∙◌, ap, subst, arith}
 use Rattle.std.specs.List.{slice_get, list_any, AllByRecursion}
 use Rattle.std.proofs.lemmas.Bool.{cases_Bool, lt-ltb}
-use Rattle.std.proofs.lemmas.List.{take-append-le, take-take, take_all}
+use Rattle.std.proofs.lemmas.List.{take_all}
 use Rattle.std.proofs.Math.Nat.{mul-le-mul_right}
 use Rattle.fl_base.specs.declared.types.RingPlace.{RingPlace}
 use Rattle.fl_flash.specs.Flash.{FlashState, page_at}
-use Rattle.fl_model.specs.Facts.{is_some_ring, counts_in}
-use Rattle.fl_model.specs.Image.{IsRingImage, HoldsContent, HoldsBlob}
-use Rattle.fl_model.specs.Layout.{committed}
+use Rattle.fl_model.specs.Facts.{IsContent, is_some_ring, counts_in}
+use Rattle.fl_model.specs.Agrees.{BlobsOf, reach_of}
+use Rattle.fl_model.specs.Image.{IsRingImage, HoldsContent}
+use Rattle.fl_model.specs.Layout.{content_body}
 use Rattle.fl_model.specs.Mount.{index_end}
-use Rattle.fl_model.specs.Query.{page_stands}
 use Rattle.fl_model.specs.Record.{Plan}
 use Rattle.fl_model.specs.Ring as model
 use Rattle.fl_model.specs.Row.{Row, le, stored_row}
-use Rattle.fl_model.specs.Row as bytes
-use Rattle.fl_model.specs.Table.{Table, Entry, VarRing, shape_of, written}
+use Rattle.fl_model.specs.Content.{ContentPage}
+use Rattle.fl_model.specs.Table.{Table, Entry, VarRing, shape_of, full_pages, written}
+use Rattle.fl_model.proofs.Lists.{each-at}
+use Rattle.fl_page.specs.Header.{page_count}
 use Rattle.fl_plan.specs.Limits.{IsRingSize}
 use Rattle.fl_plan.specs.Plan.{Label, blocks_in, plan_of_table}
 use Rattle.fl_plan.specs.declared.table_config.TableConfig.{TableConfig}
@@ -23,7 +25,7 @@ use Rattle.fl_ring.specs.Head.{one}
 use Rattle.fl_ring.specs.Mounting.{IsGood}
 use Rattle.fl_ring.specs.Newest.{number_of}
 use Rattle.fl_ring.specs.Numbers.{renumbered}
-use Rattle.fl_ring.specs.Ring.{Shape, RingState, IsShape, HoldsKept, count, oldest, place}
+use Rattle.fl_ring.specs.Ring.{Shape, RingState, IsShape, count, oldest, place}
 use Rattle.fl_ring.proofs.Counts.{counts_length}
 use Rattle.fl_ring.proofs.GoodNumbers.{renumbered_some, renumbered_none}
 use Rattle.fl_ring.proofs.Images.{bytes_of}
@@ -31,13 +33,15 @@ use Rattle.fl_schema.proofs.Numbers.{number_of-le}
 use Rattle.fl_schema.proofs.References.{field_4}
 use Rattle.fl_table.proofs.Plain.{least-below}
 use Rattle.fl_var.specs.Standing.{IsVarRing}
-use Rattle.fl_var.proofs.States.{once, HasBody, state_from, IsStateOf, state-is}
+use Rattle.fl_var.proofs.Bodies.{once, bodies-at}
+use Rattle.fl_var.proofs.States.{state_of, IsStateOf, state-is}
 use Rattle.fl_check.specs.Claims.{AllBelow}
 use Rattle.fl_check.specs.References.{PageLeads}
 use Rattle.fl_check.specs.RingRules.{IsRingSound}
 use Rattle.fl_check.specs.Tally.{reference_end, blobs_end}
 use Rattle.fl_check.specs.Whole.{OfRing, shape_in as ring_shape, rows_shape, layout_in, IsVarForm}
 use Rattle.fl_check.specs.declared.numbering.Numbering.{Numbering}
+use Rattle.fl_check.proofs.ContentPages.{content_used}
 use Rattle.fl_check.proofs.KeptPages as pages
 use Rattle.fl_check.proofs.Wholes.{of_ring, of_none}
 use Rattle.fl_sound.proofs.DataPart.{StandsOn, facts, idle, rows-of}
@@ -45,20 +49,10 @@ use Rattle.fl_sound.proofs.ReferenceRule.{entry-of, HasBlobs, pages-lead}
 use Rattle.fl_sound.proofs.RingReads.{IsOf, Reads, any_at}
 use Rattle.fl_sound.proofs.RingSound.{SoundRing, AreFormed, sizes, counts-some, sound-ring}
 
--- a body begins with its number
-body-number : (plan : Plan) (n : ℕ) (body : List ℕ) → HasBody plan n body → 8 ≤ length body → n < 4294967296 → number_of body ≡ n
-body-number plan n body has long small =
-    let h = has (record { counts = []; next = n; torn = false; dirty = false }) 0 (omega arith) in
-    let front : take 8 (committed body) ≡ take 8 body = take-append-le 8 (body ++ replicate 4 0) (replicate 4 255) (omega (arith, long, length-append body (replicate 4 0))) ∙ take-append-le 8 body (replicate 4 0) long in
-    let four : take 4 body ≡ le 4 (n - 0 + 0) = sym (take-take 4 8 body (omega arith)) ∙ (ap (take 4) (sym front) ∙ ap (take 4) h.head) in
-    let number : n - 0 + 0 ≡ n = omega arith in
-    field_4 body 0 0 0 4 refl refl (omega (arith, long))
-    ∙ (ap (λ (l : List ℕ). bytes.number_of (take 4 l)) (drop_none (drop 0 body) ∙ drop_none body)
-    ∙ (ap bytes.number_of four ∙ (number_of-le 4 (n - 0 + 0) (omega (arith, small)) ∙ number)))
-  where
-    drop_none : (xs : List ℕ) → drop 0 xs ≡ xs
-    drop_none [] = refl
-    drop_none (x ∷ xs) = refl
+-- the body of a page begins with its number
+body-number : (n : ℕ) (content : ContentPage) → n < 4294967296 → number_of (content_body n content) ≡ n
+body-number n content small =
+    field_4 (content_body n content) 0 0 0 4 refl refl (omega (arith, length-append (le 4 n ++ le 2 content.used ++ le 2 0) content.bytes)) ∙ number_of-le 4 n (omega (arith, small))
 
 one-is : (b : Bool) → one b ≡ cond b 1 0
 one-is true = refl
@@ -125,21 +119,23 @@ module _ (label : Label) (config : TableConfig) (f : FlashState) (table : Table)
     number : ring.next + (cond ring.torn 1 0) ≤ 4294967292
     number = let h = facts label config f table is in in_ring (λ (o : Option model.Ring). IfSome o (λ x. x.next + (cond x.torn 1 0) ≤ 4294967292)) (h.numbers VarRing)
 
-    pages-are : IsVarRing plan ring (bytes_of r (page_at f))
+    pages-are : IsVarRing plan table.var_pages ring (bytes_of r (page_at f))
     pages-are =
         let h = facts label config f table is in
         record {
           facts = in_ring (λ (o : Option model.Ring). IfSome o (model.IsRing (shape_of plan VarRing))) h.var;
           counts = subst (λ (o : Option model.Ring). AllByRecursion (λ c. (c ≡ 0) ⊎ (c ≡ 1)) (counts_in o)) ring_is h.var_counts;
           number = let k = number in omega (arith, k);
-          image = in_ring (λ (o : Option model.Ring). IfSome o (λ x. IsRingImage (shape_of plan VarRing) x (bytes_of r (page_at f)) (HoldsContent plan x))) is.rests.pages.var;
+          each = subst (λ (o : Option model.Ring). length table.var_pages ≡ full_pages (counts_in o)) ring_is h.var_each;
+          fit = h.var_fit;
+          image = in_ring (λ (o : Option model.Ring). IfSome o (λ x. IsRingImage (shape_of plan VarRing) x (bytes_of r (page_at f)) (HoldsContent table x))) is.rests.pages.var;
         }
 
     abbrev s : RingState
-    s = state_from (bytes_of r (page_at f)) config.geometry.page ring
+    s = state_of ring table.var_pages
 
-    state : IsStateOf r plan (page_at f) size shape refl ring s
-    state = state-is r plan (page_at f) size shape refl ring pages-are
+    state : IsStateOf r plan (page_at f) size shape refl ring table.var_pages s
+    state = state-is r plan (page_at f) size shape refl ring table.var_pages pages-are
 
     is-of : IsOf s ring
     is-of = record {
@@ -150,10 +146,12 @@ module _ (label : Label) (config : TableConfig) (f : FlashState) (table : Table)
 
     -- where the blobs of the table begin
     places : (i : ℕ) (entry : Entry) (blob : List ℕ) → slice_get table.entries i ≡ Some entry → entry.kept.blob ≡ Some blob → 0 < length blob →
-        (entry.page < model.oldest ring) ⊎ ((model.oldest ring ≤ entry.page) × (slice_get ring.counts (entry.page - model.oldest ring) ≡ Some 1))
+        (entry.page < model.oldest ring)
+        ⊎ ((model.oldest ring ≤ entry.page) × (slice_get ring.counts (entry.page - model.oldest ring) ≡ Some 1) × (entry.page + reach_of plan entry blob < ring.next))
     places i entry blob e k some =
         let h = facts label config f table is in
-        in_ring (λ (o : Option model.Ring). IfSome o (λ x. (entry.page < model.oldest x) ⊎ ((model.oldest x ≤ entry.page) × (slice_get x.counts (entry.page - model.oldest x) ≡ Some 1))))
+        in_ring (λ (o : Option model.Ring). IfSome o (λ x. (entry.page < model.oldest x)
+        ⊎ ((model.oldest x ≤ entry.page) × (slice_get x.counts (entry.page - model.oldest x) ≡ Some 1) × (entry.page + reach_of plan entry blob < x.next))))
         (h.blobs i entry blob (ap (λ (l : List Entry). slice_get l i) all-written ∙ e) k some)
 
     -- where no page is committed, all of them were given up
@@ -207,22 +205,35 @@ module _ (label : Label) (config : TableConfig) (f : FlashState) (table : Table)
         by_page : (i : ℕ) → i < count s → (x : Option (List ℕ)) → get_or s.kept i None ≡ x → IfSome x (λ body. number_of body ≡ oldest s + i)
         by_page i lt None e = tt
         by_page i lt (Some body) e =
-            let held = subst (λ (x : Option (List ℕ)). HoldsKept r x (page_at f (place r (oldest s + i)))) e (state.on.kept i lt) in
-            body-number plan (oldest s + i) body (state.bodies i body lt e) (omega (arith, held.1, is.fits.limits.geometry.page_low)) (omega (arith, lt, state.on.ring.not_negative, pages-are.number))
+            let at = bodies-at plan (oldest s) s.kept table.var_pages i body state.bodies e in
+            ap number_of at.body_is ∙ body-number (oldest s + i) at.page (omega (arith, lt, state.on.ring.not_negative, pages-are.number))
 
     forms : AreFormed IsVarForm (page_at f) r ring
-    forms i c e some = pages.good.content plan ring i c (page_at f (place r (model.oldest ring + i))) (size (model.oldest ring + i)) (pages-are.image.kept i c e some)
+    forms i c e some = pages.good.content plan table ring i c (page_at f (place r (model.oldest ring + i))) (facts label config f table is) (pages-are.image.kept i c e some)
 
     sound : SoundRing IsVarForm None (page_at f) r end ring
     sound = sound-ring IsVarForm None f r end s shape good ring is-of forms (λ n reads. tt)
+
+    used : (number : ℕ) (content : ContentPage) → model.oldest ring ≤ number → slice_get ring.counts (number - model.oldest ring) ≡ Some 1
+        → slice_get table.var_pages (full_pages (take (number - model.oldest ring) ring.counts)) ≡ Some content → page_count (page_at f (place r number)) ≡ content.used
+    used number content low e k =
+        let there : model.oldest ring + (number - model.oldest ring) ≡ number = omega (arith, low) in
+        let h = pages-are.image.kept (number - model.oldest ring) 1 e (omega arith) in
+        let same : h.holds ≡ content = some_same (sym h.is ∙ k) in
+        let fit = each-at (IsContent plan) table.var_pages (full_pages (take (number - model.oldest ring) ring.counts)) h.holds pages-are.fit h.is in
+        let page = page_at f (place r (model.oldest ring + (number - model.oldest ring))) in
+        let count = content_used page (model.oldest ring + (number - model.oldest ring)) plan h.holds fit h.bytes (omega (arith, size (model.oldest ring + (number - model.oldest ring)), is.fits.limits.geometry.page_high)) in
+        sym (ap (λ (n : ℕ). page_count (page_at f (place r n))) there) ∙ count ∙ ap (λ (c : ContentPage). c.used) same
+      where
+        some_same : {a b : ContentPage} → ◌≡◌ {A = Option ContentPage} (Some a) (Some b) → a ≡ b
+        some_same q = cc
 
     blobs : HasBlobs plan table ring (λ number. page_at f (place r number))
     blobs = record {
       known = pages-are.facts.not_negative;
       places = places;
-      holds = λ i entry blob e k some here.
-          in_ring (λ (o : Option model.Ring). IfSome o (λ x. (i : ℕ) (entry : Entry) (blob : List ℕ) → slice_get table.entries i ≡ Some entry → entry.kept.blob ≡ Some blob → 0 < length blob →
-          page_stands x entry.page ≡ true → HoldsBlob plan x (λ number. page_at f (place r number)) entry blob)) is.rests.pages.blobs i entry blob e k some here;
+      holds = let h = facts label config f table is in in_ring (λ (o : Option model.Ring). IfSome o (BlobsOf plan table)) h.agrees.blobs;
+      used = used;
     }
 
     var-here : VarAt label config f table r
@@ -230,7 +241,7 @@ module _ (label : Label) (config : TableConfig) (f : FlashState) (table : Table)
       n = sound.n;
       sound = sound.sound;
       leads = λ rows reads.
-          pages-lead plan is.fits.limits.geometry.page_high (page_at f) (first * config.geometry.block) (blocks_in config.var) config.geometry.block end table ring sound.n sound.reads blobs refl
+          pages-lead plan (page_at f) (first * config.geometry.block) (blocks_in config.var) config.geometry.block end table ring sound.n sound.reads blobs refl
           (layout_in config) (rows_shape config) (index_end plan table) rows reads (rows-of label config f table is rows reads);
     }
 

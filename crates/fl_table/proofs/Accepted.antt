@@ -4,7 +4,7 @@ use Rattle.std.proofs.lemmas.Bool.{ltb-false, leb-false, eqb-true}
 use Rattle.std.specs.List.{last_or}
 use Rattle.std.specs.Option.{option_map, unwrap_or}
 use Rattle.fl_model.specs.Record.{Record, Plan, has_var, key_limit, first_misfit}
-use Rattle.fl_model.specs.Table.{Table, Entry, blob_len, refusal_of, Refusal, BadKey, BadColumns, BadValue, BadBlob, Spent, first_of as or_else, refuse_if, key_refusal, value_refusal, blob_refusal, is_spent, spent_from, last_entry}
+use Rattle.fl_model.specs.Table.{Table, Entry, blob_len, refusal_of, Refusal, BadKey, BadColumns, BadValue, BadBlob, Spent, first_of as or_else, refuse_if, key_refusal, value_refusal, blob_refusal, is_spent, is_rows_spent, is_ring_spent, spent_from, last_entry}
 
 none_of : {X : Type 0} (x : X) → None ≡ Some x → ⊥
 none_of x e = cc
@@ -42,7 +42,8 @@ accepted plan table item h =
           (not_refused (is_some item.blob && (not (has_var plan) || nat_lt (cond (has_var plan) plan.blob_limit 0) (blob_len item))) (BadBlob (cond (has_var plan) plan.blob_limit 0)) d.0));
       left =
           let n = or_left (nat_le spent_from table.rows.next) (unwrap_or (option_map (λ ring. nat_le spent_from ring.next) table.index) false)
-          (or_left (nat_le spent_from table.rows.next || unwrap_or (option_map (λ ring. nat_le spent_from ring.next) table.index) false) (unwrap_or (option_map (λ ring. nat_le spent_from ring.next) table.var) false) (not_refused (is_spent table) Spent d.1)) in
+          (or_left (nat_le spent_from table.rows.next || unwrap_or (option_map (λ ring. nat_le spent_from ring.next) table.index) false) (unwrap_or (option_map (λ ring. nat_le spent_from ring.next) table.var) false)
+          (or_left (is_rows_spent table || is_ring_spent table.var) (is_ring_spent table.log) (not_refused (is_spent table) Spent d.1))) in
           omega (arith, leb-false spent_from table.rows.next n);
     }
   where

@@ -2,17 +2,17 @@
 use Rattle.std.proofs.Common.{◌≡◌, ℕ, ◌+◌, ◌-◌, ◌^◌, ◌<◌, ◌≤◌, ◌⊎◌, inl, inr, cond, Option, Some, None, IfSome, List, [], ◌∷◌, length, refl, sym, subst, arith}
 use Rattle.std.specs.Prelude.{option_map}
 use Rattle.std.specs.List.{slice_get}
+use Rattle.fl_model.specs.Agrees.{reach_of}
 use Rattle.fl_model.specs.Facts.{FitsPlan, BlobFits}
-use Rattle.fl_model.specs.Record.{Plan, row_layout, content_per_page}
+use Rattle.fl_model.specs.Record.{Plan, row_layout}
 use Rattle.fl_model.specs.Ring.{Ring, IsRing, oldest}
 use Rattle.fl_model.specs.Row.{Row, IsStorable, stored_row}
 use Rattle.fl_model.specs.Table.{Table, Entry, VarRing, shape_of, written}
-use Rattle.fl_model.proofs.Lists.{slice_get-short}
 use Rattle.fl_table.proofs.BlobTables.{IsBlobbed}
 
 -- the row of a record whose blob begins on a page with a number
-pub stored-row : (plan : Plan) (entry : Entry) → FitsPlan plan entry → plan.blob_limit ≤ 1500 → content_per_page plan < 65535 → ((blob : List ℕ) → entry.kept.blob ≡ Some blob → 0 < length blob → entry.page + 1 < 2 ^ 32) → IsStorable (row_layout plan) (stored_row entry)
-stored-row plan entry h limit wide numbered = by_blob entry.kept.blob refl h.blob
+pub stored-row : (plan : Plan) (entry : Entry) → FitsPlan plan entry → ((blob : List ℕ) → entry.kept.blob ≡ Some blob → 0 < length blob → entry.page + 1 < 2 ^ 32) → IsStorable (row_layout plan) (stored_row entry)
+stored-row plan entry h numbered = by_blob entry.kept.blob refl h.blob
   where
     row_of_blob : (o : Option (List ℕ)) → Row
     row_of_blob o = record { key = entry.kept.key; values = entry.kept.values; blob = option_map (λ bytes. record { page = entry.page; offset = entry.offset; length = length bytes }) o }
@@ -21,23 +21,23 @@ stored-row plan entry h limit wide numbered = by_blob entry.kept.blob refl h.blo
     by_blob None e b = subst (λ (o : Option (List ℕ)). IsStorable (row_layout plan) (row_of_blob o)) (sym e)
         (record { fits = record { key = h.key; as_many = h.as_many; values = h.values; blob = tt }; bytes = tt })
     by_blob (Some bytes) e b =
-        let page : entry.page < 2 ^ 32 = by_length bytes e b.3 in
+        let page = by_length bytes e b.3 in
         subst (λ (o : Option (List ℕ)). IsStorable (row_layout plan) (row_of_blob o)) (sym e)
         (record {
-          fits = record { key = h.key; as_many = h.as_many; values = h.values; blob = (b.0, λ at offset len. omega (arith, len, b.1, limit)) };
-          bytes = (page, omega (arith, b.2, wide), omega (arith, b.1, limit));
+          fits = record { key = h.key; as_many = h.as_many; values = h.values; blob = (b.0, page.1) };
+          bytes = (page.0, b.2, b.1);
         })
       where
-        by_length : (xs : List ℕ) → entry.kept.blob ≡ Some xs → (length xs ≡ 0 → (entry.page ≡ 0) × (entry.offset ≡ 0)) → entry.page < 2 ^ 32
-        by_length [] e none = omega (arith, (none refl).0)
-        by_length (x ∷ xs) e none = let k = numbered (x ∷ xs) e (omega arith) in omega (arith, k)
+        by_length : (xs : List ℕ) → entry.kept.blob ≡ Some xs → (length xs ≡ 0 → (entry.page ≡ 0) × (entry.offset ≡ 0)) → (entry.page < 2 ^ 32) × (entry.page ≡ 4294967295 → entry.offset ≡ 65535 → length xs ≡ 4294967295 → ⊥)
+        by_length [] e none = (omega (arith, (none refl).0), λ page offset len. omega (arith, len))
+        by_length (x ∷ xs) e none = let k = numbered (x ∷ xs) e (omega arith) in (omega (arith, k), λ page offset len. omega (arith, k, page))
 
 -- the blobs of written records do
 pub written-numbered : (plan : Plan) (table : Table) → IsBlobbed plan table → (i : ℕ) (entry : Entry) (blob : List ℕ) → slice_get (written table) i ≡ Some entry → entry.kept.blob ≡ Some blob → 0 < length blob → IfSome table.var (λ ring. entry.page + 1 < 2 ^ 32)
 written-numbered plan table h i entry blob e k some = by_ring table.var h.ring h.number (h.blobs i entry blob e k some)
   where
     by_ring : (o : Option Ring) → IfSome o (IsRing (shape_of plan VarRing)) → IfSome o (λ ring. ring.next + (cond ring.torn 1 0) ≤ 4294967292) →
-        IfSome o (λ ring. (entry.page < oldest ring) ⊎ ((oldest ring ≤ entry.page) × (slice_get ring.counts (entry.page - oldest ring) ≡ Some 1))) → IfSome o (λ ring. entry.page + 1 < 2 ^ 32)
+        IfSome o (λ ring. (entry.page < oldest ring) ⊎ ((oldest ring ≤ entry.page) × (slice_get ring.counts (entry.page - oldest ring) ≡ Some 1) × (entry.page + reach_of plan entry blob < ring.next))) → IfSome o (λ ring. entry.page + 1 < 2 ^ 32)
     by_ring None is number kept = tt
     by_ring (Some ring) is number (inl lt) = omega (arith, lt, number)
-    by_ring (Some ring) is number (inr h) = let lt = slice_get-short ring.counts (entry.page - oldest ring) 1 h.1 in omega (arith, lt, h.0, number, is.not_negative)
+    by_ring (Some ring) is number (inr h) = omega (arith, h.2, number)

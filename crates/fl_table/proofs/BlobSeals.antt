@@ -2,27 +2,30 @@
 use Rattle.std.proofs.Common.{◌≡◌, ℕ, suc, ◌+◌, ◌-◌, ◌*◌, ◌<◌, ◌≤◌, inl, Bool, true, false, cond, Option, Some, None, IfSome, option_map, List, [], ◌∷◌, ◌++◌, length, refl, sym, ◌∙◌, ap, subst, arith, length-append}
 use Rattle.std.proofs.Math.Path.{fun_ext}
 use Rattle.std.proofs.Math.Nat.{mod-lt, add-mul}
+use Rattle.std.proofs.lemmas.List.{take_all}
 use Rattle.std.specs.List.{AllByRecursion}
 use Rattle.fl_flash.specs.Flash.{FlashState, page_at}
 use Rattle.fl_flash.specs.declared.flash.FlashFault.{FlashFault}
-use Rattle.fl_index.proofs.State.{holds-moved}
-use Rattle.fl_model.specs.Image.{IsRingImage, HoldsRows, HoldsBitmaps}
+use Rattle.fl_model.specs.Agrees.{BlobsOf}
+use Rattle.fl_model.specs.Content.{ContentPage}
+use Rattle.fl_model.specs.Image.{IsRingImage, HoldsRows, HoldsEntries}
 use Rattle.fl_model.specs.Record.{Plan}
 use Rattle.fl_model.specs.Ring as model
-use Rattle.fl_model.specs.Table.{Table, RingName, DataRing, IndexRing, VarRing, shape_of, is_dirty, seal_buffer, after_seal, lose, written, spent_from}
+use Rattle.fl_model.specs.Table.{Table, Entry, RingName, DataRing, IndexRing, VarRing, LogRing, shape_of, is_dirty, seal_buffer, after_seal, after_seals, lose, written}
 use Rattle.fl_model.specs.Within.{seal_within, seals_within, effect_within, all_done}
 use Rattle.fl_model.specs.Work.{Kind, Body, Mark, VoidMark, Erase, Device}
-use Rattle.fl_model.proofs.Plain.{sealed-next, sealed-torn}
+use Rattle.fl_model.proofs.Sealed.{sealed-next, sealed-torn}
 use Rattle.fl_ring.specs.Ring.{OutsideStands}
-use Rattle.fl_table.specs.Blobs.{AreHeld, IsPlanned, IsStanding, Breaks}
+use Rattle.fl_table.specs.Blobs.{AreIn, IsPlanned, IsStanding}
 use Rattle.fl_table.specs.Pages.{HoldsTable, Rests, bytes_in, place_in}
 use Rattle.fl_table.proofs.BlobSteps.{AreVar}
-use Rattle.fl_table.proofs.HeldBlobs.{held-front}
-use Rattle.fl_table.proofs.BlobTables.{HoldsVar, IsBlobbed, ring-holds, broken-blobbed, standing-blobbed, standing-holds, var-pages}
+use Rattle.fl_table.proofs.VarFacts.{HasVar, blobs-in, front-of, var-begun, var-erased, var-sealed}
+use Rattle.fl_table.proofs.BlobTables.{HoldsVar, IsBlobbed, planned-var, ring-blobbed, ring-holds, standing-holds, var-shape}
 use Rattle.fl_table.proofs.Holding.{lost-twice}
 use Rattle.fl_table.proofs.IndexSeals.{IsFront, front-left}
-use Rattle.fl_table.proofs.Plain.{IsPlainTable, table-facts, plain-lose}
+use Rattle.fl_table.proofs.Plain.{IsPlainTable, table-facts}
 use Rattle.fl_var.specs.Memory.{next_in, page_in, var_shape}
+use Rattle.fl_var.specs.Placing.{Breaks}
 use Rattle.fl_var.specs.Standing.{IsVarRing}
 use Rattle.fl_var.specs.declared.var_data.VarData.{VarData}
 
@@ -31,13 +34,14 @@ abbrev pub IsOfVar : RingName → Type 0
 IsOfVar VarRing = Unit {0}
 IsOfVar DataRing = ⊥
 IsOfVar IndexRing = ⊥
+IsOfVar LogRing = ⊥
 
 abbrev pub AreOfVar : List (RingName × Kind) → Type 0
 AreOfVar operations = AllByRecursion (λ operation. IsOfVar operation.0) operations
 
-front_of : (front others : List (RingName × Kind)) → AreOfVar (front ++ others) → AreOfVar front
-front_of [] others h = tt
-front_of (o ∷ front) others h = (h.0, front_of front others h.1)
+pub front-of_var : (front others : List (RingName × Kind)) → AreOfVar (front ++ others) → AreOfVar front
+front-of_var [] others h = tt
+front-of_var (o ∷ front) others h = (h.0, front-of_var front others h.1)
 
 all_of : (xs ys : List (RingName × Kind)) → AreOfVar xs → AreOfVar ys → AreOfVar (xs ++ ys)
 all_of [] ys a b = b
@@ -64,6 +68,7 @@ seals-of_var plan (VarRing ∷ seals) table are =
     all_of (seal_within plan VarRing table) (seals_within plan seals (after_seal plan VarRing table)) (seal_of plan table) (seals-of_var plan seals (after_seal plan VarRing table) are)
 seals-of_var plan (DataRing ∷ seals) table are = absurd are
 seals-of_var plan (IndexRing ∷ seals) table are = absurd are
+seals-of_var plan (LogRing ∷ seals) table are = absurd are
 
 pub seals-few : (plan : Plan) (seals : List RingName) (table : Table) → AreVar seals → length (seals_within plan seals table) ≤ 3 * length seals
 seals-few plan [] table are = omega arith
@@ -73,19 +78,24 @@ seals-few plan (VarRing ∷ seals) table are =
     omega (arith, length-append (seal_within plan VarRing table) (seals_within plan seals (after_seal plan VarRing table)), one, rest)
 seals-few plan (DataRing ∷ seals) table are = absurd are
 seals-few plan (IndexRing ∷ seals) table are = absurd are
+seals-few plan (LogRing ∷ seals) table are = absurd are
 
 -- they leave all else of the table
+abbrev pub with_var : Table → Option model.Ring → List ContentPage → List ℕ → Table
+with_var table ring pages bytes = record table { var = ring; var_pages = pages; buffered = bytes }
+
 abbrev pub IsBesideVar : Table → Table → Type 0
-IsBesideVar table new = (ring : Option model.Ring) × (fill : ℕ) × (new ≡ record table { var = ring; fill = fill })
+IsBesideVar table new = (ring : Option model.Ring) × (pages : List ContentPage) × (bytes : List ℕ) × (new ≡ with_var table ring pages bytes)
 
 pub left-var : (plan : Plan) (table t : Table) (front : List (RingName × Kind)) → AreOfVar front → IsBesideVar table t → IsBesideVar table (all_done (effect_within plan) front t)
 left-var plan table t [] h b = b
-left-var plan table t ((VarRing, Body) ∷ front) h b = left-var plan table (effect_within plan (VarRing, Body) t) front h.1 (_, _, ap (effect_within plan (VarRing, Body)) b.2)
-left-var plan table t ((VarRing, Mark) ∷ front) h b = left-var plan table (effect_within plan (VarRing, Mark) t) front h.1 (_, _, ap (effect_within plan (VarRing, Mark)) b.2)
-left-var plan table t ((VarRing, VoidMark) ∷ front) h b = left-var plan table (effect_within plan (VarRing, VoidMark) t) front h.1 (_, _, ap (effect_within plan (VarRing, VoidMark)) b.2)
-left-var plan table t ((VarRing, Erase) ∷ front) h b = left-var plan table (effect_within plan (VarRing, Erase) t) front h.1 (_, _, ap (effect_within plan (VarRing, Erase)) b.2)
+left-var plan table t ((VarRing, Body) ∷ front) h b = left-var plan table (effect_within plan (VarRing, Body) t) front h.1 (_, _, _, ap (effect_within plan (VarRing, Body)) b.3)
+left-var plan table t ((VarRing, Mark) ∷ front) h b = left-var plan table (effect_within plan (VarRing, Mark) t) front h.1 (_, _, _, ap (effect_within plan (VarRing, Mark)) b.3)
+left-var plan table t ((VarRing, VoidMark) ∷ front) h b = left-var plan table (effect_within plan (VarRing, VoidMark) t) front h.1 (_, _, _, ap (effect_within plan (VarRing, VoidMark)) b.3)
+left-var plan table t ((VarRing, Erase) ∷ front) h b = left-var plan table (effect_within plan (VarRing, Erase) t) front h.1 (_, _, _, ap (effect_within plan (VarRing, Erase)) b.3)
 left-var plan table t ((DataRing, kind) ∷ front) h b = absurd h.0
 left-var plan table t ((IndexRing, kind) ∷ front) h b = absurd h.0
+left-var plan table t ((LogRing, kind) ∷ front) h b = absurd h.0
 
 -- each raises the number of the ring by one at most
 abbrev IsNumberedTo : ℕ → Option model.Ring → Type 0
@@ -120,11 +130,69 @@ number-done plan n t ((VarRing, kind) ∷ front) h k =
     one Erase = erased_number n t.var k
 number-done plan n t ((DataRing, kind) ∷ front) h k = absurd h.0
 number-done plan n t ((IndexRing, kind) ∷ front) h k = absurd h.0
+number-done plan n t ((LogRing, kind) ∷ front) h k = absurd h.0
+
+-- ---- what the ring keeps
+
+-- operations of seals alone
+abbrev IsSealing : RingName × Kind → Type 0
+IsSealing (VarRing, Body) = Unit {0}
+IsSealing (VarRing, Mark) = Unit {0}
+IsSealing (VarRing, Erase) = Unit {0}
+IsSealing _ = ⊥
+
+abbrev AreSealing : List (RingName × Kind) → Type 0
+AreSealing operations = AllByRecursion IsSealing operations
+
+sealing_front : (front others : List (RingName × Kind)) → AreSealing (front ++ others) → AreSealing front
+sealing_front [] others h = tt
+sealing_front (o ∷ front) others h = (h.0, sealing_front front others h.1)
+
+sealing_append : (xs ys : List (RingName × Kind)) → AreSealing xs → AreSealing ys → AreSealing (xs ++ ys)
+sealing_append [] ys a b = b
+sealing_append (x ∷ xs) ys a b = (a.0, sealing_append xs ys a.1 b)
+
+seals_sealing : (plan : Plan) (seals : List RingName) (table : Table) → AreVar seals → AreSealing (seals_within plan seals table)
+seals_sealing plan [] table are = tt
+seals_sealing plan (VarRing ∷ seals) table are =
+    sealing_append (seal_within plan VarRing table) (seals_within plan seals (after_seal plan VarRing table)) (tt, (tt, erase (is_dirty VarRing (seal_buffer plan VarRing table)))) (seals_sealing plan seals (after_seal plan VarRing table) are)
+  where
+    erase : (b : Bool) → AreSealing (cond b ((VarRing, Erase) ∷ []) [])
+    erase true = (tt, tt)
+    erase false = tt
+seals_sealing plan (DataRing ∷ seals) table are = absurd are
+seals_sealing plan (IndexRing ∷ seals) table are = absurd are
+seals_sealing plan (LogRing ∷ seals) table are = absurd are
+
+done_keeps : (plan : Plan) (t : Table) (ring : model.Ring) (front : List (RingName × Kind)) → model.IsShape (shape_of plan VarRing) → AreSealing front → HasVar plan t ring → (r : model.Ring) × HasVar plan (all_done (effect_within plan) front t) r
+done_keeps plan t ring [] shape h k = (ring, k)
+done_keeps plan t ring ((VarRing, Body) ∷ front) shape h k = done_keeps plan (effect_within plan (VarRing, Body) t) (model.begun ring) front shape h.1 (var-begun plan t ring k)
+done_keeps plan t ring ((VarRing, Mark) ∷ front) shape h k = done_keeps plan (effect_within plan (VarRing, Mark) t) (model.sealed (shape_of plan VarRing) 1 ring) front shape h.1 (var-sealed plan t ring shape k)
+done_keeps plan t ring ((VarRing, Erase) ∷ front) shape h k = done_keeps plan (effect_within plan (VarRing, Erase) t) (model.erased ring) front shape h.1 (var-erased plan t ring k)
+done_keeps plan t ring ((VarRing, VoidMark) ∷ front) shape h k = absurd h.0
+done_keeps plan t ring ((DataRing, kind) ∷ front) shape h k = absurd h.0
+done_keeps plan t ring ((IndexRing, kind) ∷ front) shape h k = absurd h.0
+done_keeps plan t ring ((LogRing, kind) ∷ front) shape h k = absurd h.0
+
+-- after whole seals too
+pub seals-keep : (plan : Plan) (t : Table) (ring : model.Ring) (seals : List RingName) → model.IsShape (shape_of plan VarRing) → AreVar seals → HasVar plan t ring → (r : model.Ring) → (after_seals plan seals t).var ≡ Some r → HasVar plan (after_seals plan seals t) r
+seals-keep plan t ring [] shape are h r is = subst (HasVar plan t) (same (sym h.is ∙ is)) h
+  where
+    same : Some ring ≡ Some r → ring ≡ r
+    same e = cc
+seals-keep plan t ring (VarRing ∷ seals) shape are h r is =
+    seals-keep plan (after_seal plan VarRing t) (model.erased (model.sealed (shape_of plan VarRing) 1 ring)) seals shape are
+    (var-erased plan (seal_buffer plan VarRing t) (model.sealed (shape_of plan VarRing) 1 ring) (var-sealed plan t ring shape h)) r is
+seals-keep plan t ring (DataRing ∷ seals) shape are h r is = absurd are
+seals-keep plan t ring (IndexRing ∷ seals) shape are h r is = absurd are
+seals-keep plan t ring (LogRing ∷ seals) shape are h r is = absurd are
 
 -- ---- the table with other variable data
 
-pub facts-with_var : (plan : Plan) (table : Table) (ring : Option model.Ring) (fill : ℕ) → IsPlainTable plan table → IsBlobbed plan (record table { var = ring; fill = fill }) → IsPlainTable plan (record table { var = ring; fill = fill })
-facts-with_var plan table ring fill h blobs = record {
+pub facts-with_var : (plan : Plan) (table : Table) (ring : Option model.Ring) (pages : List ContentPage) (bytes : List ℕ) → IsPlainTable plan table → IsBlobbed plan (with_var table ring pages bytes) → IsPlainTable plan (with_var table ring pages bytes)
+facts-with_var plan table ring pages bytes h blobs = record {
+  plain = h.plain;
+  bare = h.bare;
   rows = h.rows;
   kept = h.kept;
   few_pending = h.few_pending;
@@ -132,10 +200,13 @@ facts-with_var plan table ring fill h blobs = record {
     has = h.index.has;
     ring = h.index.ring;
     counts = h.index.counts;
-    first_each = h.index.first_each;
+    each = h.index.each;
+    fit = h.index.fit;
     firsts = h.index.firsts;
     waiting = h.index.waiting;
     listed = h.index.listed;
+    tell = h.index.tell;
+    wait = h.index.wait;
     number = h.index.number;
     number_pending = h.index.number_pending;
     number_listed = h.index.number_listed;
@@ -156,101 +227,105 @@ before-var v old new first plan planned stands n =
     )
 
 -- what the flash holds of such a table
-pub holds-with_var : (v : VarData) (old new : ℕ → List ℕ) (first : ℕ) (plan : Plan) (table : Table) (ring : Option model.Ring) (fill : ℕ) → IsPlanned v (first + plan.data_blocks + plan.index_blocks) plan → OutsideStands (var_shape v) old new →
-    0 < plan.data_blocks * plan.geometry.block → ((r : model.Ring) → table.index ≡ Some r → 0 < plan.index_blocks * plan.geometry.block) → HoldsTable old first plan table → HoldsVar new first plan (record table { var = ring; fill = fill }) →
-    HoldsTable new first plan (record table { var = ring; fill = fill })
-holds-with_var v old new first plan table ring fill planned outside rows index h var = record {
-  rows = subst (λ (at : ℕ → List ℕ). IsRingImage (shape_of plan DataRing) table.rows at (HoldsRows plan table)) (sym (fun_ext (λ n. (before-var v old new first plan planned outside n).0 rows))) h.rows;
+pub holds-with_var : (v : VarData) (old new : ℕ → List ℕ) (first : ℕ) (plan : Plan) (table : Table) (ring : Option model.Ring) (pages : List ContentPage) (bytes : List ℕ) → IsPlanned v (first + plan.data_blocks + plan.index_blocks) plan → OutsideStands (var_shape v) old new →
+    0 < plan.data_blocks * plan.geometry.block → ((r : model.Ring) → table.index ≡ Some r → 0 < plan.index_blocks * plan.geometry.block) → HoldsTable old first plan table → HoldsVar new first plan (with_var table ring pages bytes) →
+    HoldsTable new first plan (with_var table ring pages bytes)
+holds-with_var v old new first plan table ring pages bytes planned outside rows index h var = record {
+  rows = moved (subst (λ (at : ℕ → List ℕ). IsRingImage (shape_of plan DataRing) table.rows at (HoldsRows plan table)) (sym (fun_ext (λ n. (before-var v old new first plan planned outside n).0 rows))) h.rows);
   index = by_index table.index index h.index;
-  var = var.0;
-  blobs = var.1;
+  var = var;
 }
   where
-    other : Table
-    other = record table { var = ring; fill = fill }
+    -- the rows are the same
+    moved : IsRingImage (shape_of plan DataRing) table.rows (bytes_in new first plan DataRing) (HoldsRows plan table) → IsRingImage (shape_of plan DataRing) table.rows (bytes_in new first plan DataRing) (HoldsRows plan (with_var table ring pages bytes))
+    moved image = image
 
-    moved : (r : model.Ring) → IsRingImage (shape_of plan IndexRing) r (bytes_in new first plan IndexRing) (HoldsBitmaps plan table r) → IsRingImage (shape_of plan IndexRing) r (bytes_in new first plan IndexRing) (HoldsBitmaps plan other r)
-    moved r image = record {
-      void = image.void;
-      kept = λ i count e some. holds-moved plan table other r r i i count (bytes_in new first plan IndexRing (model.oldest r + i)) refl (λ n rows is. refl) refl (λ first' e'. e') (image.kept i count e some);
-      blank_next = image.blank_next;
-      torn_next = image.torn_next;
-      dirty = image.dirty;
-      others = image.others;
-    }
-
-    by_index : (o : Option model.Ring) → ((r : model.Ring) → o ≡ Some r → 0 < plan.index_blocks * plan.geometry.block) → IfSome o (λ r. IsRingImage (shape_of plan IndexRing) r (bytes_in old first plan IndexRing) (HoldsBitmaps plan table r)) →
-        IfSome o (λ r. IsRingImage (shape_of plan IndexRing) r (bytes_in new first plan IndexRing) (HoldsBitmaps plan other r))
+    by_index : (o : Option model.Ring) → ((r : model.Ring) → o ≡ Some r → 0 < plan.index_blocks * plan.geometry.block) → IfSome o (λ r. IsRingImage (shape_of plan IndexRing) r (bytes_in old first plan IndexRing) (HoldsEntries plan table r)) →
+        IfSome o (λ r. IsRingImage (shape_of plan IndexRing) r (bytes_in new first plan IndexRing) (HoldsEntries plan (with_var table ring pages bytes) r))
     by_index None some k = tt
     by_index (Some r) some k =
-        moved r (subst (λ (at : ℕ → List ℕ). IsRingImage (shape_of plan IndexRing) r at (HoldsBitmaps plan table r)) (sym (fun_ext (λ n. (before-var v old new first plan planned outside n).1 (some r refl)))) k)
+        subst (λ (at : ℕ → List ℕ). IsRingImage (shape_of plan IndexRing) r at (HoldsEntries plan table r)) (sym (fun_ext (λ n. (before-var v old new first plan planned outside n).1 (some r refl)))) k
 
 -- ---- a seal that failed
 
-module _ (v : VarData) (f new : FlashState) (first : ℕ) (plan : Plan) (table : Table) (seals : List RingName) (are : AreVar seals) (facts : IsPlainTable plan table) (stands : IsStanding v f (first + plan.data_blocks + plan.index_blocks) plan table)
+-- .. from a table as what is in memory alone would be lost, whatever joined it
+module _ (v : VarData) (f new : FlashState) (first : ℕ) (plan : Plan) (table : Table) (ring : model.Ring) (seals : List RingName) (are : AreVar seals) (lost : IsPlainTable plan (lose table)) (planned : IsPlanned v (first + plan.data_blocks + plan.index_blocks) plan)
+    (has : HasVar plan table ring) (whole : ring.torn ≡ false) (next : next_in v ≡ ring.next)
     (holds : HoldsTable (page_at f) first plan (lose table)) (outside : OutsideStands (var_shape v) (page_at f) (page_at new)) (rows : 0 < plan.data_blocks * plan.geometry.block)
     (index : (r : model.Ring) → table.index ≡ Some r → 0 < plan.index_blocks * plan.geometry.block) (left : next_in v + 3 * length seals ≤ 4294967292)
-    (rose : Bool) (device : Device) (fault : FlashFault) (b : Breaks (first + plan.data_blocks + plan.index_blocks) plan seals table rose device fault v new) where
+    (rose : Bool) (device : Device) (fault : FlashFault) (b : Breaks plan seals table rose device fault v new) where
   front : IsFront (effect_within plan) (seals_within plan seals table) table b.now.state
   front = front-left (λ (o : RingName × Kind). o.1) (effect_within plan) rose (seals_within plan seals table) device table b.now b.did
 
   of_front : AreOfVar front.front
-  of_front = front_of front.front front.others (subst AreOfVar front.split (seals-of_var plan seals table are))
+  of_front = front-of_var front.front front.others (subst AreOfVar front.split (seals-of_var plan seals table are))
 
   beside : IsBesideVar table b.now.state
-  beside = subst (IsBesideVar table) (sym front.state) (left-var plan table table front.front of_front (table.var, table.fill, refl))
+  beside = subst (IsBesideVar table) (sym front.state) (left-var plan table table front.front of_front (table.var, table.var_pages, table.buffered, refl))
 
-  torn : ◌≡◌ {A = ℕ} (cond stands.in_pages.ring.ring.torn 1 0) 0
-  torn = ap {B = ℕ} (λ x. cond x 1 0) stands.in_pages.ring.whole
+  kept : HasVar plan b.now.state b.ring
+  kept =
+      let come = sealing_front front.front front.others (subst AreSealing front.split (seals_sealing plan seals table are)) in
+      let k = done_keeps plan table ring front.front (var-shape v (first + plan.data_blocks + plan.index_blocks) plan planned) come has in
+      let here = subst (λ (t : Table). HasVar plan t k.0) (sym front.state) k.1 in
+      subst (HasVar plan b.now.state) (same k.0 (sym here.is ∙ b.ring_is)) here
+    where
+      same : (r : model.Ring) → Some r ≡ Some b.ring → r ≡ b.ring
+      same r e = cc
+
+  torn : ◌≡◌ {A = ℕ} (cond ring.torn 1 0) 0
+  torn = ap {B = ℕ} (λ x. cond x 1 0) whole
 
   number : b.ring.next + (cond b.ring.torn 1 0) ≤ 4294967292
   number =
-      let first_number : IsNumberedTo (next_in v) table.var = subst (IsNumberedTo (next_in v)) (sym stands.in_pages.ring.ring_is) (omega (arith, stands.in_pages.ring.next, torn)) in
+      let first_number : IsNumberedTo (next_in v) table.var = subst (IsNumberedTo (next_in v)) (sym has.is) (omega (arith, next, torn)) in
       let last = subst (IsNumberedTo (next_in v + length front.front)) (sym (ap (λ (t : Table). t.var) front.state) ∙ b.ring_is) (number-done plan (next_in v) table front.front of_front first_number) in
       omega (arith, last, left, seals-few plan seals table are, ap length front.split, length-append front.front front.others)
 
   pub blobs-break : Rests new first plan (lose b.now.state)
-  blobs-break = subst (λ (t : Table). Rests new first plan (lose t)) (sym beside.2) rests
+  blobs-break = subst (λ (t : Table). Rests new first plan (lose t)) (sym beside.3) rests
     where
-      now : Table
-      now = lose (record table { var = beside.0; fill = beside.1 })
-
       ring_is : beside.0 ≡ Some b.ring
-      ring_is = sym (ap (λ (t : Table). t.var) beside.2) ∙ b.ring_is
+      ring_is = sym (ap (λ (t : Table). t.var) beside.3) ∙ b.ring_is
 
-      same : bytes_in (page_at new) first plan VarRing ≡ page_in v new
-      same = var-pages v new first plan stands.planned
+      pages_are : b.now.state.var_pages ≡ beside.1
+      pages_are = ap (λ (t : Table). t.var_pages) beside.3
+
+      pages : IsVarRing plan beside.1 b.ring (page_in v new)
+      pages = subst (λ (ps : List ContentPage). IsVarRing plan ps b.ring (page_in v new)) pages_are b.pages
+
+      there : HasVar plan (with_var table beside.0 beside.1 beside.2) b.ring
+      there = subst (λ (t : Table). HasVar plan t b.ring) beside.3 kept
 
       -- nothing pending is left
-      kept : AreHeld plan b.ring (page_in v new) (written (lose table))
-      kept = held-front plan b.ring (page_in v new) (written table) (length (written table) - 0) b.written
+      twice : written (lose (with_var table beside.0 beside.1 beside.2)) ≡ written table
+      twice = take_all (length (written table) - 0) (written table) (omega arith)
 
-      blobbed : IsBlobbed plan (lose (record table { var = beside.0; fill = beside.1 }))
-      blobbed = broken-blobbed v (first + plan.data_blocks + plan.index_blocks) plan (lose (record table { var = beside.0; fill = beside.1 })) b.ring (page_in v new) stands.planned ring_is b.pages kept (omega arith) number (λ p. absurd (p refl))
+      inside : AreIn plan b.ring (written (lose (with_var table beside.0 beside.1 beside.2)))
+      inside = subst (λ (es : List Entry). AreIn plan b.ring es) (sym twice) there.written
 
-      var : HoldsVar (page_at new) first plan (lose (record table { var = beside.0; fill = beside.1 }))
-      var = ring-holds (page_at new) first plan (lose (record table { var = beside.0; fill = beside.1 })) b.ring ring_is (subst (λ (at : ℕ → List ℕ). IsVarRing plan b.ring at) (sym same) b.pages)
-          (subst (λ (at : ℕ → List ℕ). AreHeld plan b.ring at (written table)) (sym same) b.written)
+      stand : BlobsOf plan (lose (with_var table beside.0 beside.1 beside.2)) b.ring
+      stand = blobs-in plan (with_var table beside.0 beside.1 beside.2) (lose (with_var table beside.0 beside.1 beside.2)) b.ring (front-of (length table.entries - table.pending) table.entries) refl there.written there.stand
 
-      rests : Rests new first plan (lose (record table { var = beside.0; fill = beside.1 }))
+      blobbed : IsBlobbed plan (lose (with_var table beside.0 beside.1 beside.2))
+      blobbed = ring-blobbed plan (lose (with_var table beside.0 beside.1 beside.2)) b.ring (page_in v new) ring_is (planned-var v (first + plan.data_blocks + plan.index_blocks) plan planned) pages inside stand (omega arith) number (λ p. absurd (p refl))
+
+      rests : Rests new first plan (lose (with_var table beside.0 beside.1 beside.2))
       rests = record {
         settled = record {
-          facts = table-facts plan (lose (record table { var = beside.0; fill = beside.1 })) (facts-with_var plan (lose table) beside.0 0 (plain-lose plan table facts) blobbed);
-          lost = lost-twice (record table { var = beside.0; fill = beside.1 });
+          facts = table-facts plan (lose (with_var table beside.0 beside.1 beside.2)) (facts-with_var plan (lose table) beside.0 beside.1 [] lost blobbed);
+          lost = lost-twice (with_var table beside.0 beside.1 beside.2);
         };
-        pages = holds-with_var v (page_at f) (page_at new) first plan (lose table) beside.0 0 stands.planned outside rows index holds var;
+        pages = holds-with_var v (page_at f) (page_at new) first plan (lose table) beside.0 beside.1 [] planned outside rows index holds
+            (ring-holds v new first plan (lose (with_var table beside.0 beside.1 beside.2)) b.ring planned ring_is pages);
       }
 
 -- ---- seals that were all done
 
-pub blobs-finish : (v w : VarData) (f new : FlashState) (first : ℕ) (plan : Plan) (table after : Table) (beside : IsBesideVar table after) → IsPlainTable plan table → IsPlanned v (first + plan.data_blocks + plan.index_blocks) plan →
+pub blobs-finish : (v w : VarData) (f new : FlashState) (first : ℕ) (plan : Plan) (table after : Table) (beside : IsBesideVar table after) → IsPlanned v (first + plan.data_blocks + plan.index_blocks) plan →
     HoldsTable (page_at f) first plan (lose table) → OutsideStands (var_shape v) (page_at f) (page_at new) → 0 < plan.data_blocks * plan.geometry.block →
-    ((r : model.Ring) → table.index ≡ Some r → 0 < plan.index_blocks * plan.geometry.block) → IsStanding w new (first + plan.data_blocks + plan.index_blocks) plan after → next_in w ≤ spent_from + 64 →
-    IsPlainTable plan after × HoldsTable (page_at new) first plan (lose after)
-blobs-finish v w f new first plan table after beside facts planned holds outside rows index stands number =
-    let blobbed = standing-blobbed w new (first + plan.data_blocks + plan.index_blocks) plan after stands (omega (arith, number)) (λ p. number) in
-    let var = standing-holds w new first plan after stands in (
-      subst (IsPlainTable plan) (sym beside.2) (facts-with_var plan table beside.0 beside.1 facts (subst (IsBlobbed plan) beside.2 blobbed)),
-      subst (λ (t : Table). HoldsTable (page_at new) first plan (lose t)) (sym beside.2)
-          (holds-with_var v (page_at f) (page_at new) first plan (lose table) beside.0 0 planned outside rows index holds (subst (λ (t : Table). HoldsVar (page_at new) first plan (lose t)) beside.2 var)),
-    )
+    ((r : model.Ring) → table.index ≡ Some r → 0 < plan.index_blocks * plan.geometry.block) → IsStanding w new (first + plan.data_blocks + plan.index_blocks) plan after → HoldsTable (page_at new) first plan (lose after)
+blobs-finish v w f new first plan table after beside planned holds outside rows index stands =
+    let var = standing-holds w new first plan after stands in
+    subst (λ (t : Table). HoldsTable (page_at new) first plan (lose t)) (sym beside.3)
+    (holds-with_var v (page_at f) (page_at new) first plan (lose table) beside.0 beside.1 [] planned outside rows index holds (subst (λ (t : Table). HoldsVar (page_at new) first plan (lose t)) beside.3 var))

@@ -6,10 +6,11 @@ use Rattle.std.proofs.lemmas.Bool.{ltb-true}
 use Rattle.fl_flash.specs.Flash.{FlashState, page_at}
 use Rattle.fl_flash.specs.declared.flash.FlashFault.{FlashFault}
 use Rattle.fl_index.specs.declared.index.Index.{Index}
+use Rattle.fl_model.specs.Content.{ContentPage}
 use Rattle.fl_model.specs.Facts.{IsTable, is_some_ring}
 use Rattle.fl_model.specs.Record.{Plan}
 use Rattle.fl_model.specs.Ring.{Ring}
-use Rattle.fl_model.specs.Table.{Table, RingName, DataRing, IndexRing, VarRing, after_seals, lose, spent_from}
+use Rattle.fl_model.specs.Table.{Table, RingName, DataRing, IndexRing, VarRing, fill, after_seals, lose, spent_from}
 use Rattle.fl_model.specs.Within.{seals_within, TablePerforms}
 use Rattle.fl_model.specs.Work.{Device, PartEnd, Whole, CutIn, FailedIn, PartProgress}
 use Rattle.fl_ring.specs.Device.{SameDevice}
@@ -18,20 +19,20 @@ use Rattle.fl_ring.specs.Ring.{OutsideStands}
 use Rattle.fl_ring.specs.Step.{IsWatched}
 use Rattle.fl_table.specs.Bitmaps as bitmaps
 use Rattle.fl_table.specs.Blobs as variable
-use Rattle.fl_table.specs.Blobs.{ArePlanned, Stand, StandOutside, IsStanding, RestEndsOf, RestEnds, blob_seals, next_of, next_after}
+use Rattle.fl_table.specs.Blobs.{ArePlanned, Stand, StandOutside, IsStanding, RestEndsOf, RestEnds, rest_seals, next_of, next_after}
 use Rattle.fl_table.specs.Memory.{IsPlanned}
-use Rattle.fl_table.specs.Outcomes.{Finishes, Breaks, FaultEnds}
+use Rattle.fl_table.specs.Outcomes.{Finishes, Breaks, FaultEnds, BySeals}
 use Rattle.fl_table.specs.Pages.{HoldsTable, KeptStand, bytes_in}
 use Rattle.fl_table.specs.Standing.{Stands}
 use Rattle.fl_table.specs.declared.table.Table as code
-use Rattle.fl_table.proofs.BlobSeals.{IsBesideVar, before-var, blobs-break, blobs-finish}
-use Rattle.fl_table.proofs.BlobSteps.{AreVar, after-var}
-use Rattle.fl_table.proofs.BlobTables.{var-pages}
+use Rattle.fl_table.proofs.BlobSeals.{IsBesideVar, with_var, before-var, blobs-break, blobs-finish, facts-with_var, seals-keep}
+use Rattle.fl_table.proofs.BlobSteps.{AreVar, after-var, rest-var}
+use Rattle.fl_table.proofs.BlobTables.{IsBlobbed, standing-blobbed, standing-has, var-pages, var-shape}
 use Rattle.fl_table.proofs.Indexing.{stand-moved}
-use Rattle.fl_table.proofs.Moved.{KeepsPages, keeps-same}
-use Rattle.fl_table.proofs.Plain.{IsPlainTable, table-parts}
+use Rattle.fl_table.proofs.Plain.{IsPlainTable, plain-lose, table-parts}
 use Rattle.fl_table.proofs.SealAnswers.{planned-shape}
 use Rattle.fl_table.proofs.Staying.{kept-same, pages-same, ring-same}
+use Rattle.fl_table.proofs.VarFacts.{HasVar}
 use Rattle.fl_var.specs.Memory.{next_in, page_in, var_shape, waiting_in}
 use Rattle.fl_var.specs.Placing as placing
 use Rattle.fl_var.specs.declared.var_data.VarData.{VarData}
@@ -53,17 +54,10 @@ pub record IsRested (first : ℕ) (plan : Plan) (seals : List RingName) (table :
 
 abbrev pub RestedEnds : ℕ → Plan → List RingName → Table → Bool → Device → Result (Unit {0}) FlashFault → Option VarData → FlashState → FlashState → Type 0
 RestedEnds first plan seals table rose device (Ok done) left old new = IsRested first plan seals table rose device left old new
-RestedEnds first plan seals table rose device (Err fault) left old new = Breaks first plan (seals_within plan seals table) table rose device fault new
+RestedEnds first plan seals table rose device (Err fault) left old new = Breaks first plan (BySeals plan seals table rose device) fault new
 
-pub rest-var : (table : Table) → AreVar (blob_seals table)
-rest-var table = by_fill (nat_lt 0 table.fill)
-  where
-    by_fill : (b : Bool) → AreVar (cond b (VarRing ∷ []) [])
-    by_fill true = tt
-    by_fill false = tt
-
-rest_few : (table : Table) → length (blob_seals table) ≤ 1
-rest_few table = by_fill (nat_lt 0 table.fill)
+rest_few : (table : Table) → length (rest_seals table) ≤ 1
+rest_few table = by_fill (nat_lt 0 (fill table))
   where
     by_fill : (b : Bool) → length {A = RingName} (cond b (VarRing ∷ []) []) ≤ 1
     by_fill true = omega arith
@@ -113,42 +107,63 @@ fault_ends (FailedIn before) fault new a = a
 
 module _ {KNOTS SLOTS : ℕ} (t : code.Table KNOTS SLOTS) (f new : FlashState) (first : ℕ) (plan : Plan) (table : Table) (rose : Bool) (device : Device) (stands : Stands t f first plan table) (watched : IsWatched f new rose device) where
   facts : IsPlainTable plan table
-  facts = table-parts plan table stands.facts
+  facts = table-parts plan table (stands.planned.full, stands.planned.log) stands.facts
 
-  -- operations of variable data failed
-  pub var-breaks : (v : VarData) → t.blobs ≡ Some v → StandOutside (Some v) (page_at f) (page_at new) → (seals : List RingName) → AreVar seals → next_in v + 3 * length seals ≤ 4294967292 → (fault : FlashFault) →
-      variable.Breaks (first + plan.data_blocks + plan.index_blocks) plan seals table rose device fault v new → Breaks first plan (seals_within plan seals table) table rose device fault new
-  var-breaks v is outside seals are left fault b = record {
-    now = b.now;
-    did = b.did;
-    answer = fault_ends b.now.end fault new b.answer;
-    counts = b.counts;
-    rests = blobs-break v f new first plan table seals are facts (subst (λ (o : Option VarData). Stand o f (first + plan.data_blocks + plan.index_blocks) plan table) is stands.blobs) stands.pages outside
-        (some-rows t first plan table f stands) (some-index t first plan table f stands) left rose device fault b;
-  }
+  pub standing-in : (v : VarData) → t.blobs ≡ Some v → IsStanding v f (first + plan.data_blocks + plan.index_blocks) plan table
+  standing-in v is = subst (λ (o : Option VarData). Stand o f (first + plan.data_blocks + plan.index_blocks) plan table) is stands.blobs
+
+  -- operations of variable data failed, of this table or of one that is the same without what is in memory alone
+  pub var-breaks : (v : VarData) (is : t.blobs ≡ Some v) → StandOutside (Some v) (page_at f) (page_at new) → (seals : List RingName) → AreVar seals → (other : Table) → lose other ≡ lose table → other.index ≡ table.index →
+      HasVar plan other (standing-in v is).in_pages.ring.ring → next_in v + 3 * length seals ≤ 4294967292 → (fault : FlashFault) → placing.Breaks plan seals other rose device fault v new → Breaks first plan (BySeals plan seals other rose device) fault new
+  var-breaks v is outside seals are other lost index has left fault b =
+      let s = standing-in v is in
+      record {
+        now = b.now;
+        did = b.did;
+        answer = fault_ends b.now.end fault new b.answer;
+        counts = b.counts;
+        rests = blobs-break v f new first plan other s.in_pages.ring.ring seals are (subst (IsPlainTable plan) (sym lost) (plain-lose plan table facts)) s.planned has s.in_pages.ring.whole s.in_pages.ring.next
+            (subst (λ (x : Table). HoldsTable (page_at f) first plan x) (sym lost) stands.pages) outside (some-rows t first plan table f stands) (λ r e. some-index t first plan table f stands r (sym index ∙ e)) left rose device fault b;
+      }
+
+  -- .. or were done: the facts of the table then, and its pages
+  pub var-finishes : (v w : VarData) (is : t.blobs ≡ Some v) → StandOutside (Some v) (page_at f) (page_at new) → (seals : List RingName) → AreVar seals → (other : Table) → lose other ≡ lose table → other.index ≡ table.index →
+      HasVar plan other (standing-in v is).in_pages.ring.ring → (h : variable.Finishes (first + plan.data_blocks + plan.index_blocks) plan seals other rose device v f w new) → next_in w ≤ spent_from + 64 →
+      IsBlobbed plan (after_seals plan seals other) × HoldsTable (page_at new) first plan (lose (after_seals plan seals other))
+  var-finishes v w is outside seals are other lost index has h number =
+      let s = standing-in v is in
+      let ring = h.stands.in_pages.ring in
+      let after = seals-keep plan other s.in_pages.ring.ring seals (var-shape v (first + plan.data_blocks + plan.index_blocks) plan s.planned) are has ring.ring ring.ring_is in (
+        standing-blobbed w new (first + plan.data_blocks + plan.index_blocks) plan (after_seals plan seals other) h.stands after (omega (arith, number)) (λ p. number),
+        blobs-finish v w f new first plan other (after_seals plan seals other) (after-var plan seals other are) s.planned (subst (λ (x : Table). HoldsTable (page_at f) first plan x) (sym lost) stands.pages) outside
+            (some-rows t first plan table f stands) (λ r e. some-index t first plan table f stands r (sym index ∙ e)) h.stands,
+      )
 
   pub rest-done : (blobs : Option VarData) (result : Result (Unit {0}) FlashFault) (now : Option VarData) → t.blobs ≡ blobs → next_after blobs ≤ spent_from + 64 → StandOutside blobs (page_at f) (page_at new) → OnOk result (next_of now ≡ next_after blobs) →
-      RestEndsOf blobs f (first + plan.data_blocks + plan.index_blocks) plan table rose device result now new → RestedEnds first plan (blob_seals table) table rose device result now f new
+      RestEndsOf blobs f (first + plan.data_blocks + plan.index_blocks) plan table rose device result now new → RestedEnds first plan (rest_seals table) table rose device result now f new
   rest-done None result now is left outside next ends =
-      let fill : table.fill ≡ 0 = subst (λ (o : Option VarData). Stand o f (first + plan.data_blocks + plan.index_blocks) plan table) is stands.blobs in
-      let none : [] ≡ blob_seals table = sym (ap (λ n. cond (nat_lt 0 n) (VarRing ∷ []) []) fill) in
+      let empty : table.buffered ≡ [] = subst (λ (o : Option VarData). Stand o f (first + plan.data_blocks + plan.index_blocks) plan table) is stands.blobs in
+      let none : [] ≡ rest_seals table = sym (ap (λ (bytes : List ℕ). cond (nat_lt 0 (length bytes)) (VarRing ∷ []) []) empty) in
       subst (λ (seals : List RingName). RestedEnds first plan seals table rose device result now f new) none (rw (ends.0, ends.1, ends.2) (record {
         now = record { end = Whole; device = device; state = table };
         did = (refl, refl, refl);
         whole = refl;
         counts = watched.counts;
         power = watched.on;
-        beside = (table.var, table.fill, refl);
+        beside = (table.var, table.var_pages, table.buffered, refl);
         facts = facts;
         pages = stands.pages;
-        blobs = fill;
+        blobs = empty;
         stand = kept-same first plan table table (page_at f) (page_at f) refl refl refl (λ ring n. refl);
       }))
   rest-done (Some v) result None is left outside next ends = absurd ends
-  rest-done (Some v) result (Some w) is left outside next ends = by_result result next (ends watched standing)
+  rest-done (Some v) result (Some w) is left outside next ends = by_result result next (ends watched (standing-in v is))
     where
       standing : IsStanding v f (first + plan.data_blocks + plan.index_blocks) plan table
-      standing = subst (λ (o : Option VarData). Stand o f (first + plan.data_blocks + plan.index_blocks) plan table) is stands.blobs
+      standing = standing-in v is
+
+      has : HasVar plan table standing.in_pages.ring.ring
+      has = standing-has v f (first + plan.data_blocks + plan.index_blocks) plan table standing facts.blobs
 
       low : next_in v ≤ spent_from + 64
       low = by_fill (length (waiting_in v) == 0) left
@@ -158,25 +173,24 @@ module _ {KNOTS SLOTS : ℕ} (t : code.Table KNOTS SLOTS) (f new : FlashState) (
           by_fill false h = omega (arith, h)
 
       by_result : (result : Result (Unit {0}) FlashFault) → OnOk result (next_in w ≡ next_after (Some v)) → RestEnds (first + plan.data_blocks + plan.index_blocks) plan table rose device v f result w new →
-          RestedEnds first plan (blob_seals table) table rose device result (Some w) f new
+          RestedEnds first plan (rest_seals table) table rose device result (Some w) f new
       by_result (Ok u) at s =
-          let beside = after-var plan (blob_seals table) table (rest-var table) in
-          let both = blobs-finish v w f new first plan table (after_seals plan (blob_seals table) table) beside facts standing.planned stands.pages outside (some-rows t first plan table f stands) (some-index t first plan table f stands)
-          s.finishes.stands (omega (arith, at, left)) in
+          let beside = after-var plan (rest_seals table) table (rest-var table) in
+          let both = var-finishes v w is outside (rest_seals table) (rest-var table) table refl refl has s (omega (arith, at, left)) in
           record {
-            now = s.finishes.now;
-            did = s.finishes.did;
-            whole = s.finishes.whole;
-            counts = s.finishes.counts;
-            power = s.finishes.power;
+            now = s.now;
+            did = s.did;
+            whole = s.whole;
+            counts = s.counts;
+            power = s.power;
             beside = beside;
-            facts = both.0;
+            facts = subst (IsPlainTable plan) (sym beside.3) (facts-with_var plan table beside.0 beside.1 beside.2 facts (subst (IsBlobbed plan) beside.3 both.0));
             pages = both.1;
-            blobs = s.finishes.stands;
-            stand = kept-var v w f new first plan table (after_seals plan (blob_seals table) table) s.finishes.stands.in_pages.ring.ring (ap (λ (x : Table). x.rows) beside.2) (ap (λ (x : Table). x.index) beside.2)
-                s.finishes.stands.in_pages.ring.ring_is standing.planned s.finishes.stands.planned outside (some-rows t first plan table f stands) (some-index t first plan table f stands) s.finishes.stand;
+            blobs = s.stands;
+            stand = kept-var v w f new first plan table (after_seals plan (rest_seals table) table) s.stands.in_pages.ring.ring (ap (λ (x : Table). x.rows) beside.3) (ap (λ (x : Table). x.index) beside.3)
+                s.stands.in_pages.ring.ring_is standing.planned s.stands.planned outside (some-rows t first plan table f stands) (some-index t first plan table f stands) s.stand;
           }
-      by_result (Err fault) at b = var-breaks v is outside (blob_seals table) (rest-var table) (omega (arith, low, rest_few table)) fault b
+      by_result (Err fault) at b = var-breaks v is outside (rest_seals table) (rest-var table) table refl refl has (omega (arith, low, rest_few table)) fault b
 
 -- the index pages lie before those of variable data
 pub index-before : (blobs : Option VarData) (old new : ℕ → List ℕ) (first : ℕ) (plan : Plan) → ArePlanned blobs (first + plan.data_blocks + plan.index_blocks) plan → StandOutside blobs old new → 0 < plan.index_blocks * plan.geometry.block → (n : ℕ) →
@@ -185,35 +199,35 @@ index-before None old new first plan planned outside some n = outside _
 index-before (Some v) old new first plan planned outside some n = (before-var v old new first plan planned outside n).1 some
 
 -- so the index stands where other parts of its table changed
-pub bitmaps-moved : (indexed : Option Index) (f g : FlashState) (first : ℕ) (plan : Plan) (table new : Table) → bitmaps.ArePlanned indexed (first + plan.data_blocks) plan → 2 ≤ plan.geometry.block → KeepsPages table new → new.index ≡ table.index → new.firsts ≡ table.firsts → new.waiting ≡ table.waiting →
-    new.rows.next ≡ table.rows.next → IsPlainTable plan table → IsPlainTable plan new → (0 < plan.index_blocks * plan.geometry.block → (n : ℕ) → bytes_in (page_at g) first plan IndexRing n ≡ bytes_in (page_at f) first plan IndexRing n) →
+pub bitmaps-moved : (indexed : Option Index) (f g : FlashState) (first : ℕ) (plan : Plan) (table new : Table) → bitmaps.ArePlanned indexed (first + plan.data_blocks) plan → 2 ≤ plan.geometry.block → new.index ≡ table.index → new.index_pages ≡ table.index_pages → new.waiting ≡ table.waiting →
+    new.rows.next ≡ table.rows.next → IsPlainTable plan new → (0 < plan.index_blocks * plan.geometry.block → (n : ℕ) → bytes_in (page_at g) first plan IndexRing n ≡ bytes_in (page_at f) first plan IndexRing n) →
     bitmaps.Stand indexed f (first + plan.data_blocks) plan table → bitmaps.Stand indexed g (first + plan.data_blocks) plan new
-bitmaps-moved None f g first plan table new planned pages keeps index firsts waiting next facts after same s = waiting ∙ s
-bitmaps-moved (Some indexed) f g first plan table new planned pages keeps index firsts waiting next facts after same s =
+bitmaps-moved None f g first plan table new planned pages index listed waiting next after same s = waiting ∙ s
+bitmaps-moved (Some indexed) f g first plan table new planned pages index listed waiting next after same s =
     let k : 3 * plan.geometry.block ≤ plan.index_blocks * plan.geometry.block = mul-le-mul_right plan.geometry.block (omega (arith, planned.blocks, indexed.some_blocks)) in
-    stand-moved (Some indexed) f g first plan table new keeps index firsts waiting next facts after (same (omega (arith, k, pages))) s
+    stand-moved (Some indexed) f g first plan table new index listed waiting next after (same (omega (arith, k, pages))) s
 
 -- .. as its variable data
-pub bitmaps-stand : (indexed : Option Index) (f g : FlashState) (first : ℕ) (plan : Plan) (table : Table) (ring : Option Ring) (fill : ℕ) → bitmaps.ArePlanned indexed (first + plan.data_blocks) plan → 2 ≤ plan.geometry.block → IsPlainTable plan table → IsPlainTable plan (record table { var = ring; fill = fill }) →
-    (0 < plan.index_blocks * plan.geometry.block → (n : ℕ) → bytes_in (page_at g) first plan IndexRing n ≡ bytes_in (page_at f) first plan IndexRing n) →
-    bitmaps.Stand indexed f (first + plan.data_blocks) plan table → bitmaps.Stand indexed g (first + plan.data_blocks) plan (record table { var = ring; fill = fill })
-bitmaps-stand indexed f g first plan table ring fill planned pages facts after same s =
-    bitmaps-moved indexed f g first plan table (record table { var = ring; fill = fill }) planned pages (keeps-same table (record table { var = ring; fill = fill }) refl refl refl) refl refl refl refl facts after same s
+pub bitmaps-stand : (indexed : Option Index) (f g : FlashState) (first : ℕ) (plan : Plan) (table : Table) (ring : Option Ring) (pages : List ContentPage) (bytes : List ℕ) → bitmaps.ArePlanned indexed (first + plan.data_blocks) plan → 2 ≤ plan.geometry.block →
+    IsPlainTable plan (with_var table ring pages bytes) → (0 < plan.index_blocks * plan.geometry.block → (n : ℕ) → bytes_in (page_at g) first plan IndexRing n ≡ bytes_in (page_at f) first plan IndexRing n) →
+    bitmaps.Stand indexed f (first + plan.data_blocks) plan table → bitmaps.Stand indexed g (first + plan.data_blocks) plan (with_var table ring pages bytes)
+bitmaps-stand indexed f g first plan table ring pages bytes planned some after same s =
+    bitmaps-moved indexed f g first plan table (with_var table ring pages bytes) planned some refl refl refl refl after same s
 
 -- the table in memory stands where it stands with any variable data
 pub rested-finishes : {KNOTS SLOTS : ℕ} (t' : code.Table KNOTS SLOTS) (old new : FlashState) (first : ℕ) (plan : Plan) (seals : List RingName) (table : Table) (rose : Bool) (device : Device) (left : Option VarData) → IsRested first plan seals table rose device left old new →
-    ((ring : Option Ring) (fill : ℕ) → IsPlainTable plan (record table { var = ring; fill = fill }) → HoldsTable (page_at new) first plan (lose (record table { var = ring; fill = fill })) →
-    Stand left new (first + plan.data_blocks + plan.index_blocks) plan (record table { var = ring; fill = fill }) → Stands t' new first plan (record table { var = ring; fill = fill })) →
-    Finishes first plan (seals_within plan seals table) table (after_seals plan seals table) rose device t' old new
-rested-finishes t' old new first plan seals table rose device left h with_var = record {
+    ((ring : Option Ring) (pages : List ContentPage) (bytes : List ℕ) → IsPlainTable plan (with_var table ring pages bytes) → HoldsTable (page_at new) first plan (lose (with_var table ring pages bytes)) →
+    Stand left new (first + plan.data_blocks + plan.index_blocks) plan (with_var table ring pages bytes) → Stands t' new first plan (with_var table ring pages bytes)) →
+    Finishes first plan (BySeals plan seals table rose device) table (after_seals plan seals table) t' old new
+rested-finishes t' old new first plan seals table rose device left h stands = record {
   now = h.now;
   did = h.did;
   whole = h.whole;
   counts = h.counts;
   power = h.power;
-  stands = subst (λ (x : Table). Stands t' new first plan x) (sym h.beside.2) (with_var h.beside.0 h.beside.1
-      (subst (IsPlainTable plan) h.beside.2 h.facts)
-      (subst (λ (x : Table). HoldsTable (page_at new) first plan (lose x)) h.beside.2 h.pages)
-      (subst (λ (x : Table). Stand left new (first + plan.data_blocks + plan.index_blocks) plan x) h.beside.2 h.blobs));
+  stands = subst (λ (x : Table). Stands t' new first plan x) (sym h.beside.3) (stands h.beside.0 h.beside.1 h.beside.2
+      (subst (IsPlainTable plan) h.beside.3 h.facts)
+      (subst (λ (x : Table). HoldsTable (page_at new) first plan (lose x)) h.beside.3 h.pages)
+      (subst (λ (x : Table). Stand left new (first + plan.data_blocks + plan.index_blocks) plan x) h.beside.3 h.blobs));
   stand = h.stand;
 }

@@ -1,28 +1,25 @@
 -- The variable data of a table, where it has any.
-use Rattle.std.proofs.Common.{◌≡◌, ℕ, ◌+◌, ◌-◌, ◌*◌, ◌/◌, ◌^◌, ◌<◌, ◌≤◌, Bool, true, false, cond, nat_le, ◌==◌, is_some, option_map, unwrap_or, Option, Some, None, IfSome, List, length, take, drop, refl, sym, ◌∙◌, ap, subst, arith, inr}
+use Rattle.std.proofs.Common.{◌≡◌, ℕ, ◌+◌, ◌-◌, ◌*◌, ◌/◌, ◌^◌, ◌<◌, ◌≤◌, Bool, true, false, cond, nat_le, ◌==◌, is_some, option_map, unwrap_or, Option, Some, None, IfSome, List, length, refl, sym, ◌∙◌, ap, subst, arith, inr}
 use Rattle.std.proofs.Math.Path.{fun_ext}
 use Rattle.std.proofs.Math.Nat.{add-mul, div-lt_iff_lt-mul}
 use Rattle.std.specs.List.{slice_get}
 use Rattle.fl_flash.specs.Flash.{FlashState, Goes, page_at, pages}
 use Rattle.fl_model.specs.Facts.{is_some_ring}
-use Rattle.fl_model.specs.Layout.{committed}
+use Rattle.fl_model.specs.Layout.{ContentPage, content_body}
 use Rattle.fl_model.specs.Record.{Plan, has_var}
 use Rattle.fl_model.specs.Ring as model
-use Rattle.fl_model.specs.Ring.{Ring, extended}
-use Rattle.fl_model.specs.Table.{Table, Entry, VarRing, shape_of, written, spent_from}
-use Rattle.fl_model.specs.Query.{page_stands}
-use Rattle.fl_model.specs.Image.{IsRingImage, HoldsContent, HoldsBlob}
+use Rattle.fl_model.specs.Ring.{Ring}
+use Rattle.fl_model.specs.Table.{Table, Entry, VarRing, shape_of, spent_from}
+use Rattle.fl_model.specs.Image.{IsRingImage, HoldsContent, HoldsPage}
 use Rattle.fl_ring.specs.Ring.{Shape, OutsideStands, room}
-use Rattle.fl_table.specs.Blobs.{AreHeld, IsStanding, ArePlanned, AreSamePlan, LieOn, AreEmpty, NumbersLeft, HasFew, Stand, IsPlanned, next_of, next_after, pages_for, most_pages}
-use Rattle.fl_model.proofs.Lists.{slice_get-drop, slice_get-front}
+use Rattle.fl_table.specs.Blobs.{IsStanding, ArePlanned, AreSamePlan, LieOn, AreEmpty, NumbersLeft, HasFew, Stand, IsPlanned, next_of, next_after, pages_for, most_pages}
 use Rattle.fl_table.specs.Pages.{bytes_in, place_in}
-use Rattle.fl_table.proofs.BlobTables.{IsBlobbed, HoldsVar, held-drop, planned-var, var-pages}
+use Rattle.fl_table.proofs.BlobTables.{IsBlobbed, HoldsVar, planned-var, var-pages}
 use Rattle.fl_table.proofs.BlobTables as tables
-use Rattle.fl_table.proofs.HeldBlobs.{held-front, held-sealed}
+use Rattle.fl_table.proofs.VarFacts.{placed-some}
 use Rattle.fl_table.proofs.States.{shape_in}
-use Rattle.fl_var.specs.Content.{content_body}
-use Rattle.fl_var.specs.Memory.{next_in, waiting_in, room_in, page_in, image_in}
-use Rattle.fl_var.specs.Placing.{is_full_in, pages_placed}
+use Rattle.fl_var.specs.Memory.{next_in, waiting_in, room_in, page_in}
+use Rattle.fl_var.specs.Placing.{pages_placed}
 use Rattle.fl_var.proofs.PageImages.{waiting-room}
 use Rattle.fl_var.specs.declared.var_data.VarData.{VarData}
 use Rattle.fl_var.proofs.Joins.{same-shape}
@@ -122,12 +119,6 @@ pub pages-stand : (v : VarData) (f g : FlashState) (first : ℕ) (plan : Plan) �
 pages-stand v f g first plan planned same =
     sym (var-pages v g first plan planned) ∙ (fun_ext (λ n. same n) ∙ var-pages v f first plan planned)
 
-pub images-stand : (v : VarData) (f g : FlashState) → page_in v g ≡ page_in v f → image_in v g ≡ image_in v f
-images-stand v f g same = fun_ext (λ n. image n)
-  where
-    image : (n : ℕ) → image_in v g n ≡ image_in v f n
-    image n = ap (λ (at : ℕ → List ℕ). cond (n == next_in v) (committed (content_body (v.geometry.page - 8) n (waiting_in v))) (at n)) same
-
 -- .. and behind the index ring
 pub var-behind : (old new : ℕ → List ℕ) (first : ℕ) (plan : Plan) (shape : Shape) → shape.first ≡ (first + plan.data_blocks) * plan.geometry.block → room shape ≡ plan.index_blocks * plan.geometry.block → OutsideStands shape old new → (n : ℕ) →
     bytes_in new first plan VarRing n ≡ bytes_in old first plan VarRing n
@@ -135,64 +126,26 @@ var-behind old new first plan shape begins size stands n =
     let all : (first + plan.data_blocks + plan.index_blocks) * plan.geometry.block ≡ (first + plan.data_blocks) * plan.geometry.block + plan.index_blocks * plan.geometry.block = add-mul (first + plan.data_blocks) plan.index_blocks plan.geometry.block in
     stands (place_in first plan VarRing n) (inr (omega (arith, all, begins, size)))
 
--- ---- what a flash holds of a table's variable data
-
--- .. on another flash with the same pages
+-- what a flash holds of a table's variable data, on another flash with the same pages
 pub var-same : (old new : ℕ → List ℕ) (first : ℕ) (plan : Plan) (table : Table) → ((n : ℕ) → bytes_in new first plan VarRing n ≡ bytes_in old first plan VarRing n) → HoldsVar old first plan table → HoldsVar new first plan table
 var-same old new first plan table same h =
-    subst (λ (at : ℕ → List ℕ). IfSome table.var (λ ring. IsRingImage (shape_of plan VarRing) ring at (HoldsContent plan ring))
-    × IfSome table.var (λ ring. (i : ℕ) (entry : Entry) (blob : List ℕ) → slice_get table.entries i ≡ Some entry → entry.kept.blob ≡ Some blob → 0 < length blob →
-    page_stands ring entry.page ≡ true → HoldsBlob plan ring at entry blob)) (sym (fun_ext (λ n. same n))) h
+    subst (λ (at : ℕ → List ℕ). IfSome table.var (λ ring. IsRingImage (shape_of plan VarRing) ring at (HoldsContent table ring))) (sym (fun_ext (λ n. same n))) h
 
--- .. with records that it had before
-pub var-moved : (page : ℕ → List ℕ) (first : ℕ) (plan : Plan) (table new : Table) → new.var ≡ table.var → ((i : ℕ) (entry : Entry) → slice_get new.entries i ≡ Some entry → (j : ℕ) × (slice_get table.entries j ≡ Some entry)) →
-    HoldsVar page first plan table → HoldsVar page first plan new
-var-moved page first plan table new var within h =
-    subst (λ (o : Option Ring). IfSome o (λ ring. IsRingImage (shape_of plan VarRing) ring (bytes_in page first plan VarRing) (HoldsContent plan ring))
-    × IfSome o (λ ring. (i : ℕ) (entry : Entry) (blob : List ℕ) → slice_get new.entries i ≡ Some entry → entry.kept.blob ≡ Some blob → 0 < length blob →
-    page_stands ring entry.page ≡ true → HoldsBlob plan ring (bytes_in page first plan VarRing) entry blob)) (sym var) (h.0, by_ring table.var h.1)
-  where
-    by_ring : (o : Option Ring) → IfSome o (λ ring. (i : ℕ) (entry : Entry) (blob : List ℕ) → slice_get table.entries i ≡ Some entry → entry.kept.blob ≡ Some blob → 0 < length blob → page_stands ring entry.page ≡ true → HoldsBlob plan ring (bytes_in page first plan VarRing) entry blob) →
-        IfSome o (λ ring. (i : ℕ) (entry : Entry) (blob : List ℕ) → slice_get new.entries i ≡ Some entry → entry.kept.blob ≡ Some blob → 0 < length blob → page_stands ring entry.page ≡ true → HoldsBlob plan ring (bytes_in page first plan VarRing) entry blob)
-    by_ring None k = tt
-    by_ring (Some ring) k = λ i entry blob e is some here. let w = within i entry e in k w.0 entry blob w.1 is some here
+-- .. and of another table with the same variable data
+pub var-as : (page : ℕ → List ℕ) (first : ℕ) (plan : Plan) (table new : Table) → new.var ≡ table.var → new.var_pages ≡ table.var_pages → HoldsVar page first plan table → HoldsVar page first plan new
+var-as page first plan table new var pages h =
+    subst (λ (o : Option Ring). IfSome o (λ ring. IsRingImage (shape_of plan VarRing) ring (bytes_in page first plan VarRing) (HoldsContent new ring))) (sym var)
+    (subst (λ (ps : List ContentPage). IfSome table.var (λ ring. IsRingImage (shape_of plan VarRing) ring (bytes_in page first plan VarRing) (λ i count bytes. HoldsPage ps content_body ring i count bytes))) (sym pages) h)
 
-pub var-as : (page : ℕ → List ℕ) (first : ℕ) (plan : Plan) (table new : Table) → new.var ≡ table.var → new.entries ≡ table.entries → HoldsVar page first plan table → HoldsVar page first plan new
-var-as page first plan table new var entries h = var-moved page first plan table new var (λ i entry e. (i, ap (λ (es : List Entry). slice_get es i) (sym entries) ∙ e)) h
-
--- .. with the last of them
-pub var-rest : (page : ℕ → List ℕ) (first : ℕ) (plan : Plan) (table new : Table) (n : ℕ) → new.var ≡ table.var → new.entries ≡ drop n table.entries → HoldsVar page first plan table → HoldsVar page first plan new
-var-rest page first plan table new n var entries h =
-    var-moved page first plan table new var (λ i entry e. (n + i, sym (slice_get-drop n table.entries i) ∙ (ap (λ (es : List Entry). slice_get es i) (sym entries) ∙ e))) h
-
--- .. with the first of them
-pub var-front : (page : ℕ → List ℕ) (first : ℕ) (plan : Plan) (table new : Table) (n : ℕ) → new.var ≡ table.var → new.entries ≡ take n table.entries → HoldsVar page first plan table → HoldsVar page first plan new
-var-front page first plan table new n var entries h =
-    var-moved page first plan table new var (λ i entry e. (i, slice_get-front n table.entries i entry (ap (λ (es : List Entry). slice_get es i) (sym entries) ∙ e))) h
-
--- ---- variable data in memory stand where other parts of their table changed
+-- ---- variable data in memory stand where other parts of their table changed, of whose records some are kept
 
 pub stand-moved : (blobs : Option VarData) (f g : FlashState) (first : ℕ) (plan : Plan) (table new : Table) → ((n : ℕ) → bytes_in (page_at g) first plan VarRing n ≡ bytes_in (page_at f) first plan VarRing n) →
-    new.var ≡ table.var → new.fill ≡ table.fill → new.entries ≡ table.entries → new.pending ≡ table.pending → Stand blobs f (first + plan.data_blocks + plan.index_blocks) plan table → Stand blobs g (first + plan.data_blocks + plan.index_blocks) plan new
-stand-moved None f g first plan table new same var fill entries pending s = fill ∙ s
-stand-moved (Some v) f g first plan table new same var fill entries pending s =
-    let pages = pages-stand v f g first plan s.planned same in
-    let rest : written new ≡ written table = ap (λ (es : List Entry). take (length es - new.pending) es) entries ∙ ap (λ n. take (length table.entries - n) table.entries) pending in
-    tables.stand-moved v f g (first + plan.data_blocks + plan.index_blocks) plan table new s pages (images-stand v f g pages) var fill
-    (subst (λ (es : List Entry). AreHeld plan (extended 1 s.in_pages.ring.ring) (image_in v f) es) (sym entries) s.all)
-    (subst (λ (es : List Entry). AreHeld plan s.in_pages.ring.ring (page_in v f) es) (sym rest) s.written)
-
--- .. where no byte waits, and the last of the records are kept, all of which may be written now
-pub stand-sealed : (blobs : Option VarData) (f g : FlashState) (first : ℕ) (plan : Plan) (table new : Table) (n : ℕ) → ((n : ℕ) → bytes_in (page_at g) first plan VarRing n ≡ bytes_in (page_at f) first plan VarRing n) →
-    new.var ≡ table.var → new.fill ≡ table.fill → new.entries ≡ drop n table.entries → AreEmpty blobs → Stand blobs f (first + plan.data_blocks + plan.index_blocks) plan table → Stand blobs g (first + plan.data_blocks + plan.index_blocks) plan new
-stand-sealed None f g first plan table new n same var fill entries empty s = fill ∙ s
-stand-sealed (Some v) f g first plan table new n same var fill entries empty s =
-    let pages = pages-stand v f g first plan s.planned same in
-    let ring = s.in_pages.ring.ring in
-    let alone = held-sealed v f plan table s.in_pages.ring (ap length empty) table.entries s.all in
-    tables.stand-moved v f g (first + plan.data_blocks + plan.index_blocks) plan table new s pages (images-stand v f g pages) var fill
-    (subst (λ (es : List Entry). AreHeld plan (extended 1 s.in_pages.ring.ring) (image_in v f) es) (sym entries) (held-drop plan (extended 1 s.in_pages.ring.ring) (image_in v f) table.entries n s.all))
-    (held-front plan ring (page_in v f) new.entries (length new.entries - new.pending) (subst (λ (es : List Entry). AreHeld plan ring (page_in v f) es) (sym entries) (held-drop plan ring (page_in v f) table.entries n alone)))
+    new.var ≡ table.var → new.var_pages ≡ table.var_pages → new.buffered ≡ table.buffered → ((i : ℕ) (entry : Entry) → slice_get new.entries i ≡ Some entry → (j : ℕ) × (slice_get table.entries j ≡ Some entry)) →
+    Stand blobs f (first + plan.data_blocks + plan.index_blocks) plan table → Stand blobs g (first + plan.data_blocks + plan.index_blocks) plan new
+stand-moved None f g first plan table new same var pages buffered within s = buffered ∙ s
+stand-moved (Some v) f g first plan table new same var pages buffered within s =
+    tables.stand-moved v f g (first + plan.data_blocks + plan.index_blocks) plan table new s (pages-stand v f g first plan s.planned same) var pages buffered
+    (placed-some s.in_pages.ring.ring table.entries new.entries within s.placed)
 
 -- ---- numbers
 
@@ -219,7 +172,7 @@ pages-most None (Some new) blob same = absurd same
 pages-most (Some old) None blob same = absurd same
 pages-most (Some old) (Some new) None same = omega arith
 pages-most (Some old) (Some new) (Some bytes) same =
-    subst (λ k. pages_placed new (length bytes) ≤ length bytes / k + 1) (ap (λ g. g.page - 16) (same.geometry)) (by_len (length bytes == 0))
+    subst (λ k. pages_placed new (length bytes) ≤ length bytes / k + 1) (ap (λ g. g.page - 16) (same.geometry)) (filled (waiting-room new))
   where
     some : 0 < room_in new
     some = omega (arith, new.served.page_least)
@@ -232,19 +185,6 @@ pages-most (Some old) (Some new) (Some bytes) same =
         let more : (length bytes / room_in new + 1 + 1) * room_in new ≡ (length bytes / room_in new + 1) * room_in new + 1 * room_in new = add-mul (length bytes / room_in new + 1) 1 (room_in new) in
         let lt = (div-lt_iff_lt-mul {x = length (waiting_in new) + length bytes - 1} {y = length bytes / room_in new + 1 + 1} some).1 (omega (arith, le, whole, more, some)) in
         omega (arith, lt)
-
-    alone : 1 + (length bytes - 1) / room_in new ≤ length bytes / room_in new + 1
-    alone =
-        let lt = (div-lt_iff_lt-mul {x = length bytes - 1} {y = length bytes / room_in new + 1} some).1 (omega (arith, whole)) in
-        omega (arith, lt)
-
-    by_full : (b : Bool) → cond b (1 + (length bytes - 1) / room_in new) ((length (waiting_in new) + length bytes - 1) / room_in new) ≤ length bytes / room_in new + 1
-    by_full true = alone
-    by_full false = filled (waiting-room new)
-
-    by_len : (b : Bool) → cond b 0 (cond (is_full_in new) (1 + (length bytes - 1) / room_in new) ((length (waiting_in new) + length bytes - 1) / room_in new)) ≤ length bytes / room_in new + 1
-    by_len true = omega arith
-    by_len false = by_full (is_full_in new)
 
 pub pages-few : (blobs : Option VarData) (blob : Option (List ℕ)) → HasFew blob → pages_for blobs blob ≤ 33
 pages-few None blob few = omega arith

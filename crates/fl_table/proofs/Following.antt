@@ -12,10 +12,11 @@ use Rattle.fl_model.specs.Within.{seal_within, seals_within, effect_within, Tabl
 use Rattle.fl_model.specs.Work.{Kind, Device, PartEnd, PartProgress}
 use Rattle.fl_model.proofs.Among.{after_seals-append, seals-all_done}
 use Rattle.fl_model.proofs.Performs.{performs-front, performs-more, performs-whole}
-use Rattle.fl_table.specs.Outcomes.{Finishes, Breaks, FaultEnds, SealsEnd}
+use Rattle.fl_table.specs.Outcomes.{Finishes, Breaks, FaultEnds, BySeals, SealsEnd}
 use Rattle.fl_table.specs.Pages.{KeptStand}
 use Rattle.fl_table.specs.Standing.{Stands}
 use Rattle.fl_table.specs.declared.table.Table as code
+use Rattle.fl_table.proofs.Sealings.{ByRows}
 use Rattle.fl_table.proofs.Staying.{kept-then}
 
 pub within-append : (plan : Plan) (rings others : List RingName) (table : Table) → seals_within plan (rings ++ others) table ≡ seals_within plan rings table ++ seals_within plan others (after_seals plan rings table)
@@ -26,7 +27,7 @@ within-append plan (ring ∷ rings) others table =
 
 module _ (first : ℕ) (plan : Plan) (rings others : List RingName) (table : Table) (rose : Bool) (device : Device) where
   -- the first ones stopped
-  pub seals-stop : (fault : FlashFault) (new : FlashState) → Breaks first plan (seals_within plan rings table) table rose device fault new → Breaks first plan (seals_within plan (rings ++ others) table) table rose device fault new
+  pub seals-stop : (fault : FlashFault) (new : FlashState) → Breaks first plan (BySeals plan rings table rose device) fault new → Breaks first plan (BySeals plan (rings ++ others) table rose device) fault new
   seals-stop fault new h = record {
     now = h.now;
     did = subst (λ (ops : List (RingName × Kind)). TablePerforms plan rose ops device table h.now) (sym (within-append plan rings others table))
@@ -38,7 +39,7 @@ module _ (first : ℕ) (plan : Plan) (rings others : List RingName) (table : Tab
   }
 
   -- the first ones were done, and the others follow
-  pub seals-then : {KNOTS SLOTS : ℕ} (t : code.Table KNOTS SLOTS) (old mid : FlashState) (result : Result (Unit {0}) FlashFault) (last : code.Table KNOTS SLOTS) (new : FlashState) (h : Finishes first plan (seals_within plan rings table) table (after_seals plan rings table) rose device t old mid) →
+  pub seals-then : {KNOTS SLOTS : ℕ} (t : code.Table KNOTS SLOTS) (old mid : FlashState) (result : Result (Unit {0}) FlashFault) (last : code.Table KNOTS SLOTS) (new : FlashState) (h : Finishes first plan (BySeals plan rings table rose device) table (after_seals plan rings table) t old mid) →
       SealsEnd first plan others (after_seals plan rings table) rose h.now.device result last mid new → SealsEnd first plan (rings ++ others) table rose device result last old new
   seals-then t old mid result last new h k = by_result result k
     where
@@ -62,40 +63,21 @@ module _ (first : ℕ) (plan : Plan) (rings others : List RingName) (table : Tab
       }
       by_result (Err fault) k = record { now = k.now; did = did k.now k.did; answer = k.answer; counts = k.counts; rests = k.rests }
 
--- the first seals were done, and others, which made this table
-pub finishes-then : {KNOTS SLOTS : ℕ} (first : ℕ) (plan : Plan) (rings others : List RingName) (table last : Table) (rose : Bool) (device : Device) (t : code.Table KNOTS SLOTS) (old mid : FlashState) (u : code.Table KNOTS SLOTS) (new : FlashState) →
-    (h : Finishes first plan (seals_within plan rings table) table (after_seals plan rings table) rose device t old mid) →
-    Finishes first plan (seals_within plan others (after_seals plan rings table)) (after_seals plan rings table) last rose h.now.device u mid new →
-    Finishes first plan (seals_within plan (rings ++ others) table) table last rose device u old new
-finishes-then first plan rings others table last rose device t old mid u new h k =
-    let done : h.now.state ≡ after_seals plan rings table = (performs-whole (λ (o : RingName × Kind). o.1) (effect_within plan) rose (seals_within plan rings table) device table h.now h.did h.whole).0 ∙ seals-all_done plan rings table in
-    record {
-      now = k.now;
-      did = subst (λ (ops : List (RingName × Kind)). TablePerforms plan rose ops device table k.now) (sym (within-append plan rings others table))
-          (performs-more (λ (o : RingName × Kind). o.1) (effect_within plan) rose (seals_within plan rings table) (seals_within plan others (after_seals plan rings table)) device table h.now k.now h.did h.whole
-          (subst (λ (x : Table). TablePerforms plan rose (seals_within plan others (after_seals plan rings table)) h.now.device x k.now) (sym done) k.did));
-      whole = k.whole;
-      counts = k.counts;
-      power = k.power;
-      stands = k.stands;
-      stand = kept-then first plan table (after_seals plan rings table) last (page_at old) (page_at mid) (page_at new) h.stands.facts k.stands.facts h.stand k.stand;
-    }
-
 append-nil : {X : Type 0} (xs : List X) → xs ++ [] ≡ xs
 append-nil [] = refl
 append-nil (x ∷ xs) = ap (λ ys. x ∷ ys) (append-nil xs)
 
 -- how a seal of the pending rows alone ends
 abbrev pub RowsEnd : {KNOTS SLOTS : ℕ} → ℕ → Plan → Table → Bool → Device → Result (Unit {0}) FlashFault → code.Table KNOTS SLOTS → FlashState → FlashState → Type 0
-RowsEnd first plan table rose device (Ok done) t old new = Finishes first plan (seal_within plan DataRing table) table (after_seal plan DataRing table) rose device t old new
-RowsEnd first plan table rose device (Err fault) t old new = Breaks first plan (seal_within plan DataRing table) table rose device fault new
+RowsEnd first plan table rose device (Ok done) t old new = Finishes first plan (ByRows plan table rose device) table (after_seal plan DataRing table) t old new
+RowsEnd first plan table rose device (Err fault) t old new = Breaks first plan (ByRows plan table rose device) fault new
 
 pub ends-alone : {KNOTS SLOTS : ℕ} (first : ℕ) (plan : Plan) (table : Table) (rose : Bool) (device : Device) (result : Result (Unit {0}) FlashFault) (t : code.Table KNOTS SLOTS) (old new : FlashState) → RowsEnd first plan table rose device result t old new →
     SealsEnd first plan (DataRing ∷ []) table rose device result t old new
 ends-alone first plan table rose device (Ok u) t old new h =
-    subst (λ (ops : List (RingName × Kind)). Finishes first plan ops table (after_seal plan DataRing table) rose device t old new) (sym (append-nil (seal_within plan DataRing table))) h
+    subst (λ (ops : List (RingName × Kind)). Finishes first plan (λ now. TablePerforms plan rose ops device table now) table (after_seal plan DataRing table) t old new) (sym (append-nil (seal_within plan DataRing table))) h
 ends-alone first plan table rose device (Err fault) t old new h =
-    subst (λ (ops : List (RingName × Kind)). Breaks first plan ops table rose device fault new) (sym (append-nil (seal_within plan DataRing table))) h
+    subst (λ (ops : List (RingName × Kind)). Breaks first plan (λ now. TablePerforms plan rose ops device table now) fault new) (sym (append-nil (seal_within plan DataRing table))) h
 
 -- a call within another is watched as that is
 pub watched-front : (old mid new : FlashState) (rose : Bool) (device : Device) → IsWatched old new rose device → Goes mid new → IsWatched old mid rose device

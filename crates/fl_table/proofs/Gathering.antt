@@ -1,28 +1,29 @@
 -- The bitmaps that a mount notes as it reads the pages.
-use Rattle.std.proofs.Common.{◌≡◌, ℕ, ◌+◌, ◌-◌, ◌/◌, ◌%◌, ◌^◌, ◌<◌, ◌≤◌, ◌==◌, Bool, true, false, IsTrue, List, Option, Some, None, IfSome, refl, sym, ◌∙◌, ap, subst, arith, ◌⊎◌, inl, inr}
+use Rattle.std.proofs.Common.{◌≡◌, ℕ, ◌+◌, ◌-◌, ◌/◌, ◌%◌, ◌^◌, ◌<◌, ◌≤◌, ◌==◌, Bool, true, false, cond, IsTrue, List, [], length, Option, Some, None, IfSome, refl, sym, ◌∙◌, ap, subst, arith, ◌⊎◌, inl, inr}
 use Rattle.std.proofs.lemmas.Bool.{cases_lt, eqb-true}
 use Rattle.std.proofs.Math.Nat.{mod-lt, mod-eq_of_lt}
-use Rattle.std.specs.List.{slice_get}
 use Rattle.fl_base.specs.declared.types.Geometry.{Geometry}
 use Rattle.fl_index.specs.declared.index.Index.{Index}
-use Rattle.fl_index.specs.Memory.{waiting_in, first_waiting, per_page}
+use Rattle.fl_index.specs.Memory.{waiting_in, first_waiting, per_page, IsSamePlan}
 use Rattle.fl_index.specs.Standing.{Waits}
-use Rattle.fl_model.specs.Image.{rows_at}
-use Rattle.fl_model.specs.Layout.{bitmap_of}
+use Rattle.fl_model.specs.Layout.{IndexEntry, bitmap_of, index_entry}
+use Rattle.fl_model.specs.Limits.{rows_of_page}
 use Rattle.fl_model.specs.Record.{Plan}
 use Rattle.fl_model.specs.Ring.{oldest}
 use Rattle.fl_model.specs.Table.{Table, Entry}
 use Rattle.fl_bitmap.specs.Widths.{is_bits}
 use Rattle.fl_index.proofs.Bytes.{number_of-low}
 use Rattle.fl_index.proofs.Gathering.{bitmap-small}
+use Rattle.fl_mark.proofs.InModel.{model_state}
 use Rattle.fl_mark.specs.Mark.{state_of_page}
 use Rattle.fl_mark.specs.declared.page_state.PageState.{PageState}
 use Rattle.fl_mark.specs.declared.page_state.PageState.TheVariants.{Committed}
-use Rattle.fl_model.specs.Layout.{committed, data_body}
+use Rattle.fl_model.specs.Layout.{committed, data_body, is_void}
 use Rattle.fl_model.specs.Row.{le, number_of}
 use Rattle.fl_ring.proofs.Found.{committed_state}
-use Rattle.fl_table.specs.Bitmaps.{AreSamePlan, AreIdle, AreWaiting, EndAt, HaveRoom, AreNoted, first_to_wait}
-use Rattle.fl_table.specs.Reading.{WaitFor, HaveBitmaps, GatherUpTo, AreGathered, bitmap_on, bitmap_where, page_bitmap}
+use Rattle.fl_table.specs.Bitmaps.{AreSamePlan, AreIdle, EndAt, HaveRoom, AreNoted, first_to_wait}
+use Rattle.fl_table.proofs.PageRows.{entries-push}
+use Rattle.fl_table.specs.Reading.{WaitFor, entries_from, HaveBitmaps, GatherUpTo, AreGathered, bitmap_on, bitmap_where, page_bitmap}
 use Rattle.fl_table.proofs.States.{committed-end}
 
 -- at first none waits
@@ -32,7 +33,12 @@ gathers-none (Some index) low high number e h = (refl, omega (arith, h.0, h.1, e
 
 pub gather-first : (bitmaps : Option Index) (low high number : ℕ) (page : ℕ → List ℕ) → number ≡ low → WaitFor bitmaps low high → GatherUpTo bitmaps page number bitmaps
 gather-first None low high number page e h = refl
-gather-first (Some index) low high number page e h = λ plan table waits bitmaps. subst (λ k. Waits index plan table (first_waiting index) k) (omega (arith, h.1, e)) waits
+gather-first (Some index) low high number page e h = λ plan table plain waits bitmaps low' high'. subst (λ k. Waits index (first_waiting index) (entries_from plan table (first_waiting index) k)) (let z : 0 ≡ number - first_waiting index = omega (arith, h.1, e) in z) waits
+
+per_same : (old new : Index) → IsSamePlan old new → per_page new ≡ per_page old
+per_same old new same =
+    ap (λ (x : Geometry). (x.page - 24) / (new.bits / 8 + (cond new.full 14 0))) same.geometry
+    ∙ (ap (λ n. (old.geometry.page - 24) / (n / 8 + (cond new.full 14 0))) same.bits ∙ ap (λ b. (old.geometry.page - 24) / (old.bits / 8 + (cond b 14 0))) same.full)
 
 -- there is room for the next
 pub gather-room : (old now : Option Index) (low high number : ℕ) → WaitFor old low high → number < high → AreSamePlan old now → AreGathered old number now → EndAt now number → HaveRoom now
@@ -42,7 +48,7 @@ gather-room None now low high number h lt same g end = λ index e. absurd (none 
     none index e = cc
 gather-room (Some old) None low high number h lt same g end = absurd g
 gather-room (Some old) (Some now) low high number h lt same g end = λ index e.
-    let per : per_page now ≡ per_page old = ap (λ (x : Geometry). (x.page - 24) / (now.bits / 8)) same.geometry ∙ ap (λ n. (old.geometry.page - 24) / (n / 8)) same.bits in
+    let per = per_same old now same in
     let room : waiting_in now < per_page now = omega (arith, g.0, g.1, h.3, lt, end now refl, per) in
     subst (λ (o : Option Index). IfSome o (λ x. waiting_in x < per_page x)) e room
 
@@ -61,26 +67,29 @@ gathers-more (Some old) (Some now) (Some later) low high number bitmap h g noted
         let n = noted.0 (omega (arith, g.0, g.1, from)) in
         (n.first ∙ g.0, omega (arith, n.one, g.1, from))
 
-pub gather-more : (old now later : Option Index) (low high number bitmap : ℕ) (page : ℕ → List ℕ) → WaitFor old low high → AreGathered old number now → AreNoted now number bitmap later → bitmap ≡ bitmap_on (page number) →
+pub gather-more : (old now later : Option Index) (low high number bitmap : ℕ) (page : ℕ → List ℕ) → WaitFor old low high → AreGathered old number now → AreNoted now number bitmap later → bitmap ≡ bitmap_on (page number) → AreSamePlan old now →
     GatherUpTo old page number now → GatherUpTo old page (number + 1) later
-gather-more None now later low high number bitmap page h g noted is k = subst (λ (o : Option Index). AreNoted o number bitmap later → later ≡ None) (sym g) (λ n. n) noted
-gather-more (Some old) None later low high number bitmap page h g noted is k = absurd g
-gather-more (Some old) (Some now) None low high number bitmap page h g noted is k = absurd noted
-gather-more (Some old) (Some now) (Some later) low high number bitmap page h g noted is k = λ plan table waits bitmaps. by_order plan table (k plan table waits bitmaps) bitmaps (cases_lt number (first_waiting old))
+gather-more None now later low high number bitmap page h g noted is same k = subst (λ (o : Option Index). AreNoted o number bitmap later → later ≡ None) (sym g) (λ n. n) noted
+gather-more (Some old) None later low high number bitmap page h g noted is same k = absurd g
+gather-more (Some old) (Some now) None low high number bitmap page h g noted is same k = absurd noted
+gather-more (Some old) (Some now) (Some later) low high number bitmap page h g noted is same k = λ plan table plain waits bitmaps oldest_low next_high.
+    by_order plan table (k plan table plain waits bitmaps oldest_low (omega (arith, next_high))) bitmaps oldest_low next_high (same.full ∙ plain) (cases_lt number (first_waiting old))
   where
-    by_order : (plan : Plan) (table : Table) → Waits now plan table (first_waiting old) (number - first_waiting old) → HaveBitmaps plan table page → (number < first_waiting old) ⊎ (first_waiting old ≤ number) →
-        Waits later plan table (first_waiting old) (number + 1 - first_waiting old)
-    by_order plan table w bitmaps (inl before) =
-        let same = noted.1 (λ e. omega (arith, e, g.0, g.1, before)) in
-        subst (λ n. Waits later plan table (first_waiting old) n) (omega (arith, before)) (subst (λ (x : Index). Waits x plan table (first_waiting old) (number - first_waiting old)) (sym same) w)
-    by_order plan table w bitmaps (inr from) =
+    by_order : (plan : Plan) (table : Table) → Waits now (first_waiting old) (entries_from plan table (first_waiting old) (number - first_waiting old)) → HaveBitmaps plan table page → oldest table.rows ≤ first_waiting old → number + 1 ≤ table.rows.next →
+        now.full ≡ false → (number < first_waiting old) ⊎ (first_waiting old ≤ number) → Waits later (first_waiting old) (entries_from plan table (first_waiting old) (number + 1 - first_waiting old))
+    by_order plan table w bitmaps oldest_low next_high plain (inl before) =
+        let unchanged = noted.1 (λ e. omega (arith, e, g.0, g.1, before)) in
+        subst (λ n. Waits later (first_waiting old) (entries_from plan table (first_waiting old) n)) (let z : number - first_waiting old ≡ number + 1 - first_waiting old = omega (arith, before) in z)
+        (subst (λ (x : Index). Waits x (first_waiting old) (entries_from plan table (first_waiting old) (number - first_waiting old))) (sym unchanged) w)
+    by_order plan table w bitmaps oldest_low next_high plain (inr from) =
         let n = noted.0 (omega (arith, g.0, g.1, from)) in
-        subst (λ m. Waits later plan table (first_waiting old) m) (omega (arith, from))
-        (n.waits plan table (first_waiting old) (number - first_waiting old) w (λ i e. by_page i (omega (arith, e, from)) (slice_get table.rows.counts i) refl))
-      where
-        by_page : (i : ℕ) → number ≡ oldest table.rows + i → (c : Option ℕ) → slice_get table.rows.counts i ≡ c → IfSome c (λ rows. 0 < rows → bitmap ≡ bitmap_of plan (rows_at table i rows))
-        by_page i at None e = tt
-        by_page i at (Some rows) e = λ some. is ∙ (ap (λ (m : ℕ). bitmap_on (page m)) at ∙ bitmaps i rows e some)
+        let at : first_waiting old + (number - first_waiting old) ≡ number = omega (arith, from) in
+        let entry = index_entry plan (rows_of_page table (first_waiting old + (number - first_waiting old))) in
+        let bits : bitmap ≡ bitmap_of plan (rows_of_page table (first_waiting old + (number - first_waiting old))) =
+        is ∙ (bitmaps number (omega (arith, from, oldest_low)) (omega (arith, next_high)) ∙ ap (λ m. bitmap_of plan (rows_of_page table m)) (sym at)) in
+        subst (λ m. Waits later (first_waiting old) (entries_from plan table (first_waiting old) m)) (let z : number - first_waiting old + 1 ≡ number + 1 - first_waiting old = omega (arith, from) in z)
+        (subst (λ (es : List IndexEntry). Waits later (first_waiting old) es) (sym (entries-push plan table (first_waiting old) (number - first_waiting old)))
+        (n.waits (first_waiting old) (entries_from plan table (first_waiting old) (number - first_waiting old)) entry plain w bits))
 
 -- they end where the pages do
 pub gathers-end : (old now : Option Index) (low high : ℕ) → WaitFor old low high → AreGathered old high now → EndAt now high
@@ -98,17 +107,15 @@ pub wait-for : (was now : Option Index) (end low high first : ℕ) → first ≡
 wait-for was None end low high first is below le same idle at = tt
 wait-for None (Some now) end low high first is below le same idle at = absurd same
 wait-for (Some was) (Some now) end low high first is below le same idle at =
-    let per : per_page now ≡ per_page was = ap (λ (x : Geometry). (x.page - 24) / (now.bits / 8)) same.geometry ∙ ap (λ n. (was.geometry.page - 24) / (n / 8)) same.bits in
+    let per = per_same was now same in
     let here = at now refl in
     (idle, omega (arith, is, here, idle, below, le), omega (arith, is, here, idle), omega (arith, is, here, idle, per))
 
-pub gather-waits : (old now : Option Index) (page : ℕ → List ℕ) (high first : ℕ) (plan : Plan) (table : Table) → AreIdle old → EndAt old first → AreWaiting old plan table first 0 → HaveBitmaps plan table page → GatherUpTo old page high now →
-    AreWaiting now plan table first (high - first)
-gather-waits None now page high first plan table idle at waits bitmaps h = subst (λ (o : Option Index). AreWaiting o plan table first (high - first)) (sym h) tt
-gather-waits (Some old) None page high first plan table idle at waits bitmaps h = absurd h
-gather-waits (Some old) (Some now) page high first plan table idle at waits bitmaps h =
-    let here : first_waiting old ≡ first = omega (arith, at old refl, idle) in
-    subst (λ k. Waits now plan table k (high - k)) here (h plan table (subst (λ k. Waits old plan table k 0) (sym here) waits) bitmaps)
+pub gather-waits : (old now : Index) (page : ℕ → List ℕ) (high first : ℕ) (plan : Plan) (table : Table) → waiting_in old ≡ 0 → first_waiting old + waiting_in old ≡ first → old.full ≡ false → Waits old first [] → HaveBitmaps plan table page → oldest table.rows ≤ first → high ≤ table.rows.next →
+    GatherUpTo (Some old) page high (Some now) → Waits now first (entries_from plan table first (high - first))
+gather-waits old now page high first plan table idle at plain waits bitmaps low within h =
+    let here : first_waiting old ≡ first = omega (arith, at, idle) in
+    subst (λ k. Waits now k (entries_from plan table k (high - k))) here (h plan table plain (subst (λ k. Waits old k []) (sym here) waits) bitmaps (omega (arith, low, here)) within)
 
 -- the bitmap in the header of a data page is that of its rows
 bits_small : (bits b : ℕ) → IsTrue (is_bits bits) → b % 256 ^ (bits / 8) ≡ b → b % 256 ^ 8 ≡ b
@@ -141,3 +148,7 @@ page-bitmap plan number entries page is e =
     let bytes : page_bitmap page ≡ number_of (le 8 (bitmap_of plan entries)) = ap page_bitmap e ∙ refl in
     ap (λ (s : PageState). bitmap_where s (page_bitmap page)) state
     ∙ (bytes ∙ (number_of-low 8 (bitmap_of plan entries) ∙ bits_small plan.bits (bitmap_of plan entries) is (bitmap-small plan entries is)))
+
+-- .. and a void page has none
+pub void-bitmap : (page : List ℕ) → 8 ≤ length page → is_void page ≡ true → bitmap_on page ≡ 0
+void-bitmap page long h = ap (λ (s : PageState). bitmap_where s (page_bitmap page)) ((model_state page long).void.1 h)

@@ -1,5 +1,5 @@
 -- A table and its pages.
-use Rattle.std.proofs.Common.{◌≡◌, ℕ, ◌+◌, ◌-◌, ◌*◌, ◌%◌, ◌<◌, ◌≤◌, List, length, refl, sym, ◌∙◌, ap, arith}
+use Rattle.std.proofs.Common.{◌≡◌, ℕ, ◌+◌, ◌-◌, ◌*◌, ◌%◌, ◌<◌, ◌≤◌, List, length, sym, ◌∙◌, ap, arith}
 use Rattle.std.proofs.lemmas.List.{take_all}
 use Rattle.std.proofs.Math.Nat.{mod-lt, mul-le-mul_right, add-mul}
 use Rattle.fl_flash.specs.Flash.{FlashState, pages, page_at}
@@ -7,12 +7,11 @@ use Rattle.fl_flash.specs.Places.{extent}
 use Rattle.fl_model.specs.Record.{Plan}
 use Rattle.fl_model.specs.Table.{Table, lose}
 use Rattle.fl_table.proofs.BlobTables.{HoldsVar}
-use Rattle.fl_table.proofs.Blobbing.{var-front}
 use Rattle.fl_table.proofs.Plain.{IsPlainTable, plain-lose, table-facts}
 use Rattle.fl_ring.specs.Ring.{OnRing, place}
 use Rattle.fl_ring.proofs.Lengths.{page_length}
 use Rattle.fl_table.specs.Pages.{HoldsTable, Rests}
-use Rattle.fl_table.proofs.Moved.{HoldsIndexed, indexed-moved, keeps-lose}
+use Rattle.fl_table.proofs.Moved.{HoldsIndexed}
 use Rattle.fl_table.proofs.States.{shape_in, state_of, HaveSize, to-ring, to-image}
 
 -- the pages of its rings are all that it holds
@@ -21,8 +20,7 @@ pub plain-holds : (page : ℕ → List ℕ) (first : ℕ) (plan : Plan) (table :
 plain-holds page first plan table sizes large facts on indexed var = record {
   rows = to-image page first plan table sizes large facts.rows on;
   index = indexed;
-  var = var.0;
-  blobs = var.1;
+  var = var;
 }
 
 pub plain-on : (page : ℕ → List ℕ) (first : ℕ) (plan : Plan) (table : Table) → HaveSize first plan page → 64 ≤ plan.geometry.page → IsPlainTable plan table →
@@ -39,9 +37,7 @@ pub plain-rests : (f : FlashState) (first : ℕ) (plan : Plan) (table : Table) �
     OnRing (shape_in first plan) (page_at f) (state_of plan (lose table)) → HoldsIndexed (page_at f) first plan table → HoldsVar (page_at f) first plan table → Rests f first plan (lose table)
 plain-rests f first plan table sizes large facts on indexed var = record {
   settled = record { facts = table-facts plan (lose table) (plain-lose plan table facts); lost = lost-twice table };
-  pages = plain-holds (page_at f) first plan (lose table) sizes large (plain-lose plan table facts) on
-      (indexed-moved (page_at f) first plan table (lose table) facts.index (keeps-lose table facts.kept.counted) refl refl indexed)
-      (var-front (page_at f) first plan table (lose table) (length table.entries - table.pending) refl refl var);
+  pages = plain-holds (page_at f) first plan (lose table) sizes large (plain-lose plan table facts) on indexed var;
 }
 
 -- the pages of a flash have their size

@@ -1,8 +1,8 @@
 -- How a seal of the waiting bitmaps ends for their table.
-use Rattle.std.proofs.Common.{◌≡◌, ℕ, suc, ◌+◌, ◌-◌, ◌*◌, ◌<◌, ◌≤◌, Bool, true, false, cond, ◌&&◌, ◌==◌, Option, Some, None, IfSome, option_map, OnOk, Result, Ok, Err, List, [], ◌∷◌, ◌++◌, length, take, drop, refl, sym, ◌∙◌, ap, subst, arith, ◌⊎◌, inl, inr, length-append}
+use Rattle.std.proofs.Common.{◌≡◌, ℕ, suc, ◌+◌, ◌*◌, ◌<◌, ◌≤◌, Bool, true, false, cond, ◌&&◌, ◌==◌, Option, Some, None, IfSome, option_map, OnOk, Result, Ok, Err, List, [], ◌∷◌, ◌++◌, length, refl, sym, ◌∙◌, ap, subst, arith, ◌⊎◌, inl, inr, length-append}
 use Rattle.std.proofs.Math.Path.{fun_ext}
 use Rattle.std.proofs.Math.Nat.{mod-lt, mul-le-mul_right, add-mul}
-use Rattle.std.specs.List.{AllByRecursion, sum}
+use Rattle.std.specs.List.{AllByRecursion}
 use Rattle.fl_base.specs.declared.types.CutKind.{CutKind}
 use Rattle.fl_flash.specs.Flash.{FlashState, page_at}
 use Rattle.fl_flash.specs.declared.flash.FlashFault.{FlashFault}
@@ -13,31 +13,31 @@ use Rattle.fl_index.specs.Standing as standing
 use Rattle.fl_index.specs.Standing.{HasIndex}
 use Rattle.fl_index.proofs.Sealings.{planned-ring}
 use Rattle.fl_model.specs.Facts.{IsTable, is_some_ring, counts_in}
-use Rattle.fl_model.specs.Image.{IsRingImage, HoldsRows, HoldsBitmaps}
+use Rattle.fl_model.specs.Image.{IsRingImage, HoldsRows, HoldsEntries}
+use Rattle.fl_model.specs.Index.{IndexEntry, IndexPage}
 use Rattle.fl_model.specs.Mount.{index_end}
 use Rattle.fl_model.specs.Record.{Plan, has_index, entries_per_page}
 use Rattle.fl_model.specs.Ring as model
 use Rattle.fl_model.specs.Ring.{oldest}
-use Rattle.fl_model.specs.Table.{Table, Entry, RingName, DataRing, IndexRing, VarRing, shape_of, full_pages, is_dirty, seal_buffer, after_seals, lose, spent_from}
+use Rattle.fl_model.specs.Table.{Table, RingName, DataRing, IndexRing, VarRing, LogRing, shape_of, full_pages, is_dirty, seal_buffer, after_seals, lose, spent_from}
 use Rattle.fl_model.specs.Work.{Kind, Body, Mark, VoidMark, Erase, Ending, AsBefore, AsAfter, Either, Leaves, Device, PartEnd, Whole, CutIn, FailedIn, PartProgress, PartFirst, PartPerforms, cut_now, counted}
 use Rattle.fl_model.specs.Within.{seal_within, seals_within, effect_within, all_done, TablePerforms}
-use Rattle.fl_model.proofs.Kept.{AreKept}
-use Rattle.fl_model.proofs.Plain.{sealed-next, sealed-torn}
+use Rattle.fl_model.proofs.Sealed.{sealed-next, sealed-torn}
 use Rattle.fl_ring.specs.Ring.{Shape, OutsideStands}
-use Rattle.fl_model.specs.Layout.{committed, data_body}
 use Rattle.fl_ring.specs.Device.{SameDevice}
 use Rattle.fl_ring.specs.Step.{IsWatched}
 use Rattle.fl_table.specs.Bitmaps.{ArePlanned, Stand, StandOutside, IsRoomMade, RoomMade, MakesRoomOf, bitmap_seals, next_after}
-use Rattle.fl_table.specs.Outcomes.{Finishes, Breaks, FaultEnds}
+use Rattle.fl_table.specs.Outcomes.{Finishes, Breaks, FaultEnds, BySeals}
 use Rattle.fl_table.specs.Pages.{HoldsTable, KeptStand, bytes_in, place_in}
 use Rattle.fl_table.specs.Standing.{Stands}
 use Rattle.fl_table.specs.declared.table.Table as code
 use Rattle.fl_table.proofs.Holding.{lost-twice}
-use Rattle.fl_table.proofs.Blobbing.{var-as, var-behind, var-same}
+use Rattle.fl_table.proofs.BlobTables.{HoldsVar}
+use Rattle.fl_table.proofs.Blobbing.{var-behind, var-same}
 use Rattle.fl_table.proofs.SealAnswers.{planned-shape}
-use Rattle.fl_table.proofs.Plain.{IsPlainTable, IsIndexed, AreInPages, blobbed-moved, table-parts, table-facts, plain-lose}
+use Rattle.fl_table.proofs.Plain.{IsPlainTable, IsIndexed, blobbed-moved, stand-as, table-parts, table-facts, plain-lose}
 use Rattle.fl_table.proofs.Indexing.{planned-some, planned-none, index-next}
-use Rattle.fl_table.proofs.Moved.{HoldsIndexed, indexed-moved, keeps-lose}
+use Rattle.fl_table.proofs.Moved.{HoldsIndexed}
 use Rattle.fl_table.proofs.Staying.{kept-same, pages-same, ring-same}
 
 -- What is left of a list of operations, of which one may have failed, is what some of the first ones make.
@@ -77,6 +77,7 @@ abbrev pub IsOfIndex : RingName → Type 0
 IsOfIndex IndexRing = Unit {0}
 IsOfIndex DataRing = ⊥
 IsOfIndex VarRing = ⊥
+IsOfIndex LogRing = ⊥
 
 abbrev pub AreOfIndex : List (RingName × Kind) → Type 0
 AreOfIndex operations = AllByRecursion (λ operation. IsOfIndex operation.0) operations
@@ -85,23 +86,22 @@ front_of : (front others : List (RingName × Kind)) → AreOfIndex (front ++ oth
 front_of [] others h = tt
 front_of (o ∷ front) others h = (h.0, front_of front others h.1)
 
--- They leave all else of the table.
-pub record IsBeside (table new : Table) : Type 0 where
-  pub entries : new.entries ≡ table.entries
-  pub rows : new.rows ≡ table.rows
-  pub var : new.var ≡ table.var
-  pub pending : new.pending ≡ table.pending
-  pub fill : new.fill ≡ table.fill
-  pub points : new.points ≡ table.points
+-- they leave all else of the table
+abbrev pub with_index : Table → Option model.Ring → List IndexPage → List IndexEntry → Table
+with_index table index pages waiting = record table { index = index; index_pages = pages; waiting = waiting }
+
+abbrev pub IsBeside : Table → Table → Type 0
+IsBeside table new = (index : Option model.Ring) × (pages : List IndexPage) × (waiting : List IndexEntry) × (new ≡ with_index table index pages waiting)
 
 pub beside-done : (plan : Plan) (table t : Table) (front : List (RingName × Kind)) → AreOfIndex front → IsBeside table t → IsBeside table (all_done (effect_within plan) front t)
 beside-done plan table t [] h b = b
-beside-done plan table t ((IndexRing, Body) ∷ front) h b = beside-done plan table (effect_within plan (IndexRing, Body) t) front h.1 (record { entries = b.entries; rows = b.rows; var = b.var; pending = b.pending; fill = b.fill; points = b.points })
-beside-done plan table t ((IndexRing, Mark) ∷ front) h b = beside-done plan table (effect_within plan (IndexRing, Mark) t) front h.1 (record { entries = b.entries; rows = b.rows; var = b.var; pending = b.pending; fill = b.fill; points = b.points })
-beside-done plan table t ((IndexRing, VoidMark) ∷ front) h b = beside-done plan table (effect_within plan (IndexRing, VoidMark) t) front h.1 (record { entries = b.entries; rows = b.rows; var = b.var; pending = b.pending; fill = b.fill; points = b.points })
-beside-done plan table t ((IndexRing, Erase) ∷ front) h b = beside-done plan table (effect_within plan (IndexRing, Erase) t) front h.1 (record { entries = b.entries; rows = b.rows; var = b.var; pending = b.pending; fill = b.fill; points = b.points })
+beside-done plan table t ((IndexRing, Body) ∷ front) h b = beside-done plan table (effect_within plan (IndexRing, Body) t) front h.1 (_, _, _, ap (effect_within plan (IndexRing, Body)) b.3)
+beside-done plan table t ((IndexRing, Mark) ∷ front) h b = beside-done plan table (effect_within plan (IndexRing, Mark) t) front h.1 (_, _, _, ap (effect_within plan (IndexRing, Mark)) b.3)
+beside-done plan table t ((IndexRing, VoidMark) ∷ front) h b = beside-done plan table (effect_within plan (IndexRing, VoidMark) t) front h.1 (_, _, _, ap (effect_within plan (IndexRing, VoidMark)) b.3)
+beside-done plan table t ((IndexRing, Erase) ∷ front) h b = beside-done plan table (effect_within plan (IndexRing, Erase) t) front h.1 (_, _, _, ap (effect_within plan (IndexRing, Erase)) b.3)
 beside-done plan table t ((DataRing, kind) ∷ front) h b = absurd h.0
 beside-done plan table t ((VarRing, kind) ∷ front) h b = absurd h.0
+beside-done plan table t ((LogRing, kind) ∷ front) h b = absurd h.0
 
 -- each raises the number of the index ring by one at most
 abbrev pub IsNumberedTo : ℕ → Option model.Ring → Type 0
@@ -136,6 +136,7 @@ number-done plan n t ((IndexRing, kind) ∷ front) h k =
     one Erase = up_to n (n + 1) (option_map model.erased t.index) (omega arith) (erased-number n t.index k)
 number-done plan n t ((DataRing, kind) ∷ front) h k = absurd h.0
 number-done plan n t ((VarRing, kind) ∷ front) h k = absurd h.0
+number-done plan n t ((LogRing, kind) ∷ front) h k = absurd h.0
 
 -- the operations of a seal are of the index ring, and at most three
 pub seal-of_index : (plan : Plan) (table : Table) → AreOfIndex (seal_within plan IndexRing table)
@@ -152,28 +153,34 @@ indexed-of plan table ring some h number pending listed = record {
   has = ap is_some_ring h.ring_is ∙ sym some;
   ring = subst (λ (o : Option model.Ring). IfSome o (model.IsRing (shape_of plan IndexRing))) (sym h.ring_is) h.is_ring;
   counts = subst (λ (o : Option model.Ring). AllByRecursion (λ count. (count ≡ 0) ⊎ (count ≡ entries_per_page plan)) (counts_in o)) (sym h.ring_is) h.counts;
-  first_each = h.first_each ∙ ap (λ (o : Option model.Ring). full_pages (counts_in o)) (sym h.ring_is);
+  each = h.index_each ∙ ap (λ (o : Option model.Ring). full_pages (counts_in o)) (sym h.ring_is);
+  fit = h.index_fit;
   firsts = h.firsts;
   waiting = λ t. h.waiting;
   listed = h.listed;
+  tell = h.tell;
+  wait = h.wait;
   number = subst (λ (o : Option model.Ring). IfSome o (λ r. r.next + (cond r.torn 1 0) ≤ 4294967292)) (sym h.ring_is) number;
   number_pending = λ p. subst (λ (o : Option model.Ring). IfSome o (λ r. r.next ≤ spent_from + 64)) (sym h.ring_is) (pending p);
   number_listed = listed;
 }
 
 -- the facts of a table beside whose index nothing changed
-pub beside-facts : (plan : Plan) (table new : Table) → IsBeside table new → IsPlainTable plan table → IsIndexed plan new → IsPlainTable plan new
-beside-facts plan table new b h index = record {
-  rows = subst (model.IsRing (shape_of plan DataRing)) (sym b.rows) h.rows;
-  kept = subst (λ (es : List Entry). AreKept plan es new.rows.counts new.pending) (sym b.entries)
-      (subst (λ (r : model.Ring). AreKept plan table.entries r.counts new.pending) (sym b.rows) (subst (λ n. AreKept plan table.entries table.rows.counts n) (sym b.pending) h.kept));
-  few_pending = omega (arith, b.pending, h.few_pending);
-  index = index;
-  blobs = blobbed-moved plan table new b.var (omega (arith, b.fill, h.blobs.fill)) (λ p e. p (b.pending ∙ e))
-      (subst (AreInPages table) (sym (ap (λ n. take n new.entries) (omega (arith, ap length b.entries, b.pending)) ∙ ap (take (length table.entries - table.pending)) b.entries)) h.blobs.blobs) h.blobs;
-  number = subst (λ (r : model.Ring). r.next + (cond r.torn 1 0) ≤ 4294967292) (sym b.rows) h.number;
-  number_pending = λ p. subst (λ (r : model.Ring). r.next ≤ spent_from) (sym b.rows) (h.number_pending (λ e. p (b.pending ∙ e)));
+pub facts-with_index : (plan : Plan) (table : Table) (index : Option model.Ring) (pages : List IndexPage) (waiting : List IndexEntry) → IsPlainTable plan table → IsIndexed plan (with_index table index pages waiting) → IsPlainTable plan (with_index table index pages waiting)
+facts-with_index plan table index pages waiting h indexed = record {
+  plain = h.plain;
+  bare = h.bare;
+  rows = h.rows;
+  kept = h.kept;
+  few_pending = h.few_pending;
+  index = indexed;
+  blobs = blobbed-moved plan table (with_index table index pages waiting) refl refl h.blobs.fill (λ p. p) h.blobs.blobs (stand-as plan table (with_index table index pages waiting) refl (λ ring number. refl) h.blobs.stand) h.blobs;
+  number = h.number;
+  number_pending = h.number_pending;
 }
+
+pub beside-facts : (plan : Plan) (table new : Table) → IsBeside table new → IsPlainTable plan table → IsIndexed plan new → IsPlainTable plan new
+beside-facts plan table new b h index = subst (IsPlainTable plan) (sym b.3) (facts-with_index plan table b.0 b.1 b.2 h (subst (IsIndexed plan) b.3 index))
 
 -- the pages of the data ring lie before the index ring
 pub rows-stand : (old new : ℕ → List ℕ) (first : ℕ) (plan : Plan) (r : Shape) → 0 < plan.data_blocks * plan.geometry.block → r.first ≡ (first + plan.data_blocks) * plan.geometry.block → OutsideStands r old new → (n : ℕ) → bytes_in new first plan DataRing n ≡ bytes_in old first plan DataRing n
@@ -194,36 +201,20 @@ rows-same old new first plan table same h = subst (λ (at : ℕ → List ℕ). I
 
 -- the pages of the index ring
 pub holds-indexed : (page : ℕ → List ℕ) (first : ℕ) (plan : Plan) (table : Table) (ring : model.Ring) → table.index ≡ Some ring → standing.HoldsIndex page (first + plan.data_blocks) plan table ring → HoldsIndexed page first plan table
-holds-indexed page first plan table ring is h = subst (λ (o : Option model.Ring). IfSome o (λ r. IsRingImage (shape_of plan IndexRing) r (bytes_in page first plan IndexRing) (HoldsBitmaps plan table r))) (sym is) h
+holds-indexed page first plan table ring is h = subst (λ (o : Option model.Ring). IfSome o (λ r. IsRingImage (shape_of plan IndexRing) r (bytes_in page first plan IndexRing) (HoldsEntries plan table r))) (sym is) h
 
 -- what is lost of both
 lose-beside : (table new : Table) → IsBeside table new → IsBeside (lose table) (lose new)
-lose-beside table new b = record {
-  entries = ap (λ (es : List Entry). take (length es - new.pending) es) b.entries ∙ ap (λ n. take (length table.entries - n) table.entries) b.pending;
-  rows = b.rows;
-  var = b.var;
-  pending = refl;
-  fill = refl;
-  points = refl;
-}
-
--- the rows are the same
-rows-beside : (plan : Plan) (table new : Table) (at : ℕ → List ℕ) → IsBeside table new → IsRingImage (shape_of plan DataRing) table.rows at (HoldsRows plan table) → IsRingImage (shape_of plan DataRing) new.rows at (HoldsRows plan new)
-rows-beside plan table new at b h =
-    subst (λ (es : List Entry). IsRingImage (shape_of plan DataRing) new.rows at (λ i count page. page ≡ committed (data_body plan (oldest new.rows + i) (take count (drop (sum (take i new.rows.counts)) es))))) (sym b.entries)
-    (subst (λ (r : model.Ring). IsRingImage (shape_of plan DataRing) r at (λ i count page. page ≡ committed (data_body plan (oldest r + i) (take count (drop (sum (take i r.counts)) table.entries))))) (sym b.rows) h)
+lose-beside table new b = (b.0, b.1, [], ap lose b.3)
 
 -- its pages on a flash
 pub holds-beside : (old new : ℕ → List ℕ) (first : ℕ) (plan : Plan) (table after : Table) → IsBeside table after → ((n : ℕ) → bytes_in new first plan DataRing n ≡ bytes_in old first plan DataRing n) →
     ((n : ℕ) → bytes_in new first plan VarRing n ≡ bytes_in old first plan VarRing n) → HoldsTable old first plan table → HoldsIndexed new first plan after → HoldsTable new first plan after
-holds-beside old new first plan table after b same same_var h indexed =
-    let var = var-as new first plan table after b.var b.entries (var-same old new first plan table same_var (h.var, h.blobs)) in
-    record {
-      rows = rows-beside plan table after (bytes_in new first plan DataRing) b (rows-same old new first plan table same h.rows);
-      index = indexed;
-      var = var.0;
-      blobs = var.1;
-    }
+holds-beside old new first plan table after b same same_var h indexed = record {
+  rows = subst (λ (t : Table). IsRingImage (shape_of plan DataRing) t.rows (bytes_in new first plan DataRing) (HoldsRows plan t)) (sym b.3) (rows-same old new first plan table same h.rows);
+  index = indexed;
+  var = subst (λ (t : Table). HoldsVar new first plan t) (sym b.3) (var-same old new first plan table same_var h.var);
+}
 
 append-nil : {X : Type 0} (xs : List X) → xs ++ [] ≡ xs
 append-nil [] = refl
@@ -249,7 +240,7 @@ module _ {KNOTS SLOTS : ℕ} (t : code.Table KNOTS SLOTS) (f new : FlashState) (
   planned = subst (λ (o : Option Index). ArePlanned o (first + plan.data_blocks) plan) some stands.planned.index
 
   facts : IsPlainTable plan table
-  facts = table-parts plan table stands.facts
+  facts = table-parts plan table (stands.planned.full, stands.planned.log) stands.facts
 
   has : has_index plan ≡ true
   has = planned-some index (first + plan.data_blocks) plan planned
@@ -271,19 +262,19 @@ module _ {KNOTS SLOTS : ℕ} (t : code.Table KNOTS SLOTS) (f new : FlashState) (
   after-facts : (ring : model.Ring) (after : Table) → IsBeside table after → HasIndex plan after ring → ring.next + (cond ring.torn 1 0) ≤ spent_from + 64 → IsPlainTable plan after
   after-facts ring after beside h number =
       beside-facts plan table after beside facts (indexed-of plan after ring has h (omega (arith, number)) (λ p. omega (arith, number))
-      (λ lt more. subst (λ (r : model.Ring). r.next + (cond r.torn 1 0) ≤ spent_from + 1) (sym beside.rows)
+      (λ lt more. subst (λ (r : model.Ring). r.next + (cond r.torn 1 0) ≤ spent_from + 1) (sym (ap (λ (x : Table). x.rows) beside.3))
       (subst (λ b. table.rows.next + (cond b 1 0) ≤ spent_from + 1) (sym stands.whole) (let few = facts.number_pending pending in omega (arith, few)))))
 
   -- the operations are of the index ring, and at most three
   are_of_index : AreOfIndex (seals_within plan (outcomes.index_seals plan table) table)
-  are_of_index = by_full (table.waiting == entries_per_page plan)
+  are_of_index = by_full (length table.waiting == entries_per_page plan)
     where
       by_full : (b : Bool) → AreOfIndex (seals_within plan (cond b (IndexRing ∷ []) []) table)
       by_full true = subst AreOfIndex (sym (append-nil (seal_within plan IndexRing table))) (seal-of_index plan table)
       by_full false = tt
 
   few_operations : length (seals_within plan (outcomes.index_seals plan table) table) ≤ 3
-  few_operations = by_full (table.waiting == entries_per_page plan)
+  few_operations = by_full (length table.waiting == entries_per_page plan)
     where
       seal_few : (b : Bool) → length {A = RingName × Kind} ((IndexRing, Body) ∷ (IndexRing, Mark) ∷ (cond b ((IndexRing, Erase) ∷ []) [])) ≤ 3
       seal_few true = omega arith
@@ -304,12 +295,12 @@ module _ {KNOTS SLOTS : ℕ} (t : code.Table KNOTS SLOTS) (f new : FlashState) (
 
   -- an operation failed
   pub index-breaks : (fault : FlashFault) → outcomes.Breaks (first + plan.data_blocks) plan (seals_within plan (outcomes.index_seals plan table) table) table rose device fault new →
-      Breaks first plan (seals_within plan (outcomes.index_seals plan table) table) table rose device fault new
+      Breaks first plan (BySeals plan (outcomes.index_seals plan table) table rose device) fault new
   index-breaks fault h =
       let operations = seals_within plan (outcomes.index_seals plan table) table in
       let left_is = front-left (λ (o : RingName × Kind). o.1) (effect_within plan) rose operations device table h.now h.did in
       let of_front = front_of left_is.front left_is.others (subst AreOfIndex left_is.split are_of_index) in
-      let beside : IsBeside table h.now.state = subst (λ (x : Table). IsBeside table x) (sym left_is.state) (beside-done plan table table left_is.front of_front (record { entries = refl; rows = refl; var = refl; pending = refl; fill = refl; points = refl })) in
+      let beside : IsBeside table h.now.state = subst (λ (x : Table). IsBeside table x) (sym left_is.state) (beside-done plan table table left_is.front of_front (table.index, table.index_pages, table.waiting, refl)) in
       let numbered = number-done plan (memory.next_in index) table left_is.front of_front (subst (λ (o : Option model.Ring). IsNumberedTo (memory.next_in index) o) (sym in_model.in_ring.facts.ring_is) at_first) in
       let few : length left_is.front ≤ 3 = omega (arith, ap length left_is.split, length-append left_is.front left_is.others, few_operations) in
       let number : h.rests.ring.next + (cond h.rests.ring.torn 1 0) ≤ memory.next_in index + length left_is.front =
@@ -317,7 +308,7 @@ module _ {KNOTS SLOTS : ℕ} (t : code.Table KNOTS SLOTS) (f new : FlashState) (
       let lost : IsPlainTable plan (lose h.now.state) =
       beside-facts plan (lose table) (lose h.now.state) (lose-beside table h.now.state beside) (plain-lose plan table facts)
       (indexed-of plan (lose h.now.state) h.rests.ring has h.rests.facts (omega (arith, number, few, low)) (λ p. absurd (p refl))
-      (λ lt more. subst (λ (r : model.Ring). r.next + (cond r.torn 1 0) ≤ spent_from + 1) (sym beside.rows)
+      (λ lt more. subst (λ (r : model.Ring). r.next + (cond r.torn 1 0) ≤ spent_from + 1) (sym (ap (λ (x : Table). x.rows) beside.3))
       (subst (λ b. table.rows.next + (cond b 1 0) ≤ spent_from + 1) (sym stands.whole) (let few = facts.number_pending pending in omega (arith, few))))) in
       record {
         now = h.now;
@@ -343,7 +334,7 @@ module _ {KNOTS SLOTS : ℕ} (t : code.Table KNOTS SLOTS) (f new : FlashState) (
       let after = after_seals plan (outcomes.index_seals plan table) table in
       let s = h.stands in
       let ring = s.in_ring.ring in
-      let beside : IsBeside table after = by_full (table.waiting == entries_per_page plan) in
+      let beside : IsBeside table after = by_full (length table.waiting == entries_per_page plan) in
       let here = index-next now new (first + plan.data_blocks) plan after s in
       let torn : ◌≡◌ {A = ℕ} (cond ring.torn 1 0) 0 = ap (λ b. cond b 1 0) s.in_ring.whole in
       let up : memory.next_in now ≤ spent_from + 1 = omega (arith, made.number, up_by (memory.waiting_in index == memory.per_page index) left) in
@@ -357,18 +348,18 @@ module _ {KNOTS SLOTS : ℕ} (t : code.Table KNOTS SLOTS) (f new : FlashState) (
         beside = beside;
         facts = table-facts plan after known;
         pages = holds-beside (page_at f) (page_at new) first plan (lose table) (lose after) (lose-beside table after beside) same_rows same_var stands.pages
-            (indexed-moved (page_at new) first plan after (lose after) known.index (keeps-lose after known.kept.counted) refl refl (holds-indexed (page_at new) first plan after ring s.in_ring.facts.ring_is s.in_ring.pages));
+            (holds-indexed (page_at new) first plan after ring s.in_ring.facts.ring_is s.in_ring.pages);
         bitmaps = s;
         stand = record {
-          rows = pages-same table.rows after.rows (bytes_in (page_at f) first plan DataRing) (bytes_in (page_at new) first plan DataRing) beside.rows same_rows;
+          rows = pages-same table.rows after.rows (bytes_in (page_at f) first plan DataRing) (bytes_in (page_at new) first plan DataRing) (ap (λ (x : Table). x.rows) beside.3) same_rows;
           index = h.stand;
-          var = ring-same table.var after.var (bytes_in (page_at f) first plan VarRing) (bytes_in (page_at new) first plan VarRing) beside.var (λ r has. same_var);
+          var = ring-same table.var after.var (bytes_in (page_at f) first plan VarRing) (bytes_in (page_at new) first plan VarRing) (ap (λ (x : Table). x.var) beside.3) (λ r has. same_var);
         };
       }
     where
       by_full : (b : Bool) → IsBeside table (after_seals plan (cond b (IndexRing ∷ []) []) table)
-      by_full true = record { entries = refl; rows = refl; var = refl; pending = refl; fill = refl; points = refl }
-      by_full false = record { entries = refl; rows = refl; var = refl; pending = refl; fill = refl; points = refl }
+      by_full true = (_, _, _, refl)
+      by_full false = (table.index, table.index_pages, table.waiting, refl)
 
       up_by : (b : Bool) → memory.next_in index + (cond b 1 0) ≤ spent_from + 1 → cond b (memory.next_in index + 1) (memory.next_in index) ≤ spent_from + 1
       up_by true le = le
@@ -377,7 +368,7 @@ module _ {KNOTS SLOTS : ℕ} (t : code.Table KNOTS SLOTS) (f new : FlashState) (
 -- how a call ends that makes room for one bitmap more
 abbrev pub MadeEnds : {KNOTS SLOTS : ℕ} → code.Table KNOTS SLOTS → ℕ → Plan → List RingName → Table → Bool → Device → Result (Unit {0}) FlashFault → Option Index → FlashState → FlashState → Type 0
 MadeEnds t first plan rings table rose device (Ok done) now old new = IsMade t first plan rings table rose device now old new
-MadeEnds t first plan rings table rose device (Err fault) now old new = Breaks first plan (seals_within plan rings table) table rose device fault new
+MadeEnds t first plan rings table rose device (Err fault) now old new = Breaks first plan (BySeals plan rings table rose device) fault new
 
 pub bitmaps-end : {KNOTS SLOTS : ℕ} (t : code.Table KNOTS SLOTS) (f new : FlashState) (first : ℕ) (plan : Plan) (table : Table) (rose : Bool) (device : Device) (bitmaps : Option Index) (result : Result (Unit {0}) FlashFault) (now : Option Index) → t.bitmaps ≡ bitmaps → Stands t f first plan table →
     (table.pending ≡ 0 → ⊥) → IsWatched f new rose device → next_after bitmaps ≤ spent_from + 1 → StandOutside bitmaps (page_at f) (page_at new) → OnOk result (RoomMade bitmaps now) → MakesRoomOf bitmaps f (first + plan.data_blocks) plan table rose device result now new →
@@ -389,7 +380,7 @@ bitmaps-end t f new first plan table rose device None result now is stands pendi
       whole = refl;
       counts = watched.counts;
       power = watched.on;
-      beside = record { entries = refl; rows = refl; var = refl; pending = refl; fill = refl; points = refl };
+      beside = (table.index, table.index_pages, table.waiting, refl);
       facts = stands.facts;
       pages = stands.pages;
       bitmaps = subst (λ (o : Option Index). Stand o f (first + plan.data_blocks) plan table) is stands.bitmaps;
@@ -397,7 +388,7 @@ bitmaps-end t f new first plan table rose device None result now is stands pendi
     }))
   where
     none : bitmap_seals plan table ≡ []
-    none = ap (λ b. cond (b && (table.waiting == entries_per_page plan)) (IndexRing ∷ []) [])
+    none = ap (λ b. cond (b && (length table.waiting == entries_per_page plan)) (IndexRing ∷ []) [])
         (planned-none (first + plan.data_blocks) plan (subst (λ (o : Option Index). ArePlanned o (first + plan.data_blocks) plan) is stands.planned.index))
 bitmaps-end t f new first plan table rose device (Some index) result None is stands pending watched left outside made ends = absurd ends
 bitmaps-end t f new first plan table rose device (Some index) result (Some now) is stands pending watched left outside made ends =
@@ -407,34 +398,20 @@ bitmaps-end t f new first plan table rose device (Some index) result (Some now) 
     s = subst (λ (o : Option Index). Stand o f (first + plan.data_blocks) plan table) is stands.bitmaps
 
     same : bitmap_seals plan table ≡ outcomes.index_seals plan table
-    same = ap (λ b. cond (b && (table.waiting == entries_per_page plan)) (IndexRing ∷ []) [])
+    same = ap (λ b. cond (b && (length table.waiting == entries_per_page plan)) (IndexRing ∷ []) [])
         (planned-some index (first + plan.data_blocks) plan (subst (λ (o : Option Index). ArePlanned o (first + plan.data_blocks) plan) is stands.planned.index))
 
     by_result : (result : Result (Unit {0}) FlashFault) → OnOk result (IsRoomMade index now) → outcomes.MakesRoom (first + plan.data_blocks) plan table rose device result now f new → MadeEnds t first plan (outcomes.index_seals plan table) table rose device result (Some now) f new
     by_result (Ok u) made h = index-finishes t f new first plan table rose device index is stands pending left outside now made h
     by_result (Err fault) made h = index-breaks t f new first plan table rose device index is stands pending left outside fault h
 
--- a table with another index
-abbrev pub with_index : Table → Option model.Ring → ℕ → List ℕ → Table
-with_index table index waiting firsts = record table { index = index; waiting = waiting; firsts = firsts }
-
-beside-is : (table new : Table) → IsBeside table new → new ≡ with_index table new.index new.waiting new.firsts
-beside-is table new b =
-    ap (λ (es : List Entry). record new { entries = es }) b.entries
-    ∙ (ap (λ (r : model.Ring). record new { entries = table.entries; rows = r }) b.rows
-    ∙ (ap (λ (v : Option model.Ring). record new { entries = table.entries; rows = table.rows; var = v }) b.var
-    ∙ (ap (λ (n : ℕ). record new { entries = table.entries; rows = table.rows; var = table.var; pending = n }) b.pending
-    ∙ (ap (λ (n : ℕ). record new { entries = table.entries; rows = table.rows; var = table.var; pending = table.pending; fill = n }) b.fill
-    ∙ ap (λ (ps : List (ℕ × ℕ)). record new { entries = table.entries; rows = table.rows; var = table.var; pending = table.pending; fill = table.fill; points = ps }) b.points))))
-
 -- the table in memory stands where it stands with any index
 pub made-finishes : {KNOTS SLOTS : ℕ} (t t' : code.Table KNOTS SLOTS) (old new : FlashState) (first : ℕ) (plan : Plan) (rings : List RingName) (table : Table) (rose : Bool) (device : Device) (left : Option Index) → IsMade t first plan rings table rose device left old new →
-    ((index : Option model.Ring) (waiting : ℕ) (firsts : List ℕ) → IsTable plan (with_index table index waiting firsts) → HoldsTable (page_at new) first plan (lose (with_index table index waiting firsts)) →
-    Stand left new (first + plan.data_blocks) plan (with_index table index waiting firsts) → Stands t' new first plan (with_index table index waiting firsts)) →
-    Finishes first plan (seals_within plan rings table) table (after_seals plan rings table) rose device t' old new
+    ((index : Option model.Ring) (pages : List IndexPage) (waiting : List IndexEntry) → IsTable plan (with_index table index pages waiting) → HoldsTable (page_at new) first plan (lose (with_index table index pages waiting)) →
+    Stand left new (first + plan.data_blocks) plan (with_index table index pages waiting) → Stands t' new first plan (with_index table index pages waiting)) →
+    Finishes first plan (BySeals plan rings table rose device) table (after_seals plan rings table) t' old new
 made-finishes t t' old new first plan rings table rose device left h stands =
-    let after = after_seals plan rings table in
-    let is = beside-is table after h.beside in
+    let is = h.beside.3 in
     record {
       now = h.now;
       did = h.did;
@@ -442,7 +419,7 @@ made-finishes t t' old new first plan rings table rose device left h stands =
       counts = h.counts;
       power = h.power;
       stands = subst (λ (x : Table). Stands t' new first plan x) (sym is)
-          (stands after.index after.waiting after.firsts (subst (IsTable plan) is h.facts) (subst (λ (x : Table). HoldsTable (page_at new) first plan (lose x)) is h.pages)
+          (stands h.beside.0 h.beside.1 h.beside.2 (subst (IsTable plan) is h.facts) (subst (λ (x : Table). HoldsTable (page_at new) first plan (lose x)) is h.pages)
           (subst (λ (x : Table). Stand left new (first + plan.data_blocks) plan x) is h.bitmaps));
       stand = h.stand;
     }

@@ -1,8 +1,6 @@
 -- The index of a table, where it has one.
-use Rattle.std.proofs.Common.{◌≡◌, ℕ, ◌+◌, ◌-◌, ◌*◌, ◌^◌, ◌<◌, ◌≤◌, Bool, true, false, cond, nat_le, ◌==◌, is_some, option_map, unwrap_or, Option, Some, None, IfSome, List, [], ◌∷◌, ◌++◌, length, take, drop, refl, sym, ◌∙◌, ap, subst, arith, inl, inr, IsTrue, length-append, length-drop}
+use Rattle.std.proofs.Common.{◌≡◌, ℕ, ◌+◌, ◌-◌, ◌*◌, ◌^◌, ◌<◌, ◌≤◌, Bool, true, false, cond, nat_le, ◌==◌, is_some, option_map, unwrap_or, Option, Some, None, IfSome, List, [], ◌∷◌, ◌++◌, length, refl, sym, ◌∙◌, ap, subst, arith, IsTrue, length-append}
 use Rattle.std.proofs.lemmas.Bool.{lt-ltb, ne_eqb}
-use Rattle.std.proofs.lemmas.List.{take_all}
-use Rattle.std.specs.List.{slice_get, sum}
 use Rattle.std.specs.Option.{ForSome}
 use Rattle.fl_base.specs.declared.types.RingPlace.{RingPlace}
 use Rattle.fl_flash.specs.Flash.{FlashState, Goes, page_at, pages}
@@ -12,23 +10,19 @@ use Rattle.fl_index.specs.Memory.{waiting_in, first_waiting, per_page}
 use Rattle.fl_index.specs.Standing.{Stands, Waits}
 use Rattle.fl_index.proofs.Memories as memories
 use Rattle.fl_index.proofs.Sealings.{planned-page}
-use Rattle.fl_model.specs.Image.{rows_at}
-use Rattle.fl_model.specs.Layout.{bitmap_of}
+use Rattle.fl_model.specs.Layout.{IndexEntry, bitmap_of, index_entry}
 use Rattle.fl_model.specs.Record.{Plan, has_index, entries_per_page}
 use Rattle.fl_model.specs.Ring as model
-use Rattle.fl_model.specs.Ring.{oldest}
-use Rattle.fl_model.specs.Table.{Table, Entry, DataRing, IndexRing, shape_of, pending_entries, seal_buffer, after_seal, spent_from}
-use Rattle.fl_model.proofs.Lists.{slice_get-drop, slice_get-push, slice_get-short}
-use Rattle.fl_model.proofs.Plain.{sealed-next}
+use Rattle.fl_model.specs.Table.{Table, DataRing, IndexRing, shape_of, pending_entries, after_seal, spent_from}
+use Rattle.fl_model.proofs.Sealed.{sealed-next}
 use Rattle.fl_model.specs.Facts.{is_some_ring}
 use Rattle.fl_ring.specs.Place.{next_of}
 use Rattle.fl_ring.specs.declared.ring.Ring.{Ring}
 use Rattle.fl_table.specs.Bitmaps as numbers
 use Rattle.fl_table.specs.Bitmaps.{ArePlanned, AreSamePlan, AreSameRing, AreRunning, AreBroken, EndAt, RoomMade, LieOn, Stand, HaveRoom, NumberLeft, AreNoted}
 use Rattle.fl_table.specs.Pages.{bytes_in}
-use Rattle.fl_table.proofs.Moved.{KeepsPages, keeps-same, keeps-sealed, keeps-then, has-index, ring-moved, waits-moved, take-front, rows-drop}
+use Rattle.fl_table.proofs.Moved.{has-index, ring-moved}
 use Rattle.fl_table.proofs.Plain.{IsPlainTable, IsIndexed}
-use Rattle.fl_table.proofs.Sealed.{full_long}
 
 -- nothing is there
 pub none-there : {X : Type 0} (o : Option X) (x : X) → o ≡ None → o ≡ Some x → ⊥
@@ -51,7 +45,7 @@ still-planned (Some old) (Some new) first plan h same = memories.planned-same ol
 
 pub plan-same : (bitmaps : Option Index) → AreSamePlan bitmaps bitmaps
 plan-same None = tt
-plan-same (Some index) = record { geometry = refl; place = refl; bits = refl }
+plan-same (Some index) = record { geometry = refl; place = refl; bits = refl; full = refl }
 
 pub plan-then : (a b c : Option Index) → AreSamePlan a b → AreSamePlan b c → AreSamePlan a c
 plan-then None None None h k = tt
@@ -59,7 +53,7 @@ plan-then None None (Some z) h k = absurd k
 plan-then None (Some y) c h k = absurd h
 plan-then (Some x) None c h k = absurd h
 plan-then (Some x) (Some y) None h k = absurd k
-plan-then (Some x) (Some y) (Some z) h k = record { geometry = k.geometry ∙ h.geometry; place = k.place ∙ h.place; bits = k.bits ∙ h.bits }
+plan-then (Some x) (Some y) (Some z) h k = record { geometry = k.geometry ∙ h.geometry; place = k.place ∙ h.place; bits = k.bits ∙ h.bits; full = k.full ∙ h.full }
 
 pub ring-same : (bitmaps : Option Index) → AreSameRing bitmaps bitmaps
 ring-same None = tt
@@ -220,7 +214,7 @@ noted-end (Some old) (Some new) number bitmap noted h = λ index e.
     subst (λ (o : Option Index). IfSome o (λ x. first_waiting x + waiting_in x ≡ number + 1)) e now
 
 -- a bitmap more has room
-pub room-left : (bitmaps : Option Index) (f : FlashState) (first : ℕ) (plan : Plan) (table : Table) → ArePlanned bitmaps first plan → Stand bitmaps f first plan table → HaveRoom bitmaps → IsTrue (has_index plan) → table.waiting < entries_per_page plan
+pub room-left : (bitmaps : Option Index) (f : FlashState) (first : ℕ) (plan : Plan) (table : Table) → ArePlanned bitmaps first plan → Stand bitmaps f first plan table → HaveRoom bitmaps → IsTrue (has_index plan) → length table.waiting < entries_per_page plan
 room-left None f first plan table h s room t = absurd (no (sym (planned-none first plan h) ∙ t))
   where
     no : false ≡ true → ⊥
@@ -249,103 +243,42 @@ index-spent (Some index) f first plan table planned facts s =
     ap (nat_le spent_from) (index-next index f first plan table s) ∙ ap (λ (o : Option model.Ring). unwrap_or (option_map (λ ring. nat_le spent_from ring.next) o) false) (sym s.in_ring.facts.ring_is)
 
 -- as many bitmaps wait as an index page holds, or fewer
-pub few-waiting : (index : Index) (f : FlashState) (first : ℕ) (plan : Plan) (table : Table) → Stands index f first plan table → table.waiting ≤ entries_per_page plan
+pub few-waiting : (index : Index) (f : FlashState) (first : ℕ) (plan : Plan) (table : Table) → Stands index f first plan table → length table.waiting ≤ entries_per_page plan
 few-waiting index f first plan table s = omega (arith, s.waits.count_is, index.few, planned-page index first plan s.in_ring.planned)
 
--- the last page of a table whose pending rows were sealed has these rows
-module _ (plan : Plan) (table : Table) (is : model.IsShape (shape_of plan DataRing)) (facts : IsPlainTable plan table) where
-  more : length (table.rows.counts ++ table.pending ∷ []) ≡ length table.rows.counts + 1
-  more = length-append table.rows.counts (table.pending ∷ [])
-
-  -- where the first p pages go
-  last_rows : (p n rows : ℕ) (counts : List ℕ) (entries : List Entry) → counts ≡ drop p (table.rows.counts ++ table.pending ∷ []) → entries ≡ drop (sum (take p (table.rows.counts ++ table.pending ∷ []))) table.entries →
-      p + n ≡ length table.rows.counts → slice_get counts n ≡ Some rows → take rows (drop (sum (take n counts)) entries) ≡ pending_entries table
-  last_rows p n rows counts entries kept left at e =
-      let there : slice_get (table.rows.counts ++ table.pending ∷ []) (p + n) ≡ Some rows = sym (slice_get-drop p (table.rows.counts ++ table.pending ∷ []) n) ∙ (ap (λ (cs : List ℕ). slice_get cs n) (sym kept) ∙ e) in
-      let count : table.pending ≡ rows = elim (slice_get-push table.rows.counts table.pending (p + n) rows there) [
-        | inl old ↦ let short = slice_get-short table.rows.counts (p + n) rows old in absurd (omega (arith, short, at))
-        | inr here ↦ here.1
-      ] in
-      let before : take (p + n) (table.rows.counts ++ table.pending ∷ []) ≡ table.rows.counts = take-front (p + n) table.rows.counts table.pending (omega (arith, at)) ∙ take_all (p + n) table.rows.counts (omega (arith, at)) in
-      let cut : length table.entries - table.pending ≡ sum table.rows.counts = omega (arith, facts.kept.counted) in
-      ap (λ (cs : List ℕ). take rows (drop (sum (take n cs)) entries)) kept
-      ∙ (ap (λ (es : List Entry). take rows (drop (sum (take n (drop p (table.rows.counts ++ table.pending ∷ [])))) es)) left
-      ∙ (sym (rows-drop table.entries (table.rows.counts ++ table.pending ∷ []) p n rows)
-      ∙ (ap (λ (cs : List ℕ). take rows (drop (sum cs) table.entries)) before
-      ∙ (ap (λ k. take k (drop (sum table.rows.counts) table.entries)) (sym count)
-      ∙ (take_all table.pending (drop (sum table.rows.counts) table.entries) (omega (arith, facts.kept.counted, length-drop (sum table.rows.counts) table.entries))
-      ∙ ap (λ k. drop k table.entries) (sym cut))))))
-
-  last-page : (n rows : ℕ) → table.rows.next ≡ oldest (after_seal plan DataRing table).rows + n → slice_get (after_seal plan DataRing table).rows.counts n ≡ Some rows →
-      rows_at (after_seal plan DataRing table) n rows ≡ pending_entries table
-  last-page n rows at e = by_test (model.is_full (shape_of plan DataRing) (model.extended table.pending table.rows)) refl at e
-    where
-      drop_none : {X : Type 0} (xs : List X) → drop 0 xs ≡ xs
-      drop_none [] = refl
-      drop_none (x ∷ xs) = refl
-
-      take_none : (xs : List ℕ) → take 0 xs ≡ []
-      take_none [] = refl
-      take_none (x ∷ xs) = refl
-
-      by_test : (b : Bool) → model.is_full (shape_of plan DataRing) (model.extended table.pending table.rows) ≡ b →
-          table.rows.next ≡ oldest (cond b (record (model.extended table.pending table.rows) { counts = drop plan.geometry.block (table.rows.counts ++ table.pending ∷ []); dirty = true }) (model.extended table.pending table.rows)) + n →
-          slice_get (cond b (record (model.extended table.pending table.rows) { counts = drop plan.geometry.block (table.rows.counts ++ table.pending ∷ []); dirty = true }) (model.extended table.pending table.rows)).counts n ≡ Some rows →
-          take rows (drop (sum (take n (cond b (record (model.extended table.pending table.rows) { counts = drop plan.geometry.block (table.rows.counts ++ table.pending ∷ []); dirty = true }) (model.extended table.pending table.rows)).counts))
-          (drop (sum (cond b (take plan.geometry.block (table.rows.counts ++ table.pending ∷ [])) [])) table.entries)) ≡ pending_entries table
-      by_test true full at e =
-          let long = full_long (shape_of plan DataRing) (model.extended table.pending table.rows) is full in
-          last_rows plan.geometry.block n rows _ _ refl refl (omega (arith, at, length-drop plan.geometry.block (table.rows.counts ++ table.pending ∷ []), long, more, facts.rows.not_negative)) e
-      by_test false full at e =
-          last_rows 0 n rows (table.rows.counts ++ table.pending ∷ []) (drop (sum []) table.entries) (sym (drop_none (table.rows.counts ++ table.pending ∷ [])))
-          (ap (λ (cs : List ℕ). drop (sum cs) table.entries) (sym (take_none (table.rows.counts ++ table.pending ∷ [])))) (omega (arith, at, more, facts.rows.not_negative)) e
-
--- its other pages are those of before
-pub keeps-after : (plan : Plan) (table : Table) → model.IsShape (shape_of plan DataRing) → IsPlainTable plan table → KeepsPages table (after_seal plan DataRing table)
-keeps-after plan table is facts =
-    let next = sealed-next (shape_of plan DataRing) table.pending table.rows in
-    keeps-then table (seal_buffer plan DataRing table) (after_seal plan DataRing table)
-    (keeps-sealed (shape_of plan DataRing) table.pending table (seal_buffer plan DataRing table) is facts.rows.not_negative refl refl)
-    (keeps-same (seal_buffer plan DataRing table) (after_seal plan DataRing table) refl refl refl) (omega (arith, next))
-
--- the bitmap of the page that was sealed waits
-pub stand-sealed : (old new : Option Index) (f g : FlashState) (first : ℕ) (plan : Plan) (table : Table) (number bitmap : ℕ) → model.IsShape (shape_of plan DataRing) → ArePlanned old (first + plan.data_blocks) plan → IsPlainTable plan table →
+-- the entry of the page that was sealed waits
+pub stand-sealed : (old new : Option Index) (f g : FlashState) (first : ℕ) (plan : Plan) (table : Table) (number bitmap : ℕ) → ArePlanned old (first + plan.data_blocks) plan → IsPlainTable plan table →
     IsPlainTable plan (after_seal plan DataRing table) → ((n : ℕ) → bytes_in (page_at g) first plan IndexRing n ≡ bytes_in (page_at f) first plan IndexRing n) →
     number ≡ table.rows.next → bitmap ≡ bitmap_of plan (pending_entries table) → AreNoted old number bitmap new → Stand old f (first + plan.data_blocks) plan table → Stand new g (first + plan.data_blocks) plan (after_seal plan DataRing table)
-stand-sealed None new f g first plan table number bitmap is planned facts after same at bits noted s =
-    subst (λ (o : Option Index). Stand o g (first + plan.data_blocks) plan (after_seal plan DataRing table)) (sym noted) (ap (λ b. cond b (table.waiting + 1) 0) (planned-none (first + plan.data_blocks) plan planned))
-stand-sealed (Some old) None f g first plan table number bitmap is planned facts after same at bits noted s = absurd noted
-stand-sealed (Some old) (Some new) f g first plan table number bitmap is planned facts after same at bits noted s =
+stand-sealed None new f g first plan table number bitmap planned facts after same at bits noted s =
+    subst (λ (o : Option Index). Stand o g (first + plan.data_blocks) plan (after_seal plan DataRing table)) (sym noted)
+    (ap (λ b. cond b (table.waiting ++ index_entry plan (pending_entries table) ∷ []) []) (planned-none (first + plan.data_blocks) plan planned))
+stand-sealed (Some old) None f g first plan table number bitmap planned facts after same at bits noted s = absurd noted
+stand-sealed (Some old) (Some new) f g first plan table number bitmap planned facts after same at bits noted s =
     let some = planned-some old (first + plan.data_blocks) plan planned in
     let later = after_seal plan DataRing table in
-    let one : later.waiting ≡ table.waiting + 1 = ap (λ b. cond b (table.waiting + 1) 0) some in
+    let all = table.waiting ++ index_entry plan (pending_entries table) ∷ [] in
+    let one : later.waiting ≡ table.waiting ++ index_entry plan (pending_entries table) ∷ [] = ap (λ b. cond b (table.waiting ++ index_entry plan (pending_entries table) ∷ []) []) some in
     let next : later.rows.next ≡ table.rows.next + 1 = sealed-next (shape_of plan DataRing) table.pending table.rows in
     let within = facts.index.listed in
     let n = noted.0 (omega (arith, s.waits.first_is, s.waits.count_is, at, within)) in
-    let keeps = keeps-after plan table is facts in
     let ring = memories.ring-same old new f (first + plan.data_blocks) plan table n.same n.still s.in_ring in
-    let w = waits-moved old plan table later (table.rows.next - table.waiting) table.waiting keeps (omega (arith, within)) s.waits in
-    let waits : Waits new plan later (table.rows.next - table.waiting) (table.waiting + 1) = n.waits plan later (table.rows.next - table.waiting) table.waiting w
-    (λ k here. by_page k (omega (arith, here, within)) (slice_get later.rows.counts k) refl) in
-    let room : later.waiting ≤ entries_per_page plan = after.index.waiting (some) in
+    let waits : Waits new (table.rows.next - length table.waiting) (table.waiting ++ index_entry plan (pending_entries table) ∷ []) =
+    n.waits (table.rows.next - length table.waiting) table.waiting (index_entry plan (pending_entries table)) (sym planned.full ∙ facts.plain.0) s.waits bits in
+    let long : length later.waiting ≡ length table.waiting + 1 = ap length one ∙ length-append table.waiting (index_entry plan (pending_entries table) ∷ []) in
+    let first_is : table.rows.next - length table.waiting ≡ later.rows.next - length later.waiting = omega (arith, long, next, within) in
     record {
-      in_ring = ring-moved new f g (first + plan.data_blocks) plan table later ring keeps refl (has-index plan later ring.ring ring.facts.ring_is after room) same;
-      waits = subst (λ k. Waits new plan later k later.waiting) (omega (arith, one, next, within)) (subst (λ k. Waits new plan later (table.rows.next - table.waiting) k) (sym one) waits);
+      in_ring = ring-moved new f g (first + plan.data_blocks) plan table later ring refl (has-index plan later ring.ring ring.facts.ring_is after (after.index.waiting some)) same;
+      waits = subst (λ k. Waits new k later.waiting) first_is (subst (λ (ws : List IndexEntry). Waits new (table.rows.next - length table.waiting) ws) (sym one) waits);
     }
-  where
-    by_page : (k : ℕ) → table.rows.next ≡ oldest (after_seal plan DataRing table).rows + k → (c : Option ℕ) → slice_get (after_seal plan DataRing table).rows.counts k ≡ c →
-        IfSome c (λ rows. 0 < rows → bitmap ≡ bitmap_of plan (rows_at (after_seal plan DataRing table) k rows))
-    by_page k here None e = tt
-    by_page k here (Some rows) e = λ some. bits ∙ ap (bitmap_of plan) (sym (last-page plan table is facts k rows here e))
 
 -- the index stands where other parts of its table changed
-pub stand-moved : (bitmaps : Option Index) (f g : FlashState) (first : ℕ) (plan : Plan) (table new : Table) → KeepsPages table new → new.index ≡ table.index → new.firsts ≡ table.firsts → new.waiting ≡ table.waiting → new.rows.next ≡ table.rows.next →
-    IsPlainTable plan table → IsPlainTable plan new → ((n : ℕ) → bytes_in (page_at g) first plan IndexRing n ≡ bytes_in (page_at f) first plan IndexRing n) → Stand bitmaps f (first + plan.data_blocks) plan table → Stand bitmaps g (first + plan.data_blocks) plan new
-stand-moved None f g first plan table new keeps index firsts waiting next facts after same s = waiting ∙ s
-stand-moved (Some bitmaps) f g first plan table new keeps index firsts waiting next facts after same s =
+pub stand-moved : (bitmaps : Option Index) (f g : FlashState) (first : ℕ) (plan : Plan) (table new : Table) → new.index ≡ table.index → new.index_pages ≡ table.index_pages → new.waiting ≡ table.waiting → new.rows.next ≡ table.rows.next →
+    IsPlainTable plan new → ((n : ℕ) → bytes_in (page_at g) first plan IndexRing n ≡ bytes_in (page_at f) first plan IndexRing n) → Stand bitmaps f (first + plan.data_blocks) plan table → Stand bitmaps g (first + plan.data_blocks) plan new
+stand-moved None f g first plan table new index pages waiting next after same s = waiting ∙ s
+stand-moved (Some bitmaps) f g first plan table new index pages waiting next after same s =
     let few = few-waiting bitmaps f (first + plan.data_blocks) plan table s in
     record {
-      in_ring = ring-moved bitmaps f g (first + plan.data_blocks) plan table new s.in_ring keeps firsts (has-index plan new s.in_ring.ring (index ∙ s.in_ring.facts.ring_is) after (omega (arith, few, waiting))) same;
-      waits = subst (λ k. Waits bitmaps plan new (k - new.waiting) new.waiting) (sym next) (subst (λ k. Waits bitmaps plan new (table.rows.next - k) k) (sym waiting)
-          (waits-moved bitmaps plan table new (table.rows.next - table.waiting) table.waiting keeps (omega (arith, facts.index.listed)) s.waits));
+      in_ring = ring-moved bitmaps f g (first + plan.data_blocks) plan table new s.in_ring pages (has-index plan new s.in_ring.ring (index ∙ s.in_ring.facts.ring_is) after (omega (arith, few, ap length waiting))) same;
+      waits = subst (λ k. Waits bitmaps (k - length new.waiting) new.waiting) (sym next) (subst (λ (ws : List IndexEntry). Waits bitmaps (table.rows.next - length ws) ws) (sym waiting) s.waits);
     }

@@ -11,7 +11,7 @@ use Rattle.std.specs.List.{slice_get, sum, sum_by, count_by, AllByRecursion}
 use Rattle.fl_mark.specs.Mark.{state_of_page}
 use Rattle.fl_mark.specs.declared.page_state.PageState.TheVariants.{Committed, Void}
 use Rattle.fl_mark.proofs.InModel.{model_state}
-use Rattle.fl_model.specs.Record.{Plan, row_layout, row_len, rows_per_page, content_per_page, has_var}
+use Rattle.fl_model.specs.Record.{Plan, row_layout, row_len, rows_per_page, has_var}
 use Rattle.fl_model.specs.Ring as model
 use Rattle.fl_model.specs.Row.{Row, IsStorable, stored_row}
 use Rattle.fl_model.specs.Table.{Table, Entry, DataRing, shape_of, written}
@@ -63,10 +63,10 @@ table-numbered plan table facts none = λ i entry blob e is some.
     by_ring page (Some ring) has is h = h
 
 -- rows that refer to blobs tell their bytes
-pub all-stored : (plan : Plan) (entries : List Entry) → plan.blob_limit ≤ 1500 → content_per_page plan < 65535 → AreNumbered entries → AllByRecursion (FitsPlan plan) entries → AllByRecursion (IsStorable (row_layout plan)) (map stored_row entries)
-all-stored plan [] limit wide numbered h = tt
-all-stored plan (entry ∷ entries) limit wide numbered h =
-    (stored-row plan entry h.0 limit wide (λ blob is some. numbered 0 entry blob refl is some), all-stored plan entries limit wide (λ i. numbered (suc i)) h.1)
+pub all-stored : (plan : Plan) (entries : List Entry) → AreNumbered entries → AllByRecursion (FitsPlan plan) entries → AllByRecursion (IsStorable (row_layout plan)) (map stored_row entries)
+all-stored plan [] numbered h = tt
+all-stored plan (entry ∷ entries) numbered h =
+    (stored-row plan entry h.0 (λ blob is some. numbered 0 entry blob refl is some), all-stored plan entries (λ i. numbered (suc i)) h.1)
 
 -- a sum over one more
 pub sum-next : {X : Type 0} (f : X → ℕ) (xs : List X) (i : ℕ) (x : X) → slice_get xs i ≡ Some x → sum_by f (take (suc i) xs) ≡ sum_by f (take i xs) + f x
@@ -127,7 +127,7 @@ module _ (page : ℕ → List ℕ) (first : ℕ) (plan : Plan) (table : Table) (
           let lt = slice_get-short table.rows.counts i c e in
           let sized = few i c e in
           let d = data_page key types blobs plan (model.oldest table.rows + i) (rows_at table i c) same
-          (all-stored plan (rows_at table i c) limit (omega (arith, short)) (λ j entry blob e is some. table-numbered plan table facts none (sum (take i table.rows.counts) + j) entry blob
+          (all-stored plan (rows_at table i c) (λ j entry blob e is some. table-numbered plan table facts none (sum (take i table.rows.counts) + j) entry blob
           (sym (slice_get-drop (sum (take i table.rows.counts)) table.entries j) ∙ slice_get-front c (drop (sum (take i table.rows.counts)) table.entries) j entry e) is some) (each-take (FitsPlan plan) c (drop (sum (take i table.rows.counts)) table.entries) (each-drop (FitsPlan plan) (sum (take i table.rows.counts)) table.entries facts.kept.fit)))
           (omega (arith, lt, facts.rows.not_negative, facts.number)) (omega (arith, many, some)) (omega (arith, many, small c sized)) (omega (arith, ap (λ n. n * row_len plan) many, sized)) in
           let state : state_of_page (page (place (shape_in first plan) (model.oldest table.rows + i))) ≡ Committed =

@@ -1,9 +1,12 @@
 pub mod Staying
-pub mod HeldBlobs
 pub mod BlobSteps
+pub mod VarFacts
+pub mod PageRows
+pub mod Renumbered
 pub mod BlobMount
 pub mod BlobTables
 pub mod BlobEnds
+pub mod Bare
 pub mod Plain
 pub mod Planning
 pub mod Moved

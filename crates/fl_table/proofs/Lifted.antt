@@ -1,21 +1,19 @@
 -- The operations of a seal of the data ring are those of its table.
-use Rattle.std.proofs.Common.{◌≡◌, ℕ, ◌<◌, Bool, true, false, cond, Result, List, [], ◌∷◌, map, refl, sym, ◌∙◌, ap, subst, arith, IsOk, IsErrOf, IsTrue}
+use Rattle.std.proofs.Common.{◌≡◌, ℕ, ◌<◌, Bool, true, false, cond, Result, List, [], ◌∷◌, length, map, refl, sym, ◌∙◌, ap, subst, arith, IsOk, IsErrOf, IsTrue}
 use Rattle.fl_flash.specs.Flash.{FlashState, page_at}
 use Rattle.fl_flash.specs.declared.flash.FlashFault.{FlashFault}
 use Rattle.fl_flash.specs.declared.flash.FlashFault.TheVariants.{PowerLost, Media}
 use Rattle.fl_model.specs.Record.{Plan, has_index, entries_per_page}
 use Rattle.fl_model.specs.Ring as model
-use Rattle.std.specs.List.{sum}
 use Rattle.fl_model.specs.Table.{Table, RingName, DataRing, shape_of, with_ring, seal_buffer, pending_entries, lose, after_seal, is_dirty}
 use Rattle.fl_model.specs.Layout.{data_body}
 use Rattle.fl_model.specs.Work.{Kind, Body, Mark, VoidMark, Erase, effect, Device, PartEnd, Whole, CutIn, FailedIn, PartProgress}
 use Rattle.fl_model.specs.Within.{seal_within, effect_within, TablePerforms}
 use Rattle.fl_model.proofs.Performs.{performs-along, performs-map, performs-whole, EndsAlong}
 use Rattle.fl_model.proofs.Among.{seal-all_done}
-use Rattle.fl_table.proofs.BlobTables.{HoldsVar}
-use Rattle.fl_table.proofs.Blobbing.{var-as, var-rest}
-use Rattle.fl_table.proofs.Plain.{IsPlainTable, AreInPages, plain-body, plain-mark, plain-erase}
-use Rattle.fl_table.proofs.Moved.{HoldsIndexed, indexed-moved, keeps-same, keeps-sealed}
+use Rattle.fl_table.proofs.BlobTables.{AreInPages, HoldsVar}
+use Rattle.fl_table.proofs.Plain.{IsPlainTable, plain-body, plain-mark, plain-erase}
+use Rattle.fl_table.proofs.Moved.{HoldsIndexed}
 use Rattle.fl_ring.specs.Device.{SameDevice}
 use Rattle.fl_ring.specs.Operations.{change, seal_kinds}
 use Rattle.fl_ring.specs.Ring.{RingState, OnRing, sealed, begun, erased}
@@ -27,14 +25,14 @@ use Rattle.fl_table.proofs.Sealed.{state-sealed, state-begun, state-erased}
 abbrev pub of_rows : Kind → RingName × Kind
 of_rows kind = (DataRing, kind)
 
--- rows are pending that make this body, no block waits for its erase, and one bitmap more has room
+-- rows are pending that make this body, no block waits for its erase, and one entry more has room
 pub record MakesBody (plan : Plan) (body : List ℕ) (table : Table) : Type 0 where
   pub some : table.pending ≡ 0 → ⊥
   pub body_is : body ≡ data_body plan table.rows.next (pending_entries table)
   pub clean : table.rows.dirty ≡ false
-  pub room : IsTrue (has_index plan) → table.waiting < entries_per_page plan
+  pub room : IsTrue (has_index plan) → length table.waiting < entries_per_page plan
   -- the blobs of the pending rows were sealed
-  pub settled : AreInPages table table.entries
+  pub settled : AreInPages plan table table.entries
 
 -- what is left of a seal's operations
 abbrev pub AreErases : List Kind → Type 0
@@ -91,10 +89,7 @@ step-along page first plan body shape Body kinds s table r =
     record {
       state = ap begun r.state ∙ state-begun plan table;
       facts = plain-body plan table r.facts m.some m.clean;
-      others = (
-        indexed-moved page first plan table (with_ring DataRing model.begun table) r.facts.index (keeps-same table (with_ring DataRing model.begun table) refl refl refl) refl refl r.others.0,
-        var-as page first plan table (with_ring DataRing model.begun table) refl refl r.others.1,
-      );
+      others = r.others;
       come = mark_comes plan body kinds (with_ring DataRing model.begun table) (record { some = m.some; body_is = m.body_is; clean = m.clean; room = m.room; settled = m.settled }) r.come.1;
     }
 step-along page first plan body shape Mark kinds s table r =
@@ -104,11 +99,7 @@ step-along page first plan body shape Mark kinds s table r =
           ∙ (ap (sealed (shape_in first plan) (state_of plan (lose table))) m.body_is
           ∙ state-sealed first plan table shape r.facts.rows.not_negative r.facts.kept.counted (positive table.pending m.some));
       facts = plain-mark plan table shape r.facts m.room m.some m.clean m.settled;
-      others = (
-        indexed-moved page first plan table (seal_buffer plan DataRing table) r.facts.index
-            (keeps-sealed (shape_of plan DataRing) table.pending table (seal_buffer plan DataRing table) shape r.facts.rows.not_negative refl refl) refl refl r.others.0,
-        var-rest page first plan table (seal_buffer plan DataRing table) (sum (model.given_up (shape_of plan DataRing) table.pending table.rows)) refl refl r.others.1,
-      );
+      others = r.others;
       come = erases_come plan body kinds (seal_buffer plan DataRing table) r.come.1;
     }
   where
@@ -118,10 +109,7 @@ step-along page first plan body shape VoidMark kinds s table r = absurd r.come
 step-along page first plan body shape Erase kinds s table r = record {
   state = ap erased r.state ∙ state-erased plan table;
   facts = plain-erase plan table r.facts;
-  others = (
-    indexed-moved page first plan table (with_ring DataRing model.erased table) r.facts.index (keeps-same table (with_ring DataRing model.erased table) refl refl refl) refl refl r.others.0,
-    var-as page first plan table (with_ring DataRing model.erased table) refl refl r.others.1,
-  );
+  others = r.others;
   come = erases_come plan body kinds (with_ring DataRing model.erased table) r.come;
 }
 

@@ -1,5 +1,8 @@
 -- How the mount of a table ends, by the mount of its ring and the read of the kept pages.
-use Rattle.std.proofs.Common.{◌≡◌, ℕ, ◌+◌, ◌-◌, ◌*◌, ◌%◌, ◌≤◌, min, max, Bool, true, false, cond, ◌==◌, Option, Some, None, Result, Ok, Err, List, [], ◌∷◌, map, length, drop, get_or, refl, sym, ◌∙◌, ap, subst, ◌⊎◌, inl, inr, arith, IsTrue}
+use Rattle.fl_model.proofs.Telling.{telling-stays}
+use Rattle.std.specs.List.{slice_get, sum}
+use Rattle.std.proofs.lemmas.Bool.{cases_lt}
+use Rattle.std.proofs.Common.{◌≡◌, ℕ, ◌+◌, ◌-◌, ◌*◌, ◌%◌, ◌≤◌, min, max, Bool, true, false, cond, ◌==◌, Option, Some, None, Result, Ok, Err, List, [], ◌∷◌, map, length, drop, get_or, refl, sym, ◌∙◌, ap, subst, ◌⊎◌, inl, inr, arith, IsTrue, ◌<◌, take}
 use Rattle.fl_base.specs.Causes.{Rose}
 use Rattle.fl_flash.specs.Flash.{FlashState, page_at}
 use Rattle.fl_flash.specs.Places.{extent}
@@ -10,17 +13,19 @@ use Rattle.fl_model.specs.Record.{Plan, RowLayout, row_layout, row_len, layout_l
 use Rattle.fl_model.specs.Ring as model
 use Rattle.fl_model.specs.Row.{stored_row}
 use Rattle.fl_model.specs.Table.{Table, Entry, DataRing, IndexRing, VarRing, shape_of, pending_entries, lose}
-use Rattle.fl_model.specs.Layout.{bitmap_of}
-use Rattle.fl_model.specs.Mount.{renumber, ready, index_end, blob_end}
+use Rattle.fl_model.specs.Layout.{IndexPage, bitmap_of}
+use Rattle.fl_model.specs.Limits.{rows_of_page}
+use Rattle.fl_model.specs.Mount.{Of, renumber, ready, index_end, blob_end, waiting_after}
 use Rattle.fl_model.specs.Facts.{IsTable}
 use Rattle.fl_model.specs.Work.{Device, PartProgress}
 use Rattle.fl_model.specs.Within.{TableMounts, TableStopped, TableUnread}
-use Rattle.fl_model.proofs.Lists.{slice_get-short}
+use Rattle.fl_model.proofs.Lists.{slice_get-short, slice_get-some}
 use Rattle.fl_table.proofs.BlobTables.{HoldsVar}
-use Rattle.fl_table.proofs.Blobbing.{var-moved, var-same}
+use Rattle.fl_table.proofs.Blobbing.{var-as, var-same}
 use Rattle.fl_table.proofs.MountCalls.{OthersStill}
-use Rattle.fl_table.proofs.Plain.{IsPlainTable, indexed-as, blobbed-moved, table-parts, table-facts}
-use Rattle.fl_table.proofs.Moved.{HoldsIndexed, KeepsPages, has-index, indexed-moved, indexed-same, keeps-same, ring-moved}
+use Rattle.fl_table.proofs.Plain.{IsPlainTable, indexed-as, blobbed-moved, stand-as, table-parts, table-facts}
+use Rattle.fl_table.proofs.PageRows.{page-rows, entries-length}
+use Rattle.fl_table.proofs.Moved.{HoldsIndexed, has-index, indexed-moved, indexed-same, ring-moved}
 use Rattle.fl_page.specs.Writer.{Gathers}
 use Rattle.fl_ring.specs.Device.{ArmsAs, SameDevice}
 use Rattle.fl_ring.specs.Looking.{OnlyReads, ReadFails}
@@ -47,13 +52,13 @@ use Rattle.fl_index.specs.Standing.{Waits}
 use Rattle.fl_index.proofs.Lists.{end_after}
 use Rattle.fl_index.proofs.Memories as memories
 use Rattle.fl_index.proofs.Sealings.{planned-bits, planned-page}
-use Rattle.fl_model.specs.Image.{rows_at}
+use Rattle.fl_model.specs.Image.{rows_at, IsRingImage, HoldsRows}
 use Rattle.fl_table.specs.Bitmaps.{ArePlanned, AreSamePlan, AreSameRing, AreIdle, AreWaiting, EndAt, Stand, StandForRing, first_to_wait}
-use Rattle.fl_table.proofs.Gathering.{gather-waits, page-bitmap}
+use Rattle.fl_table.proofs.Gathering.{gather-waits, page-bitmap, void-bitmap}
 use Rattle.fl_table.proofs.Indexing.{planned-none, planned-some}
 use Rattle.fl_table.specs.Pages.{Rests, bytes_in}
 use Rattle.fl_find.specs.Index.{IndexOf}
-use Rattle.fl_table.specs.Reading.{AreRefused, AreNoted, last_after, rows_after, voids_after, ends_after, pages_of, points_after, HaveBitmaps, GatherUpTo}
+use Rattle.fl_table.specs.Reading.{AreRefused, AreNoted, last_after, rows_after, voids_after, ends_after, pages_of, points_after, HaveBitmaps, GatherUpTo, entries_from, bitmap_on}
 use Rattle.fl_table.specs.declared.counts.Mounted.{Mounted}
 use Rattle.fl_table.specs.declared.faults.MountFault.{MountFault}
 use Rattle.fl_table.specs.declared.faults.MountFault.TheVariants as mount
@@ -61,7 +66,7 @@ use Rattle.fl_table.specs.declared.table.Table as code
 use Rattle.fl_table.proofs.Holding.{plain-on, plain-rests}
 use Rattle.fl_table.proofs.Lifted.{TableAnswers}
 use Rattle.fl_table.proofs.Memories.{few-kept}
-use Rattle.fl_table.proofs.MountGood.{ring-renumbered, numbered-facts, numbered-idle, keeps-numbered, good-ring}
+use Rattle.fl_table.proofs.MountGood.{ring-renumbered, numbered-facts, numbered-idle, good-ring}
 use Rattle.fl_table.proofs.MountLifted.{RowsMount, mount-lifts, mount-fails}
 use Rattle.fl_table.proofs.MountRead.{HoldRows, hold-rows, not-refused}
 use Rattle.fl_table.proofs.Repaired.{IsIdle, IsRepaired, idle-lost, lost-idle}
@@ -84,7 +89,7 @@ pub record IsMounting (first : ℕ) (plan : Plan) (table : Table) (old : FlashSt
 pub mounting-of : {KNOTS SLOTS : ℕ} (t : code.Table KNOTS SLOTS) (f : FlashState) (first : ℕ) (plan : Plan) (table : Table) → IsPlanned t first plan → f.geometry ≡ t.geometry → t.place.first_block + t.place.blocks ≤ f.blocks → f.start + extent f.geometry f.blocks ≤ length f.media.content → Rests f first plan table →
     IsMounting first plan table f
 mounting-of t f first plan table planned geometry within reaches rests =
-    let facts = table-parts plan table rests.settled.facts in
+    let facts = table-parts plan table (planned.full, planned.log) rests.settled.facts in
     let large = planned-large t first plan planned in
     record {
       limit = omega (arith, planned.limit, t.blobs_fit);
@@ -95,7 +100,7 @@ mounting-of t f first plan table planned geometry within reaches rests =
       idle = lost-idle table rests.settled.lost;
       on = plain-on (page_at f) first plan table (lies-size t f first plan planned geometry within reaches) large facts rests.pages;
       indexed = rests.pages.index;
-      var = (rests.pages.var, rests.pages.blobs);
+      var = rests.pages.var;
     }
 
 module _ (first : ℕ) (plan : Plan) (table : Table) (rose : Bool) (device : Device) (old : FlashState) (is : IsMounting first plan table old) where
@@ -120,22 +125,17 @@ module _ (first : ℕ) (plan : Plan) (table : Table) (rose : Bool) (device : Dev
   known : IsPlainTable plan (renumber plan DataRing table)
   known = numbered-facts first plan table shape large is.few facts idle (page_at old) is.on
 
-  keeps : KeepsPages table (renumber plan DataRing table)
-  keeps = keeps-numbered first plan table shape large is.few facts idle (page_at old) is.on
-
   same_state : renumbered (shape_in first plan) (index_end plan table) (state_of plan table) ≡ state_of plan (renumber plan DataRing table)
   same_state = ring-renumbered first plan table shape large is.few facts idle (page_at old) is.on
 
   -- what the index lists stands where its pages do
   still_indexed : (now : Table) (new : FlashState) → IsRepaired (renumber plan DataRing table) now → ((n : ℕ) → bytes_in (page_at new) first plan IndexRing n ≡ bytes_in (page_at old) first plan IndexRing n) → HoldsIndexed (page_at new) first plan now
   still_indexed now new r still =
-      indexed-same (page_at old) (page_at new) first plan now still
-      (indexed-moved (page_at old) first plan (renumber plan DataRing table) now known.index r.keeps r.index r.firsts
-      (indexed-moved (page_at old) first plan table (renumber plan DataRing table) facts.index keeps refl refl is.indexed))
+      indexed-same (page_at old) (page_at new) first plan now still (indexed-moved (page_at old) first plan table now r.index r.index_pages is.indexed)
 
   -- .. and its variable data
   still_var : (now : Table) (new : FlashState) → IsRepaired (renumber plan DataRing table) now → ((n : ℕ) → bytes_in (page_at new) first plan VarRing n ≡ bytes_in (page_at old) first plan VarRing n) → HoldsVar (page_at new) first plan now
-  still_var now new r still = var-same (page_at old) (page_at new) first plan now still (var-moved (page_at old) first plan table now r.var r.from is.var)
+  still_var now new r still = var-same (page_at old) (page_at new) first plan now still (var-as (page_at old) first plan table now r.var r.var_pages is.var)
 
   -- the mount of the ring failed
   pub ring-fails : {KNOTS SLOTS : ℕ} (e : RingFault) (t : code.Table KNOTS SLOTS) (new : FlashState) → HaveSize first plan (page_at new) → OthersStill old new first plan →
@@ -143,8 +143,8 @@ module _ (first : ℕ) (plan : Plan) (table : Table) (rose : Bool) (device : Dev
   ring-fails e t new sizes still h =
       by_fault e (subst (λ (s : RingState). ring_mount.MountEnds (shape_in first plan) rose device s (Err e) new) same_state h)
     where
-      did_not : (now : PartProgress Table) (fault : FlashFault) → (TableMounts plan rose (DataRing ∷ []) device table (TableStopped now) × TableAnswers now.end (Err fault) new) ⊎ (TableMounts plan rose (DataRing ∷ []) device table (TableUnread now) × (fault ≡ Media)) →
-          (TableMounts plan rose (DataRing ∷ []) device table (TableStopped now) × FaultEnds now.end fault new) ⊎ (TableMounts plan rose (DataRing ∷ []) device table (TableUnread now) × (fault ≡ Media))
+      did_not : (now : PartProgress Table) (fault : FlashFault) → (TableMounts plan rose (Of DataRing ∷ []) device table (TableStopped now) × TableAnswers now.end (Err fault) new) ⊎ (TableMounts plan rose (Of DataRing ∷ []) device table (TableUnread now) × (fault ≡ Media)) →
+          (TableMounts plan rose (Of DataRing ∷ []) device table (TableStopped now) × FaultEnds now.end fault new) ⊎ (TableMounts plan rose (Of DataRing ∷ []) device table (TableUnread now) × (fault ≡ Media))
       did_not now fault (inl p) = inl (p.0, fault-ends now.end fault new p.1)
       did_not now fault (inr p) = inr p
 
@@ -179,10 +179,14 @@ module _ (first : ℕ) (plan : Plan) (table : Table) (rose : Bool) (device : Dev
       mount-lifts first plan table rose device new shape known (numbered-idle first plan table shape large is.few facts idle (page_at old) is.on) ring
       (subst (λ (s : RingState). ring_mount.MountEnds (shape_in first plan) rose device s (Ok ring) new) same_state h)
 
+  -- the same index pages end where they did
+  ends_as : (now : Table) → now.index_pages ≡ table.index_pages → index_end plan now ≡ index_end plan table
+  ends_as now same = ap (λ (pages : List IndexPage). end_after (entries_per_page plan) (map (λ page. page.first) pages)) same
+
   -- the index ends before its next number
   pub ends-within : (ring : Ring) (mid : FlashState) (l : RowsMount first plan table rose device ring mid) (least : ℕ) → least ≡ index_end plan table → least ≤ next_of ring
   ends-within ring mid l least end =
-      let ended : index_end plan l.now.state ≡ index_end plan table = ap (λ (fs : List ℕ). end_after (entries_per_page plan) fs) l.repaired.firsts in
+      let ended : index_end plan l.now.state ≡ index_end plan table = ends_as l.now.state l.repaired.index_pages in
       omega (arith, l.facts.index.listed, ended, end, l.stands.next)
 
   -- and then the kept pages are read
@@ -256,23 +260,35 @@ module _ (first : ℕ) (plan : Plan) (table : Table) (rose : Bool) (device : Dev
     no_values true = refl
     no_values false = refl
 
-    -- the bitmaps of the pages that the index doesn't list wait
-    few_wait : (b : Bool) → cond b (min (entries_per_page plan) (l.now.state.rows.next - max (index_end plan l.now.state) (model.oldest l.now.state.rows))) 0 ≤ entries_per_page plan
-    few_wait true = omega arith
-    few_wait false = omega arith
+    -- the entries of the pages that the index doesn't list wait
+    many_wait : length (ready plan l.now.state).waiting ≡ waiting_after plan l.now.state
+    many_wait = entries-length plan l.now.state (l.now.state.rows.next - waiting_after plan l.now.state) (waiting_after plan l.now.state)
 
-    late_wait : (b : Bool) → index_end plan l.now.state + (cond b (min (entries_per_page plan) (l.now.state.rows.next - max (index_end plan l.now.state) (model.oldest l.now.state.rows))) 0) ≤ l.now.state.rows.next
-    late_wait true = omega (arith, l.facts.index.listed)
-    late_wait false = omega (arith, l.facts.index.listed)
+    few_wait : length (ready plan l.now.state).waiting ≤ entries_per_page plan
+    few_wait = omega (arith, many_wait, by_index (has_index plan))
+      where
+        by_index : (b : Bool) → cond b (min (entries_per_page plan) (l.now.state.rows.next - max (index_end plan l.now.state) (model.oldest l.now.state.rows))) 0 ≤ entries_per_page plan
+        by_index true = omega arith
+        by_index false = omega arith
+
+    late_wait : index_end plan l.now.state + length (ready plan l.now.state).waiting ≤ l.now.state.rows.next
+    late_wait = omega (arith, many_wait, by_index (has_index plan))
+      where
+        by_index : (b : Bool) → index_end plan l.now.state + (cond b (min (entries_per_page plan) (l.now.state.rows.next - max (index_end plan l.now.state) (model.oldest l.now.state.rows))) 0) ≤ l.now.state.rows.next
+        by_index true = omega (arith, l.facts.index.listed)
+        by_index false = omega (arith, l.facts.index.listed)
 
     ready_plain : IsPlainTable plan (ready plan l.now.state)
     ready_plain = record {
+      plain = l.facts.plain;
+      bare = l.facts.bare;
       rows = l.facts.rows;
       kept = l.facts.kept;
       few_pending = l.facts.few_pending;
-      index = indexed-as plan l.now.state l.now.state.entries l.now.state.rows l.now.state.pending l.now.state.fill (ready plan l.now.state).waiting (points_of l.now.state) l.facts.index
-          (λ t. few_wait (has_index plan)) (late_wait (has_index plan)) (λ p. p) l.facts.index.number_listed;
-      blobs = blobbed-moved plan l.now.state (ready plan l.now.state) refl l.facts.blobs.fill (λ p. p) l.facts.blobs.blobs l.facts.blobs;
+      index = indexed-as plan l.now.state l.now.state.entries l.now.state.rows l.now.state.pending l.now.state.buffered (ready plan l.now.state).waiting (points_of l.now.state) l.facts.index
+          (λ t. few_wait) late_wait (λ p. p) l.facts.index.number_listed l.facts.index.tell
+          (telling-stays.ready plan l.now.state l.facts.rows.not_negative);
+      blobs = blobbed-moved plan l.now.state (ready plan l.now.state) refl refl l.facts.blobs.fill (λ p. p) l.facts.blobs.blobs (stand-as plan l.now.state (ready plan l.now.state) refl (λ ring number. refl) l.facts.blobs.stand) l.facts.blobs;
       number = l.facts.number;
       number_pending = l.facts.number_pending;
     }
@@ -331,15 +347,37 @@ module _ (first : ℕ) (plan : Plan) (table : Table) (rose : Bool) (device : Dev
         let on : OnRing (shape_in first plan) (page_at mid) (state_of plan l.now.state) = subst (λ (x : Table). OnRing (shape_in first plan) (page_at mid) (state_of plan x)) (sym (idle-lost l.now.state l.repaired.idle)) l.on in
         let mid_sizes : HaveSize first plan (page_at mid) = subst (λ (page : ℕ → List ℕ). HaveSize first plan page) (same_pages mid new n reads) sizes in
         let image = to-image (page_at mid) first plan l.now.state mid_sizes large l.facts.rows on in
-        subst (λ (r : Shape). HaveBitmaps plan (ready plan l.now.state) (λ number. page_at mid (place_at r number))) (sym is)
-        (λ k rows e some. page-bitmap plan (model.oldest l.now.state.rows + k) (rows_at l.now.state k rows) _ bits (image.kept k rows e some))
+        subst (λ (r : Shape). HaveBitmaps plan (ready plan l.now.state) (λ number. page_at mid (place_at r number))) (sym is) (λ number low high. one_page image mid_sizes number low high)
+      where
+        bare_rows : (xs : List Entry) → take 0 xs ≡ []
+        bare_rows [] = refl
+        bare_rows (x ∷ xs) = refl
+
+        one_page : IsRingImage (shape_of plan DataRing) l.now.state.rows (bytes_in (page_at mid) first plan DataRing) (HoldsRows plan l.now.state) → HaveSize first plan (page_at mid) → (number : ℕ) → model.oldest l.now.state.rows ≤ number → number < l.now.state.rows.next →
+            bitmap_on (page_at mid (place_at (shape_in first plan) number)) ≡ bitmap_of plan (rows_of_page l.now.state number)
+        one_page image mid_sizes number low high =
+            let i = number - model.oldest l.now.state.rows in
+            let there : model.oldest l.now.state.rows + i ≡ number = omega (arith, low) in
+            let c = slice_get-some l.now.state.rows.counts i (omega (arith, low, high, l.facts.rows.not_negative)) in
+            subst (λ n. bitmap_on (page_at mid (place_at (shape_in first plan) n)) ≡ bitmap_of plan (rows_of_page l.now.state n)) there
+            (by_count i c.0 c.1 (cases_lt 0 c.0) ∙ ap (bitmap_of plan) (sym (page-rows l.now.state i c.0 c.1)))
+          where
+            by_count : (i c : ℕ) → slice_get l.now.state.rows.counts i ≡ Some c → (0 < c) ⊎ (c ≤ 0) → bitmap_on (page_at mid (place_at (shape_in first plan) (model.oldest l.now.state.rows + i))) ≡ bitmap_of plan (rows_at l.now.state i c)
+            by_count i c e (inl some) = page-bitmap plan (model.oldest l.now.state.rows + i) (rows_at l.now.state i c) (page_at mid (place_at (shape_in first plan) (model.oldest l.now.state.rows + i))) bits (image.kept i c e some)
+            by_count i c e (inr none) =
+                let zero_is : c ≡ 0 = omega (arith, none) in
+                let nothing : rows_at l.now.state i c ≡ [] = ap (λ k. take k (drop (sum (take i l.now.state.rows.counts)) l.now.state.entries)) zero_is ∙ bare_rows (drop (sum (take i l.now.state.rows.counts)) l.now.state.entries) in
+                void-bitmap (page_at mid (place_at (shape_in first plan) (model.oldest l.now.state.rows + i))) (omega (arith, mid_sizes (model.oldest l.now.state.rows + i), large)) (image.void i (e ∙ ap (λ (n : ℕ). Some n) zero_is))
+                ∙ sym (ap (bitmap_of plan) nothing ∙ no_values (plan.bits == 0))
 
     -- the index stands for that of the table that was started
     pub started-stand : (was begun now : Option Index) (least wait : ℕ) → place.shape_of ring ≡ shape_in first plan → ArePlanned was (first + plan.data_blocks) plan → StandForRing was old (first + plan.data_blocks) plan table → least ≡ index_end plan table →
-        wait ≡ first_to_wait was least (oldest_of ring) (next_of ring) → AreSamePlan was begun → AreSameRing was begun → AreIdle begun → EndAt begun wait → ((plan : Plan) (x : Table) → AreWaiting begun plan x wait 0) →
+        wait ≡ first_to_wait was least (oldest_of ring) (next_of ring) → AreSamePlan was begun → AreSameRing was begun → AreIdle begun → EndAt begun wait → AreWaiting begun wait [] →
         AreSamePlan begun now → AreSameRing begun now → GatherUpTo begun (pages_of ring mid) (next_of ring) now → Stand now new (first + plan.data_blocks) plan (ready plan l.now.state)
     started-stand None None None least wait is planned stands end wait_is same kept unused at waits same' still' gathers =
-        ap (λ b. cond b (min (entries_per_page plan) (l.now.state.rows.next - max (index_end plan l.now.state) (model.oldest l.now.state.rows))) 0) (planned-none (first + plan.data_blocks) plan planned)
+        let count : waiting_after plan l.now.state ≡ 0 =
+        ap (λ b. cond b (min (entries_per_page plan) (l.now.state.rows.next - max (index_end plan l.now.state) (model.oldest l.now.state.rows))) 0) (planned-none (first + plan.data_blocks) plan planned) in
+        ap (λ k. entries_from plan l.now.state (l.now.state.rows.next - k) k) count
     started-stand None None (Some now) least wait is planned stands end wait_is same kept unused at waits same' still' gathers = absurd same'
     started-stand None (Some begun) now least wait is planned stands end wait_is same kept unused at waits same' still' gathers = absurd same
     started-stand (Some was) None now least wait is planned stands end wait_is same kept unused at waits same' still' gathers = absurd same
@@ -350,19 +388,23 @@ module _ (first : ℕ) (plan : Plan) (table : Table) (rose : Bool) (device : Dev
         let has = planned-some was D plan planned in
         let old_is : oldest_of ring ≡ model.oldest st.rows = l.stands.oldest ∙ state-oldest plan (lose l.now.state) in
         let next_is : next_of ring ≡ st.rows.next = l.stands.next in
-        let ended : index_end plan st ≡ index_end plan table = ap (λ (fs : List ℕ). end_after (entries_per_page plan) fs) l.repaired.firsts in
+        let ended : index_end plan st ≡ index_end plan table = ends_as st l.repaired.index_pages in
         let per = planned-page was D plan planned in
-        let waiting : (ready plan l.now.state).waiting ≡ min (entries_per_page plan) (st.rows.next - max (index_end plan st) (model.oldest st.rows)) =
+        let waiting : waiting_after plan st ≡ min (entries_per_page plan) (st.rows.next - max (index_end plan st) (model.oldest st.rows)) =
         ap (λ b. cond b (min (entries_per_page plan) (l.now.state.rows.next - max (index_end plan l.now.state) (model.oldest l.now.state.rows))) 0) has in
         let there : wait ≡ next_of ring - min (next_of ring - max least (oldest_of ring)) (memory.per_page was) = wait_is in
         let first_is : wait ≡ st.rows.next - min (st.rows.next - max (index_end plan st) (model.oldest st.rows)) (entries_per_page plan) = omega (arith, there, end, ended, old_is, next_is, per) in
         let s0 = memories.ring-same begun now old D plan table same' still' (memories.ring-same was begun old D plan table same kept stands) in
-        let s1 = ring-moved now old old D plan table (renumber plan DataRing table) s0 keeps refl (has-index plan (renumber plan DataRing table) s0.ring s0.facts.ring_is known (omega (arith, idle.waiting))) (λ k. refl) in
-        let s2 = ring-moved now old new D plan (renumber plan DataRing table) st s1 l.repaired.keeps l.repaired.firsts (has-index plan st s1.ring (l.repaired.index ∙ s1.facts.ring_is) l.facts (omega (arith, l.repaired.idle.waiting))) (λ n. (still n).0) in
-        let s3 = ring-moved now new new D plan st (ready plan st) s2 (keeps-same st (ready plan st) refl refl refl) refl (has-index plan (ready plan st) s2.ring s2.facts.ring_is ready_plain (few_wait (has_index plan))) (λ k. refl) in
-        let w : Waits now plan (ready plan st) wait (next_of ring - wait) =
-        gather-waits (Some begun) (Some now) (pages_of ring mid) (next_of ring) wait plan (ready plan st) unused at (waits plan (ready plan st)) (reads-bitmaps is (planned-bits was D plan planned)) gathers in
+        let s1 = ring-moved now old old D plan table (renumber plan DataRing table) s0 refl (has-index plan (renumber plan DataRing table) s0.ring s0.facts.ring_is known (omega (arith, ap length idle.waiting))) (λ k. refl) in
+        let s2 = ring-moved now old new D plan (renumber plan DataRing table) st s1 l.repaired.index_pages (has-index plan st s1.ring (l.repaired.index ∙ s1.facts.ring_is) l.facts (omega (arith, ap length l.repaired.idle.waiting))) (λ n. (still n).0) in
+        let s3 = ring-moved now new new D plan st (ready plan st) s2 refl (has-index plan (ready plan st) s2.ring s2.facts.ring_is ready_plain few_wait) (λ k. refl) in
+        let plain : begun.full ≡ false = same.full ∙ (sym planned.full ∙ facts.plain.0) in
+        let low : model.oldest st.rows ≤ wait = omega (arith, first_is, old_is, end, ended, next_is, l.facts.rows.not_negative) in
+        let w : Waits now wait (entries_from plan st wait (next_of ring - wait)) =
+        gather-waits begun now (pages_of ring mid) (next_of ring) wait plan (ready plan st) unused (at begun refl) plain waits (reads-bitmaps is (planned-bits was D plan planned)) low (omega (arith, next_is)) gathers in
+        let from : wait ≡ st.rows.next - waiting_after plan st = omega (arith, first_is, waiting) in
+        let count : next_of ring - wait ≡ waiting_after plan st = omega (arith, first_is, waiting, next_is) in
         record {
           in_ring = s3;
-          waits = subst (λ k. Waits now plan (ready plan st) k (ready plan st).waiting) (omega (arith, first_is, waiting)) (subst (λ k. Waits now plan (ready plan st) wait k) (omega (arith, first_is, waiting, next_is)) w);
+          waits = subst (λ k. Waits now (st.rows.next - k) (ready plan st).waiting) (sym many_wait) (subst (λ k. Waits now k (entries_from plan st k (waiting_after plan st))) from (subst (λ k. Waits now wait (entries_from plan st wait k)) count w));
         }

@@ -13,7 +13,6 @@ use Rattle.fl_model.proofs.Lists.{slice_get-some}
 use Rattle.fl_model.proofs.Pages.{pages-at}
 use Rattle.fl_ring.proofs.Moved.{renumbered_on}
 use Rattle.fl_table.proofs.Memories.{few-kept}
-use Rattle.fl_table.proofs.Moved.{KeepsPages, keeps-same, keeps-none}
 use Rattle.fl_table.proofs.Plain.{IsPlainTable, plain-renumber}
 use Rattle.fl_ring.specs.Head.{one}
 use Rattle.fl_ring.specs.Mounting.{IsGood}
@@ -54,17 +53,8 @@ module _ (first : ℕ) (plan : Plan) (table : Table) (shape : model.IsShape (sha
       plain-renumber plan table shape few (few-kept plan table shape facts.rows) facts
       (ring-back first plan (renumber plan DataRing table) (subst (λ (s : RingState). OnRing (shape_in first plan) page s) ring-renumbered there).ring) idle.pending idle.waiting
 
-  -- its pages with rows have the same numbers
-  pub keeps-numbered : KeepsPages table (renumber plan DataRing table)
-  keeps-numbered = by_test (list_any (nat_lt 0) table.rows.counts) refl
-    where
-      by_test : (b : Bool) → list_any (nat_lt 0) table.rows.counts ≡ b →
-          KeepsPages table (record table { rows = cond b table.rows (record table.rows { next = numbering.least_alike (plan.data_blocks * plan.geometry.block) table.rows.next (at_least_of plan DataRing table + length table.rows.counts) }) })
-      by_test true e = keeps-same table table refl refl refl
-      by_test false e = keeps-none table _ e
-
   pub numbered-idle : IsIdle (renumber plan DataRing table)
-  numbered-idle = record { pending = idle.pending; fill = idle.fill; waiting = idle.waiting; points = idle.points }
+  numbered-idle = record { pending = idle.pending; buffered = idle.buffered; waiting = idle.waiting; points = idle.points }
 
   same_torn : (renumber plan DataRing table).rows.torn ≡ table.rows.torn
   same_torn = by_test (list_any (nat_lt 0) table.rows.counts)

@@ -1,5 +1,6 @@
 -- The mount of the index ring is part of the mount of its table.
-use Rattle.std.proofs.Common.{◌≡◌, ℕ, ◌+◌, ◌*◌, ◌<◌, ◌≤◌, Bool, true, false, cond, Option, Some, None, option_map, unwrap_or, IfSome, nat_lt, append_assoc, Result, Ok, Err, List, [], ◌∷◌, ◌++◌, length, refl, sym, ◌∙◌, ap, subst, arith, ◌⊎◌, inl, inr}
+use Rattle.std.proofs.Common.{◌≡◌, ℕ, ◌+◌, ◌*◌, ◌<◌, ◌≤◌, Bool, true, false, cond, Option, Some, None, option_map, unwrap_or, IfSome, nat_lt, append_assoc, Result, Ok, Err, List, [], ◌∷◌, ◌++◌, length, refl, sym, ◌∙◌, ap, subst, arith, ◌⊎◌, inl, inr, map, drop}
+use Rattle.fl_model.specs.Index.{IndexPage}
 use Rattle.std.specs.List.{list_any}
 use Rattle.fl_flash.specs.Flash.{FlashState, page_at}
 use Rattle.fl_flash.specs.declared.flash.FlashFault.{FlashFault}
@@ -8,15 +9,15 @@ use Rattle.fl_index.specs.declared.index.Index.{Index}
 use Rattle.fl_index.specs.Outcomes as outcomes
 use Rattle.fl_index.specs.Standing as standing
 use Rattle.fl_index.specs.Standing.{HasIndex}
-use Rattle.fl_index.proofs.Lists.{end-drop}
-use Rattle.fl_model.specs.Mount.{renumber, renumbered, rings_of, index_end, least_alike}
+use Rattle.fl_index.proofs.Lists.{end-drop, end_after, firsts-drop}
+use Rattle.fl_model.specs.Mount.{renumber, renumbered, rings_of, index_end, least_alike, Turn, Of}
 use Rattle.fl_model.specs.Record.{Plan, has_index, entries_per_page}
 use Rattle.fl_model.specs.Ring as model
 use Rattle.fl_model.specs.Ring.{oldest}
-use Rattle.fl_model.specs.Table.{Table, RingName, DataRing, IndexRing, VarRing, shape_of, full_pages, is_torn, is_dirty, seal_page, spent_from}
+use Rattle.fl_model.specs.Table.{Table, RingName, DataRing, IndexRing, VarRing, shape_of, full_pages, is_torn, is_dirty, seal_page, spent_from, LogRing}
 use Rattle.fl_model.specs.Work.{Kind, Body, Mark, VoidMark, Erase, Device, PartEnd, Whole, CutIn, FailedIn, PartProgress}
 use Rattle.fl_model.specs.Within.{repair_within, effect_within, all_done, TablePerforms, TableUnreads, TableGoesOn, TableMounts, TableMountEnd, TableMounted, TableStopped, TableUnread}
-use Rattle.fl_model.proofs.Plain.{sealed-next, sealed-torn}
+use Rattle.fl_model.proofs.Sealed.{sealed-next, sealed-torn}
 use Rattle.fl_table.specs.Outcomes.{FaultEnds, MountsBadly, RingsEnd, MountEnds, var_rings}
 use Rattle.fl_table.specs.Pages.{Rests, bytes_in}
 use Rattle.fl_table.specs.declared.counts.Mounted.{Mounted}
@@ -47,6 +48,7 @@ erases_front ((IndexRing, Mark) ∷ front) others h = absurd h
 erases_front ((IndexRing, VoidMark) ∷ front) others h = absurd h
 erases_front ((DataRing, kind) ∷ front) others h = absurd h
 erases_front ((VarRing, kind) ∷ front) others h = absurd h
+erases_front ((LogRing, kind) ∷ front) others h = absurd h
 
 repairs_front : (front others : List (RingName × Kind)) (table : Table) → AreRepairs (front ++ others) table → AreRepairs front table
 repairs_front [] others table h = tt
@@ -56,6 +58,7 @@ repairs_front ((IndexRing, Body) ∷ front) others table h = absurd h
 repairs_front ((IndexRing, Mark) ∷ front) others table h = absurd h
 repairs_front ((DataRing, kind) ∷ front) others table h = absurd h
 repairs_front ((VarRing, kind) ∷ front) others table h = absurd h
+repairs_front ((LogRing, kind) ∷ front) others table h = absurd h
 
 are_repairs : (plan : Plan) (table : Table) → AreRepairs (repair_within plan IndexRing table) table
 are_repairs plan table = by_torn (is_torn IndexRing table) refl (is_dirty IndexRing (cond (is_torn IndexRing table) (seal_page plan IndexRing 0 table) table))
@@ -77,7 +80,7 @@ erases_done : (plan : Plan) (table t : Table) (front : List (RingName × Kind)) 
 erases_done plan table t [] h k = k
 erases_done plan table t ((IndexRing, Erase) ∷ front) h k =
     erases_done plan table (effect_within plan (IndexRing, Erase) t) front h (record {
-      beside = record { entries = k.beside.entries; rows = k.beside.rows; var = k.beside.var; pending = k.beside.pending; fill = k.beside.fill; points = k.beside.points };
+      beside = (_, _, _, ap (effect_within plan (IndexRing, Erase)) k.beside.3);
       number = erased-number 4294967292 t.index k.number;
       end = k.end;
       waiting = k.waiting;
@@ -87,6 +90,7 @@ erases_done plan table t ((IndexRing, Mark) ∷ front) h k = absurd h
 erases_done plan table t ((IndexRing, VoidMark) ∷ front) h k = absurd h
 erases_done plan table t ((DataRing, kind) ∷ front) h k = absurd h
 erases_done plan table t ((VarRing, kind) ∷ front) h k = absurd h
+erases_done plan table t ((LogRing, kind) ∷ front) h k = absurd h
 
 voided_number : (n : ℕ) (shape : model.Shape) (o : Option model.Ring) → unwrap_or (option_map (λ ring. ring.torn) o) false ≡ true → IsNumberedTo n o → IsNumberedTo n (option_map (model.sealed shape 0) o)
 voided_number n shape None torn h = tt
@@ -98,9 +102,14 @@ repairs_done : (plan : Plan) (table t : Table) (front : List (RingName × Kind))
 repairs_done plan table t [] h k = k
 repairs_done plan table t ((IndexRing, VoidMark) ∷ front) h k =
     erases_done plan table (effect_within plan (IndexRing, VoidMark) t) front h.1 (record {
-      beside = record { entries = k.beside.entries; rows = k.beside.rows; var = k.beside.var; pending = k.beside.pending; fill = k.beside.fill; points = k.beside.points };
+      beside = (_, _, _, ap (effect_within plan (IndexRing, VoidMark)) k.beside.3);
       number = voided_number 4294967292 (shape_of plan IndexRing) t.index h.0 k.number;
-      end = let less = end-drop (entries_per_page plan) (full_pages (unwrap_or (option_map (model.given_up (shape_of plan IndexRing) 0) t.index) [])) t.firsts in omega (arith, less, k.end);
+      end =
+          let n = full_pages (unwrap_or (option_map (model.given_up (shape_of plan IndexRing) 0) t.index) []) in
+          let less : end_after (entries_per_page plan) (map (λ (page : IndexPage). page.first) (drop n t.index_pages)) ≤ end_after (entries_per_page plan) (map (λ (page : IndexPage). page.first) t.index_pages) =
+          subst (λ (fs : List ℕ). end_after (entries_per_page plan) fs ≤ end_after (entries_per_page plan) (map (λ (page : IndexPage). page.first) t.index_pages)) (sym (firsts-drop n t.index_pages))
+          (end-drop (entries_per_page plan) n (map (λ (page : IndexPage). page.first) t.index_pages)) in
+          omega (arith, less, k.end);
       waiting = k.waiting;
     })
 repairs_done plan table t ((IndexRing, Erase) ∷ front) h k = erases_done plan table t ((IndexRing, Erase) ∷ front) h k
@@ -108,6 +117,7 @@ repairs_done plan table t ((IndexRing, Body) ∷ front) h k = absurd h
 repairs_done plan table t ((IndexRing, Mark) ∷ front) h k = absurd h
 repairs_done plan table t ((DataRing, kind) ∷ front) h k = absurd h
 repairs_done plan table t ((VarRing, kind) ∷ front) h k = absurd h
+repairs_done plan table t ((LogRing, kind) ∷ front) h k = absurd h
 
 -- renumbered from 0 on, a ring's number is the same or less
 lower_number : (shape : model.Shape) (o : Option model.Ring) → 0 < shape.blocks * shape.pages → IfSome o (model.IsRing shape) → IsNumberedTo 4294967292 o → IsNumberedTo 4294967292 (option_map (renumbered shape 0) o)
@@ -117,6 +127,10 @@ lower_number shape (Some r) some h k = by_test (list_any (nat_lt 0) r.counts)
     by_test : (b : Bool) → IsNumberedTo 4294967292 (Some (cond b r (record r { next = least_alike (shape.blocks * shape.pages) r.next (0 + length r.counts) })))
     by_test true = k
     by_test false = let low = least-below (shape.blocks * shape.pages) r.next (0 + length r.counts) some (omega (arith, h.not_negative)) in omega (arith, low, k)
+
+-- these rings are mounted
+abbrev pub turns : List RingName → List Turn
+turns rings = map (λ ring. Of ring) rings
 
 -- a table at rest, of which the index ring is mounted
 module _ (old new : FlashState) (first : ℕ) (plan : Plan) (table : Table) (rose : Bool) (device : Device) (has : has_index plan ≡ true) (some : 0 < plan.index_blocks * plan.geometry.block)
@@ -128,17 +142,19 @@ module _ (old new : FlashState) (first : ℕ) (plan : Plan) (table : Table) (ros
   left-rests left ring f known image =
       let come = repairs_front f.front f.others (renumber plan IndexRing table) (subst (λ (ops : List (RingName × Kind)). AreRepairs ops (renumber plan IndexRing table)) f.split (are_repairs plan (renumber plan IndexRing table))) in
       let is : IsLeft plan table left = subst (IsLeft plan table) (sym f.state) (repairs_done plan table (renumber plan IndexRing table) f.front come (record {
-        beside = record { entries = refl; rows = refl; var = refl; pending = refl; fill = refl; points = refl };
+        beside = (_, _, _, refl);
         number = lower_number (shape_of plan IndexRing) table.index some facts.index.ring facts.index.number;
         end = omega arith;
         waiting = refl;
       })) in
       let number : ring.next + (cond ring.torn 1 0) ≤ 4294967292 = subst (IsNumberedTo 4294967292) known.ring_is is.number in
       let b = is.beside in
-      let after : IsPlainTable plan left = beside-facts plan table left b facts (indexed-of plan left ring has known number (λ p. absurd (p (b.pending ∙ idle.pending)))
-      (λ lt more. subst (λ (r : model.Ring). r.next + (cond r.torn 1 0) ≤ spent_from + 1) (sym b.rows)
-      (facts.index.number_listed (omega (arith, ap oldest b.rows, lt, is.end)) (omega (arith, ap (λ (r : model.Ring). length r.counts) b.rows, more))))) in
-      let now : IsIdle left = record { pending = b.pending ∙ idle.pending; fill = b.fill ∙ idle.fill; waiting = is.waiting ∙ idle.waiting; points = b.points ∙ idle.points } in
+      let rows_are : left.rows ≡ table.rows = ap (λ (x : Table). x.rows) b.3 in
+      let pending_is : left.pending ≡ table.pending = ap (λ (x : Table). x.pending) b.3 in
+      let after : IsPlainTable plan left = beside-facts plan table left b facts (indexed-of plan left ring has known number (λ p. absurd (p (pending_is ∙ idle.pending)))
+      (λ lt more. subst (λ (r : model.Ring). r.next + (cond r.torn 1 0) ≤ spent_from + 1) (sym rows_are)
+      (facts.index.number_listed (omega (arith, ap oldest rows_are, lt, is.end)) (omega (arith, ap (λ (r : model.Ring). length r.counts) rows_are, more))))) in
+      let now : IsIdle left = record { pending = pending_is ∙ idle.pending; buffered = ap (λ (x : Table). x.buffered) b.3 ∙ idle.buffered; waiting = is.waiting ∙ idle.waiting; points = ap (λ (x : Table). x.points) b.3 ∙ idle.points } in
       record {
         settled = record { facts = table-facts plan left after; lost = idle-lost left now };
         pages = holds-beside (page_at old) (page_at new) first plan table left b same_rows same_var rests.pages (holds-indexed (page_at new) first plan left ring known.ring_is image);
@@ -151,20 +167,20 @@ module _ (old new : FlashState) (first : ℕ) (plan : Plan) (table : Table) (ros
   pub index-fails : (fault : FlashFault) → outcomes.MountsBadly (first + plan.data_blocks) plan table rose device fault new → MountsBadly first plan (rings_of plan) table rose device fault new
   index-fails fault h = record {
     now = h.now;
-    did = subst (λ (rings : List RingName). (TableMounts plan rose rings device table (TableStopped h.now) × FaultEnds h.now.end fault new) ⊎ (TableMounts plan rose rings device table (TableUnread h.now) × (fault ≡ Media))) (sym two_rings) (by_did h.did);
+    did = subst (λ (rings : List RingName). (TableMounts plan rose (turns rings) device table (TableStopped h.now) × FaultEnds h.now.end fault new) ⊎ (TableMounts plan rose (turns rings) device table (TableUnread h.now) × (fault ≡ Media))) (sym two_rings) (by_did h.did);
     counts = h.counts;
     rests = left-rests h.now.state h.rests.ring (front h.did) h.rests.facts h.rests.pages;
   }
     where
       stops : (now : PartProgress Table) (e : PartEnd Table) → now.end ≡ e → outcomes.FaultEnds e fault new →
-          TableGoesOn now.end now (TableStopped now) (TableMounts plan rose (DataRing ∷ var_rings plan) now.device now.state (TableStopped now)) × FaultEnds e fault new
+          TableGoesOn now.end now (TableStopped now) (TableMounts plan rose (turns (DataRing ∷ var_rings plan)) now.device now.state (TableStopped now)) × FaultEnds e fault new
       stops now Whole k a = absurd a
       stops now (CutIn b) k a = (rw k refl, a)
       stops now (FailedIn b) k a = (rw k refl, a)
 
       by_did : (TablePerforms plan rose (repair_within plan IndexRing (renumber plan IndexRing table)) device (renumber plan IndexRing table) h.now × outcomes.FaultEnds h.now.end fault new)
           ⊎ (TableUnreads plan rose (repair_within plan IndexRing (renumber plan IndexRing table)) device (renumber plan IndexRing table) h.now × (fault ≡ Media)) →
-          (TableMounts plan rose (IndexRing ∷ DataRing ∷ var_rings plan) device table (TableStopped h.now) × FaultEnds h.now.end fault new) ⊎ (TableMounts plan rose (IndexRing ∷ DataRing ∷ var_rings plan) device table (TableUnread h.now) × (fault ≡ Media))
+          (TableMounts plan rose (turns (IndexRing ∷ DataRing ∷ var_rings plan)) device table (TableStopped h.now) × FaultEnds h.now.end fault new) ⊎ (TableMounts plan rose (turns (IndexRing ∷ DataRing ∷ var_rings plan)) device table (TableUnread h.now) × (fault ≡ Media))
       by_did (inl p) = let s = stops h.now h.now.end refl p.1 in inl (inr (h.now, p.0, s.0), s.1)
       by_did (inr u) = inr (inl (h.now, u.0, refl), u.1)
 
@@ -186,16 +202,16 @@ module _ (old new : FlashState) (first : ℕ) (plan : Plan) (table : Table) (ros
       RingsEnd first plan (DataRing ∷ var_rings plan) h.now.state rose h.now.device result t last → MountEnds first plan table rose device result t last
   then-rows end now h result t last k = by_result result k
     where
-      all : (how : TableMountEnd) → TableMounts plan rose (DataRing ∷ var_rings plan) h.now.device h.now.state how → TableMounts plan rose (rings_of plan) device table how
-      all how m = subst (λ (rings : List RingName). TableMounts plan rose rings device table how) (sym two_rings)
-          (inr (h.now, h.did, subst (λ (e : PartEnd Table). TableGoesOn e h.now how (TableMounts plan rose (DataRing ∷ var_rings plan) h.now.device h.now.state how)) (sym h.whole) m))
+      all : (how : TableMountEnd) → TableMounts plan rose (turns (DataRing ∷ var_rings plan)) h.now.device h.now.state how → TableMounts plan rose (turns (rings_of plan)) device table how
+      all how m = subst (λ (rings : List RingName). TableMounts plan rose (turns rings) device table how) (sym two_rings)
+          (inr (h.now, h.did, subst (λ (e : PartEnd Table). TableGoesOn e h.now how (TableMounts plan rose (turns (DataRing ∷ var_rings plan)) h.now.device h.now.state how)) (sym h.whole) m))
 
       by_result : (result : Result Mounted MountFault) → RingsEnd first plan (DataRing ∷ var_rings plan) h.now.state rose h.now.device result t last → MountEnds first plan table rose device result t last
       by_result (Ok mounted) k = record { now = k.now; did = all (TableMounted k.now) k.did; counts = k.counts; power = k.power; stands = k.stands; answer = k.answer }
       by_result (Err (mount.Flash fault)) k = record { now = k.now; did = by_did k.did; counts = k.counts; rests = k.rests }
         where
-          by_did : (TableMounts plan rose (DataRing ∷ var_rings plan) h.now.device h.now.state (TableStopped k.now) × FaultEnds k.now.end fault last) ⊎ (TableMounts plan rose (DataRing ∷ var_rings plan) h.now.device h.now.state (TableUnread k.now) × (fault ≡ Media)) →
-              (TableMounts plan rose (rings_of plan) device table (TableStopped k.now) × FaultEnds k.now.end fault last) ⊎ (TableMounts plan rose (rings_of plan) device table (TableUnread k.now) × (fault ≡ Media))
+          by_did : (TableMounts plan rose (turns (DataRing ∷ var_rings plan)) h.now.device h.now.state (TableStopped k.now) × FaultEnds k.now.end fault last) ⊎ (TableMounts plan rose (turns (DataRing ∷ var_rings plan)) h.now.device h.now.state (TableUnread k.now) × (fault ≡ Media)) →
+              (TableMounts plan rose (turns (rings_of plan)) device table (TableStopped k.now) × FaultEnds k.now.end fault last) ⊎ (TableMounts plan rose (turns (rings_of plan)) device table (TableUnread k.now) × (fault ≡ Media))
           by_did (inl p) = inl (all (TableStopped k.now) p.0, p.1)
           by_did (inr p) = inr (all (TableUnread k.now) p.0, p.1)
       by_result (Err (mount.Ring fault)) k = k

@@ -1,5 +1,6 @@
 -- A mount is that of the index, and then that of the data ring.
 use Rattle.std.proofs.Common.{◌≡◌, ℕ, ◌+◌, ◌-◌, ◌*◌, ◌%◌, ◌<◌, ◌≤◌, Bool, true, false, cond, Option, Some, None, IfSome, unwrap_or, get_or, Result, Ok, Err, List, [], ◌∷◌, ◌++◌, length, refl, sym, ◌∙◌, ap, subst, arith, inl, inr}
+use Rattle.fl_model.specs.Index.{IndexPage}
 use Rattle.std.proofs.Math.Nat.{mul-le-mul_right}
 use Rattle.fl_base.specs.declared.types.Geometry.{Geometry}
 use Rattle.fl_base.specs.declared.types.RingPlace.{RingPlace}
@@ -10,7 +11,7 @@ use Rattle.fl_index.specs.Outcomes as outcomes
 use Rattle.fl_index.specs.Outcomes.{end_of}
 use Rattle.fl_index.proofs.Sealings.{planned-ring}
 use Rattle.fl_model.specs.Facts.{counts_in, is_some_ring}
-use Rattle.fl_model.specs.Image.{IsRingImage, HoldsBitmaps}
+use Rattle.fl_model.specs.Image.{IsRingImage, HoldsEntries}
 use Rattle.fl_index.specs.Standing as standing
 use Rattle.fl_ring.specs.Mounting.{shape_at}
 use Rattle.fl_table.proofs.Moved.{has-index}
@@ -53,22 +54,22 @@ use Rattle.fl_table.proofs.SealAnswers.{planned-shape}
 
 -- a table without an index lists nothing
 none_listed : (plan : Plan) (table : Table) → has_index plan ≡ false → IsPlainTable plan table → index_end plan table ≡ 0
-none_listed plan table none facts = by_firsts table.firsts (by_ring table.index facts.index.has facts.index.first_each)
+none_listed plan table none facts = by_pages table.index_pages (by_ring table.index facts.index.has facts.index.each)
   where
-    by_ring : (o : Option model.Ring) → is_some_ring o ≡ has_index plan → length table.firsts ≡ full_pages (counts_in o) → length table.firsts ≡ 0
+    by_ring : (o : Option model.Ring) → is_some_ring o ≡ has_index plan → length table.index_pages ≡ full_pages (counts_in o) → length table.index_pages ≡ 0
     by_ring None e k = k
     by_ring (Some r) e k = absurd (no (e ∙ none))
       where
         no : true ≡ false → ⊥
         no x = cc
 
-    by_firsts : (firsts : List ℕ) → length firsts ≡ 0 → index_end plan (record table { firsts = firsts }) ≡ 0
-    by_firsts [] e = refl
-    by_firsts (x ∷ xs) e = absurd (omega (arith, e))
+    by_pages : (pages : List IndexPage) → length pages ≡ 0 → index_end plan (record table { index_pages = pages }) ≡ 0
+    by_pages [] e = refl
+    by_pages (x ∷ xs) e = absurd (omega (arith, e))
 
 module _ {KNOTS SLOTS : ℕ} (t : code.Table KNOTS SLOTS) (old new : FlashState) (first : ℕ) (plan : Plan) (table : Table) (rose : Bool) (device : Device) (planned : IsPlanned t first plan) (rests : Rests old first plan table) (watched : IsWatched old new rose device) where
   facts : IsPlainTable plan table
-  facts = table-parts plan table rests.settled.facts
+  facts = table-parts plan table (planned.full, planned.log) rests.settled.facts
 
   some_blocks : 0 < plan.data_blocks * plan.geometry.block
   some_blocks =
@@ -103,9 +104,9 @@ module _ {KNOTS SLOTS : ℕ} (t : code.Table KNOTS SLOTS) (old new : FlashState)
         let idle = lost-idle table rests.settled.lost in
         record {
           ring = r.0;
-          facts = has-index plan table r.0 r.1 facts (omega (arith, idle.waiting));
+          facts = has-index plan table r.0 r.1 facts (omega (arith, ap length idle.waiting));
           idle = idle.waiting;
-          pages = subst (λ (o : Option model.Ring). IfSome o (λ x. IsRingImage (shape_of plan IndexRing) x (bytes_in (page_at old) first plan IndexRing) (HoldsBitmaps plan table x))) r.1 rests.pages.index;
+          pages = subst (λ (o : Option model.Ring). IfSome o (λ x. IsRingImage (shape_of plan IndexRing) x (bytes_in (page_at old) first plan IndexRing) (HoldsEntries plan table x))) r.1 rests.pages.index;
         }
 
   -- the index failed

@@ -8,9 +8,9 @@ use Rattle.fl_model.specs.Ring as model
 use Rattle.fl_model.specs.Table.{Table, RingName, DataRing, shape_of, lose, seal_page, is_dirty}
 use Rattle.fl_model.specs.Work.{Kind, VoidMark, Erase, Device, PartEnd, Whole, CutIn, FailedIn, PartProgress}
 use Rattle.fl_model.specs.Within.{repair_within, effect_within, TablePerforms, TableUnreads, TableGoesOn, TableMounts, TableMounted, TableStopped, TableUnread, all_done}
-use Rattle.fl_model.specs.Mount.{renumber}
+use Rattle.fl_model.specs.Mount.{Of, renumber}
 use Rattle.fl_model.proofs.Performs.{performs-whole}
-use Rattle.fl_model.proofs.Plain.{sealed-torn}
+use Rattle.fl_model.proofs.Sealed.{sealed-torn}
 use Rattle.fl_table.proofs.Plain.{IsPlainTable}
 use Rattle.fl_ring.specs.declared.ring.Ring.{Ring}
 use Rattle.fl_ring.specs.Device.{SameDevice}
@@ -46,7 +46,7 @@ repairs_clean plan table = by_torn table.rows.torn refl
 -- the table after its ring was mounted; nothing of it is in memory yet
 pub record RowsMount (first : ℕ) (plan : Plan) (table : Table) (rose : Bool) (device : Device) (ring : Ring) (new : FlashState) : Type 0 where
   pub now : PartProgress Table
-  pub did : TableMounts plan rose (DataRing ∷ []) device table (TableMounted now)
+  pub did : TableMounts plan rose (Of DataRing ∷ []) device table (TableMounted now)
   pub counts : SameDevice new now.device
   pub power : new.is_on ≡ true
   pub facts : IsPlainTable plan now.state
@@ -56,13 +56,13 @@ pub record RowsMount (first : ℕ) (plan : Plan) (table : Table) (rose : Bool) (
   pub on : OnRing (shape_in first plan) (page_at new) (state_of plan (lose now.state))
   pub stands : StandsFor ring (state_of plan (lose now.state))
   -- the same mount where a read fails after it
-  pub unread : IsTrue rose → (last : PartProgress Table) × TableMounts plan rose (DataRing ∷ []) device table (TableUnread last) × (last.device ≡ now.device) × (last.state ≡ now.state)
+  pub unread : IsTrue rose → (last : PartProgress Table) × TableMounts plan rose (Of DataRing ∷ []) device table (TableUnread last) × (last.device ≡ now.device) × (last.state ≡ now.state)
 
 -- a mount that failed in its ring
 pub record RowsFail (first : ℕ) (plan : Plan) (table : Table) (rose : Bool) (device : Device) (fault : FlashFault) (new : FlashState) : Type 0 where
   pub now : PartProgress Table
-  pub did : (TableMounts plan rose (DataRing ∷ []) device table (TableStopped now) × TableAnswers now.end (Err fault) new)
-      ⊎ (TableMounts plan rose (DataRing ∷ []) device table (TableUnread now) × (fault ≡ Media))
+  pub did : (TableMounts plan rose (Of DataRing ∷ []) device table (TableStopped now) × TableAnswers now.end (Err fault) new)
+      ⊎ (TableMounts plan rose (Of DataRing ∷ []) device table (TableUnread now) × (fault ≡ Media))
   pub counts : SameDevice new now.device
   pub facts : IsPlainTable plan now.state
   pub repaired : IsRepaired (renumber plan DataRing table) now.state

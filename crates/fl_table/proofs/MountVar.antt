@@ -1,21 +1,24 @@
 -- The mount of variable data is the last part of the mount of their table.
-use Rattle.std.proofs.Common.{◌≡◌, ℕ, ◌+◌, ◌-◌, ◌*◌, ◌<◌, ◌≤◌, Bool, true, cond, Option, Some, None, IfSome, Result, Ok, Err, List, [], ◌∷◌, ◌++◌, length, refl, sym, ◌∙◌, ap, subst, arith, ◌⊎◌, inl, inr}
+use Rattle.std.proofs.Common.{◌≡◌, ℕ, ◌+◌, ◌-◌, ◌*◌, ◌<◌, ◌≤◌, Bool, true, cond, Option, Some, None, IfSome, Result, Ok, Err, List, [], ◌∷◌, ◌++◌, length, map, refl, sym, ◌∙◌, ap, subst, arith, ◌⊎◌, inl, inr}
 use Rattle.std.proofs.Math.Nat.{mul-le-mul_right}
+use Rattle.std.proofs.lemmas.List.{map-append}
 use Rattle.fl_flash.specs.Flash.{FlashState, page_at}
 use Rattle.fl_flash.specs.declared.flash.FlashFault.{FlashFault}
 use Rattle.fl_flash.specs.declared.flash.FlashFault.TheVariants.{Media}
-use Rattle.fl_model.specs.Mount.{renumber, ready}
+use Rattle.fl_model.specs.Content.{ContentPage}
+use Rattle.fl_model.specs.Mount.{Turn, Of, renumber, ready}
 use Rattle.fl_model.specs.Record.{Plan, has_var}
 use Rattle.fl_model.specs.Ring.{Ring}
-use Rattle.fl_model.specs.Table.{Table, RingName, DataRing, VarRing, lose}
+use Rattle.fl_model.specs.Table.{Table, RingName, DataRing, VarRing, written, lose}
 use Rattle.fl_model.specs.Work.{Device, PartEnd, Whole, CutIn, FailedIn, PartProgress}
 use Rattle.fl_model.specs.Within.{repair_within, TablePerforms, TableUnreads, TableGoesOn, TableMounts, TableMountEnd, TableMounted, TableStopped, TableUnread}
 use Rattle.fl_ring.specs.Device.{SameDevice}
 use Rattle.fl_ring.specs.Step.{IsWatched}
 use Rattle.fl_table.specs.Bitmaps as bitmaps
 use Rattle.fl_table.specs.BlobMount as variable
+use Rattle.fl_var.specs.Mounting as mounting
 use Rattle.fl_table.specs.BlobMount.{WithinEndsOf, WithinEnds}
-use Rattle.fl_table.specs.Blobs.{AreHeld, ArePlanned, Stand, StandOutside, IsPlanned, IsStanding}
+use Rattle.fl_table.specs.Blobs.{ArePlanned, Stand, StandOutside, IsPlanned, IsStanding}
 use Rattle.fl_table.specs.Outcomes.{DataWell, DataEnds, FaultEnds, MountsBadly, RingsEnd, mounted_of, var_rings}
 use Rattle.fl_table.specs.Pages.{HoldsTable, Rests}
 use Rattle.fl_table.specs.Standing.{Stands}
@@ -23,15 +26,16 @@ use Rattle.fl_table.specs.declared.faults.MountFault.{MountFault}
 use Rattle.fl_table.specs.declared.faults.MountFault.TheVariants as mount
 use Rattle.fl_table.specs.declared.mount.FoundRows.{FoundRows}
 use Rattle.fl_table.specs.declared.table.Table as code
-use Rattle.fl_table.proofs.BlobSeals.{facts-with_var, holds-with_var}
+use Rattle.fl_table.proofs.BlobSeals.{with_var, facts-with_var, holds-with_var}
 use Rattle.fl_table.proofs.BlobStands.{bitmaps-stand, index-before, index-pages}
-use Rattle.fl_table.proofs.BlobTables.{HoldsVar, IsBlobbed, broken-blobbed, ring-holds, rests-var, standing-blobbed, standing-holds, var-pages}
+use Rattle.fl_table.proofs.BlobTables.{IsBlobbed, ring-blobbed, ring-holds, rests-var, standing-holds}
 use Rattle.fl_table.proofs.Blobbing.{planned-none, planned-some, stand-moved}
-use Rattle.fl_table.proofs.HeldBlobs.{held-front}
+use Rattle.fl_table.proofs.Renumbered.{IsMounting}
+use Rattle.fl_table.proofs.VarFacts.{blobs-as, front-of, in-some}
 use Rattle.fl_table.proofs.Plain.{IsPlainTable, table-facts, table-parts}
 use Rattle.fl_table.proofs.Repaired.{IsIdle, idle-lost, lost-idle}
 use Rattle.fl_table.proofs.SealAnswers.{planned-shape}
-use Rattle.fl_table.proofs.VarRepairs.{done-leaves, part-leaves}
+use Rattle.fl_table.proofs.VarRepairs.{done-keeps, done-leaves, part-keeps, part-leaves}
 use Rattle.fl_var.specs.Memory.{page_in}
 use Rattle.fl_var.specs.Placing as placing
 use Rattle.fl_var.specs.Standing.{IsVarRing}
@@ -39,94 +43,101 @@ use Rattle.fl_var.specs.declared.var_data.VarData.{VarData}
 
 -- ---- mounts of rings, one after another
 
--- rings were mounted, and then others
-pub mounts-append : (plan : Plan) (rose : Bool) (rings others : List RingName) (device : Device) (table : Table) (now : PartProgress Table) (how : TableMountEnd) → TableMounts plan rose rings device table (TableMounted now) → TableMounts plan rose others now.device now.state how →
-    TableMounts plan rose (rings ++ others) device table how
+-- turns came, and then others
+pub mounts-append : (plan : Plan) (rose : Bool) (turns others : List Turn) (device : Device) (table : Table) (now : PartProgress Table) (how : TableMountEnd) → TableMounts plan rose turns device table (TableMounted now) → TableMounts plan rose others now.device now.state how →
+    TableMounts plan rose (turns ++ others) device table how
 mounts-append plan rose [] others device table now how m k =
     let same : now ≡ record { end = Whole; device = device; state = table } = cc in
     subst (λ (p : PartProgress Table). TableMounts plan rose others p.device p.state how) same k
-mounts-append plan rose (ring ∷ rings) others device table now how (inl u) k = absurd (no u.0 u.2)
+mounts-append plan rose (turn ∷ turns) others device table now how (inl u) k = absurd (no u.0 u.2)
   where
     no : (x : PartProgress Table) → TableMounted now ≡ TableUnread x → ⊥
     no x e = cc
-mounts-append plan rose (ring ∷ rings) others device table now how (inr p) k = inr (p.0, p.1, by_end (λ m. mounts-append plan rose rings others p.0.device p.0.state now how m k) p.0.end p.2)
+mounts-append plan rose (turn ∷ turns) others device table now how (inr p) k = inr (p.0, p.1, by_end (λ m. mounts-append plan rose turns others p.0.device p.0.state now how m k) p.0.end p.2)
   where
     no : (x : PartProgress Table) → TableMounted now ≡ TableStopped x → ⊥
     no x e = cc
 
-    by_end : (TableMounts plan rose rings p.0.device p.0.state (TableMounted now) → TableMounts plan rose (rings ++ others) p.0.device p.0.state how) → (e : PartEnd Table) →
-        TableGoesOn e p.0 (TableMounted now) (TableMounts plan rose rings p.0.device p.0.state (TableMounted now)) → TableGoesOn e p.0 how (TableMounts plan rose (rings ++ others) p.0.device p.0.state how)
+    by_end : (TableMounts plan rose turns p.0.device p.0.state (TableMounted now) → TableMounts plan rose (turns ++ others) p.0.device p.0.state how) → (e : PartEnd Table) →
+        TableGoesOn e p.0 (TableMounted now) (TableMounts plan rose turns p.0.device p.0.state (TableMounted now)) → TableGoesOn e p.0 how (TableMounts plan rose (turns ++ others) p.0.device p.0.state how)
     by_end rest Whole m = rest m
     by_end rest (CutIn before) m = absurd (no p.0 m)
     by_end rest (FailedIn before) m = absurd (no p.0 m)
 
--- rings of which one stopped the mount
-pub mounts-stop : (plan : Plan) (rose : Bool) (rings others : List RingName) (device : Device) (table : Table) (now : PartProgress Table) → TableMounts plan rose rings device table (TableStopped now) → TableMounts plan rose (rings ++ others) device table (TableStopped now)
+-- turns of which one stopped the mount
+pub mounts-stop : (plan : Plan) (rose : Bool) (turns others : List Turn) (device : Device) (table : Table) (now : PartProgress Table) → TableMounts plan rose turns device table (TableStopped now) → TableMounts plan rose (turns ++ others) device table (TableStopped now)
 mounts-stop plan rose [] others device table now m = absurd (no m)
   where
     no : TableStopped now ≡ TableMounted (record { end = Whole; device = device; state = table }) → ⊥
     no e = cc
-mounts-stop plan rose (ring ∷ rings) others device table now (inl u) = inl u
-mounts-stop plan rose (ring ∷ rings) others device table now (inr p) = inr (p.0, p.1, by_end (λ m. mounts-stop plan rose rings others p.0.device p.0.state now m) p.0.end p.2)
+mounts-stop plan rose (turn ∷ turns) others device table now (inl u) = inl u
+mounts-stop plan rose (turn ∷ turns) others device table now (inr p) = inr (p.0, p.1, by_end (λ m. mounts-stop plan rose turns others p.0.device p.0.state now m) p.0.end p.2)
   where
-    by_end : (TableMounts plan rose rings p.0.device p.0.state (TableStopped now) → TableMounts plan rose (rings ++ others) p.0.device p.0.state (TableStopped now)) → (e : PartEnd Table) →
-        TableGoesOn e p.0 (TableStopped now) (TableMounts plan rose rings p.0.device p.0.state (TableStopped now)) → TableGoesOn e p.0 (TableStopped now) (TableMounts plan rose (rings ++ others) p.0.device p.0.state (TableStopped now))
+    by_end : (TableMounts plan rose turns p.0.device p.0.state (TableStopped now) → TableMounts plan rose (turns ++ others) p.0.device p.0.state (TableStopped now)) → (e : PartEnd Table) →
+        TableGoesOn e p.0 (TableStopped now) (TableMounts plan rose turns p.0.device p.0.state (TableStopped now)) → TableGoesOn e p.0 (TableStopped now) (TableMounts plan rose (turns ++ others) p.0.device p.0.state (TableStopped now))
     by_end rest Whole m = rest m
     by_end rest (CutIn before) m = m
     by_end rest (FailedIn before) m = m
 
-pub mounts-unread : (plan : Plan) (rose : Bool) (rings others : List RingName) (device : Device) (table : Table) (now : PartProgress Table) → TableMounts plan rose rings device table (TableUnread now) → TableMounts plan rose (rings ++ others) device table (TableUnread now)
+pub mounts-unread : (plan : Plan) (rose : Bool) (turns others : List Turn) (device : Device) (table : Table) (now : PartProgress Table) → TableMounts plan rose turns device table (TableUnread now) → TableMounts plan rose (turns ++ others) device table (TableUnread now)
 mounts-unread plan rose [] others device table now m = absurd (no m)
   where
     no : TableUnread now ≡ TableMounted (record { end = Whole; device = device; state = table }) → ⊥
     no e = cc
-mounts-unread plan rose (ring ∷ rings) others device table now (inl u) = inl u
-mounts-unread plan rose (ring ∷ rings) others device table now (inr p) = inr (p.0, p.1, by_end (λ m. mounts-unread plan rose rings others p.0.device p.0.state now m) p.0.end p.2)
+mounts-unread plan rose (turn ∷ turns) others device table now (inl u) = inl u
+mounts-unread plan rose (turn ∷ turns) others device table now (inr p) = inr (p.0, p.1, by_end (λ m. mounts-unread plan rose turns others p.0.device p.0.state now m) p.0.end p.2)
   where
-    by_end : (TableMounts plan rose rings p.0.device p.0.state (TableUnread now) → TableMounts plan rose (rings ++ others) p.0.device p.0.state (TableUnread now)) → (e : PartEnd Table) →
-        TableGoesOn e p.0 (TableUnread now) (TableMounts plan rose rings p.0.device p.0.state (TableUnread now)) → TableGoesOn e p.0 (TableUnread now) (TableMounts plan rose (rings ++ others) p.0.device p.0.state (TableUnread now))
+    by_end : (TableMounts plan rose turns p.0.device p.0.state (TableUnread now) → TableMounts plan rose (turns ++ others) p.0.device p.0.state (TableUnread now)) → (e : PartEnd Table) →
+        TableGoesOn e p.0 (TableUnread now) (TableMounts plan rose turns p.0.device p.0.state (TableUnread now)) → TableGoesOn e p.0 (TableUnread now) (TableMounts plan rose (turns ++ others) p.0.device p.0.state (TableUnread now))
     by_end rest Whole m = rest m
     by_end rest (CutIn before) m = m
     by_end rest (FailedIn before) m = m
+
+-- the turns of these rings
+abbrev of_rings : List RingName → List Turn
+of_rings rings = map (λ (ring : RingName). Of ring) rings
 
 -- the first of the rings failed
 pub rings-fail : (first : ℕ) (plan : Plan) (rings others : List RingName) (table : Table) (rose : Bool) (device : Device) (fault : FlashFault) (new : FlashState) → MountsBadly first plan rings table rose device fault new → MountsBadly first plan (rings ++ others) table rose device fault new
 rings-fail first plan rings others table rose device fault new b = record { now = b.now; did = by_did b.did; counts = b.counts; rests = b.rests }
   where
-    by_did : (TableMounts plan rose rings device table (TableStopped b.now) × FaultEnds b.now.end fault new) ⊎ (TableMounts plan rose rings device table (TableUnread b.now) × (fault ≡ Media)) →
-        (TableMounts plan rose (rings ++ others) device table (TableStopped b.now) × FaultEnds b.now.end fault new) ⊎ (TableMounts plan rose (rings ++ others) device table (TableUnread b.now) × (fault ≡ Media))
-    by_did (inl p) = inl (mounts-stop plan rose rings others device table b.now p.0, p.1)
-    by_did (inr p) = inr (mounts-unread plan rose rings others device table b.now p.0, p.1)
+    both : of_rings (rings ++ others) ≡ of_rings rings ++ of_rings others
+    both = map-append (λ (ring : RingName). Of ring) rings others
+
+    along : (how : TableMountEnd) → TableMounts plan rose (of_rings rings ++ of_rings others) device table how → TableMounts plan rose (of_rings (rings ++ others)) device table how
+    along how m = subst (λ (turns : List Turn). TableMounts plan rose turns device table how) (sym both) m
+
+    by_did : (TableMounts plan rose (of_rings rings) device table (TableStopped b.now) × FaultEnds b.now.end fault new) ⊎ (TableMounts plan rose (of_rings rings) device table (TableUnread b.now) × (fault ≡ Media)) →
+        (TableMounts plan rose (of_rings (rings ++ others)) device table (TableStopped b.now) × FaultEnds b.now.end fault new) ⊎ (TableMounts plan rose (of_rings (rings ++ others)) device table (TableUnread b.now) × (fault ≡ Media))
+    by_did (inl p) = inl (along (TableStopped b.now) (mounts-stop plan rose (of_rings rings) (of_rings others) device table b.now p.0), p.1)
+    by_did (inr p) = inr (along (TableUnread b.now) (mounts-unread plan rose (of_rings rings) (of_rings others) device table b.now p.0), p.1)
 
 -- ---- the ring of variable data behind the data ring
-
--- a table with other variable data
-abbrev pub with_var : Table → Option Ring → ℕ → Table
-with_var table ring fill = record table { var = ring; fill = fill }
 
 -- All of it was mounted.
 pub record IsMountedAll {KNOTS SLOTS : ℕ} (t : code.Table KNOTS SLOTS) (first : ℕ) (plan : Plan) (table st : Table) (rose : Bool) (device : Device) (left : Option VarData) (new : FlashState) : Type 0 where
   pub now : PartProgress Table
-  pub did : TableMounts plan rose (DataRing ∷ var_rings plan) device table (TableMounted now)
+  pub did : TableMounts plan rose (map (λ ring. Of ring) (DataRing ∷ var_rings plan)) device table (TableMounted now)
   pub counts : SameDevice new now.device
   pub power : new.is_on ≡ true
   pub ring : Option Ring
-  pub fill : ℕ
-  pub is : now.state ≡ with_var st ring fill
-  pub facts : IsPlainTable plan (with_var (ready plan st) ring fill)
-  pub pages : HoldsTable (page_at new) first plan (lose (with_var (ready plan st) ring fill))
-  pub bitmaps : bitmaps.Stand t.bitmaps new (first + plan.data_blocks) plan (with_var (ready plan st) ring fill)
-  pub blobs : Stand left new (first + plan.data_blocks + plan.index_blocks) plan (with_var (ready plan st) ring fill)
+  pub content : List ContentPage
+  pub bytes : List ℕ
+  pub is : now.state ≡ with_var st ring content bytes
+  pub facts : IsPlainTable plan (with_var (ready plan st) ring content bytes)
+  pub pages : HoldsTable (page_at new) first plan (lose (with_var (ready plan st) ring content bytes))
+  pub bitmaps : bitmaps.Stand t.bitmaps new (first + plan.data_blocks) plan (with_var (ready plan st) ring content bytes)
+  pub blobs : Stand left new (first + plan.data_blocks + plan.index_blocks) plan (with_var (ready plan st) ring content bytes)
 
 module _ {KNOTS SLOTS : ℕ} (t : code.Table KNOTS SLOTS) (mid new : FlashState) (first : ℕ) (plan : Plan) (table : Table) (rose : Bool) (device : Device) (found : FoundRows) (w : DataWell first plan table rose device found t mid) (watched : IsWatched mid new rose w.now.device) where
   abbrev st : Table
   st = w.now.state
 
   facts : IsPlainTable plan w.now.state
-  facts = table-parts plan w.now.state w.rests.settled.facts
+  facts = table-parts plan w.now.state (w.planned.full, w.planned.log) w.rests.settled.facts
 
   ready_parts : IsPlainTable plan (ready plan w.now.state)
-  ready_parts = table-parts plan (ready plan w.now.state) w.facts
+  ready_parts = table-parts plan (ready plan w.now.state) (w.planned.full, w.planned.log) w.facts
 
   idle : IsIdle w.now.state
   idle = lost-idle w.now.state w.rests.settled.lost
@@ -156,40 +167,42 @@ module _ {KNOTS SLOTS : ℕ} (t : code.Table KNOTS SLOTS) (mid new : FlashState)
         omega (arith, k, (planned-shape t first plan w.planned).pages)
 
     at_rest : variable.Rests v mid (first + plan.data_blocks + plan.index_blocks) plan w.now.state
-    at_rest = rests-var v mid first plan w.now.state planned facts.blobs (w.rests.pages.var, w.rests.pages.blobs) idle.pending idle.fill
+    at_rest = rests-var v mid first plan w.now.state planned facts.blobs w.rests.pages.var idle.pending idle.buffered
 
     two_rings : var_rings plan ≡ VarRing ∷ []
     two_rings = ap (λ (b : Bool). cond b (VarRing ∷ []) []) has
 
-    also : (how : TableMountEnd) → TableMounts plan rose (VarRing ∷ []) w.now.device w.now.state how → TableMounts plan rose (DataRing ∷ var_rings plan) device table how
+    also : (how : TableMountEnd) → TableMounts plan rose (Of VarRing ∷ []) w.now.device w.now.state how → TableMounts plan rose (map (λ ring. Of ring) (DataRing ∷ var_rings plan)) device table how
     also how m =
-        subst (λ (rings : List RingName). TableMounts plan rose (DataRing ∷ rings) device table how) (sym two_rings) (mounts-append plan rose (DataRing ∷ []) (VarRing ∷ []) device table w.now how w.did m)
+        subst (λ (rings : List RingName). TableMounts plan rose (map (λ ring. Of ring) (DataRing ∷ rings)) device table how) (sym two_rings) (mounts-append plan rose (Of DataRing ∷ []) (Of VarRing ∷ []) device table w.now how w.did m)
 
-    pub var-fails : (fault : FlashFault) → variable.MountsBadly plan w.now.state rose w.now.device fault v new → MountsBadly first plan (DataRing ∷ var_rings plan) table rose device fault new
+    pub var-fails : (fault : FlashFault) → mounting.MountsBadly plan w.now.state rose w.now.device fault v new → MountsBadly first plan (DataRing ∷ var_rings plan) table rose device fault new
     var-fails fault b =
         let left = part-leaves v mid (first + plan.data_blocks + plan.index_blocks) plan w.now.state at_rest some_var facts.blobs.number rose w.now.device fault new b.now b.did in
         let r = left.beside.0 in
-        let k = left.beside.1 in
-        let state : b.now.state ≡ with_var w.now.state r k = left.beside.2 in
-        let filled : k ≡ 0 = sym (ap (λ (x : Table). x.fill) state) ∙ (left.fill ∙ idle.fill) in
+        let p = left.beside.1 in
+        let k = left.beside.2 in
+        let state : b.now.state ≡ with_var w.now.state r p k = left.beside.3 in
+        let emptied : k ≡ [] = sym (ap (λ (x : Table). x.buffered) state) ∙ (left.buffered ∙ idle.buffered) in
         let ring_is : r ≡ Some b.ring = sym (ap (λ (x : Table). x.var) state) ∙ b.ring_is in
         let number = subst (λ (o : Option Ring). IfSome o (λ x. x.next + (cond x.torn 1 0) ≤ 4294967292)) b.ring_is left.number in
-        let same = var-pages v new first plan planned in
-        let blobbed : IsBlobbed plan (with_var w.now.state r k) =
-        broken-blobbed v (first + plan.data_blocks + plan.index_blocks) plan (with_var w.now.state r k) b.ring (page_in v new) planned ring_is b.pages
-        (held-front plan b.ring (page_in v new) w.now.state.entries (length w.now.state.entries - w.now.state.pending) b.all) (omega (arith, filled)) number (λ p. absurd (p idle.pending)) in
-        let var : HoldsVar (page_at new) first plan (with_var w.now.state r k) =
-        ring-holds (page_at new) first plan (with_var w.now.state r k) b.ring ring_is (subst (λ (at : ℕ → List ℕ). IsVarRing plan b.ring at) (sym same) b.pages) (subst (λ (at : ℕ → List ℕ). AreHeld plan b.ring at w.now.state.entries) (sym same) b.all) in
+        let pages : IsVarRing plan p b.ring (page_in v new) = subst (λ (ps : List ContentPage). IsVarRing plan ps b.ring (page_in v new)) (ap (λ (x : Table). x.var_pages) state) b.pages in
+        let kept = subst (λ (x : Table). IsMounting plan x b.ring) state (part-keeps v mid (first + plan.data_blocks + plan.index_blocks) plan w.now.state at_rest rose w.now.device fault new b.now b.ring b.ring_is b.did) in
+        let blobbed : IsBlobbed plan (with_var w.now.state r p k) =
+        ring-blobbed plan (with_var w.now.state r p k) b.ring (page_in v new) ring_is has pages
+        (in-some plan b.ring w.now.state.entries (written w.now.state) (front-of (length w.now.state.entries - w.now.state.pending) w.now.state.entries) kept.inside) kept.stand
+        (omega (arith, ap length emptied)) number (λ p. absurd (p idle.pending)) in
+        let var = ring-holds v new first plan (with_var w.now.state r p k) b.ring planned ring_is pages in
         record {
           now = b.now;
           did = by_did b.did;
           counts = b.counts;
           rests = subst (λ (x : Table). Rests new first plan x) (sym state) (record {
             settled = record {
-              facts = table-facts plan (with_var w.now.state r k) (facts-with_var plan w.now.state r k facts blobbed);
-              lost = idle-lost (with_var w.now.state r k) (record { pending = idle.pending; fill = filled; waiting = idle.waiting; points = idle.points });
+              facts = table-facts plan (with_var w.now.state r p k) (facts-with_var plan w.now.state r p k facts blobbed);
+              lost = idle-lost (with_var w.now.state r p k) (record { pending = idle.pending; buffered = emptied; waiting = idle.waiting; points = idle.points });
             };
-            pages = holds-with_var v (page_at mid) (page_at new) first plan w.now.state r k planned outside some_rows some_index w.rests.pages var;
+            pages = holds-with_var v (page_at mid) (page_at new) first plan w.now.state r p k planned outside some_rows some_index w.rests.pages var;
           });
         }
       where
@@ -201,7 +214,7 @@ module _ {KNOTS SLOTS : ℕ} (t : code.Table KNOTS SLOTS) (mid new : FlashState)
 
         by_did : (TablePerforms plan rose (repair_within plan VarRing (renumber plan VarRing w.now.state)) w.now.device (renumber plan VarRing w.now.state) b.now × placing.FaultEnds b.now.end fault new)
             ⊎ (TableUnreads plan rose (repair_within plan VarRing (renumber plan VarRing w.now.state)) w.now.device (renumber plan VarRing w.now.state) b.now × (fault ≡ Media)) →
-            (TableMounts plan rose (DataRing ∷ var_rings plan) device table (TableStopped b.now) × FaultEnds b.now.end fault new) ⊎ (TableMounts plan rose (DataRing ∷ var_rings plan) device table (TableUnread b.now) × (fault ≡ Media))
+            (TableMounts plan rose (map (λ ring. Of ring) (DataRing ∷ var_rings plan)) device table (TableStopped b.now) × FaultEnds b.now.end fault new) ⊎ (TableMounts plan rose (map (λ ring. Of ring) (DataRing ∷ var_rings plan)) device table (TableUnread b.now) × (fault ≡ Media))
         by_did (inl p) = let s = stops b.now b.now.end refl p.1 in inl (also (TableStopped b.now) (inr (b.now, p.0, s.0)), s.1)
         by_did (inr u) = inr (also (TableUnread b.now) (inl (b.now, u.0, refl)), u.1)
 
@@ -209,28 +222,35 @@ module _ {KNOTS SLOTS : ℕ} (t : code.Table KNOTS SLOTS) (mid new : FlashState)
     var-mounts v' m =
         let left = done-leaves v mid (first + plan.data_blocks + plan.index_blocks) plan w.now.state at_rest some_var facts.blobs.number rose w.now.device m.now m.did in
         let r = left.beside.0 in
-        let k = left.beside.1 in
-        let state : m.now.state ≡ with_var w.now.state r k = left.beside.2 in
-        let stood : IsStanding v' new (first + plan.data_blocks + plan.index_blocks) plan (with_var w.now.state r k) = subst (λ (x : Table). IsStanding v' new (first + plan.data_blocks + plan.index_blocks) plan x) state m.stands in
-        let ready_stood : IsStanding v' new (first + plan.data_blocks + plan.index_blocks) plan (with_var (ready plan w.now.state) r k) =
-        stand-moved (Some v') new new first plan (with_var w.now.state r k) (with_var (ready plan w.now.state) r k) (λ n. refl) refl refl refl refl stood in
-        let ring = stood.in_pages.ring in
-        let torn : ◌≡◌ {A = ℕ} (cond ring.ring.torn 1 0) 0 = ap {B = ℕ} (λ b. cond b 1 0) ring.whole in
-        let here : ring.ring.next + (cond ring.ring.torn 1 0) ≤ 4294967292 =
-        subst (λ (o : Option Ring). IfSome o (λ x. x.next + (cond x.torn 1 0) ≤ 4294967292)) (ap (λ (x : Table). x.var) state ∙ ring.ring_is) left.number in
-        let known = facts-with_var plan (ready plan w.now.state) r k ready_parts
-        (standing-blobbed v' new (first + plan.data_blocks + plan.index_blocks) plan (with_var (ready plan w.now.state) r k) ready_stood (omega (arith, ring.next, here, torn)) (λ p. absurd (p idle.pending))) in
+        let p = left.beside.1 in
+        let k = left.beside.2 in
+        let state : m.now.state ≡ with_var w.now.state r p k = left.beside.3 in
+        let emptied : k ≡ [] = sym (ap (λ (x : Table). x.buffered) state) ∙ (left.buffered ∙ idle.buffered) in
+        let stood : IsStanding v' new (first + plan.data_blocks + plan.index_blocks) plan (with_var w.now.state r p k) = subst (λ (x : Table). IsStanding v' new (first + plan.data_blocks + plan.index_blocks) plan x) state m.stands in
+        let ready_stood : IsStanding v' new (first + plan.data_blocks + plan.index_blocks) plan (with_var (ready plan w.now.state) r p k) =
+        stand-moved (Some v') new new first plan (with_var w.now.state r p k) (with_var (ready plan w.now.state) r p k) (λ n. refl) refl refl refl (λ i entry e. (i, e)) stood in
+        let ring = ready_stood.in_pages.ring in
+        let there : m.now.state.var ≡ Some ring.ring = ap (λ (x : Table). x.var) state ∙ ring.ring_is in
+        let here = subst (λ (o : Option Ring). IfSome o (λ x. x.next + (cond x.torn 1 0) ≤ 4294967292)) there left.number in
+        let kept = subst (λ (x : Table). IsMounting plan x ring.ring) state (done-keeps v mid (first + plan.data_blocks + plan.index_blocks) plan w.now.state at_rest rose w.now.device m.now ring.ring there m.did) in
+        let blobbed : IsBlobbed plan (with_var (ready plan w.now.state) r p k) =
+        ring-blobbed plan (with_var (ready plan w.now.state) r p k) ring.ring (page_in v' new) ring.ring_is has ring.pages
+        (in-some plan ring.ring w.now.state.entries (written w.now.state) (front-of (length w.now.state.entries - w.now.state.pending) w.now.state.entries) kept.inside)
+        (blobs-as plan (with_var w.now.state r p k) (with_var (ready plan w.now.state) r p k) ring.ring ring.ring (λ i entry e. (i, e)) (λ page. refl) (λ number. refl) kept.stand)
+        (omega (arith, ap length emptied)) here (λ p. absurd (p idle.pending)) in
+        let known = facts-with_var plan (ready plan w.now.state) r p k ready_parts blobbed in
         record {
           now = record { end = Whole; device = m.now.device; state = m.now.state };
           did = also (TableMounted (record { end = Whole; device = m.now.device; state = m.now.state })) (inr (m.now, m.did, goes m.now m.whole));
           counts = m.counts;
           power = m.power;
           ring = r;
-          fill = k;
+          content = p;
+          bytes = k;
           is = state;
           facts = known;
-          pages = holds-with_var v (page_at mid) (page_at new) first plan (lose w.now.state) r 0 planned outside some_rows some_index lost_pages (standing-holds v' new first plan (with_var w.now.state r k) stood);
-          bitmaps = bitmaps-stand t.bitmaps mid new first plan (ready plan w.now.state) r k w.planned.index (planned-shape t first plan w.planned).pages ready_parts known (λ some. index-before (Some v) (page_at mid) (page_at new) first plan planned outside some) w.bitmaps;
+          pages = holds-with_var v (page_at mid) (page_at new) first plan (lose w.now.state) r p [] planned outside some_rows some_index lost_pages (standing-holds v' new first plan (with_var w.now.state r p k) stood);
+          bitmaps = bitmaps-stand t.bitmaps mid new first plan (ready plan w.now.state) r p k w.planned.index (planned-shape t first plan w.planned).pages known (λ some. index-before (Some v) (page_at mid) (page_at new) first plan planned outside some) w.bitmaps;
           blobs = ready_stood;
         }
       where
@@ -264,24 +284,25 @@ module _ {KNOTS SLOTS : ℕ} (t : code.Table KNOTS SLOTS) (mid new : FlashState)
       let same = h.2 in
       record {
         now = w.now;
-        did = subst (λ (rings : List RingName). TableMounts plan rose (DataRing ∷ rings) device table (TableMounted w.now)) one w.did;
+        did = subst (λ (rings : List RingName). TableMounts plan rose (map (λ ring. Of ring) (DataRing ∷ rings)) device table (TableMounted w.now)) one w.did;
         counts = subst (λ (x : FlashState). SameDevice x w.now.device) (sym same) w.counts;
         power = ap (λ (x : FlashState). x.is_on) same ∙ w.power;
         ring = w.now.state.var;
-        fill = w.now.state.fill;
+        content = w.now.state.var_pages;
+        bytes = w.now.state.buffered;
         is = refl;
         facts = ready_parts;
         pages = subst (λ (x : FlashState). HoldsTable (page_at x) first plan (lose w.now.state)) (sym same) lost_pages;
         bitmaps = subst (λ (x : FlashState). bitmaps.Stand t.bitmaps x (first + plan.data_blocks) plan (ready plan w.now.state)) (sym same) w.bitmaps;
-        blobs = subst (λ (o : Option VarData). Stand o new (first + plan.data_blocks + plan.index_blocks) plan (ready plan w.now.state)) (sym h.1) idle.fill;
+        blobs = subst (λ (o : Option VarData). Stand o new (first + plan.data_blocks + plan.index_blocks) plan (ready plan w.now.state)) (sym h.1) idle.buffered;
       }
   rows-mount (Some v) None u is outside h = absurd h
   rows-mount (Some v) (Some v') u is outside h = var-mounts v is outside v' (h watched (at_rest v is outside))
 
 -- the table that was started
-pub mounted-ends : {KNOTS SLOTS : ℕ} (t t' : code.Table KNOTS SLOTS) (new : FlashState) (first : ℕ) (plan : Plan) (table st : Table) (rose : Bool) (device : Device) (found : FoundRows) (left : Option VarData) → (h : IsMountedAll t first plan table st rose device left new) → found.mounted ≡ mounted_of (ready plan st) →
-    Stands t' new first plan (with_var (ready plan st) h.ring h.fill) → RingsEnd first plan (DataRing ∷ var_rings plan) table rose device (Ok found.mounted) t' new
-mounted-ends t t' new first plan table st rose device found left h answer stands = record {
+pub mounted-ends : {KNOTS SLOTS : ℕ} (t t' : code.Table KNOTS SLOTS) (new : FlashState) (first : ℕ) (plan : Plan) (table was : Table) (rose : Bool) (device : Device) (found : FoundRows) (left : Option VarData) → (h : IsMountedAll t first plan table was rose device left new) → found.mounted ≡ mounted_of (ready plan was) →
+    Stands t' new first plan (with_var (ready plan was) h.ring h.content h.bytes) → RingsEnd first plan (DataRing ∷ var_rings plan) table rose device (Ok found.mounted) t' new
+mounted-ends t t' new first plan table was rose device found left h answer stands = record {
   now = h.now;
   did = h.did;
   counts = h.counts;

@@ -35,14 +35,14 @@ pages-more number (suc c ∷ counts) entries more le =
     step es = ap (λ (b : Bool). if b then pages_from (number + 1) counts es else (number, take (suc c) es) ∷ pages_from (number + 1) counts (drop (suc c) es)) (eqb-suc-zero c)
 
 -- a record that is pending is on no page
-pub points-added : (plan : Plan) (item : Record) (table : Table) → sum table.rows.counts ≤ length table.entries → HasPoints table → HasPoints (with_record plan item table table)
+pub points-added : (plan : Plan) (item : Record) (table : Table) → sum table.rows.counts ≤ length table.entries → HasPoints table → HasPoints (with_record plan item table)
 points-added plan item table le points = record {
   older = points.older;
   points = points.points ∙ ap (λ (l : List (ℕ × ℕ)). points.older ++ l) (sym same);
   last = points.last ∙ ap last_of (sym same);
 }
   where
-    same : points_of (with_record plan item table table) ≡ points_of table
+    same : points_of (with_record plan item table) ≡ points_of table
     same = ap (map (λ (page : ℕ × List Entry). (page_key page, page.0))) (pages-more (oldest table.rows) table.rows.counts table.entries _ le)
 
 pub points-sealed : (plan : Plan) (table : Table) → IsTable plan table → IsShape (shape_of plan DataRing) → HasPoints table → 0 < table.pending → HasPoints (after_seal plan DataRing table)

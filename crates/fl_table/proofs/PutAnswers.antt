@@ -7,13 +7,12 @@ use Rattle.fl_flash.specs.declared.flash.FlashFault.{FlashFault}
 use Rattle.fl_model.specs.Record.{Record, Plan, RowLayout, layout_len, row_len, rows_per_page}
 use Rattle.fl_model.specs.Table as model
 use Rattle.fl_model.specs.Table.{Table, Refusal, BadKey, BadColumns, BadValue, BadBlob, refusal_of, make_room_seals, after_seals}
-use Rattle.fl_model.specs.Within.{seals_within}
 use Rattle.fl_model.specs.Work.{Device}
 use Rattle.fl_table.proofs.Accepted.{accepted}
 use Rattle.fl_table.proofs.Plain.{table-parts}
 use Rattle.fl_schema.specs.Schema.{layout_of}
 use Rattle.fl_table.specs.Accepting.{IsAcceptedBy}
-use Rattle.fl_table.specs.Outcomes.{Finishes, Breaks, JoinEnds, PutEnds}
+use Rattle.fl_table.specs.Outcomes.{Finishes, Breaks, BySeals, JoinEnds, PutEnds}
 use Rattle.fl_table.specs.Refusal.{put_refusal}
 use Rattle.fl_table.specs.Standing.{Stands}
 use Rattle.fl_table.specs.declared.table.Table as code
@@ -48,10 +47,10 @@ refused-ends t f first plan table key values blob rose device s refusal e after 
 
 -- an operation of the pages that make room failed
 pub broken-ends : {KNOTS SLOTS : ℕ} (t : code.Table KNOTS SLOTS) (f : FlashState) (first : ℕ) (plan : Plan) (table : Table) (key : ℕ) (values : List ℤ) (blob : Option (List ℕ)) (rose : Bool) (device : Device) → Stands t f first plan table →
-    put_refusal t key values (option_map (λ (xs : List ℕ). length xs) blob) ≡ None → (fault : FlashFault) (after : code.Table KNOTS SLOTS) (new : FlashState) → Breaks first plan (seals_within plan (make_room_seals plan table) table) table rose device fault new →
+    put_refusal t key values (option_map (λ (xs : List ℕ). length xs) blob) ≡ None → (fault : FlashFault) (after : code.Table KNOTS SLOTS) (new : FlashState) → Breaks first plan (BySeals plan (make_room_seals plan table) table rose device) fault new →
     PutEnds first plan (record { key = key; values = values; blob = blob }) table rose device (Err (put.Flash fault)) after f new
 broken-ends t f first plan table key values blob rose device s e fault after new h =
-    (not-refused t f first plan table key values blob s e, put-stops first plan (record { key = key; values = values; blob = blob }) table rose device fault new h)
+    (not-refused t f first plan table key values blob s e, put-stops first plan (record { key = key; values = values; blob = blob }) table rose device s.planned.log fault new h)
 
 -- a page has room for a row
 some-rows : {KNOTS SLOTS : ℕ} (t : code.Table KNOTS SLOTS) (f : FlashState) (first : ℕ) (plan : Plan) (table : Table) → Stands t f first plan table → 1 ≤ rows_per_page plan
@@ -64,19 +63,19 @@ some-rows t f first plan table s =
 -- room was made, and the record joins or not
 module _ {KNOTS SLOTS : ℕ} (t : code.Table KNOTS SLOTS) (f : FlashState) (first : ℕ) (plan : Plan) (table : Table) (key : ℕ) (values : List ℤ) (blob : Option (List ℕ)) (rose : Bool) (device : Device) (s : Stands t f first plan table)
     (e : put_refusal t key values (option_map (λ (xs : List ℕ). length xs) blob) ≡ None) (room : code.Table KNOTS SLOTS) (mid : FlashState)
-    (h : Finishes first plan (seals_within plan (make_room_seals plan table) table) table (after_seals plan (make_room_seals plan table) table) rose device room f mid) where
+    (h : Finishes first plan (BySeals plan (make_room_seals plan table) table rose device) table (after_seals plan (make_room_seals plan table) table) room f mid) where
   abbrev item : Record
   item = record { key = key; values = values; blob = blob }
 
   pub accepts : room.writer.end + layout_len (layout_of room.schema) ≤ length room.writer.body → IsAcceptedBy plan (after_seals plan (make_room_seals plan table) table) key values blob
   accepts left =
       let ok = accepted plan table item (not-refused t f first plan table key values blob s e) in
-      room-accepts plan table item (planned-shape t first plan s.planned) (table-parts plan table s.facts) (some-rows t f first plan table s) ok (has-room room mid first plan (after_seals plan (make_room_seals plan table) table) h.stands left)
+      room-accepts plan table item (planned-shape t first plan s.planned) (table-parts plan table (s.planned.full, s.planned.log) s.facts) (some-rows t f first plan table s) ok (has-room room mid first plan (after_seals plan (make_room_seals plan table) table) h.stands left)
 
   pub join-fails : (fault : FlashFault) (after : code.Table KNOTS SLOTS) (new : FlashState) → JoinEnds first plan item (after_seals plan (make_room_seals plan table) table) rose h.now.device (Err fault) after mid new →
       PutEnds first plan (record { key = key; values = values; blob = blob }) table rose device (Err (put.Flash fault)) after f new
-  join-fails fault after new k = (not-refused t f first plan table key values blob s e, put-breaks first plan item table rose device room f mid h fault after new k)
+  join-fails fault after new k = (not-refused t f first plan table key values blob s e, put-breaks first plan item table rose device s.planned.log room f mid h fault new k)
 
   pub put-ends : (after : code.Table KNOTS SLOTS) (new : FlashState) → JoinEnds first plan item (after_seals plan (make_room_seals plan table) table) rose h.now.device (Ok tt) after mid new →
       PutEnds first plan (record { key = key; values = values; blob = blob }) table rose device (Ok tt) after f new
-  put-ends after new k = (not-refused t f first plan table key values blob s e, put-finishes first plan item table rose device room f mid h after new k)
+  put-ends after new k = (not-refused t f first plan table key values blob s e, put-finishes first plan item table rose device s.planned.log room f mid h after new k)

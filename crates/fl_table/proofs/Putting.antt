@@ -1,5 +1,5 @@
 -- A record joins the pending ones, and pages that are full.
-use Rattle.std.proofs.Common.{◌≡◌, ℕ, ◌+◌, ◌-◌, ◌*◌, ◌/◌, ◌^◌, ◌<◌, ◌≤◌, Bool, true, false, cond, ◌&&◌, ◌==◌, Option, Some, None, Err, eq-eqb, unwrap_or, List, [], ◌∷◌, ◌++◌, length, drop, get_or, fold, refl, sym, ◌∙◌, ap, subst, arith, inl, inr, length-append, pos, bit_or}
+use Rattle.std.proofs.Common.{◌≡◌, ℕ, ◌+◌, ◌-◌, ◌*◌, ◌/◌, ◌^◌, ◌<◌, ◌≤◌, Bool, true, false, cond, ◌&&◌, ◌==◌, nat_lt, Option, Some, None, eq-eqb, unwrap_or, List, [], ◌∷◌, ◌++◌, length, drop, get_or, fold, refl, sym, ◌∙◌, ap, subst, arith, inl, inr, length-append, pos, bit_or}
 use Rattle.std.proofs.Math.Nat.{le-div_iff_mul-le, add-mul}
 use Rattle.std.proofs.lemmas.Bool.{eqb-true, cases_lt}
 use Rattle.std.proofs.lemmas.List.{drop-append-le}
@@ -12,32 +12,32 @@ use Rattle.fl_bitmap.specs.declared.buckets.Buckets.{Buckets}
 use Rattle.fl_flash.specs.Flash.{FlashState, page_at}
 use Rattle.fl_model.specs.Layout.{bitmap_of, bucket_of}
 use Rattle.fl_model.specs.Record.{Record, Plan, RowLayout, layout_len, row_len, rows_per_page, entries_per_page, has_index}
-use Rattle.fl_model.specs.Table.{Table, Entry, DataRing, IndexRing, RingName, shape_of, blob_len, pending_entries, last_entry, after_seal, after_seals, place_seals, make_room_seals, table_seals, flushed, put_seals, put_record}
-use Rattle.fl_model.specs.Within.{seals_within}
+use Rattle.fl_model.specs.Table.{Table, Entry, DataRing, IndexRing, LogRing, RingName, shape_of, pending_entries, last_entry, after_seal, after_seals, make_room_seals, with_room, fill_seals, join_seals, put_joined, table_seals, flushed, put_record}
+use Rattle.fl_model.specs.Puts.{TablePuts, TablePutGoesOn}
+use Rattle.fl_model.specs.Within.{seals_within, TablePerforms}
 use Rattle.fl_model.specs.Ring.{Ring, IsShape}
-use Rattle.fl_model.specs.Work.{Kind, Device, Whole}
+use Rattle.fl_model.specs.Work.{Device, PartEnd, Whole, CutIn, FailedIn, PartProgress}
 use Rattle.fl_ring.specs.Device.{SameDevice}
 use Rattle.fl_model.proofs.Lists.{last_or-push}
-use Rattle.fl_model.proofs.Plain.{sealed-next}
+use Rattle.fl_model.proofs.Sealed.{sealed-next}
 use Rattle.fl_model.proofs.Among.{after_seals-append}
 use Rattle.fl_table.specs.Bitmaps.{bitmap_seals}
-use Rattle.fl_table.specs.Blobs.{blob_seals}
+use Rattle.fl_table.specs.Blobs.{rest_seals}
 use Rattle.fl_table.proofs.Accepted.{IsAccepted}
-use Rattle.fl_table.proofs.BlobSteps.{after-var}
-use Rattle.fl_table.proofs.BlobStands.{rest-var}
-use Rattle.fl_table.proofs.Following.{seals-stop, seals-then, finishes-then}
+use Rattle.fl_table.proofs.BlobSteps.{after-var, rest-var}
 use Rattle.fl_table.proofs.IndexSeals.{IsBeside}
 use Rattle.fl_table.proofs.Plain.{IsPlainTable, table-parts, some-table_seals}
-use Rattle.fl_model.proofs.Puts.{idle-table_seals, full-room_seals, room-room_seals}
+use Rattle.fl_model.proofs.TableSeals.{idle-table_seals, full-room_seals, room-room_seals}
 use Rattle.fl_flash.specs.declared.flash.FlashFault.{FlashFault}
 use Rattle.fl_schema.specs.Schema.{layout_of}
 use Rattle.fl_table.specs.Accepting.{IsAcceptedBy}
 use Rattle.fl_table.specs.Memory.{HasBuckets, bitmap_with}
-use Rattle.fl_table.specs.Outcomes.{Finishes, Breaks}
+use Rattle.fl_table.specs.Outcomes.{Finishes, Breaks, BySeals, FaultEnds}
+use Rattle.fl_table.specs.Pages.{KeptStand}
 use Rattle.fl_table.specs.Standing.{Stands}
 use Rattle.fl_table.specs.declared.table.Table as code
 use Rattle.fl_table.proofs.Memories.{last-sealed}
-use Rattle.fl_table.proofs.Staying.{kept-same}
+use Rattle.fl_table.proofs.Staying.{kept-same, kept-then}
 use Rattle.fl_table.proofs.SealAnswers.{writer-count}
 
 -- the bitmap of one more row
@@ -112,7 +112,7 @@ module _ {KNOTS SLOTS : ℕ} (t : code.Table KNOTS SLOTS) (f : FlashState) (firs
 
   pub is-full : length t.writer.body < t.writer.end + layout_len (layout_of t.schema) → table.pending ≡ rows_per_page plan
   is-full lt =
-      let facts = table-parts plan table s.facts in
+      let facts = table-parts plan table (s.planned.full, s.planned.log) s.facts in
       elim (cases_lt table.pending (rows_per_page plan)) [
         | inl less ↦
             let fits : (table.pending + 1) * layout_len (layout_of t.schema) ≤ t.geometry.page - 24 = (le-div_iff_mul-le {x = table.pending + 1} {y = t.geometry.page - 24} t.some_row).0 (omega (arith, less, per_page)) in
@@ -130,51 +130,83 @@ append-nil : {X : Type 0} (xs : List X) → xs ++ [] ≡ xs
 append-nil [] = refl
 append-nil (x ∷ xs) = ap (λ ys. x ∷ ys) (append-nil xs)
 
+-- the same seals
+pub finishes-as : {KNOTS SLOTS : ℕ} (first : ℕ) (plan : Plan) (rings others : List RingName) (table : Table) (rose : Bool) (device : Device) (t : code.Table KNOTS SLOTS) (old new : FlashState) → rings ≡ others →
+    Finishes first plan (BySeals plan rings table rose device) table (after_seals plan rings table) t old new → Finishes first plan (BySeals plan others table rose device) table (after_seals plan others table) t old new
+finishes-as first plan rings others table rose device t old new e h =
+    subst (λ (rs : List RingName). Finishes first plan (BySeals plan rs table rose device) table (after_seals plan rs table) t old new) e h
+
+pub breaks-as : (first : ℕ) (plan : Plan) (rings others : List RingName) (table : Table) (rose : Bool) (device : Device) (fault : FlashFault) (new : FlashState) → rings ≡ others →
+    Breaks first plan (BySeals plan rings table rose device) fault new → Breaks first plan (BySeals plan others table rose device) fault new
+breaks-as first plan rings others table rose device fault new e h = subst (λ (rs : List RingName). Breaks first plan (BySeals plan rs table rose device) fault new) e h
+
 -- no operation
-pub no-seal : (plan : Plan) (table : Table) (rings : List RingName) → rings ≡ [] → [] ≡ seals_within plan rings table
-no-seal plan table rings e = sym (ap (λ (rs : List RingName). seals_within plan rs table) e)
-
-pub finishes-as : {KNOTS SLOTS : ℕ} (first : ℕ) (plan : Plan) (operations others : List (RingName × Kind)) (table after else_after : Table) (rose : Bool) (device : Device) (t : code.Table KNOTS SLOTS) (old new : FlashState) →
-    operations ≡ others → after ≡ else_after → Finishes first plan operations table after rose device t old new → Finishes first plan others table else_after rose device t old new
-finishes-as first plan operations others table after else_after rose device t old new e k h =
-    subst (λ (ops : List (RingName × Kind)). Finishes first plan ops table else_after rose device t old new) e (subst (λ (x : Table). Finishes first plan operations table x rose device t old new) k h)
-
-pub breaks-as : (first : ℕ) (plan : Plan) (operations others : List (RingName × Kind)) (table : Table) (rose : Bool) (device : Device) (fault : FlashFault) (new : FlashState) →
-    operations ≡ others → Breaks first plan operations table rose device fault new → Breaks first plan others table rose device fault new
-breaks-as first plan operations others table rose device fault new e h = subst (λ (ops : List (RingName × Kind)). Breaks first plan ops table rose device fault new) e h
+pub finishes-none : {KNOTS SLOTS : ℕ} (f : FlashState) (first : ℕ) (plan : Plan) (rings : List RingName) (table : Table) (rose : Bool) (device : Device) (t : code.Table KNOTS SLOTS) → rings ≡ [] → Stands t f first plan table → SameDevice f device → f.is_on ≡ true →
+    Finishes first plan (BySeals plan rings table rose device) table (after_seals plan rings table) t f f
+finishes-none f first plan rings table rose device t none stands counts power =
+    finishes-as first plan [] rings table rose device t f f (sym none)
+    (record { now = record { end = Whole; device = device; state = table }; did = (refl, refl, refl); whole = refl; counts = counts; power = power; stands = stands; stand = kept-same first plan table table (page_at f) (page_at f) refl refl refl (λ ring n. refl) })
 
 -- nothing is pending
 pub flush-idle : {KNOTS SLOTS : ℕ} (f : FlashState) (first : ℕ) (plan : Plan) (table : Table) (rose : Bool) (device : Device) (t : code.Table KNOTS SLOTS) → table.pending ≡ 0 → Stands t f first plan table → SameDevice f device → f.is_on ≡ true →
-    Finishes first plan (seals_within plan (table_seals plan table) table) table (flushed plan table) rose device t f f
-flush-idle f first plan table rose device t none stands counts power =
-    finishes-as first plan [] (seals_within plan (table_seals plan table) table) table table (flushed plan table) rose device t f f
-    (no-seal plan table (table_seals plan table) (idle-table_seals plan table none)) (sym (ap (λ (rs : List RingName). after_seals plan rs table) (idle-table_seals plan table none)))
-    (record { now = record { end = Whole; device = device; state = table }; did = (refl, refl, refl); whole = refl; counts = counts; power = power; stands = stands; stand = kept-same first plan table table (page_at f) (page_at f) refl refl refl (λ ring n. refl) })
+    Finishes first plan (BySeals plan (table_seals plan table) table rose device) table (flushed plan table) t f f
+flush-idle f first plan table rose device t none stands counts power = finishes-none f first plan (table_seals plan table) table rose device t (idle-table_seals plan table none) stands counts power
 
--- a put, which makes room and then places its blob
-module _ (first : ℕ) (plan : Plan) (item : Record) (table : Table) (rose : Bool) (device : Device) where
-  abbrev roomed : Table
-  roomed = after_seals plan (make_room_seals plan table) table
+-- a put of a table without a log: it makes room, and then its record joins, and its blob is placed
+module _ (first : ℕ) (plan : Plan) (item : Record) (table : Table) (rose : Bool) (device : Device) (unlogged : plan.log_blocks ≡ 0) where
+  abbrev joined : Table
+  joined = put_joined plan item table
 
-  pub put-stops : (fault : FlashFault) (new : FlashState) → Breaks first plan (seals_within plan (make_room_seals plan table) table) table rose device fault new → Breaks first plan (seals_within plan (put_seals plan item table) table) table rose device fault new
-  put-stops fault new h = seals-stop first plan (make_room_seals plan table) (place_seals plan (blob_len item) roomed) table rose device fault new h
+  join_is : join_seals plan (put_joined plan item table) ≡ fill_seals plan (put_joined plan item table)
+  join_is =
+      ap (λ (n : ℕ). fill_seals plan (put_joined plan item table) ++ (cond (nat_lt 0 n) (LogRing ∷ []) [])) unlogged
+      ∙ append-nil (fill_seals plan (put_joined plan item table))
 
-  module _ {KNOTS SLOTS : ℕ} (room : code.Table KNOTS SLOTS) (old mid : FlashState) (h : Finishes first plan (seals_within plan (make_room_seals plan table) table) table (after_seals plan (make_room_seals plan table) table) rose device room old mid) where
-    pub put-breaks : (fault : FlashFault) (t : code.Table KNOTS SLOTS) (new : FlashState) → Breaks first plan (seals_within plan (place_seals plan (blob_len item) roomed) roomed) roomed rose h.now.device fault new →
-        Breaks first plan (seals_within plan (put_seals plan item table) table) table rose device fault new
-    put-breaks fault t new k = seals-then first plan (make_room_seals plan table) (place_seals plan (blob_len item) roomed) table rose device room old mid (Err fault) t new h k
+  pub put-stops : (fault : FlashFault) (new : FlashState) → Breaks first plan (BySeals plan (make_room_seals plan table) table rose device) fault new → Breaks first plan (TablePuts plan rose item device table) fault new
+  put-stops fault new h = record { now = h.now; did = (h.now, h.did, goes h.now.end h.answer); answer = h.answer; counts = h.counts; rests = h.rests }
+    where
+      goes : (e : PartEnd Table) → FaultEnds e fault new → TablePutGoesOn e h.now h.now (TablePerforms plan rose (seals_within plan (join_seals plan (put_joined plan item table)) (put_joined plan item table)) h.now.device (put_joined plan item table) h.now)
+      goes Whole a = absurd a
+      goes (CutIn before) a = refl
+      goes (FailedIn before) a = refl
 
-    pub put-finishes : (t : code.Table KNOTS SLOTS) (new : FlashState) → Finishes first plan (seals_within plan (place_seals plan (blob_len item) roomed) roomed) roomed (put_record plan item table) rose h.now.device t mid new →
-        Finishes first plan (seals_within plan (put_seals plan item table) table) table (put_record plan item table) rose device t old new
-    put-finishes t new k = finishes-then first plan (make_room_seals plan table) (place_seals plan (blob_len item) roomed) table (put_record plan item table) rose device room old mid t new h k
+  module _ {KNOTS SLOTS : ℕ} (room : code.Table KNOTS SLOTS) (old mid : FlashState) (h : Finishes first plan (BySeals plan (make_room_seals plan table) table rose device) table (with_room plan table) room old mid) where
+    -- all seals that make room were done
+    puts : (now : PartProgress Table) → BySeals plan (fill_seals plan (put_joined plan item table)) (put_joined plan item table) rose h.now.device now → TablePuts plan rose item device table now
+    puts now did = (
+      h.now,
+      h.did,
+      subst (λ (e : PartEnd Table). TablePutGoesOn e h.now now (TablePerforms plan rose (seals_within plan (join_seals plan (put_joined plan item table)) (put_joined plan item table)) h.now.device (put_joined plan item table) now)) (sym h.whole)
+          (subst (λ (rs : List RingName). TablePerforms plan rose (seals_within plan rs (put_joined plan item table)) h.now.device (put_joined plan item table) now) (sym join_is) did),
+    )
+
+    pub put-breaks : (fault : FlashFault) (new : FlashState) → Breaks first plan (BySeals plan (fill_seals plan (put_joined plan item table)) (put_joined plan item table) rose h.now.device) fault new → Breaks first plan (TablePuts plan rose item device table) fault new
+    put-breaks fault new k = record { now = k.now; did = puts k.now k.did; answer = k.answer; counts = k.counts; rests = k.rests }
+
+    pub put-finishes : (t : code.Table KNOTS SLOTS) (new : FlashState) →
+        Finishes first plan (BySeals plan (fill_seals plan (put_joined plan item table)) (put_joined plan item table) rose h.now.device) (with_room plan table) (after_seals plan (fill_seals plan (put_joined plan item table)) (put_joined plan item table)) t mid new →
+        Finishes first plan (TablePuts plan rose item device table) table (put_record plan item table) t old new
+    put-finishes t new k =
+        let after = after_seals plan (fill_seals plan (put_joined plan item table)) (put_joined plan item table) in
+        let is : after ≡ put_record plan item table = ap (λ (rs : List RingName). after_seals plan rs (put_joined plan item table)) (sym join_is) in
+        record {
+          now = k.now;
+          did = puts k.now k.did;
+          whole = k.whole;
+          counts = k.counts;
+          power = k.power;
+          stands = subst (λ (x : Table). Stands t new first plan x) is k.stands;
+          stand = subst (λ (x : Table). KeptStand first plan table x (page_at old) (page_at new)) is
+              (kept-then first plan table (with_room plan table) after (page_at old) (page_at mid) (page_at new) h.stands.facts k.stands.facts h.stand k.stand);
+        }
 
 -- a seal of the waiting bitmaps leaves all else
 beside-bitmaps : (plan : Plan) (table : Table) → IsBeside table (after_seals plan (bitmap_seals plan table) table)
-beside-bitmaps plan table = by_index (has_index plan && (table.waiting == entries_per_page plan))
+beside-bitmaps plan table = by_index (has_index plan && (length table.waiting == entries_per_page plan))
   where
     by_index : (b : Bool) → IsBeside table (after_seals plan (cond b (IndexRing ∷ []) []) table)
-    by_index true = record { entries = refl; rows = refl; var = refl; pending = refl; fill = refl; points = refl }
-    by_index false = record { entries = refl; rows = refl; var = refl; pending = refl; fill = refl; points = refl }
+    by_index true = (_, _, _, refl)
+    by_index false = (table.index, table.index_pages, table.waiting, refl)
 
 -- the last record and the number of a table in which room was made
 pub room-accepts : (plan : Plan) (table : Table) (item : Record) → IsShape (shape_of plan DataRing) → IsPlainTable plan table → 1 ≤ rows_per_page plan → IsAccepted plan table item →
@@ -182,7 +214,7 @@ pub room-accepts : (plan : Plan) (table : Table) (item : Record) → IsShape (sh
 room-accepts plan table item shape facts some ok room =
     by_full (table.pending == rows_per_page plan) refl room
   where
-    full : table.pending ≡ rows_per_page plan → make_room_seals plan table ≡ bitmap_seals plan table ++ (blob_seals (after_seals plan (bitmap_seals plan table) table) ++ DataRing ∷ [])
+    full : table.pending ≡ rows_per_page plan → make_room_seals plan table ≡ bitmap_seals plan table ++ (rest_seals (after_seals plan (bitmap_seals plan table) table) ++ DataRing ∷ [])
     full e = full-room_seals plan table e ∙ some-table_seals plan table (λ none. absurd (omega (arith, none, e, some)))
 
     by_full : (b : Bool) → (table.pending == rows_per_page plan) ≡ b → (after_seals plan (make_room_seals plan table) table).pending < rows_per_page plan →
@@ -190,18 +222,18 @@ room-accepts plan table item shape facts some ok room =
     by_full true e room =
         let is : table.pending ≡ rows_per_page plan = eqb-true table.pending (rows_per_page plan) e in
         let listed = after_seals plan (bitmap_seals plan table) table in
-        let mid = after_seals plan (blob_seals listed) listed in
+        let mid = after_seals plan (rest_seals listed) listed in
         let beside = beside-bitmaps plan table in
-        let var = (after-var plan (blob_seals listed) listed (rest-var listed)).2 in
-        let entries : mid.entries ≡ table.entries = ap (λ (x : Table). x.entries) var ∙ beside.entries in
-        let rows : mid.rows ≡ table.rows = ap (λ (x : Table). x.rows) var ∙ beside.rows in
-        let pending : mid.pending ≡ table.pending = ap (λ (x : Table). x.pending) var ∙ beside.pending in
+        let var = (after-var plan (rest_seals listed) listed (rest-var listed)).3 in
+        let entries : mid.entries ≡ table.entries = ap (λ (x : Table). x.entries) var ∙ ap (λ (x : Table). x.entries) beside.3 in
+        let rows : mid.rows ≡ table.rows = ap (λ (x : Table). x.rows) var ∙ ap (λ (x : Table). x.rows) beside.3 in
+        let pending : mid.pending ≡ table.pending = ap (λ (x : Table). x.pending) var ∙ ap (λ (x : Table). x.pending) beside.3 in
         let counted : sum mid.rows.counts + mid.pending ≡ length mid.entries = omega (arith, ap (λ (r : Ring). sum r.counts) rows, pending, ap length entries, facts.kept.counted) in
         let next : (after_seal plan DataRing mid).rows.next ≡ mid.rows.next + 1 = sealed-next (shape_of plan DataRing) mid.pending mid.rows in
         let last = last-sealed plan mid shape counted (omega (arith, is, some, pending)) in
         let all : after_seals plan (make_room_seals plan table) table ≡ after_seal plan DataRing mid =
         ap (λ (rs : List RingName). after_seals plan rs table) (full is)
-        ∙ (after_seals-append plan (bitmap_seals plan table) (blob_seals listed ++ DataRing ∷ []) table ∙ after_seals-append plan (blob_seals listed) (DataRing ∷ []) listed) in
+        ∙ (after_seals-append plan (bitmap_seals plan table) (rest_seals listed ++ DataRing ∷ []) table ∙ after_seals-append plan (rest_seals listed) (DataRing ∷ []) listed) in
         subst (λ (x : Table). IsAcceptedBy plan x item.key item.values item.blob) (sym all) (record {
           above = λ e' k. ok.above e' (ap (λ (es : List Entry). last_or None es) (sym entries) ∙ (sym last ∙ k));
           fits = ok.key;

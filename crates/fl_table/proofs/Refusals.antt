@@ -6,6 +6,7 @@ use Rattle.std.proofs.Math.IntN.{ℤ}
 use Rattle.fl_flash.specs.Flash.{FlashState}
 use Rattle.fl_model.specs.Record.{Record, Plan, RowLayout, row_layout, has_var, key_limit, greatest_key, first_misfit}
 use Rattle.fl_model.specs.Row.{FitsRow}
+use Rattle.fl_model.specs.Ring as rings
 use Rattle.fl_model.specs.Table as model
 use Rattle.fl_model.specs.Table.{Table, Entry, Refusal, BadKey, BadColumns, BadValue, BadBlob, first_of as or_model, refuse_if, key_refusal, value_refusal, blob_refusal, refusal_of, is_spent, spent_from, last_entry, blob_len}
 use Rattle.fl_table.specs.Bitmaps as bitmaps
@@ -99,7 +100,7 @@ module _ {KNOTS SLOTS : ℕ} (t : code.Table KNOTS SLOTS) (f : FlashState) (firs
 
   spent_same : spent_refused t ≡ answer (refuse_if (is_spent table) model.Spent)
   spent_same =
-      let facts = table-parts plan table s.facts in
+      let facts = table-parts plan table (s.planned.full, s.planned.log) s.facts in
       let index = nat_le spent_from (bitmaps.next_of t.bitmaps) in
       let var = nat_le spent_from (variable.next_of t.blobs) in
       ap (λ (o : Option Ring). refused_if (unwrap_or (option_map (λ ring. nat_le spent_from (next_of ring)) o) false || nat_le spent_from (bitmaps.next_of t.bitmaps) || nat_le spent_from (variable.next_of t.blobs)) Spent) s.memory.ring_is
@@ -107,7 +108,15 @@ module _ {KNOTS SLOTS : ℕ} (t : code.Table KNOTS SLOTS) (f : FlashState) (firs
       ∙ (ap (λ b. refused_if (nat_le spent_from table.rows.next || b || nat_le spent_from (variable.next_of t.blobs)) Spent) (index-spent t.bitmaps f (first + plan.data_blocks) plan table s.planned.index facts.index s.bitmaps)
       ∙ (ap (λ b. refused_if (nat_le spent_from table.rows.next || unwrap_or (option_map (λ ring. nat_le spent_from ring.next) table.index) false || b) Spent)
       (var-spent t.blobs f (first + plan.data_blocks + plan.index_blocks) plan table s.planned.var facts.blobs s.blobs)
-      ∙ if_so (is_spent table) model.Spent)))
+      ∙ (ap (λ b. refused_if b Spent) (sym (or_false spent) ∙ ap (λ (o : Option rings.Ring). spent || unwrap_or (option_map (λ ring. nat_le spent_from ring.next) o) false) (sym facts.bare.0))
+      ∙ if_so (is_spent table) model.Spent))))
+    where
+      spent : Bool
+      spent = nat_le spent_from table.rows.next || unwrap_or (option_map (λ ring. nat_le spent_from ring.next) table.index) false || unwrap_or (option_map (λ ring. nat_le spent_from ring.next) table.var) false
+
+      or_false : (b : Bool) → (b || false) ≡ b
+      or_false true = refl
+      or_false false = refl
 
   pub refusals-agree : put_refusal t key values (option_map (λ (xs : List ℕ). length xs) blob) ≡ answer (refusal_of plan table (record { key = key; values = values; blob = blob }))
   refusals-agree =

@@ -1,21 +1,19 @@
 -- The mount of the data ring, in the words of its table.
-use Rattle.std.proofs.Common.{◌≡◌, ℕ, ◌+◌, ◌-◌, ◌*◌, ◌≤◌, Bool, true, false, cond, ◌||◌, ◌&&◌, nat_lt, Option, Some, None, is_some, Result, List, [], ◌∷◌, ◌++◌, map, length, take, drop, refl, sym, ◌∙◌, ap, subst, arith, IsTrue}
+use Rattle.std.proofs.Common.{◌≡◌, ℕ, ◌+◌, ◌-◌, ◌*◌, ◌≤◌, Bool, true, false, cond, ◌||◌, ◌&&◌, nat_lt, Option, None, is_some, Result, List, [], ◌∷◌, ◌++◌, map, length, take, drop, refl, sym, ◌∙◌, ap, subst, arith, IsTrue}
 use Rattle.std.proofs.lemmas.Bool.{ltb-true, ltb-false}
 use Rattle.std.proofs.lemmas.List.{take_all}
-use Rattle.std.specs.List.{list_any, slice_get, sum}
-use Rattle.fl_model.proofs.Lists.{slice_get-drop}
+use Rattle.std.specs.List.{list_any}
 use Rattle.fl_flash.specs.Flash.{FlashState}
 use Rattle.fl_flash.specs.declared.flash.FlashFault.{FlashFault}
 use Rattle.fl_model.specs.Record.{Plan}
 use Rattle.fl_model.specs.Ring as model
+use Rattle.fl_model.specs.Index.{IndexEntry}
 use Rattle.fl_model.specs.Table.{Table, Entry, DataRing, shape_of, with_ring, seal_page, lose, is_dirty}
 use Rattle.fl_model.specs.Work.{Kind, Body, Mark, VoidMark, Erase, effect, Device}
 use Rattle.fl_model.specs.Within.{repair_within}
 use Rattle.fl_model.specs.Mount.{renumber, at_least_of}
 use Rattle.fl_model.specs.Mount as numbering
 use Rattle.fl_model.proofs.Pages.{page_with, pages_from}
-use Rattle.fl_model.proofs.Plain.{sealed-next}
-use Rattle.fl_table.proofs.Moved.{KeepsPages, keeps-same, keeps-sealed, keeps-then}
 use Rattle.fl_table.proofs.Plain.{IsPlainTable, plain-void, plain-erase}
 use Rattle.fl_ring.specs.Operations.{change, repair_kinds}
 use Rattle.fl_ring.specs.Numbers.{renumbered}
@@ -28,8 +26,8 @@ use Rattle.fl_table.proofs.Lifted.{of_rows, TablePerformed, performed-lifts, Are
 -- nothing of the table is in memory
 pub record IsIdle (table : Table) : Type 0 where
   pub pending : table.pending ≡ 0
-  pub fill : table.fill ≡ 0
-  pub waiting : table.waiting ≡ 0
+  pub buffered : table.buffered ≡ []
+  pub waiting : table.waiting ≡ []
   pub points : table.points ≡ []
 
 pub idle-lost : (table : Table) → IsIdle table → table ≡ lose table
@@ -37,14 +35,14 @@ idle-lost table h =
     let all : take (length table.entries - table.pending) table.entries ≡ table.entries = take_all (length table.entries - table.pending) table.entries (omega (arith, h.pending)) in
     ap (λ (es : List Entry). record table { entries = es }) (sym all)
     ∙ (ap (λ (n : ℕ). record table { entries = take (length table.entries - table.pending) table.entries; pending = n }) h.pending
-    ∙ (ap (λ (n : ℕ). record table { entries = take (length table.entries - table.pending) table.entries; pending = 0; fill = n }) h.fill
-    ∙ (ap (λ (n : ℕ). record table { entries = take (length table.entries - table.pending) table.entries; pending = 0; fill = 0; waiting = n }) h.waiting
-    ∙ ap (λ (ps : List (ℕ × ℕ)). record table { entries = take (length table.entries - table.pending) table.entries; pending = 0; fill = 0; waiting = 0; points = ps }) h.points)))
+    ∙ (ap (λ (bytes : List ℕ). record table { entries = take (length table.entries - table.pending) table.entries; pending = 0; buffered = bytes }) h.buffered
+    ∙ (ap (λ (ws : List IndexEntry). record table { entries = take (length table.entries - table.pending) table.entries; pending = 0; buffered = []; waiting = ws }) h.waiting
+    ∙ ap (λ (ps : List (ℕ × ℕ)). record table { entries = take (length table.entries - table.pending) table.entries; pending = 0; buffered = []; waiting = []; points = ps }) h.points)))
 
 pub lost-idle : (table : Table) → table ≡ lose table → IsIdle table
 lost-idle table h = record {
   pending = ap (λ (t : Table). t.pending) h;
-  fill = ap (λ (t : Table). t.fill) h;
+  buffered = ap (λ (t : Table). t.buffered) h;
   waiting = ap (λ (t : Table). t.waiting) h;
   points = ap (λ (t : Table). t.points) h;
 }
@@ -100,16 +98,13 @@ state-renumbered first plan table known =
         ∙ ap (λ (k : List (Option (List ℕ))). record { kept = k; next = number (length table.rows.counts); torn = table.rows.torn; dirty = table.rows.dirty })
         (void_pages plan (model.oldest table.rows) (number (length table.rows.counts) - length table.rows.counts) table.entries table.rows.counts e)
 
--- what a repair keeps of a table: nothing is in memory, and its pages with rows and its index are the same
+-- what a repair keeps of a table: nothing is in memory, and its other rings are the same
 pub record IsRepaired (table now : Table) : Type 0 where
   pub idle : IsIdle now
-  pub keeps : KeepsPages table now
-  pub later : table.rows.next ≤ now.rows.next
   pub index : now.index ≡ table.index
-  pub firsts : now.firsts ≡ table.firsts
+  pub index_pages : now.index_pages ≡ table.index_pages
   pub var : now.var ≡ table.var
-  -- no record is new
-  pub from : (i : ℕ) (entry : Entry) → slice_get now.entries i ≡ Some entry → (j : ℕ) × (slice_get table.entries j ≡ Some entry)
+  pub var_pages : now.var_pages ≡ table.var_pages
 
 -- the repairs that are left
 abbrev pub RepairsCome : List Kind → Table → Type 0
@@ -143,19 +138,17 @@ repair-along begin first plan shape Body kinds s table r = absurd r.come
 repair-along begin first plan shape Mark kinds s table r = absurd r.come
 repair-along begin first plan shape VoidMark kinds s table r =
     let after = seal_page plan DataRing 0 table in
-    let idle : IsIdle after = record { pending = r.repaired.idle.pending; fill = r.repaired.idle.fill; waiting = r.repaired.idle.waiting; points = r.repaired.idle.points } in
+    let idle : IsIdle after = record { pending = r.repaired.idle.pending; buffered = r.repaired.idle.buffered; waiting = r.repaired.idle.waiting; points = r.repaired.idle.points } in
     record {
       state = ap (voided (shape_in first plan)) (r.state ∙ ap (state_of plan) (sym (idle-lost table r.repaired.idle)))
           ∙ (state-voided first plan table shape r.facts.rows.not_negative ∙ ap (state_of plan) (idle-lost after idle));
-      facts = plain-void plan table shape r.facts r.repaired.idle.pending r.come.0 (not_dirty table.rows.torn table.rows.dirty r.come.0 (λ b. r.facts.rows.not_both (as_and table.rows.torn table.rows.dirty b)));
+      facts = plain-void plan table shape r.facts r.repaired.idle.pending r.repaired.idle.waiting r.come.0 (not_dirty table.rows.torn table.rows.dirty r.come.0 (λ b. r.facts.rows.not_both (as_and table.rows.torn table.rows.dirty b)));
       repaired = record {
         idle = idle;
-        keeps = keeps-then begin table after r.repaired.keeps (keeps-sealed (shape_of plan DataRing) 0 table after shape r.facts.rows.not_negative refl refl) r.repaired.later;
-        later = let next = sealed-next (shape_of plan DataRing) 0 table.rows in omega (arith, next, r.repaired.later);
         index = r.repaired.index;
-        firsts = r.repaired.firsts;
+        index_pages = r.repaired.index_pages;
         var = r.repaired.var;
-        from = λ i entry e. r.repaired.from (sum (model.given_up (shape_of plan DataRing) 0 table.rows) + i) entry (sym (slice_get-drop (sum (model.given_up (shape_of plan DataRing) 0 table.rows)) table.entries i) ∙ e);
+        var_pages = r.repaired.var_pages;
       };
       come = erases_come kinds after r.come.1;
     }
@@ -167,13 +160,11 @@ repair-along begin first plan shape Erase kinds s table r = record {
   state = ap erased r.state ∙ state-erased plan table;
   facts = plain-erase plan table r.facts;
   repaired = record {
-    idle = record { pending = r.repaired.idle.pending; fill = r.repaired.idle.fill; waiting = r.repaired.idle.waiting; points = r.repaired.idle.points };
-    keeps = keeps-then begin table (with_ring DataRing model.erased table) r.repaired.keeps (keeps-same table (with_ring DataRing model.erased table) refl refl refl) r.repaired.later;
-    later = r.repaired.later;
+    idle = record { pending = r.repaired.idle.pending; buffered = r.repaired.idle.buffered; waiting = r.repaired.idle.waiting; points = r.repaired.idle.points };
     index = r.repaired.index;
-    firsts = r.repaired.firsts;
+    index_pages = r.repaired.index_pages;
     var = r.repaired.var;
-    from = r.repaired.from;
+    var_pages = r.repaired.var_pages;
   };
   come = erases_come kinds (with_ring DataRing model.erased table) r.come;
 }
@@ -228,6 +219,6 @@ repair-lifts first plan table rose front others device result new shape facts id
     (record {
       state = ap (state_of plan) (idle-lost table idle);
       facts = facts;
-      repaired = record { idle = idle; keeps = keeps-same table table refl refl refl; later = omega arith; index = refl; firsts = refl; var = refl; from = λ i entry e. (i, e) };
+      repaired = record { idle = idle; index = refl; index_pages = refl; var = refl; var_pages = refl };
       come = repairs_front front others table (subst (λ (ks : List Kind). RepairsCome ks table) split (repairs_come first plan table));
     }) h

@@ -10,7 +10,7 @@ use Rattle.fl_model.specs.Layout.{bitmap_of}
 use Rattle.fl_model.specs.Table.{Table, DataRing, IndexRing, VarRing, shape_of, pending_entries, last_entry, seal_buffer, after_seal, lose}
 use Rattle.fl_model.specs.Work.{Device, PartEnd, Whole, CutIn, FailedIn, PartProgress}
 use Rattle.fl_model.specs.Within.{seal_within, TablePerforms}
-use Rattle.fl_model.proofs.Plain.{sealed-next, sealed-torn}
+use Rattle.fl_model.proofs.Sealed.{sealed-next, sealed-torn}
 use Rattle.fl_ring.specs.Ring.{OutsideStands}
 use Rattle.fl_table.proofs.Moved.{HoldsIndexed, indexed-same, index-stands}
 use Rattle.fl_table.proofs.BlobTables.{HoldsVar}
@@ -80,6 +80,10 @@ sealed-later shape count ring = by_test (model.is_full shape (model.extended cou
     by_test true = omega (arith, length-drop shape.pages (ring.counts ++ count ∷ []), more)
     by_test false = omega (arith, more)
 
+-- how its operations may go
+abbrev pub ByRows : Plan → Table → Bool → Device → PartProgress Table → Type 0
+ByRows plan table rose device now = TablePerforms plan rose (seal_within plan DataRing table) device table now
+
 -- what it leaves where all of it was done; `counts` are those of the pages before it, by their places
 pub record IsSealed (first : ℕ) (plan : Plan) (table : Table) (rose : Bool) (device : Device) (ring : Ring) (old : ℕ → List ℕ) (new : FlashState) (counts : List ℕ) : Type 0 where
   pub now : PartProgress Table
@@ -114,7 +118,7 @@ module _ (first : ℕ) (plan : Plan) (table : Table) (body : List ℕ) (rose : B
   -- an operation of it failed
   pub seal-breaks : (fault : FlashFault) →
       Performed (shape_in first plan) (change (shape_in first plan) body) rose (seal_kinds (shape_in first plan) (state_of plan (lose table)) body) device (state_of plan (lose table)) (Err fault) new →
-      Breaks first plan (seal_within plan DataRing table) table rose device fault new
+      Breaks first plan (ByRows plan table rose device) fault new
   seal-breaks fault h =
       let l = seal-lifts old first plan body table rose device (Err fault) new is.shape is.facts is.makes is.others h in
       record {

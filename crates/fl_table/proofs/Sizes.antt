@@ -23,13 +23,13 @@ whole le few = omega arith
 
 -- what is asked at each call that is given the table itself
 pub table-fits : (knots slots : ℕ) → knots ≤ 65536 → slots ≤ 65536 →
-    up 8 (up 4 (up 8 (up 8 (264 + up 8 (up 8 (8 + up 8 (up 8 (8 + up 8 (up 1 (up 8 (0 + up 8 (0 + knots * 16)) + 8) + 0)) + 48)) + up 8 (16 + up 8 (up 1 (up 8 (0 + up 8 (0 + slots * 8)) + 8) + 0)))) + 112) + 88) + 4) < 2 ^ 63
+    up 8 (up 4 (up 8 (up 8 (264 + up 8 (up 8 (8 + up 8 (up 8 (8 + up 8 (up 1 (up 8 (0 + up 8 (0 + knots * 16)) + 8) + 0)) + 48)) + up 8 (16 + up 8 (up 1 (up 8 (0 + up 8 (0 + slots * 8)) + 8) + 0)))) + 120) + 88) + 4) < 2 ^ 63
 table-fits knots slots few_knots few_slots =
     let knots_end : 0 + knots * 16 ≤ 1048576 = omega (arith, few_knots) in
     let slots_end : 0 + slots * 8 ≤ 524288 = omega (arith, few_slots) in
     let spline = at-eight 8 (after-eight 48 (at-eight 8 (at-one (after-eight 8 (at-eight 0 knots_end))))) in
     let radix = at-eight 16 (at-one (after-eight 8 (at-eight 0 slots_end))) in
-    whole (after-four 4 (after-eight 88 (after-eight 112 (at-eight 264 (side-by-side spline radix))))) (omega arith)
+    whole (after-four 4 (after-eight 88 (after-eight 120 (at-eight 264 (side-by-side spline radix))))) (omega arith)
 
 -- what is asked at each call that is given the index of its pages
 pub index-fits : (knots slots : ℕ) → knots ≤ 65536 → slots ≤ 65536 →

@@ -1,7 +1,7 @@
 -- Whether a page may be skipped, and what was read to know it.
 use Rattle.std.proofs.Common.{◌≡◌, inl, inr, ℕ, ◌+◌, ◌-◌, ◌^◌, ◌<◌, ◌≤◌, Bool, true, false, not, ◌||◌, ◌==◌, nat_lt, cond, Option, Some, None, Ok, Err, IsTrue, List, [], ◌∷◌, bit_and, sym, ◌∙◌, ap, subst, arith, Result, refl}
 use Rattle.std.proofs.lemmas.Bool.{cases_lt, eqb-true, lt-ltb, false_from_ne_true}
-use Rattle.std.specs.List.{slice_get, list_any, AllByRecursion}
+use Rattle.std.specs.List.{list_any, AllByRecursion}
 use Rattle.fl_base.specs.declared.types.Span.{Span}
 use Rattle.fl_bitmap.specs.Widths.{is_bits}
 use Rattle.fl_flash.specs.Buffer.{BufferState}
@@ -15,12 +15,10 @@ use Rattle.fl_index.proofs.Scans.{scanning-from}
 use Rattle.fl_model.specs.Layout.{bitmap_of}
 use Rattle.fl_model.specs.Limits.{asks_values, is_indexed, mask_of}
 use Rattle.fl_model.specs.Record.{Plan}
-use Rattle.fl_model.specs.Ring as rings
 use Rattle.fl_model.specs.Table as model
 use Rattle.fl_page.specs.declared.fault.ReadFault.{ReadFault}
 use Rattle.fl_page.specs.declared.fault.ReadFault.TheVariants.{Flash, BadPage}
 use Rattle.fl_index.specs.Standing as standing
-use Rattle.fl_model.proofs.Lists.{slice_get-short}
 use Rattle.fl_table.specs.Bitmaps.{ArePlanned, Stand}
 use Rattle.fl_table.specs.Skipping.{AreFresh, AreScanning, HoldGood, IsBadIndex, LooksOn, ShowsPage, due_of}
 use Rattle.fl_table.specs.Standing.{Stands}
@@ -127,9 +125,6 @@ shows-fault plan table span number n entries (BadPage bad) h = absurd h
 module _ {KNOTS SLOTS : ℕ} (t : Table KNOTS SLOTS) (f : FlashState) (first : ℕ) (plan : Plan) (table : model.Table) (stands : Stands t f first plan table) (index : Index) (is : t.bitmaps ≡ Some index) where
   pub index-stands : standing.Stands index f (first + plan.data_blocks) plan table
   index-stands = subst (λ (o : Option Index). Stand o f (first + plan.data_blocks) plan table) is stands.bitmaps
-
-  pub kept-number : (number n rows : ℕ) → number ≡ rings.oldest table.rows + n → slice_get table.rows.counts n ≡ Some rows → number < table.rows.next
-  kept-number number n rows at e = omega (arith, at, slice_get-short table.rows.counts n rows e, stands.facts.rows.not_negative)
 
   pub some-bits : plan.bits ≡ 0 → ⊥
   some-bits none =

@@ -19,7 +19,6 @@ use Rattle.fl_table.specs.Standing.{Stands}
 use Rattle.fl_table.specs.declared.table.Table.{Table}
 use Rattle.fl_table.proofs.Images.{holds-same}
 use Rattle.fl_table.proofs.Indexing.{lies-goes, stand-moved}
-use Rattle.fl_table.proofs.Moved.{keeps-same}
 use Rattle.fl_table.proofs.Blobbing as blobbing
 use Rattle.fl_table.proofs.Plain.{IsPlainTable, table-parts}
 
@@ -31,13 +30,13 @@ stands-still t f g n first plan table reads stands = record {
   clean = stands.clean;
   pages = holds-same (page_at f) (page_at g) first plan (lose table) (λ ring number. same_page f g n (place_in first plan ring number) reads) stands.pages;
   memory = stands.memory;
-  bitmaps = stand-moved t.bitmaps f g first plan table table (keeps-same table table refl refl refl) refl refl refl refl facts facts (λ m. same_page f g n (place_in first plan IndexRing m) reads) stands.bitmaps;
-  blobs = blobbing.stand-moved t.blobs f g first plan table table (λ m. same_page f g n (place_in first plan VarRing m) reads) refl refl refl refl stands.blobs;
+  bitmaps = stand-moved t.bitmaps f g first plan table table refl refl refl refl facts (λ m. same_page f g n (place_in first plan IndexRing m) reads) stands.bitmaps;
+  blobs = blobbing.stand-moved t.blobs f g first plan table table (λ m. same_page f g n (place_in first plan VarRing m) reads) refl refl refl (λ i entry e. (i, e)) stands.blobs;
   points = stands.points;
 }
   where
     facts : IsPlainTable plan table
-    facts = table-parts plan table stands.facts
+    facts = table-parts plan table (stands.planned.full, stands.planned.log) stands.facts
 
 -- where it lies on a flash, it does on one of that size
 pub lies-moved : {KNOTS SLOTS : ℕ} (t : Table KNOTS SLOTS) (f g : FlashState) → Goes f g → LiesOn t f → LiesOn t g

@@ -1,16 +1,14 @@
 -- The index of a table, where it has one: the bitmaps of its sealed pages.
-use Rattle.std.specs.Prelude.{◌≡◌, ◌⊎◌, ℕ, ◌+◌, ◌-◌, ◌^◌, ◌<◌, ◌≤◌, min, max, Bool, true, false, ◌&&◌, ◌==◌, Result, Ok, Option, Some, None, IfSome, is_some, option_map, unwrap_or, List, [], ◌∷◌, slice_get, if◌then◌else◌}
+use Rattle.std.specs.Prelude.{◌≡◌, ◌⊎◌, ℕ, ◌+◌, ◌-◌, ◌^◌, ◌<◌, ◌≤◌, min, max, Bool, true, false, ◌&&◌, ◌==◌, Result, Ok, Option, Some, None, is_some, option_map, unwrap_or, List, [], ◌∷◌, ◌++◌, length, if◌then◌else◌}
 use Rattle.std.specs.Option.{ForSome}
 use Rattle.fl_flash.specs.Flash.{FlashState}
 use Rattle.fl_index.specs.declared.index.Index.{Index}
 use Rattle.fl_index.specs.Memory as memory
-use Rattle.fl_index.specs.Memory.{ring_shape, next_in, waiting_in, first_waiting, per_page, IsSameRing}
+use Rattle.fl_index.specs.Memory.{ring_shape, next_in, waiting_in, first_waiting, form_in, per_page, IsSameRing}
 use Rattle.fl_index.specs.Standing as standing
 use Rattle.fl_index.specs.Standing.{Waits}
-use Rattle.fl_model.specs.Image.{rows_at}
-use Rattle.fl_model.specs.Layout.{bitmap_of}
+use Rattle.fl_model.specs.Layout.{IndexEntry}
 use Rattle.fl_model.specs.Record.{Plan, has_index, entries_per_page}
-use Rattle.fl_model.specs.Ring.{oldest}
 use Rattle.fl_model.specs.Table.{Table, RingName, IndexRing}
 use Rattle.fl_model.specs.Work.{Device}
 use Rattle.fl_ring.specs.Ring.{Shape, OutsideStands, room}
@@ -43,20 +41,20 @@ AreSameRing (Some old) (Some new) = IsSameRing old new
 AreSameRing None (Some new) = ⊥
 AreSameRing (Some old) None = ⊥
 
--- it stands for that of a table of the model, where no bitmap waits without an index
+-- it stands for that of a table of the model, where no entry waits without an index
 abbrev pub Stand : Option Index → FlashState → ℕ → Plan → Table → Type 0
-Stand None f first plan table = table.waiting ≡ 0
+Stand None f first plan table = table.waiting ≡ []
 Stand (Some index) f first plan table = standing.Stands index f first plan table
 
--- .. but for the bitmaps that wait
+-- .. but for the entries that wait
 abbrev pub StandForRing : Option Index → FlashState → ℕ → Plan → Table → Type 0
 StandForRing None f first plan table = Unit {0}
 StandForRing (Some index) f first plan table = standing.StandsForRing index f first plan table
 
--- so many bitmaps wait, from that of a data page on
-abbrev pub AreWaiting : Option Index → Plan → Table → ℕ → ℕ → Type 0
-AreWaiting None plan table first count = Unit {0}
-AreWaiting (Some index) plan table first count = Waits index plan table first count
+-- these entries wait, from that of a data page on
+abbrev pub AreWaiting : Option Index → ℕ → List IndexEntry → Type 0
+AreWaiting None first entries = Unit {0}
+AreWaiting (Some index) first entries = Waits index first entries
 
 -- the index was mounted, where there is one, and no seal of it failed since
 abbrev pub AreRunning : Option Index → Type 0
@@ -66,16 +64,16 @@ AreRunning bitmaps = ForSome bitmaps (λ index. memory.is_running index ≡ true
 abbrev pub AreBroken : Option Index → Type 0
 AreBroken bitmaps = ForSome bitmaps (λ index. memory.is_running index ≡ false)
 
--- no bitmap waits
+-- no entry waits
 abbrev pub AreIdle : Option Index → Type 0
 AreIdle None = Unit {0}
 AreIdle (Some index) = waiting_in index ≡ 0
 
--- one bitmap more has room
+-- one entry more has room
 abbrev pub HaveRoom : Option Index → Type 0
 HaveRoom bitmaps = ForSome bitmaps (λ index. waiting_in index < per_page index)
 
--- the waiting bitmaps are those of the data pages before this number
+-- the waiting entries are those of the data pages before this number
 abbrev pub EndAt : Option Index → ℕ → Type 0
 EndAt bitmaps next = ForSome bitmaps (λ index. first_waiting index + waiting_in index ≡ next)
 
@@ -83,7 +81,7 @@ EndAt bitmaps next = ForSome bitmaps (λ index. first_waiting index + waiting_in
 abbrev pub NumberLeft : Option Index → Type 0
 NumberLeft bitmaps = ForSome bitmaps (λ index. next_in index + 1 < 2 ^ 32)
 
--- the first data page whose bitmap waits after a mount: of the pages that the index doesn't list the last ones wait
+-- the first data page whose entry waits after a mount: of the pages that the index doesn't list the last ones wait
 abbrev pub first_to_wait : Option Index → ℕ → ℕ → ℕ → ℕ
 first_to_wait None end oldest next = next
 first_to_wait (Some index) end oldest next = next - min (next - max end oldest) (per_page index)
@@ -96,7 +94,7 @@ room_of bitmaps = unwrap_or (option_map (λ index. room (ring_shape index)) bitm
 abbrev pub next_of : Option Index → ℕ
 next_of bitmaps = unwrap_or (option_map (λ index. next_in index) bitmaps) 0
 
--- .. and after the seal of the waiting bitmaps, where they fill a page
+-- .. and after the seal of the waiting entries, where they fill a page
 abbrev pub next_after : Option Index → ℕ
 next_after bitmaps = unwrap_or (option_map (λ index. next_in index + (if waiting_in index == per_page index then 1 else 0)) bitmaps) 0
 
@@ -104,19 +102,18 @@ next_after bitmaps = unwrap_or (option_map (λ index. next_in index + (if waitin
 abbrev pub rings_of : Option Index → ℕ
 rings_of bitmaps = if is_some bitmaps then 1 else 0
 
--- an index page is sealed where as many bitmaps wait as it holds
+-- an index page is sealed where as many entries wait as it holds
 abbrev pub bitmap_seals : Plan → Table → List RingName
-bitmap_seals plan table = if has_index plan && (table.waiting == entries_per_page plan) then IndexRing ∷ [] else []
+bitmap_seals plan table = if has_index plan && (length table.waiting == entries_per_page plan) then IndexRing ∷ [] else []
 
--- The bitmap of the data page behind the others waits.
+-- One entry more waits, that of the data page behind the others: an entry with this bitmap, where entries are bitmaps alone.
 pub record IsNoted (old : Index) (bitmap : ℕ) (new : Index) : Type 0 where
   pub same : memory.IsSamePlan old new
   pub still : IsSameRing old new
   pub first : first_waiting new ≡ first_waiting old
   pub one : waiting_in new ≡ waiting_in old + 1
-  pub waits : (plan : Plan) (table : Table) (first count : ℕ) → Waits old plan table first count →
-      ((n : ℕ) → first + count ≡ oldest table.rows + n → IfSome (slice_get table.rows.counts n) (λ rows. 0 < rows → bitmap ≡ bitmap_of plan (rows_at table n rows))) →
-      Waits new plan table first (count + 1)
+  pub waits : (first : ℕ) (entries : List IndexEntry) (entry : IndexEntry) → (form_in old).full ≡ false → Waits old first entries → bitmap ≡ entry.bitmap →
+      Waits new first (entries ++ entry ∷ [])
 
 -- .. where it is the next one to wait
 abbrev pub AreNoted : Option Index → ℕ → ℕ → Option Index → Type 0
@@ -125,7 +122,7 @@ AreNoted (Some old) number bitmap None = ⊥
 AreNoted (Some old) number bitmap (Some new) =
     (first_waiting old + waiting_in old ≡ number → IsNoted old bitmap new) × ((first_waiting old + waiting_in old ≡ number → ⊥) → new ≡ old)
 
--- Room was made for one bitmap more.
+-- Room was made for one entry more.
 pub record IsRoomMade (old new : Index) : Type 0 where
   pub running : memory.is_running new ≡ true
   pub room : waiting_in new < per_page new

@@ -1,13 +1,11 @@
 -- The mount of a table's variable data, and the blobs that are opened.
 use Rattle.std.specs.Prelude.{◌≡◌, ◌⊎◌, ℕ, ◌-◌, ◌<◌, ◌≤◌, Bool, true, Result, Ok, Err, Option, Some, None}
 use Rattle.fl_flash.specs.Flash.{FlashState}
-use Rattle.fl_flash.specs.declared.flash.FlashFault.{FlashFault}
-use Rattle.fl_flash.specs.declared.flash.FlashFault.TheVariants.{Media}
+use Rattle.fl_model.specs.Agrees.{BlobsOf}
 use Rattle.fl_model.specs.Mount.{renumber, blob_end}
 use Rattle.fl_model.specs.Record.{Plan}
-use Rattle.fl_model.specs.Ring.{Ring}
 use Rattle.fl_model.specs.Table.{Table, VarRing}
-use Rattle.fl_model.specs.Within.{TablePerforms, TableUnreads, repair_within}
+use Rattle.fl_model.specs.Within.{TablePerforms, repair_within}
 use Rattle.fl_model.specs.Work.{Device, Whole, PartProgress}
 use Rattle.fl_ring.specs.Device.{SameDevice}
 use Rattle.fl_ring.specs.Finding.{FoundFault}
@@ -20,18 +18,18 @@ use Rattle.fl_table.specs.BlobEnds.{least_of}
 use Rattle.fl_table.specs.Causes.{of_ring}
 use Rattle.fl_table.specs.declared.faults.MountFault.{MountFault}
 use Rattle.fl_table.specs.declared.faults.MountFault.TheVariants as mount
-use Rattle.fl_table.specs.Blobs.{IsPlanned, IsStanding, AreHeld}
-use Rattle.fl_var.specs.Memory.{page_in, next_in, var_shape}
+use Rattle.fl_table.specs.Blobs.{IsPlanned, IsStanding, AreIn}
+use Rattle.fl_var.specs.Memory.{next_in, var_shape}
 use Rattle.fl_var.specs.Mounting as mounting
-use Rattle.fl_var.specs.Placing.{FaultEnds}
-use Rattle.fl_var.specs.Standing.{IsVarRing}
+use Rattle.fl_var.specs.Mounting.{MountsBadly}
 use Rattle.fl_var.specs.declared.var_data.VarData.{VarData}
 
--- a flash stands for the variable data of a table that isn't mounted: its ring, and the blobs of its records
+-- a flash stands for the variable data of a table that isn't mounted, which has the blobs that weren't given up in its pages
 pub record Rests (var : VarData) (f : FlashState) (first : ℕ) (plan : Plan) (table : Table) : Type 0 where
   pub planned : IsPlanned var first plan
   pub in_pages : mounting.Rests var f plan table
-  pub all : AreHeld plan in_pages.ring (page_in var f) table.entries
+  pub all : AreIn plan in_pages.ring table.entries
+  pub stand : BlobsOf plan table in_pages.ring
 
 -- It ended well: the ring has its numbers and is repaired, and each blob begins on a page before the next one.
 pub record MountsWell (first : ℕ) (plan : Plan) (table : Table) (rose : Bool) (device : Device) (var : VarData) (new : FlashState) : Type 0 where
@@ -42,17 +40,6 @@ pub record MountsWell (first : ℕ) (plan : Plan) (table : Table) (rose : Bool) 
   pub power : new.is_on ≡ true
   pub stands : IsStanding var new first plan now.state
   pub below : blob_end table ≤ next_in var
-
--- It failed in an operation of a repair, or in a read: what was repaired until then stays.
-pub record MountsBadly (plan : Plan) (table : Table) (rose : Bool) (device : Device) (fault : FlashFault) (old : VarData) (new : FlashState) : Type 0 where
-  pub now : PartProgress Table
-  pub did : (TablePerforms plan rose (repair_within plan VarRing (renumber plan VarRing table)) device (renumber plan VarRing table) now × FaultEnds now.end fault new)
-      ⊎ (TableUnreads plan rose (repair_within plan VarRing (renumber plan VarRing table)) device (renumber plan VarRing table) now × (fault ≡ Media))
-  pub counts : SameDevice new now.device
-  pub ring : Ring
-  pub ring_is : now.state.var ≡ Some ring
-  pub pages : IsVarRing plan ring (page_in old new)
-  pub all : AreHeld plan ring (page_in old new) table.entries
 
 abbrev pub MountEnds : ℕ → Plan → Table → Bool → Device → VarData → Result (Unit {0}) RingFault → VarData → FlashState → Type 0
 MountEnds first plan table rose device old (Ok done) var new = MountsWell first plan table rose device var new

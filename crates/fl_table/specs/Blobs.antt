@@ -1,13 +1,14 @@
 -- The variable data of a table, where it has any: the blobs of its records.
-use Rattle.std.specs.Prelude.{◌≡◌, ◌⊎◌, ℕ, ◌+◌, ◌*◌, ◌/◌, ◌^◌, ◌<◌, ◌≤◌, Bool, true, ◌==◌, nat_lt, Result, Ok, Err, Option, Some, None, is_some, option_map, unwrap_or, List, [], ◌∷◌, length, slice_get, if◌then◌else◌}
+use Rattle.std.specs.Prelude.{◌≡◌, ◌⊎◌, ℕ, ◌+◌, ◌-◌, ◌*◌, ◌/◌, ◌^◌, ◌<◌, ◌≤◌, Bool, true, ◌==◌, Result, Ok, Err, Option, Some, None, is_some, option_map, unwrap_or, List, [], length, slice_get, if◌then◌else◌}
 use Rattle.std.specs.Option.{ForSome}
 use Rattle.fl_base.specs.declared.types.BlobRef.{BlobRef}
 use Rattle.fl_flash.specs.Flash.{FlashState}
 use Rattle.fl_flash.specs.declared.flash.FlashFault.{FlashFault}
-use Rattle.fl_model.specs.Image.{HoldsBlob}
 use Rattle.fl_model.specs.Record.{Record, Plan}
-use Rattle.fl_model.specs.Ring.{Ring, oldest, extended}
-use Rattle.fl_model.specs.Table.{Table, Entry, RingName, VarRing, written, blob_len, place_seals, after_seals, with_record}
+use Rattle.fl_model.specs.Ring.{Ring, oldest}
+use Rattle.fl_model.specs.Query.{page_stands}
+use Rattle.fl_model.specs.Agrees.{reach_of}
+use Rattle.fl_model.specs.Table.{Table, Entry, RingName, fill_seals, after_seals, with_record}
 use Rattle.fl_model.specs.Within.{TablePerforms, seals_within}
 use Rattle.fl_model.specs.Work.{Device, Whole, PartProgress}
 use Rattle.fl_ring.specs.Device.{SameDevice}
@@ -15,10 +16,10 @@ use Rattle.fl_ring.specs.Kept.{PagesStand}
 use Rattle.fl_ring.specs.Ring.{OutsideStands, room}
 use Rattle.fl_ring.specs.Step.{IsWatched}
 use Rattle.fl_var.specs.Memory as memory
-use Rattle.fl_var.specs.Memory.{is_mounted, next_in, waiting_in, room_in, page_in, image_in, var_shape}
-use Rattle.fl_var.specs.Placing.{FaultEnds, where_placed, pages_placed}
+use Rattle.fl_var.specs.Memory.{is_mounted, next_in, waiting_in, room_in, page_in, var_shape}
+use Rattle.fl_var.specs.Placing.{Breaks, where_placed, pages_placed}
+pub use Rattle.fl_var.specs.Placing.{rest_seals}
 use Rattle.fl_var.specs.Standing as standing
-use Rattle.fl_var.specs.Standing.{IsVarRing}
 use Rattle.fl_var.specs.declared.var_data.VarData.{VarData}
 
 -- as a plan says, where the ring begins at this block
@@ -81,58 +82,43 @@ next_of blobs = unwrap_or (option_map (λ var. next_in var) blobs) 0
 abbrev pub next_after : Option VarData → ℕ
 next_after blobs = unwrap_or (option_map (λ var. if length (waiting_in var) == 0 then next_in var else next_in var + 1) blobs) 0
 
--- each blob of these records was given up, or stands in these pages
-abbrev pub AreHeld : Plan → Ring → (ℕ → List ℕ) → List Entry → Type 0
-AreHeld plan ring at entries =
+-- each blob of these records was given up, or is in kept pages
+abbrev pub AreIn : Plan → Ring → List Entry → Type 0
+AreIn plan ring entries =
     (i : ℕ) (entry : Entry) (blob : List ℕ) → slice_get entries i ≡ Some entry → entry.kept.blob ≡ Some blob → 0 < length blob →
-    (entry.page < oldest ring) ⊎ HoldsBlob plan ring at entry blob
+    (entry.page < oldest ring) ⊎ ((oldest ring ≤ entry.page) × (slice_get ring.counts (entry.page - oldest ring) ≡ Some 1) × (entry.page + reach_of plan entry blob < ring.next))
 
--- The ring and the buffer stand for those of a table, and hold the blobs of its records. Those of the written ones stand in
--- the ring alone.
+-- .. or begins on a page that is kept or to come
+abbrev pub ArePlaced : Ring → List Entry → Type 0
+ArePlaced ring entries =
+    (i : ℕ) (entry : Entry) (blob : List ℕ) → slice_get entries i ≡ Some entry → entry.kept.blob ≡ Some blob → 0 < length blob →
+    (entry.page < oldest ring) ⊎ (page_stands ring entry.page ≡ true)
+
+-- The ring and the buffer stand for those of a table, and no blob of its records begins on a void page.
 pub record IsStanding (var : VarData) (f : FlashState) (first : ℕ) (plan : Plan) (table : Table) : Type 0 where
   pub planned : IsPlanned var first plan
   pub in_pages : standing.Stands var f plan table
-  pub all : AreHeld plan (extended 1 in_pages.ring.ring) (image_in var f) table.entries
-  pub written : AreHeld plan in_pages.ring.ring (page_in var f) (written table)
+  pub placed : ArePlaced in_pages.ring.ring table.entries
 
 -- where there is no variable data, no byte waits
 abbrev pub Stand : Option VarData → FlashState → ℕ → Plan → Table → Type 0
-Stand None f first plan table = table.fill ≡ 0
+Stand None f first plan table = table.buffered ≡ []
 Stand (Some var) f first plan table = IsStanding var f first plan table
 
--- the bytes that wait are sealed, where there are any
-abbrev pub blob_seals : Table → List RingName
-blob_seals table = if nat_lt 0 table.fill then VarRing ∷ [] else []
-
--- These seals were all done, and left the variable data of this table.
-pub record Finishes (first : ℕ) (plan : Plan) (seals : List RingName) (table after : Table) (rose : Bool) (device : Device) (old : VarData) (old_f : FlashState) (var : VarData) (new : FlashState) : Type 0 where
+-- These seals were all done.
+pub record Finishes (first : ℕ) (plan : Plan) (seals : List RingName) (table : Table) (rose : Bool) (device : Device) (old : VarData) (old_f : FlashState) (var : VarData) (new : FlashState) : Type 0 where
   pub now : PartProgress Table
   pub did : TablePerforms plan rose (seals_within plan seals table) device table now
   pub whole : now.end ≡ Whole
   pub counts : SameDevice new now.device
   pub power : new.is_on ≡ true
-  pub stands : IsStanding var new first plan after
+  pub stands : IsStanding var new first plan (after_seals plan seals table)
   pub stand : (before : Ring) → table.var ≡ Some before → PagesStand before (page_in old old_f) stands.in_pages.ring.ring (page_in var new)
 
--- One of their operations failed. The flash stands for the ring that this leaves, and holds the blobs of the written records.
-pub record Breaks (first : ℕ) (plan : Plan) (seals : List RingName) (table : Table) (rose : Bool) (device : Device) (fault : FlashFault) (old : VarData) (new : FlashState) : Type 0 where
-  pub now : PartProgress Table
-  pub did : TablePerforms plan rose (seals_within plan seals table) device table now
-  pub answer : FaultEnds now.end fault new
-  pub counts : SameDevice new now.device
-  pub ring : Ring
-  pub ring_is : now.state.var ≡ Some ring
-  pub pages : IsVarRing plan ring (page_in old new)
-  pub written : AreHeld plan ring (page_in old new) (written table)
-
--- The bytes that waited were sealed: all blobs stand in the ring.
-pub record SealsRest (first : ℕ) (plan : Plan) (table : Table) (rose : Bool) (device : Device) (old : VarData) (old_f : FlashState) (var : VarData) (new : FlashState) : Type 0 where
-  pub finishes : Finishes first plan (blob_seals table) table (after_seals plan (blob_seals table) table) rose device old old_f var new
-  pub sealed : AreHeld plan finishes.stands.in_pages.ring.ring (page_in var new) table.entries
-
+-- the bytes that wait were sealed
 abbrev pub RestEnds : ℕ → Plan → Table → Bool → Device → VarData → FlashState → Result (Unit {0}) FlashFault → VarData → FlashState → Type 0
-RestEnds first plan table rose device old old_f (Ok done) var new = SealsRest first plan table rose device old old_f var new
-RestEnds first plan table rose device old old_f (Err fault) var new = Breaks first plan (blob_seals table) table rose device fault old new
+RestEnds first plan table rose device old old_f (Ok done) var new = Finishes first plan (rest_seals table) table rose device old old_f var new
+RestEnds first plan table rose device old old_f (Err fault) var new = Breaks plan (rest_seals table) table rose device fault old new
 
 abbrev pub RestEndsOf : Option VarData → FlashState → ℕ → Plan → Table → Bool → Device → Result (Unit {0}) FlashFault → Option VarData → FlashState → Type 0
 RestEndsOf None old first plan table rose device result blobs new = (result ≡ Ok tt) × (blobs ≡ None) × (new ≡ old)
@@ -140,19 +126,17 @@ RestEndsOf (Some var) old first plan table rose device result None new = ⊥
 RestEndsOf (Some var) old first plan table rose device result (Some now) new =
     IsWatched old new rose device → IsStanding var old first plan table → RestEnds first plan table rose device var old result now new
 
--- the table that a record joins, after its blob was placed
-abbrev pub table_with : Plan → Record → Table → Table
-table_with plan item table = with_record plan item table (after_seals plan (place_seals plan (blob_len item) table) table)
-
 -- where the blob of a record is placed
 abbrev pub reference_of : Plan → Record → Table → Option BlobRef
 reference_of plan item table = option_map (λ bytes. where_placed plan (length bytes) table) item.blob
 
--- a record's blob was placed, where it has one: it stands with those of the others
+-- A record's blob was placed, where it has one: the record joined its table, and the pages that the bytes fill then were sealed.
 abbrev pub PlaceEnds : ℕ → Plan → Record → Table → Bool → Device → VarData → FlashState → Result (Option BlobRef) FlashFault → VarData → FlashState → Type 0
 PlaceEnds first plan item table rose device old old_f (Ok at) var new =
-    (at ≡ reference_of plan item table) × Finishes first plan (place_seals plan (blob_len item) table) table (table_with plan item table) rose device old old_f var new
-PlaceEnds first plan item table rose device old old_f (Err fault) var new = Breaks first plan (place_seals plan (blob_len item) table) table rose device fault old new
+    let joined = with_record plan item table in
+    (at ≡ reference_of plan item table) × Finishes first plan (fill_seals plan joined) joined rose device old old_f var new
+PlaceEnds first plan item table rose device old old_f (Err fault) var new =
+    let joined = with_record plan item table in Breaks plan (fill_seals plan joined) joined rose device fault old new
 
 abbrev pub PlaceEndsOf : Option VarData → FlashState → ℕ → Plan → Record → Table → Bool → Device → Result (Option BlobRef) FlashFault → Option VarData → FlashState → Type 0
 PlaceEndsOf None old first plan item table rose device result blobs new = (result ≡ Ok None) × (blobs ≡ None) × (new ≡ old)

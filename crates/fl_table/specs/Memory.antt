@@ -72,6 +72,9 @@ pub record IsPlanned {KNOTS SLOTS : ℕ} (t : Table KNOTS SLOTS) (first : ℕ) (
   pub limit : plan.blob_limit ≡ t.blob_limit
   pub buckets : HasBuckets plan t.buckets
   pub error : plan.error ≡ error_in t.index
+  -- its index entries are bitmaps alone, and it has no log
+  pub full : plan.full_index ≡ false
+  pub log : plan.log_blocks ≡ 0
 
 -- what no call changes
 pub record IsSamePlan {KNOTS SLOTS : ℕ} (old new : Table KNOTS SLOTS) : Type 0 where

@@ -1,16 +1,17 @@
 -- How the calls of a table end, over a flash that stands for a table of the model.
-use Rattle.std.specs.Prelude.{◌≡◌, ℕ, ◌+◌, Bool, true, false, ◌⊎◌, Some, None, Result, Ok, Err, List, [], ◌∷◌, length, if◌then◌else◌}
+use Rattle.std.specs.Prelude.{◌≡◌, ℕ, ◌+◌, Bool, true, false, ◌⊎◌, Some, None, Result, Ok, Err, List, [], ◌∷◌, length, map, if◌then◌else◌}
 use Rattle.fl_flash.specs.Flash.{FlashState, page_at}
 use Rattle.fl_flash.specs.declared.flash.FlashFault.{FlashFault}
 use Rattle.fl_flash.specs.declared.flash.FlashFault.TheVariants.{PowerLost, Media}
 use Rattle.fl_ring.specs.Device.{SameDevice}
 use Rattle.fl_model.specs.Record.{Record, Plan, has_var}
 use Rattle.fl_model.specs.Table as model
-use Rattle.fl_model.specs.Table.{RingName, DataRing, VarRing, after_seals, blob_len, place_seals, refusal_of, put_seals, put_record, table_seals, flushed, lose}
+use Rattle.fl_model.specs.Table.{RingName, DataRing, VarRing, after_seals, fill_seals, with_record, refusal_of, put_record, table_seals, flushed, lose}
 use Rattle.fl_model.specs.Spline.{voids_of}
-use Rattle.fl_model.specs.Work.{Kind, Device, PartEnd, Whole, CutIn, FailedIn, PartProgress}
+use Rattle.fl_model.specs.Work.{Device, PartEnd, Whole, CutIn, FailedIn, PartProgress}
 use Rattle.fl_model.specs.Within.{TablePerforms, seals_within, TableMounted, TableStopped, TableUnread, TableMounts}
-use Rattle.fl_model.specs.Mount.{rings_of, ready, blob_end}
+use Rattle.fl_model.specs.Mount.{Of, rings_of, ready, blob_end}
+use Rattle.fl_model.specs.Puts.{TablePuts}
 use Rattle.fl_table.specs.declared.table.Table.{Table}
 use Rattle.fl_table.specs.declared.faults.PutRefusal.{PutRefusal}
 use Rattle.fl_table.specs.declared.faults.PutRefusal.TheVariants as put
@@ -23,14 +24,17 @@ use Rattle.fl_table.specs.declared.mount.FoundRows.{FoundRows}
 use Rattle.fl_model.specs.Facts.{IsTable}
 use Rattle.fl_table.specs.Bitmaps.{Stand}
 use Rattle.fl_table.specs.Memory.{IsPlanned, HoldsInMemory}
-use Rattle.fl_table.specs.Blobs.{table_with}
 use Rattle.fl_table.specs.Pages.{KeptStand, Rests}
 use Rattle.fl_table.specs.Standing.{Stands}
 
+-- how the seals of these rings may go, one after another
+abbrev pub BySeals : Plan → List RingName → model.Table → Bool → Device → PartProgress model.Table → Type 0
+BySeals plan rings table rose device now = TablePerforms plan rose (seals_within plan rings table) device table now
+
 -- The operations of a call were all done, and it left this table.
-pub record Finishes {KNOTS SLOTS : ℕ} (first : ℕ) (plan : Plan) (operations : List (RingName × Kind)) (table after : model.Table) (rose : Bool) (device : Device) (t : Table KNOTS SLOTS) (old new : FlashState) : Type 0 where
+pub record Finishes {KNOTS SLOTS : ℕ} (first : ℕ) (plan : Plan) (Did : PartProgress model.Table → Type 0) (table after : model.Table) (t : Table KNOTS SLOTS) (old new : FlashState) : Type 0 where
   pub now : PartProgress model.Table
-  pub did : TablePerforms plan rose operations device table now
+  pub did : Did now
   pub whole : now.end ≡ Whole
   pub counts : SameDevice new now.device
   pub power : new.is_on ≡ true
@@ -44,9 +48,9 @@ FaultEnds (CutIn before) fault new = (fault ≡ PowerLost) × (new.is_on ≡ fal
 FaultEnds (FailedIn before) fault new = (fault ≡ Media) × (new.is_on ≡ true)
 
 -- One of the operations failed. The table is stopped, and the flash stands for what is left without what was in memory.
-pub record Breaks (first : ℕ) (plan : Plan) (operations : List (RingName × Kind)) (table : model.Table) (rose : Bool) (device : Device) (fault : FlashFault) (new : FlashState) : Type 0 where
+pub record Breaks (first : ℕ) (plan : Plan) (Did : PartProgress model.Table → Type 0) (fault : FlashFault) (new : FlashState) : Type 0 where
   pub now : PartProgress model.Table
-  pub did : TablePerforms plan rose operations device table now
+  pub did : Did now
   pub answer : FaultEnds now.end fault new
   pub counts : SameDevice new now.device
   pub rests : Rests new first plan (lose now.state)
@@ -54,22 +58,24 @@ pub record Breaks (first : ℕ) (plan : Plan) (operations : List (RingName × Ki
 -- the seals of these rings, one after another
 abbrev pub SealsEnd : {KNOTS SLOTS : ℕ} → ℕ → Plan → List RingName → model.Table → Bool → Device → Result (Unit {0}) FlashFault → Table KNOTS SLOTS → FlashState → FlashState → Type 0
 SealsEnd first plan rings table rose device (Ok done) t old new =
-    Finishes first plan (seals_within plan rings table) table (after_seals plan rings table) rose device t old new
-SealsEnd first plan rings table rose device (Err fault) t old new = Breaks first plan (seals_within plan rings table) table rose device fault new
+    Finishes first plan (BySeals plan rings table rose device) table (after_seals plan rings table) t old new
+SealsEnd first plan rings table rose device (Err fault) t old new = Breaks first plan (BySeals plan rings table rose device) fault new
 
--- the blob of a record was placed, where it has one, and the record joined the table
+-- the record joined the table, and the pages that its blob fills were sealed
 abbrev pub JoinEnds : {KNOTS SLOTS : ℕ} → ℕ → Plan → Record → model.Table → Bool → Device → Result (Unit {0}) FlashFault → Table KNOTS SLOTS → FlashState → FlashState → Type 0
 JoinEnds first plan item table rose device (Ok done) t old new =
-    Finishes first plan (seals_within plan (place_seals plan (blob_len item) table) table) table (table_with plan item table) rose device t old new
-JoinEnds first plan item table rose device (Err fault) t old new = Breaks first plan (seals_within plan (place_seals plan (blob_len item) table) table) table rose device fault new
+    let joined = with_record plan item table in
+    Finishes first plan (BySeals plan (fill_seals plan joined) joined rose device) table (after_seals plan (fill_seals plan joined) joined) t old new
+JoinEnds first plan item table rose device (Err fault) t old new =
+    let joined = with_record plan item table in Breaks first plan (BySeals plan (fill_seals plan joined) joined rose device) fault new
 
 -- a put of an accepted record, by the refusal that it answers
 abbrev pub PutEnds : {KNOTS SLOTS : ℕ} → ℕ → Plan → Record → model.Table → Bool → Device → Result (Unit {0}) PutRefusal → Table KNOTS SLOTS → FlashState → FlashState → Type 0
 PutEnds first plan item table rose device (Ok done) t old new =
     (refusal_of plan table item ≡ None)
-    × Finishes first plan (seals_within plan (put_seals plan item table) table) table (put_record plan item table) rose device t old new
+    × Finishes first plan (TablePuts plan rose item device table) table (put_record plan item table) t old new
 PutEnds first plan item table rose device (Err (put.Flash fault)) t old new =
-    (refusal_of plan table item ≡ None) × Breaks first plan (seals_within plan (put_seals plan item table) table) table rose device fault new
+    (refusal_of plan table item ≡ None) × Breaks first plan (TablePuts plan rose item device table) fault new
 PutEnds first plan item table rose device (Err (put.Key last)) t old new = refusal_of plan table item ≡ Some (model.BadKey last)
 PutEnds first plan item table rose device (Err (put.Columns wanted)) t old new = refusal_of plan table item ≡ Some (model.BadColumns wanted)
 PutEnds first plan item table rose device (Err (put.Value column)) t old new = refusal_of plan table item ≡ Some (model.BadValue column)
@@ -80,9 +86,9 @@ PutEnds first plan item table rose device (Err put.Stopped) t old new = ⊥
 -- a flush
 abbrev pub FlushEnds : {KNOTS SLOTS : ℕ} → ℕ → Plan → model.Table → Bool → Device → Result (Unit {0}) FlushFault → Table KNOTS SLOTS → FlashState → FlashState → Type 0
 FlushEnds first plan table rose device (Ok done) t old new =
-    Finishes first plan (seals_within plan (table_seals plan table) table) table (flushed plan table) rose device t old new
+    Finishes first plan (BySeals plan (table_seals plan table) table rose device) table (flushed plan table) t old new
 FlushEnds first plan table rose device (Err (flush.Flash fault)) t old new =
-    Breaks first plan (seals_within plan (table_seals plan table) table) table rose device fault new
+    Breaks first plan (BySeals plan (table_seals plan table) table rose device) fault new
 FlushEnds first plan table rose device (Err flush.Stopped) t old new = ⊥
 
 -- what a mount answers of the table that it leaves: the records, the kept data pages, and the void ones among these
@@ -92,7 +98,7 @@ mounted_of table = record { rows = length table.entries; pages = length table.ro
 -- A mount that ended well: the table is ready.
 pub record MountsWell {KNOTS SLOTS : ℕ} (first : ℕ) (plan : Plan) (rings : List RingName) (table : model.Table) (rose : Bool) (device : Device) (mounted : Mounted) (t : Table KNOTS SLOTS) (new : FlashState) : Type 0 where
   pub now : PartProgress model.Table
-  pub did : TableMounts plan rose rings device table (TableMounted now)
+  pub did : TableMounts plan rose (map (λ ring. Of ring) rings) device table (TableMounted now)
   pub counts : SameDevice new now.device
   pub power : new.is_on ≡ true
   pub stands : Stands t new first plan (ready plan now.state)
@@ -101,15 +107,15 @@ pub record MountsWell {KNOTS SLOTS : ℕ} (first : ℕ) (plan : Plan) (rings : L
 -- It failed in an operation of a repair, or in a read: what was repaired until then stays.
 pub record MountsBadly (first : ℕ) (plan : Plan) (rings : List RingName) (table : model.Table) (rose : Bool) (device : Device) (fault : FlashFault) (new : FlashState) : Type 0 where
   pub now : PartProgress model.Table
-  pub did : (TableMounts plan rose rings device table (TableStopped now) × FaultEnds now.end fault new)
-      ⊎ (TableMounts plan rose rings device table (TableUnread now) × (fault ≡ Media))
+  pub did : (TableMounts plan rose (map (λ ring. Of ring) rings) device table (TableStopped now) × FaultEnds now.end fault new)
+      ⊎ (TableMounts plan rose (map (λ ring. Of ring) rings) device table (TableUnread now) × (fault ≡ Media))
   pub counts : SameDevice new now.device
   pub rests : Rests new first plan now.state
 
 -- The data ring was mounted and its pages were read: this is known of the table then, whose variable data aren't mounted.
 pub record DataWell {KNOTS SLOTS : ℕ} (first : ℕ) (plan : Plan) (table : model.Table) (rose : Bool) (device : Device) (found : FoundRows) (t : Table KNOTS SLOTS) (new : FlashState) : Type 0 where
   pub now : PartProgress model.Table
-  pub did : TableMounts plan rose (DataRing ∷ []) device table (TableMounted now)
+  pub did : TableMounts plan rose (Of DataRing ∷ []) device table (TableMounted now)
   pub counts : SameDevice new now.device
   pub power : new.is_on ≡ true
   pub rests : Rests new first plan now.state

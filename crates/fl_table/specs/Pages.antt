@@ -1,12 +1,11 @@
 -- The pages of a table on a flash, and the state of the model that they stand for.
-use Rattle.std.specs.Prelude.{◌≡◌, ℕ, ◌+◌, ◌*◌, ◌%◌, ◌<◌, true, Some, IfSome, List, length, slice_get}
+use Rattle.std.specs.Prelude.{◌≡◌, ℕ, ◌+◌, ◌*◌, ◌%◌, Some, IfSome, List}
 use Rattle.fl_flash.specs.Flash.{FlashState, page_at}
 use Rattle.fl_model.specs.Record.{Plan}
-use Rattle.fl_model.specs.Table.{Table, Entry, RingName, DataRing, IndexRing, VarRing, shape_of}
-use Rattle.fl_model.specs.Query.{page_stands}
+use Rattle.fl_model.specs.Table.{Table, RingName, DataRing, IndexRing, VarRing, LogRing, shape_of}
 use Rattle.fl_model.specs.Facts.{IsSettled}
 use Rattle.fl_model.specs.Ring.{Ring}
-use Rattle.fl_model.specs.Image.{IsRingImage, HoldsRows, HoldsBitmaps, HoldsContent, HoldsBlob}
+use Rattle.fl_model.specs.Image.{IsRingImage, HoldsRows, HoldsEntries, HoldsContent}
 use Rattle.fl_ring.specs.Kept.{PagesStand}
 
 -- the first block of a ring, where the blocks of its table begin at `first`
@@ -14,6 +13,7 @@ abbrev pub ring_begin : ℕ → Plan → RingName → ℕ
 ring_begin first plan DataRing = first
 ring_begin first plan IndexRing = first + plan.data_blocks
 ring_begin first plan VarRing = first + plan.data_blocks + plan.index_blocks
+ring_begin first plan LogRing = first + plan.data_blocks + plan.index_blocks + plan.var_blocks
 
 -- the flash page at which a page number stands
 abbrev pub place_in : ℕ → Plan → RingName → ℕ → ℕ
@@ -24,13 +24,11 @@ place_in first plan ring number =
 abbrev pub bytes_in : (ℕ → List ℕ) → ℕ → Plan → RingName → ℕ → List ℕ
 bytes_in page first plan ring number = page (place_in first plan ring number)
 
--- the pages of a table's rings, and the blobs that aren't gone
+-- the pages of a table's rings; it has no log
 pub record HoldsTable (page : ℕ → List ℕ) (first : ℕ) (plan : Plan) (table : Table) : Type 0 where
   pub rows : IsRingImage (shape_of plan DataRing) table.rows (bytes_in page first plan DataRing) (HoldsRows plan table)
-  pub index : IfSome table.index (λ ring. IsRingImage (shape_of plan IndexRing) ring (bytes_in page first plan IndexRing) (HoldsBitmaps plan table ring))
-  pub var : IfSome table.var (λ ring. IsRingImage (shape_of plan VarRing) ring (bytes_in page first plan VarRing) (HoldsContent plan ring))
-  pub blobs : IfSome table.var (λ ring. (i : ℕ) (entry : Entry) (blob : List ℕ) → slice_get table.entries i ≡ Some entry → entry.kept.blob ≡ Some blob → 0 < length blob →
-      page_stands ring entry.page ≡ true → HoldsBlob plan ring (bytes_in page first plan VarRing) entry blob)
+  pub index : IfSome table.index (λ ring. IsRingImage (shape_of plan IndexRing) ring (bytes_in page first plan IndexRing) (HoldsEntries plan table ring))
+  pub var : IfSome table.var (λ ring. IsRingImage (shape_of plan VarRing) ring (bytes_in page first plan VarRing) (HoldsContent table ring))
 
 -- a flash stands for a table that isn't mounted
 pub record Rests (f : FlashState) (first : ℕ) (plan : Plan) (table : Table) : Type 0 where

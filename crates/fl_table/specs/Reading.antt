@@ -1,15 +1,15 @@
 -- What a mount reads in the kept pages, over any bytes.
-use Rattle.std.specs.Prelude.{◌≡◌, ◌⊎◌, ℕ, zero, suc, ◌+◌, ◌-◌, ◌%◌, ◌<◌, ◌≤◌, Bool, true, nat_lt, ◌==◌, Option, Some, None, option_map, unwrap_or, List, [], ◌∷◌, ◌++◌, length, take, drop, slice_get, slice_index, if◌then◌else◌}
+use Rattle.std.specs.Prelude.{◌≡◌, ◌⊎◌, ℕ, zero, suc, ◌+◌, ◌-◌, ◌%◌, ◌<◌, ◌≤◌, Bool, true, false, nat_lt, ◌==◌, Option, Some, None, option_map, unwrap_or, List, [], ◌∷◌, ◌++◌, length, map, take, drop, slice_index, if◌then◌else◌}
 use Rattle.fl_find.specs.Pages.{first_key, rows_on}
 use Rattle.fl_flash.specs.Flash.{FlashState, page_at}
 use Rattle.fl_mark.specs.Mark.{state_of_page}
 use Rattle.fl_mark.specs.declared.page_state.PageState.{PageState}
 use Rattle.fl_mark.specs.declared.page_state.PageState.TheVariants.{Blank, Torn, Committed, Void}
 use Rattle.fl_index.specs.declared.index.Index.{Index}
-use Rattle.fl_index.specs.Memory.{first_waiting, waiting_in, per_page}
+use Rattle.fl_index.specs.Memory.{first_waiting, waiting_in, form_in, per_page}
 use Rattle.fl_index.specs.Standing.{Waits}
-use Rattle.fl_model.specs.Image.{rows_at}
-use Rattle.fl_model.specs.Layout.{bitmap_of}
+use Rattle.fl_model.specs.Layout.{IndexEntry, bitmap_of, index_entry}
+use Rattle.fl_model.specs.Limits.{numbers_from, rows_of_page}
 use Rattle.fl_model.specs.Record.{Plan, RowLayout}
 use Rattle.fl_model.specs.Ring.{oldest as model_oldest}
 use Rattle.fl_model.specs.Row.{Row, number_of}
@@ -113,23 +113,28 @@ bitmap_where Void bitmap = 0
 abbrev pub bitmap_on : List ℕ → ℕ
 bitmap_on page = bitmap_where (state_of_page page) (page_bitmap page)
 
--- no bitmap waits, and those of the pages from one of these on are to wait, which have room
+-- no entry waits, and those of the pages from one of these on are to wait, which have room
 abbrev pub WaitFor : Option Index → ℕ → ℕ → Type 0
 WaitFor None oldest next = Unit {0}
 WaitFor (Some index) oldest next =
     (waiting_in index ≡ 0) × (oldest ≤ first_waiting index) × (first_waiting index ≤ next) × (next ≤ first_waiting index + per_page index)
 
--- the pages of a ring have the bitmaps of a table's rows
+-- the kept pages of a ring have the bitmaps of a table's rows
 abbrev pub HaveBitmaps : Plan → model.Table → (ℕ → List ℕ) → Type 0
 HaveBitmaps plan table page =
-    (n rows : ℕ) → slice_get table.rows.counts n ≡ Some rows → 0 < rows → bitmap_on (page (model_oldest table.rows + n)) ≡ bitmap_of plan (rows_at table n rows)
+    (number : ℕ) → model_oldest table.rows ≤ number → number < table.rows.next → bitmap_on (page number) ≡ bitmap_of plan (rows_of_page table number)
 
--- the bitmaps of the pages before a number wait then
+-- the entries of so many pages from one on
+abbrev pub entries_from : Plan → model.Table → ℕ → ℕ → List IndexEntry
+entries_from plan table first count = map (λ number. index_entry plan (rows_of_page table number)) (numbers_from first count)
+
+-- the entries of the pages before a number wait then, where entries are bitmaps alone
 abbrev pub GatherUpTo : Option Index → (ℕ → List ℕ) → ℕ → Option Index → Type 0
 GatherUpTo None page next new = new ≡ None
 GatherUpTo (Some old) page next None = ⊥
 GatherUpTo (Some old) page next (Some new) =
-    (plan : Plan) (table : model.Table) → Waits old plan table (first_waiting old) 0 → HaveBitmaps plan table page → Waits new plan table (first_waiting old) (next - first_waiting old)
+    (plan : Plan) (table : model.Table) → (form_in old).full ≡ false → Waits old (first_waiting old) [] → HaveBitmaps plan table page →
+    model_oldest table.rows ≤ first_waiting old → next ≤ table.rows.next → Waits new (first_waiting old) (entries_from plan table (first_waiting old) (next - first_waiting old))
 
 -- .. as many as there are from the first that waits on
 abbrev pub AreGathered : Option Index → ℕ → Option Index → Type 0

@@ -21,7 +21,7 @@ pub record Stands {KNOTS SLOTS : ℕ} (t : Table KNOTS SLOTS) (f : FlashState) (
   -- pending rows are in memory alone
   pub pages : HoldsTable (page_at f) first plan (lose table)
   pub memory : InMemory t plan table
-  -- the index ring, and the bitmaps that wait
+  -- the index ring, and the entries that wait
   pub bitmaps : Stand t.bitmaps f (first + plan.data_blocks) plan table
   -- the ring of variable data, and the bytes that wait
   pub blobs : variable.Stand t.blobs f (first + plan.data_blocks + plan.index_blocks) plan table

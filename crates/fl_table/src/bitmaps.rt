@@ -1,5 +1,5 @@
 // The index of a table, where it has one.
-ghost use Rattle.std.specs.Prelude.{◌≡◌, ◌+◌, ◌*◌, ◌^◌, ◌<◌, ◌≤◌, ℕ, Bool, None, Ok, Err, true, false, length, IsTrue, IfOk, IfErr, OnOk, OnErr};
+ghost use Rattle.std.specs.Prelude.{◌≡◌, ◌+◌, ◌*◌, ◌^◌, ◌<◌, ◌≤◌, ℕ, Bool, None, [], Ok, Err, true, false, length, IsTrue, IfOk, IfErr, OnOk, OnErr};
 ghost use Rattle.fl_flash.specs.Flash.{Goes, page_at};
 ghost use Rattle.fl_model.specs.Record.{Plan};
 ghost use Rattle.fl_model.specs.Table as model;
@@ -10,8 +10,15 @@ ghost use Rattle.fl_table.specs.Causes.{OffFailsAs};
 ghost use Rattle.fl_table.specs.Mounting.{FewReads, FewRepairs, FindsBitmaps, RefusesBitmaps};
 
 use fl_flash::{Flash, FlashFault, PageBuf};
-use fl_index::Index;
+use fl_index::{Full, Index};
 use fl_ring::RingFault;
+
+/// What an entry tells beside its bitmap, where entries are bitmaps alone.
+const NOTHING: Full = Full {
+    first_key: 0,
+    count: 0,
+    blob_end: 0,
+};
 
 /// Mounts the index. It answers the number after the data pages that it lists, where it lists any.
 pub(crate) fn mount_bitmaps<F: Flash>(
@@ -45,7 +52,7 @@ pub(crate) fn mount_bitmaps<F: Flash>(
     }
 }
 
-/// The first data page whose bitmap waits after a mount that found these pages: those wait that the index doesn't list,
+/// The first data page whose entry waits after a mount that found these pages: those wait that the index doesn't list,
 /// as many of the last ones as an index page holds.
 pub(crate) fn first_to_wait(bitmaps: &Option<Index>, end: u32, oldest: u32, next: u32) -> u32
     requires end { end ≤ next }
@@ -58,14 +65,14 @@ pub(crate) fn first_to_wait(bitmaps: &Option<Index>, end: u32, oldest: u32, next
     }
 }
 
-/// The bitmap of this data page is the first that waits.
+/// The entry of this data page is the first that waits.
 pub(crate) fn restart(bitmaps: &mut Option<Index>, first: u32)
     requires idle { AreIdle bitmaps.old }
     ensures same { AreSamePlan bitmaps.old bitmaps.new }
     ensures still { AreSameRing bitmaps.old bitmaps.new }
     ensures idle { AreIdle bitmaps.new }
     ensures next { EndAt bitmaps.new first }
-    ensures waits { (plan : Plan) → (table : model.Table) → AreWaiting bitmaps.new plan table first 0 }
+    ensures waits { AreWaiting bitmaps.new first [] }
 {
     match bitmaps {
         Some(index) => index.restart(first),
@@ -73,7 +80,7 @@ pub(crate) fn restart(bitmaps: &mut Option<Index>, first: u32)
     }
 }
 
-/// The bitmap of this data page waits behind the others, where it is the next one to wait.
+/// The entry of this data page, a bitmap alone, waits behind the others, where it is the next one to wait.
 pub(crate) fn note_bitmap(bitmaps: &mut Option<Index>, number: u32, bitmap: u64)
     requires room { EndAt bitmaps.old number → HaveRoom bitmaps.old }
     requires left { number + 1 < 2 ^ 32 }
@@ -82,12 +89,12 @@ pub(crate) fn note_bitmap(bitmaps: &mut Option<Index>, number: u32, bitmap: u64)
     ensures noted { AreNoted bitmaps.old number bitmap bitmaps.new }
 {
     match bitmaps {
-        Some(index) if index.next_page() == number => index.note(bitmap),
+        Some(index) if index.next_page() == number => index.note(bitmap, NOTHING),
         _ => {}
     }
 }
 
-/// Seals the waiting bitmaps where they fill an index page.
+/// Seals the waiting entries where they fill an index page.
 pub(crate) fn make_room<F: Flash>(
     bitmaps: &mut Option<Index>,
     flash: &mut F,

@@ -51,7 +51,7 @@ fn bitmaps_of(alloc: Global, config: &TableConfig) -> Result<Option<Index>, fl_b
     let (Some(place), Some(buckets)) = (config.index, config.buckets) else {
         return Ok(None);
     };
-    let index = Index::plan(alloc, config.geometry, place, buckets.bits)?;
+    let index = Index::plan(alloc, config.geometry, place, buckets.bits, false)?;
     Ok(Some(index))
 }
 

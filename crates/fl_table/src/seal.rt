@@ -20,7 +20,7 @@ impl<const KNOTS: usize, const SLOTS: usize> Table<KNOTS, SLOTS> {
     ghost use Rattle.fl_table.specs.Standing.{Stands};
     ghost use Rattle.fl_table.specs.Bitmaps.{HaveRoom, bitmap_seals, next_of as index_next, rings_of};
     ghost use Rattle.fl_table.specs.Blobs as variable;
-    ghost use Rattle.fl_table.specs.Blobs.{AreEmpty, blob_seals};
+    ghost use Rattle.fl_table.specs.Blobs.{AreEmpty, rest_seals};
     ghost use Rattle.fl_table.specs.Causes.{OffFailsAs};
     ghost use Rattle.fl_table.specs.Mounting.{OutsideStands, rings_in};
     ghost use Rattle.fl_table.specs.Outcomes.{SealsEnd};
@@ -97,7 +97,7 @@ impl<const KNOTS: usize, const SLOTS: usize> Table<KNOTS, SLOTS> {
         ensures same { IsSamePlan self.old self.new }
         ensures lies { LiesOn self.new (F.state flash.new) }
         ensures ends { (first : ℕ) → (plan : Plan) → (table : model.Table) → (rose : Bool) → (device : Device) → IsWatched (F.state flash.old) (F.state flash.new) rose device
-            → Stands self.old (F.state flash.old) first plan table → SealsEnd first plan (blob_seals table) table rose device result self.new (F.state flash.old) (F.state flash.new) }
+            → Stands self.old (F.state flash.old) first plan table → SealsEnd first plan (rest_seals table) table rose device result self.new (F.state flash.old) (F.state flash.new) }
         ensures empty { OnOk result (AreEmpty self.new.blobs) }
         ensures some { self.new.writer.count ≡ self.old.writer.count }
         ensures bitmaps { self.new.bitmaps ≡ self.old.bitmaps }

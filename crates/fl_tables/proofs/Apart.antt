@@ -1,5 +1,5 @@
 -- A table whose rings stand beside the one that a call changes.
-use Rattle.std.proofs.Common.{◌≡◌, ℕ, zero, suc, ◌+◌, ◌*◌, ◌%◌, ◌<◌, ◌≤◌, ◌⊎◌, Bool, true, false, inl, inr, Option, None, Some, IfSome, List, [], ◌∷◌, length, take, refl, sym, ◌∙◌, ap, subst, arith}
+use Rattle.std.proofs.Common.{◌≡◌, ℕ, zero, suc, ◌+◌, ◌*◌, ◌%◌, ◌<◌, ◌≤◌, ◌⊎◌, Bool, true, false, inl, inr, Option, None, Some, IfSome, List, [], ◌∷◌, take, refl, sym, ◌∙◌, ap, subst, arith}
 use Rattle.std.specs.Prelude.{MatchBool}
 use Rattle.std.proofs.Math.Path.{fun_ext}
 use Rattle.std.proofs.Math.Nat.{mod-lt, mul-le-mul_right, add-mul}
@@ -12,9 +12,8 @@ use Rattle.fl_index.specs.declared.index.Index.{Index}
 use Rattle.fl_index.specs.Memory as memory
 use Rattle.fl_index.proofs.Sealings.{planned-ring as index-ring}
 use Rattle.fl_index.proofs.State.{shape_in as index_shape}
-use Rattle.fl_model.specs.Facts.{is_some_ring}
-use Rattle.fl_model.specs.Image.{IsRingImage, HoldsRows, HoldsBitmaps, HoldsBlob, HoldsContent}
-use Rattle.fl_model.specs.Query.{page_stands}
+use Rattle.fl_model.specs.Facts.{IsTable, is_some_ring}
+use Rattle.fl_model.specs.Image.{IsRingImage, HoldsRows, HoldsEntries, HoldsContent}
 use Rattle.fl_model.specs.Record.{Plan, blocks_of, has_index, has_var}
 use Rattle.fl_model.specs.Ring.{Ring, IsShape}
 use Rattle.fl_model.specs.Table as model
@@ -29,8 +28,7 @@ use Rattle.fl_table.specs.Standing.{Stands}
 use Rattle.fl_table.specs.declared.table.Table.{Table}
 use Rattle.fl_table.proofs.Blobbing as blobbing
 use Rattle.fl_table.proofs.Indexing.{planned-some, stand-moved}
-use Rattle.fl_table.proofs.Moved.{keeps-same}
-use Rattle.fl_table.proofs.Plain.{IsPlainTable, plain-lose, table-parts}
+use Rattle.fl_table.proofs.Plain.{IsPlainTable, plain-lose, table-facts, table-parts}
 use Rattle.fl_table.proofs.SealAnswers.{planned-shape, planned-ring}
 use Rattle.fl_table.proofs.States.{shape_in}
 use Rattle.fl_var.specs.Memory.{var_shape}
@@ -107,42 +105,33 @@ some-pages b p x y = let k : 1 * p ≤ b * p = mul-le-mul_right p x in omega (ar
 module _ (f g : FlashState) (first : ℕ) (plan : Plan) (same-rows : (n : ℕ) → page_at g (place_in first plan DataRing n) ≡ page_at f (place_in first plan DataRing n))
     (same-index : has_index plan ≡ true → (n : ℕ) → page_at g (place_in first plan IndexRing n) ≡ page_at f (place_in first plan IndexRing n))
     (same-var : has_var plan ≡ true → (n : ℕ) → page_at g (place_in first plan VarRing n) ≡ page_at f (place_in first plan VarRing n)) where
-  abbrev AreBlobs : model.Table → Ring → (ℕ → List ℕ) → Type 0
-  AreBlobs table ring at =
-      (i : ℕ) (entry : model.Entry) (blob : List ℕ) → slice_get table.entries i ≡ Some entry → entry.kept.blob ≡ Some blob → 0 < length blob → page_stands ring entry.page ≡ true → HoldsBlob plan ring at entry blob
-
-  holds-apart : (table : model.Table) → IsPlainTable plan table → HoldsTable (page_at f) first plan table → HoldsTable (page_at g) first plan table
+  holds-apart : (table : model.Table) → IsTable plan table → HoldsTable (page_at f) first plan table → HoldsTable (page_at g) first plan table
   holds-apart table facts h =
       record {
         rows = subst (λ (at : ℕ → List ℕ). IsRingImage (shape_of plan DataRing) table.rows at (HoldsRows plan table)) (sym (fun_ext (λ n. same-rows n))) h.rows;
-        index = by-index table.index facts.index.has h.index;
-        var = by-var table.var facts.blobs.has h.var;
-        blobs = by-blobs table.var facts.blobs.has h.blobs;
+        index = by-index table.index facts.has_rings.0 h.index;
+        var = by-var table.var facts.has_rings.1 h.var;
       }
     where
-      by-var : (o : Option Ring) → is_some_ring o ≡ has_var plan → IfSome o (λ ring. IsRingImage (shape_of plan VarRing) ring (bytes_in (page_at f) first plan VarRing) (HoldsContent plan ring)) →
-          IfSome o (λ ring. IsRingImage (shape_of plan VarRing) ring (bytes_in (page_at g) first plan VarRing) (HoldsContent plan ring))
+      by-var : (o : Option Ring) → is_some_ring o ≡ has_var plan → IfSome o (λ ring. IsRingImage (shape_of plan VarRing) ring (bytes_in (page_at f) first plan VarRing) (HoldsContent table ring)) →
+          IfSome o (λ ring. IsRingImage (shape_of plan VarRing) ring (bytes_in (page_at g) first plan VarRing) (HoldsContent table ring))
       by-var None has i = tt
-      by-var (Some ring) has i = subst (λ (at : ℕ → List ℕ). IsRingImage (shape_of plan VarRing) ring at (HoldsContent plan ring)) (sym (fun_ext (λ n. same-var (sym has) n))) i
+      by-var (Some ring) has i = subst (λ (at : ℕ → List ℕ). IsRingImage (shape_of plan VarRing) ring at (HoldsContent table ring)) (sym (fun_ext (λ n. same-var (sym has) n))) i
 
-      by-blobs : (o : Option Ring) → is_some_ring o ≡ has_var plan → IfSome o (λ ring. AreBlobs table ring (bytes_in (page_at f) first plan VarRing)) → IfSome o (λ ring. AreBlobs table ring (bytes_in (page_at g) first plan VarRing))
-      by-blobs None has b = tt
-      by-blobs (Some ring) has b = subst (λ (at : ℕ → List ℕ). AreBlobs table ring at) (sym (fun_ext (λ n. same-var (sym has) n))) b
-
-      by-index : (o : Option Ring) → is_some_ring o ≡ has_index plan → IfSome o (λ ring. IsRingImage (shape_of plan IndexRing) ring (bytes_in (page_at f) first plan IndexRing) (HoldsBitmaps plan table ring)) →
-          IfSome o (λ ring. IsRingImage (shape_of plan IndexRing) ring (bytes_in (page_at g) first plan IndexRing) (HoldsBitmaps plan table ring))
+      by-index : (o : Option Ring) → is_some_ring o ≡ has_index plan → IfSome o (λ ring. IsRingImage (shape_of plan IndexRing) ring (bytes_in (page_at f) first plan IndexRing) (HoldsEntries plan table ring)) →
+          IfSome o (λ ring. IsRingImage (shape_of plan IndexRing) ring (bytes_in (page_at g) first plan IndexRing) (HoldsEntries plan table ring))
       by-index None has i = tt
-      by-index (Some ring) has i = subst (λ (at : ℕ → List ℕ). IsRingImage (shape_of plan IndexRing) ring at (HoldsBitmaps plan table ring)) (sym (fun_ext (λ n. same-index (sym has) n))) i
+      by-index (Some ring) has i = subst (λ (at : ℕ → List ℕ). IsRingImage (shape_of plan IndexRing) ring at (HoldsEntries plan table ring)) (sym (fun_ext (λ n. same-index (sym has) n))) i
 
   stands-apart : (t : Table 64 64) (table : model.Table) → Stands t f first plan table → Stands t g first plan table
   stands-apart t table h =
-      let facts = table-parts plan table h.facts in
+      let facts = table-parts plan table (h.planned.full, h.planned.log) h.facts in
       record {
         planned = h.planned;
         facts = h.facts;
         whole = h.whole;
         clean = h.clean;
-        pages = holds-apart (lose table) (plain-lose plan table facts) h.pages;
+        pages = holds-apart (lose table) (table-facts plan (lose table) (plain-lose plan table facts)) h.pages;
         memory = h.memory;
         bitmaps = by-bitmaps t.bitmaps h.planned.index facts h.bitmaps;
         blobs = by-stand t.blobs h.planned.var h.blobs;
@@ -152,15 +141,15 @@ module _ (f g : FlashState) (first : ℕ) (plan : Plan) (same-rows : (n : ℕ) �
       by-bitmaps : (bitmaps : Option Index) → ArePlanned bitmaps (first + plan.data_blocks) plan → IsPlainTable plan table → Stand bitmaps f (first + plan.data_blocks) plan table → Stand bitmaps g (first + plan.data_blocks) plan table
       by-bitmaps None p facts s = s
       by-bitmaps (Some index) p facts s =
-          stand-moved (Some index) f g first plan table table (keeps-same table table refl refl refl) refl refl refl refl facts facts (same-index (planned-some index (first + plan.data_blocks) plan p)) s
+          stand-moved (Some index) f g first plan table table refl refl refl refl facts (same-index (planned-some index (first + plan.data_blocks) plan p)) s
 
       by-stand : (blobs : Option VarData) → variable.ArePlanned blobs (first + plan.data_blocks + plan.index_blocks) plan → variable.Stand blobs f (first + plan.data_blocks + plan.index_blocks) plan table → variable.Stand blobs g (first + plan.data_blocks + plan.index_blocks) plan table
       by-stand None p s = s
       by-stand (Some var) p s =
-          blobbing.stand-moved (Some var) f g first plan table table (same-var (blobbing.planned-some var (first + plan.data_blocks + plan.index_blocks) plan p)) refl refl refl refl s
+          blobbing.stand-moved (Some var) f g first plan table table (same-var (blobbing.planned-some var (first + plan.data_blocks + plan.index_blocks) plan p)) refl refl refl (λ i entry e. (i, e)) s
 
   rests-apart : (table : model.Table) → Rests f first plan table → Rests g first plan table
-  rests-apart table h = record { settled = h.settled; pages = holds-apart table (table-parts plan table h.settled.facts) h.pages }
+  rests-apart table h = record { settled = h.settled; pages = holds-apart table h.settled.facts h.pages }
 
 -- .. where all pages do
 pub stands-pages : (f g : FlashState) → page_at g ≡ page_at f → (t : Table 64 64) (first : ℕ) (plan : Plan) (table : model.Table) → Stands t f first plan table → Stands t g first plan table

@@ -4,18 +4,18 @@ use Rattle.std.specs.Prelude.{option_map}
 use Rattle.std.specs.List.{slice_get}
 use Rattle.std.proofs.lemmas.Bool.{cases_lt, lt-ltb, le-ltb}
 use Rattle.std.proofs.lemmas.Bool.Decides.{eqb_tells}
-use Rattle.std.proofs.lemmas.List.{drop_all}
+use Rattle.std.proofs.lemmas.List.{append-nil, drop_all}
 use Rattle.std.proofs.Math.Dec.{eqb}
 use Rattle.std.proofs.Math.Path.{fun_ext}
 use Rattle.std.proofs.lemmas.Option.{slice_get_within, slice_get_past}
 use Rattle.fl_flash.specs.Flash.{FlashState, Goes, page_at}
 use Rattle.fl_flash.specs.declared.flash.FlashFault.{FlashFault}
 use Rattle.fl_flash.specs.declared.flash.FlashFault.TheVariants.{Media}
-use Rattle.fl_model.specs.Mount.{Mounts, MountEnd, Mounted, Stopped, Unread, rings_from, rings_of, renumber, renumbered, at_least_of, ready}
-use Rattle.fl_model.specs.Record.{Plan}
+use Rattle.fl_model.specs.Mount.{Mounts, MountEnd, Mounted, Stopped, Unread, Turn, Of, Replay, turns_from, turns_of, rings_of, renumber, renumbered, at_least_of, ready}
+use Rattle.fl_model.specs.Record.{Plan, has_log}
 use Rattle.fl_model.specs.Ring.{Ring, erased}
 use Rattle.fl_model.specs.Table as model
-use Rattle.fl_model.specs.Table.{RingName, DataRing, IndexRing, VarRing, shape_of, lose, is_dirty, is_torn, seal_page, with_ring}
+use Rattle.fl_model.specs.Table.{RingName, DataRing, IndexRing, VarRing, LogRing, shape_of, lose, is_dirty, is_torn, seal_page, with_ring}
 use Rattle.fl_model.specs.Work.{VoidMark, Erase, Device, Finished, changed_at, PartEnd, Whole, CutIn, FailedIn, PartProgress}
 use Rattle.fl_model.specs.Within.{TableMounts, TableMountEnd, TableMounted, TableStopped, TableUnread, TableGoesOn, MountsAlong, repair_within, effect_within, all_done, with_table, progress_at, outcome_at}
 use Rattle.fl_model.proofs.Among.{changed-there, changed-elsewhere}
@@ -24,7 +24,7 @@ use Rattle.fl_model.proofs.Mounting.{mounts-along}
 use Rattle.fl_model.proofs.Performs.{performs-whole}
 use Rattle.fl_ring.specs.Device.{SameDevice}
 use Rattle.fl_table.specs.Mounting.{OutsideStands}
-use Rattle.fl_machine.specs.Step.{all_ready}
+use Rattle.fl_machine.specs.Step.{all_ready, made_ready}
 use Rattle.fl_table.specs.Memory.{IsSamePlan}
 use Rattle.fl_table.specs.Outcomes.{FaultEnds, MountsWell, MountsBadly, MountEnds}
 use Rattle.fl_table.specs.declared.faults.MountFault.{MountFault}
@@ -40,14 +40,16 @@ use Rattle.fl_tables.proofs.TablesChanged.{entry-off, some-is, AtPlace, at-place
 -- ---- a mount leaves nothing of a table in memory
 
 sealed-idle : (plan : Plan) (ring : RingName) (table : model.Table) → IsIdle table → IsIdle (seal_page plan ring 0 table)
-sealed-idle plan DataRing table idle = record { pending = idle.pending; fill = idle.fill; waiting = idle.waiting; points = idle.points }
-sealed-idle plan IndexRing table idle = record { pending = idle.pending; fill = idle.fill; waiting = idle.waiting; points = idle.points }
-sealed-idle plan VarRing table idle = record { pending = idle.pending; fill = idle.fill; waiting = idle.waiting; points = idle.points }
+sealed-idle plan DataRing table idle = record { pending = idle.pending; buffered = idle.buffered; waiting = idle.waiting; points = idle.points }
+sealed-idle plan IndexRing table idle = record { pending = idle.pending; buffered = idle.buffered; waiting = idle.waiting; points = idle.points }
+sealed-idle plan LogRing table idle = record { pending = idle.pending; buffered = idle.buffered; waiting = idle.waiting; points = idle.points }
+sealed-idle plan VarRing table idle = record { pending = idle.pending; buffered = idle.buffered; waiting = idle.waiting; points = idle.points }
 
 ring-idle : (ring : RingName) (change : Ring → Ring) (table : model.Table) → IsIdle table → IsIdle (with_ring ring change table)
-ring-idle DataRing change table idle = record { pending = idle.pending; fill = idle.fill; waiting = idle.waiting; points = idle.points }
-ring-idle IndexRing change table idle = record { pending = idle.pending; fill = idle.fill; waiting = idle.waiting; points = idle.points }
-ring-idle VarRing change table idle = record { pending = idle.pending; fill = idle.fill; waiting = idle.waiting; points = idle.points }
+ring-idle DataRing change table idle = record { pending = idle.pending; buffered = idle.buffered; waiting = idle.waiting; points = idle.points }
+ring-idle IndexRing change table idle = record { pending = idle.pending; buffered = idle.buffered; waiting = idle.waiting; points = idle.points }
+ring-idle LogRing change table idle = record { pending = idle.pending; buffered = idle.buffered; waiting = idle.waiting; points = idle.points }
+ring-idle VarRing change table idle = record { pending = idle.pending; buffered = idle.buffered; waiting = idle.waiting; points = idle.points }
 
 repaired-idle : (plan : Plan) (ring : RingName) (table : model.Table) → IsIdle table → IsIdle (all_done (effect_within plan) (repair_within plan ring table) table)
 repaired-idle plan ring table idle = by-torn (is_torn ring table)
@@ -65,7 +67,7 @@ state_in (TableMounted now) = now.state
 state_in (TableStopped now) = now.state
 state_in (TableUnread now) = now.state
 
-rings-idle : (plan : Plan) (rose : Bool) (rings : List RingName) (device : Device) (table : model.Table) (now : PartProgress model.Table) → IsIdle table → TableMounts plan rose rings device table (TableMounted now) → IsIdle now.state
+rings-idle : (plan : Plan) (rose : Bool) (rings : List RingName) (device : Device) (table : model.Table) (now : PartProgress model.Table) → IsIdle table → TableMounts plan rose (map (λ ring. Of ring) rings) device table (TableMounted now) → IsIdle now.state
 rings-idle plan rose [] device table now idle did = subst IsIdle (sym (ap state_in did)) idle
 rings-idle plan rose (ring ∷ rings) device table now idle (inl u) = absurd (no u.2)
   where
@@ -76,7 +78,7 @@ rings-idle plan rose (ring ∷ rings) device table now idle (inr p) = by-whole (
     numbered : model.Table
     numbered = renumber plan ring table
 
-    by-whole : (IsIdle p.0.state → TableMounts plan rose rings p.0.device p.0.state (TableMounted now) → IsIdle now.state) → (e : PartEnd model.Table) → p.0.end ≡ e → TableGoesOn e p.0 (TableMounted now) (TableMounts plan rose rings p.0.device p.0.state (TableMounted now)) → IsIdle now.state
+    by-whole : (IsIdle p.0.state → TableMounts plan rose (map (λ ring. Of ring) rings) p.0.device p.0.state (TableMounted now) → IsIdle now.state) → (e : PartEnd model.Table) → p.0.end ≡ e → TableGoesOn e p.0 (TableMounted now) (TableMounts plan rose (map (λ ring. Of ring) rings) p.0.device p.0.state (TableMounted now)) → IsIdle now.state
     by-whole others Whole e goes =
         let state_is = (performs-whole (λ operation. operation.1) (effect_within plan) rose (repair_within plan ring numbered) device numbered p.0 p.1 e).0 in
         let repaired = repaired-idle plan ring numbered (ring-idle ring (renumbered (shape_of plan ring) (at_least_of plan ring table)) table idle) in
@@ -90,8 +92,22 @@ rings-idle plan rose (ring ∷ rings) device table now idle (inr p) = by-whole (
         no : TableMounted now ≡ TableStopped p.0 → ⊥
         no k = cc
 
-mounted-idle : (plan : Plan) (rose : Bool) (device : Device) (table : model.Table) (now : PartProgress model.Table) → table ≡ lose table → TableMounts plan rose (rings_of plan) device table (TableMounted now) → now.state ≡ lose now.state
+mounted-idle : (plan : Plan) (rose : Bool) (device : Device) (table : model.Table) (now : PartProgress model.Table) → table ≡ lose table → TableMounts plan rose (map (λ ring. Of ring) (rings_of plan)) device table (TableMounted now) → now.state ≡ lose now.state
 mounted-idle plan rose device table now lost did = idle-lost now.state (rings-idle plan rose (rings_of plan) device table now (lost-idle table lost) did)
+
+-- ---- a table without a log has no turns but those of its rings, and is made ready once they are mounted
+
+abbrev of_rings : Plan → List Turn
+of_rings plan = map (λ ring. Of ring) (rings_of plan)
+
+no-log : (plan : Plan) → plan.log_blocks ≡ 0 → has_log plan ≡ false
+no-log plan none = ap (λ (n : ℕ). nat_lt 0 n) none
+
+turns-bare : (plan : Plan) → plan.log_blocks ≡ 0 → turns_of plan ≡ of_rings plan
+turns-bare plan none = ap (λ (b : Bool). of_rings plan ++ (if b then Of LogRing ∷ Replay ∷ [] else [])) (no-log plan none) ∙ append-nil (of_rings plan)
+
+made-bare : (plan : Plan) (table : model.Table) → plan.log_blocks ≡ 0 → made_ready plan table ≡ ready plan table
+made-bare plan table none = ap (λ (b : Bool). if b then table else ready plan table) (no-log plan none)
 
 -- ---- the first of the tables were mounted
 
@@ -110,7 +126,7 @@ pub record MountedSoFar (plans : List Plan) (start : List model.Table) (rose : B
   pub all : length tables ≡ length plans
   pub shows : (i : ℕ) (plan : Plan) (table : model.Table) → slice_get plans i ≡ Some plan → slice_get tables i ≡ Some table → slice_get shown i ≡ Some (shown_so k i plan table)
   pub idle : (i : ℕ) (table : model.Table) → slice_get tables i ≡ Some table → table ≡ lose table
-  pub whole : (how : MountEnd) → Mounts plans rose (rings_from k (drop k plans)) now tables how → Mounts plans rose (rings_from 0 plans) device start how
+  pub whole : (how : MountEnd) → Mounts plans rose (turns_from k (drop k plans)) now tables how → Mounts plans rose (turns_from 0 plans) device start how
 
 pub mounted-none : (plans : List Plan) (start : List model.Table) (rose : Bool) (device : Device) (entries : List Entry) (f : FlashState) → SameDevice f device → f.is_on ≡ true → TablesStand f (λ i. false) plans entries start →
     MountedSoFar plans start rose device 0 entries f
@@ -159,8 +175,10 @@ module _ (plans : List Plan) (start : List model.Table) (rose : Bool) (device : 
   lost : was ≡ lose was
   lost = so_far.idle k was was_is
 
-  rings : rings_from k (drop k plans) ≡ map (λ ring. (k, ring)) (rings_of own.plan) ++ rings_from (k + 1) (drop (k + 1) plans)
-  rings = ap (λ (ps : List Plan). rings_from k ps) (drop-at plans k own.plan own.plan_is ∙ ap (λ n. own.plan ∷ drop n plans) (let e : suc k ≡ k + 1 = omega arith in e))
+  turns : turns_from k (drop k plans) ≡ map (λ turn. (k, turn)) (of_rings own.plan) ++ turns_from (k + 1) (drop (k + 1) plans)
+  turns =
+      ap (λ (ps : List Plan). turns_from k ps) (drop-at plans k own.plan own.plan_is ∙ ap (λ n. own.plan ∷ drop n plans) (let e : suc k ≡ k + 1 = omega arith in e))
+      ∙ ap (λ (ts : List Turn). map (λ turn. (k, turn)) ts ++ turns_from (k + 1) (drop (k + 1) plans)) (turns-bare own.plan stood.planned.log)
     where
       drop-at : (ps : List Plan) (n : ℕ) (plan : Plan) → slice_get ps n ≡ Some plan → drop n ps ≡ plan ∷ drop (suc n) ps
       drop-at [] n plan e = absurd (none e)
@@ -171,11 +189,11 @@ module _ (plans : List Plan) (start : List model.Table) (rose : Bool) (device : 
       drop-at (p ∷ ps) (suc n) plan e = drop-at ps n plan e
 
   -- what it mounts
-  along : (how : TableMountEnd) → TableMounts own.plan rose (rings_of own.plan) so_far.now was how → MountsAlong plans rose k (rings_of own.plan) (rings_from (k + 1) (drop (k + 1) plans)) so_far.now so_far.tables how
-  along how did = mounts-along plans own.plan k rose (rings_of own.plan) (rings_from (k + 1) (drop (k + 1) plans)) so_far.now so_far.tables was how own.plan_is was_is did
+  along : (how : TableMountEnd) → TableMounts own.plan rose (of_rings own.plan) so_far.now was how → MountsAlong plans rose k (of_rings own.plan) (turns_from (k + 1) (drop (k + 1) plans)) so_far.now so_far.tables how
+  along how did = mounts-along plans own.plan k rose (of_rings own.plan) (turns_from (k + 1) (drop (k + 1) plans)) so_far.now so_far.tables was how own.plan_is was_is did
 
-  ended : (how : MountEnd) → Mounts plans rose (map (λ ring. (k, ring)) (rings_of own.plan) ++ rings_from (k + 1) (drop (k + 1) plans)) so_far.now so_far.tables how → Mounts plans rose (rings_from 0 plans) device start how
-  ended how m = so_far.whole how (subst (λ rs. Mounts plans rose rs so_far.now so_far.tables how) (sym rings) m)
+  ended : (how : MountEnd) → Mounts plans rose (map (λ turn. (k, turn)) (of_rings own.plan) ++ turns_from (k + 1) (drop (k + 1) plans)) so_far.now so_far.tables how → Mounts plans rose (turns_from 0 plans) device start how
+  ended how m = so_far.whole how (subst (λ rs. Mounts plans rose rs so_far.now so_far.tables how) (sym turns) m)
 
   abbrev now_there : Entry
   now_there = record { name = entry.name; table = u }
@@ -275,9 +293,9 @@ module _ (plans : List Plan) (start : List model.Table) (rose : Bool) (device : 
       fault-is (CutIn before) h = h.0
       fault-is (FailedIn before) h = h.0
 
-      by-how : (TableMounts own.plan rose (rings_of own.plan) so_far.now was (TableStopped b.now) × FaultEnds b.now.end fault g) ⊎ (TableMounts own.plan rose (rings_of own.plan) so_far.now was (TableUnread b.now) × (fault ≡ Media)) →
-          (Mounts plans rose (rings_from 0 plans) device start (Stopped (progress_at k so_far.tables b.now)) × FaultIs (outcome_at k so_far.tables b.now.end) fault)
-          ⊎ (Mounts plans rose (rings_from 0 plans) device start (Unread (progress_at k so_far.tables b.now)) × (fault ≡ Media))
+      by-how : (TableMounts own.plan rose (of_rings own.plan) so_far.now was (TableStopped b.now) × FaultEnds b.now.end fault g) ⊎ (TableMounts own.plan rose (of_rings own.plan) so_far.now was (TableUnread b.now) × (fault ≡ Media)) →
+          (Mounts plans rose (turns_from 0 plans) device start (Stopped (progress_at k so_far.tables b.now)) × FaultIs (outcome_at k so_far.tables b.now.end) fault)
+          ⊎ (Mounts plans rose (turns_from 0 plans) device start (Unread (progress_at k so_far.tables b.now)) × (fault ≡ Media))
       by-how (inl h) = inl (ended (Stopped (progress_at k so_far.tables b.now)) (along (TableStopped b.now) h.0), fault-is b.now.end h.1)
       by-how (inr h) = inr (ended (Unread (progress_at k so_far.tables b.now)) (along (TableUnread b.now) h.0), h.1)
 
@@ -290,7 +308,7 @@ module _ (plans : List Plan) (start : List model.Table) (rose : Bool) (device : 
   mounted-err (mount.BadBlob page next) h = absurd h
 
 -- all were mounted
-all-ready-at : (plans : List Plan) (tables : List model.Table) (i : ℕ) (plan : Plan) (table : model.Table) → slice_get plans i ≡ Some plan → slice_get tables i ≡ Some table → slice_get (all_ready plans tables) i ≡ Some (ready plan table)
+all-ready-at : (plans : List Plan) (tables : List model.Table) (i : ℕ) (plan : Plan) (table : model.Table) → slice_get plans i ≡ Some plan → slice_get tables i ≡ Some table → slice_get (all_ready plans tables) i ≡ Some (made_ready plan table)
 all-ready-at [] tables i plan table p t = absurd (none p)
   where
     none : None ≡ Some plan → ⊥
@@ -302,7 +320,7 @@ all-ready-at (q ∷ plans) [] i plan table p t = absurd (none t)
 all-ready-at (q ∷ plans) (y ∷ tables) zero plan table p t =
     let plan_is : q ≡ plan = cc in
     let table_is : y ≡ table = cc in
-    ap (λ x. Some (ready x y)) plan_is ∙ ap (λ x. Some (ready plan x)) table_is
+    ap (λ x. Some (made_ready x y)) plan_is ∙ ap (λ x. Some (made_ready plan x)) table_is
 all-ready-at (q ∷ plans) (y ∷ tables) (suc i) plan table p t = all-ready-at plans tables i plan table p t
 
 length-ready : (plans : List Plan) (tables : List model.Table) → length tables ≡ length plans → length (all_ready plans tables) ≡ length plans
@@ -315,7 +333,7 @@ mounted-all plans start rose device k entries f is so_far = record {
   end = record { outcome = Finished; device = so_far.now; tables = so_far.tables };
   whole = refl;
   did = so_far.whole (Mounted (record { outcome = Finished; device = so_far.now; tables = so_far.tables }))
-      (subst (λ (ps : List Plan). Mounts plans rose (rings_from k ps) so_far.now so_far.tables (Mounted (record { outcome = Finished; device = so_far.now; tables = so_far.tables }))) (sym (drop_all k plans (omega (arith, is, so_far.stand.as_many)))) refl);
+      (subst (λ (ps : List Plan). Mounts plans rose (turns_from k ps) so_far.now so_far.tables (Mounted (record { outcome = Finished; device = so_far.now; tables = so_far.tables }))) (sym (drop_all k plans (omega (arith, is, so_far.stand.as_many)))) refl);
   counts = so_far.counts;
   power = so_far.power;
   stand = record {
@@ -329,7 +347,7 @@ mounted-all plans start rose device k entries f is so_far = record {
     each i plan entry x p e t =
         let lt : i < k = omega (arith, slice_get_within entries i entry e, is) in
         let table = slice_get-some so_far.tables i (omega (arith, slice_get_within plans i plan p, so_far.all)) in
-        let x_is : ready plan table.0 ≡ x = some-is (slice_get (all_ready plans so_far.tables) i) (ready plan table.0) x (all-ready-at plans so_far.tables i plan table.0 p table.1) t in
         let shown : slice_get so_far.shown i ≡ Some (ready plan table.0) = so_far.shows i plan table.0 p table.1 ∙ ap (λ (b : Bool). Some (if b then ready plan table.0 else table.0)) (lt-ltb i k lt) in
-        subst (λ y. EntryStands entry f true (first_of plans i) plan y) x_is
-        (subst (λ b. EntryStands entry f b (first_of plans i) plan (ready plan table.0)) (lt-ltb i k lt) (so_far.stand.each i plan entry (ready plan table.0) p e shown))
+        let stands = subst (λ b. EntryStands entry f b (first_of plans i) plan (ready plan table.0)) (lt-ltb i k lt) (so_far.stand.each i plan entry (ready plan table.0) p e shown) in
+        let there = all-ready-at plans so_far.tables i plan table.0 p table.1 ∙ ap (λ y. Some y) (made-bare plan table.0 stands.planned.log) in
+        subst (λ y. EntryStands entry f true (first_of plans i) plan y) (some-is (slice_get (all_ready plans so_far.tables) i) (ready plan table.0) x there t) stands

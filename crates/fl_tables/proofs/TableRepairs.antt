@@ -99,7 +99,7 @@ table-found t u first plan old new mounted planned told geometry h =
     (mul-le-mul_right block (omega arith)) (mul-le-mul_right block (omega arith)) index.1 pages.1 in
     let all = repairs-then plan.geometry.page (first * block) ((first + plan.data_blocks + plan.index_blocks) * block) ((first + plan.data_blocks + plan.index_blocks + plan.var_blocks) * block) (page_at old) (page_at rows.between) (page_at new)
     (mul-le-mul_right block (omega arith)) (mul-le-mul_right block (omega arith)) both var.1 in
-    let end : first + plan.data_blocks + plan.index_blocks + plan.var_blocks ≡ first + blocks_of plan = omega arith in
+    let end : first + plan.data_blocks + plan.index_blocks + plan.var_blocks ≡ first + blocks_of plan = omega (arith, planned.log) in
     (goes_more old rows.between new goes var.0, subst (λ (n : ℕ). Repairs plan.geometry.page (first * block) (n * block) (page_at old) (page_at new)) end all)
 
 -- the pages of the first tables are repaired, and all others stand

@@ -3,10 +3,9 @@ use Rattle.std.specs.Prelude.{◌≡◌, ℕ, ◌+◌, ◌^◌, ◌<◌, ◌≤�
 use Rattle.fl_flash.specs.Flash.{FlashState, pages}
 use Rattle.fl_flash.specs.declared.flash.FlashFault.{FlashFault}
 use Rattle.fl_flash.specs.declared.flash.FlashFault.TheVariants.{PowerLost, Media}
-use Rattle.fl_model.specs.Mount.{Mounts, Mounted, Stopped, Unread, rings_from}
+use Rattle.fl_model.specs.Mount.{Mounts, Mounted, Stopped, Unread, turns_from}
 use Rattle.fl_model.specs.Record.{Plan, blocks_of}
 use Rattle.fl_model.specs.Table as model
-use Rattle.fl_model.specs.Table.{lose}
 use Rattle.fl_model.specs.Work.{Device, Progress, Outcome, Finished, CutShort, Failed}
 use Rattle.fl_base.specs.Causes.{Rose}
 use Rattle.fl_ring.specs.Device.{SameDevice}
@@ -99,7 +98,7 @@ pub record TablesStand (f : FlashState) (mounted : ℕ → Bool) (plans : List P
 pub record TablesMounted (plans : List Plan) (tables : List model.Table) (rose : Bool) (device : Device) (entries : List Entry) (new : FlashState) : Type 0 where
   pub end : Progress
   pub whole : end.outcome ≡ Finished
-  pub did : Mounts plans rose (rings_from 0 plans) device tables (Mounted end)
+  pub did : Mounts plans rose (turns_from 0 plans) device tables (Mounted end)
   pub counts : SameDevice new end.device
   pub power : new.is_on ≡ true
   pub stand : TablesStand new (λ i. true) plans entries (all_ready plans end.tables)
@@ -113,8 +112,8 @@ FaultIs (Failed before) fault = fault ≡ Media
 -- an operation of a repair failed, or a read: what was repaired until then stays
 pub record TablesBroken (plans : List Plan) (tables : List model.Table) (rose : Bool) (device : Device) (fault : FlashFault) (entries : List Entry) (new : FlashState) : Type 0 where
   pub end : Progress
-  pub did : (Mounts plans rose (rings_from 0 plans) device tables (Stopped end) × FaultIs end.outcome fault)
-      ⊎ (Mounts plans rose (rings_from 0 plans) device tables (Unread end) × (fault ≡ Media))
+  pub did : (Mounts plans rose (turns_from 0 plans) device tables (Stopped end) × FaultIs end.outcome fault)
+      ⊎ (Mounts plans rose (turns_from 0 plans) device tables (Unread end) × (fault ≡ Media))
   pub counts : SameDevice new end.device
   pub rest : TablesStand new (λ i. false) plans entries end.tables
 

@@ -1,11 +1,14 @@
 //! `flashts run IMAGE` runs the script on standard input over the image, and writes its replies on standard output.
 //! `flashts check IMAGE` tells there whether each table of the image is sound, `flashts map IMAGE` draws its pages, `flashts export
 //! IMAGE NAME LOW HIGH` writes the records of a table whose keys are in the range, `flashts salvage IMAGE NAME` those that a damaged
-//! image still holds, and `flashts import IMAGE NAME` puts those that standard input has into a table. `flashts help` tells the jobs.
+//! image still holds, and `flashts import IMAGE NAME` puts those that standard input has into a table. `flashts plan` tells what the
+//! tables of a configuration keep and take, without an image, and `flashts help` tells the jobs.
 #![tactic(auto)]
 
+ghost use Rattle.std.specs.Prelude.{◌≤◌, IfSome};
+
 use fl_base::{Sink, Source};
-use fl_command::{Ending, Exit, Help, reason_of, tool};
+use fl_command::{Ending, Exit, Help, plan, reason_of, tool};
 use fl_edge::{
     Access, FileMedia, ReplyBuffer, StandardDescriptors, StandardInput, StandardOutput, is_missing,
     remove_empty,
@@ -14,6 +17,7 @@ use fl_flash::Media;
 use fl_jobs::{ToolJob, tool_of};
 use fl_reason::{Tail, TailSource};
 use fl_session::{Status, image_of, run};
+use fl_sizing::{PlanJob, plan_of};
 use std::alloc::Global;
 use std::cell::RefCell;
 use std::env::Env;
@@ -80,6 +84,9 @@ fn ending_of<R: Alloc<A = Global> + Files<File = File> + Input + Print>(
     rt: &R,
     words: &[String],
 ) -> Ending {
+    if let Some(job) = plan_of(words) {
+        return plan_told(rt, job);
+    }
     let job = tool_of(words);
     let named = match job {
         Some(_) => Some(words[1].as_str()),
@@ -105,6 +112,23 @@ fn ending_of<R: Alloc<A = Global> + Files<File = File> + Input + Print>(
     if was_missing && media.len() == 0 {
         remove_empty(rt, image);
     }
+    Ending {
+        exit: ending.exit.behind(out.hand_out()),
+        ..ending
+    }
+}
+
+/// Plans the tables of the configuration on standard input. No file is opened.
+fn plan_told<R: Alloc<A = Global> + Input + Print>(rt: &R, job: PlanJob) -> Ending
+    requires { IfSome job.interval (λ seconds. seconds ≤ 1000000) }
+{
+    let Ok(replies) = ReplyBuffer::new(rt.alloc(), io::writer(rt)) else {
+        return Ending::of(Exit::Run(Status::NoMemory));
+    };
+    let replies = RefCell::new(replies);
+    let mut input = StandardInput::new(rt.reader(), &replies);
+    let mut out = StandardOutput::new(&replies);
+    let ending = plan(rt.alloc(), job, &mut input, &mut out);
     Ending {
         exit: ending.exit.behind(out.hand_out()),
         ..ending

@@ -4,7 +4,7 @@ ghost use Rattle.fl_index.specs.Memory.{is_running, LiesOn};
 
 use fl_base::{Geometry, NoMemory, RingPlace};
 use fl_flash::{Flash, FlashFault, MemMedia, PageBuf, SimFlash};
-use fl_index::Index;
+use fl_index::{Full, Index};
 use fl_page::ReadFault;
 use fl_ring::RingFault;
 use std::alloc::Global;
@@ -16,6 +16,13 @@ const GEOMETRY: Geometry = Geometry { page: 64, block: 2 };
 const PLACE: RingPlace = RingPlace {
     first_block: 0,
     blocks: 3,
+};
+
+// What an index of bitmaps alone doesn't tell.
+const UNTOLD: Full = Full {
+    first_key: 0,
+    count: 0,
+    blob_end: 0,
 };
 
 // What a lookup answers, and all reads of the flash so far.
@@ -33,7 +40,7 @@ fn push<F: Flash>(index: &mut Index, flash: &mut F, bitmap: u64) -> Result<(), F
         return Ok(());
     }
     index.make_room(flash)?;
-    index.note(bitmap);
+    index.note(bitmap, UNTOLD);
     Ok(())
 }
 
@@ -62,7 +69,7 @@ fn look_up<F: Flash>(
 fn see(alloc: Global, number: u32) -> Result<(Result<Found, RingFault>, PageBuf), NoMemory> {
     let mut media = MemMedia::new(alloc, vec![in alloc; 255; 384]?, 384)?;
     let mut buf = PageBuf::new(alloc, 64)?;
-    let mut index = Index::plan(alloc, GEOMETRY, PLACE, 64)?;
+    let mut index = Index::plan(alloc, GEOMETRY, PLACE, 64, false)?;
     let mut flash = SimFlash::new(alloc, &mut media, GEOMETRY, 3, 0)?;
     let found = look_up(&mut index, &mut flash, number, &mut buf);
     let _media = flash.into_media();

@@ -1,24 +1,25 @@
 -- A blob of an entry, where its bytes stand and where it is gone.
-use Rattle.std.proofs.Common.{◌≡◌, ℕ, zero, suc, ◌+◌, ◌-◌, ◌/◌, ◌%◌, ◌^◌, ◌<◌, ◌≤◌, Bool, true, false, cond, ◌==◌, ◌&&◌, Option, Some, unwrap_or, Result, Err, List, [], ◌∷◌, ◌++◌, length, take, drop, refl, sym, ◌∙◌, ap, subst, arith, inl, inr, ◌⊎◌, length-append}
+use Rattle.std.proofs.Common.{◌≡◌, ℕ, zero, suc, ◌+◌, ◌-◌, ◌*◌, ◌/◌, ◌%◌, ◌^◌, ◌<◌, ◌≤◌, Bool, true, false, cond, ◌==◌, ◌&&◌, Option, Some, None, unwrap_or, Result, Err, List, [], ◌∷◌, length, take, drop, refl, sym, ◌∙◌, ap, subst, arith, inl, inr, ◌⊎◌, length-take, length-drop}
 use Rattle.std.specs.Prelude.{option_map, nat_le}
 use Rattle.std.specs.List.{slice_get}
-use Rattle.std.proofs.lemmas.Bool.{cases_lt, le-leb, lt-leb, eq-eqb, ne_eqb}
-use Rattle.std.proofs.lemmas.List.{take-take, drop-take}
+use Rattle.std.proofs.lemmas.Bool.{cases_lt, lt-ltb, le-ltb, le-leb, lt-leb, eq-eqb, ne_eqb}
+use Rattle.std.proofs.lemmas.List.{take_all}
 use Rattle.std.proofs.lemmas.Nat.{div-add-mod'}
 use Rattle.fl_base.specs.declared.types.BlobRef.{BlobRef}
 use Rattle.fl_flash.specs.Flash.{FlashState, page_at}
 use Rattle.fl_mark.specs.Mark.{state_of_page}
 use Rattle.fl_mark.specs.declared.page_state.PageState.TheVariants.{Committed, Void}
 use Rattle.fl_mark.proofs.InModel.{model_state}
-use Rattle.fl_model.specs.Image.{HoldsBlob}
-use Rattle.fl_model.specs.Layout.{le}
+use Rattle.fl_model.specs.Agrees.{HoldsBlob}
+use Rattle.fl_model.specs.Content.{content_page}
+use Rattle.fl_model.specs.Facts.{IsContent}
+use Rattle.fl_model.specs.Layout.{ContentPage, content_body, committed}
 use Rattle.fl_model.specs.Query.{BlobState, Lost, Stands as StandsWith, page_stands, blob_in, blob_of}
 use Rattle.fl_model.specs.Record.{Plan, content_per_page}
-use Rattle.fl_model.specs.Ring.{Ring, oldest, extended}
-use Rattle.fl_model.specs.Row.{number_of}
+use Rattle.fl_model.specs.Ring.{Ring, oldest}
 use Rattle.fl_model.specs.Table as model
-use Rattle.fl_model.specs.Table.{Entry}
-use Rattle.fl_model.proofs.Lists.{slice_get-left, slice_get-short, slice_get-some, slice_get-drop, slice_get-take, each-at}
+use Rattle.fl_model.specs.Table.{Entry, full_pages}
+use Rattle.fl_model.proofs.Lists.{slice_get-short, slice_get-some, slice_get-drop, slice_get-take, each-at}
 use Rattle.fl_page.specs.Header.{page_count}
 use Rattle.fl_page.specs.declared.fault.BadPage.{BadPage}
 use Rattle.fl_page.specs.declared.fault.ReadFault.{ReadFault}
@@ -26,18 +27,16 @@ use Rattle.fl_page.specs.declared.fault.ReadFault.TheVariants as fault
 use Rattle.fl_ring.specs.Ring.{place}
 use Rattle.fl_ring.proofs.Found.{committed_state}
 use Rattle.fl_ring.proofs.Images.{committed_is}
-use Rattle.fl_schema.proofs.Numbers.{number_of-le}
 use Rattle.fl_var.specs.Blobs.{IsGone, contents_from, contents_in, bytes_of, IsWhole, IsBadFirst}
-use Rattle.fl_var.specs.Content.{HasContent}
-use Rattle.fl_var.specs.Memory.{next_in, room_in, page_in, image_in, var_shape}
-use Rattle.fl_var.specs.Placing.{HoldsBytes}
+use Rattle.fl_var.specs.Content.{page_with, content_of, HasContent}
+use Rattle.fl_var.specs.Memory.{next_in, waiting_in, room_in, page_in, image_in, var_shape}
 use Rattle.fl_var.specs.Reading.{IfBad, NoneBad, Finds}
 use Rattle.fl_var.specs.Standing.{Stands}
 use Rattle.fl_var.specs.declared.reader.BlobReader.{BlobReader}
 use Rattle.fl_var.specs.declared.var_data.VarData.{VarData}
-use Rattle.fl_var.proofs.PageImages.{image-other, next-has, next-count}
-use Rattle.fl_var.proofs.States.{page-committed}
-use Rattle.fl_var.proofs.Stored.{contents-at, same-front, content-at, content-size, place-within, place-last, place-lt}
+use Rattle.fl_var.proofs.Lists.{drop-none}
+use Rattle.fl_var.proofs.PageImages.{image-other, image-next, page-count, page-content, page-has, filled-length, waiting-room}
+use Rattle.fl_var.proofs.Stored.{contents-at, same-front, content-size, place-within, place-last, place-lt}
 
 -- what is told of an entry's blob
 module _ (table : model.Table) (ring : Ring) (entry : Entry) (bytes : List ℕ) (ring_is : table.var ≡ Some ring) (blob_is : entry.kept.blob ≡ Some bytes) where
@@ -78,9 +77,7 @@ module _ (v : VarData) (f : FlashState) (plan : Plan) (table : model.Table) (sta
   page-commits : (i : ℕ) → slice_get stands.ring.ring.counts i ≡ Some 1 → state_of_page (page_in v f (oldest stands.ring.ring + i)) ≡ Committed
   page-commits i e =
       let h = stands.ring.pages.image.kept i 1 e (omega arith) in
-      let n = oldest ring + i in
-      ap state_of_page (page-committed (page_in v f n) v.geometry.page (sizes n) h.marks ∙ committed_is (take (v.geometry.page - 8) (page_in v f n)))
-      ∙ committed_state (take (v.geometry.page - 8) (page_in v f n))
+      ap state_of_page (h.bytes ∙ committed_is (content_body (oldest ring + i) h.holds)) ∙ committed_state (content_body (oldest ring + i) h.holds)
 
   page-voids : (i : ℕ) → slice_get stands.ring.ring.counts i ≡ Some 0 → state_of_page (page_in v f (oldest stands.ring.ring + i)) ≡ Committed → ⊥
   page-voids i e k =
@@ -147,29 +144,9 @@ module _ (v : VarData) (f : FlashState) (plan : Plan) (table : model.Table) (sta
     ]
   ]
 
-  -- a kept page with a count has content
-  kept-has : (i : ℕ) → slice_get stands.ring.ring.counts i ≡ Some 1 → HasContent (oldest stands.ring.ring + i) (page_in v f (oldest stands.ring.ring + i))
-  kept-has i e =
-      let n = oldest ring + i in
-      let page = page_in v f n in
-      let h = stands.ring.pages.image.kept i 1 e (omega arith) in
-      let lt = slice_get-short ring.counts i 1 e in
-      let small : oldest stands.ring.ring + i < 2 ^ 32 = omega (arith, lt, known, stands.ring.pages.number) in
-      let few : h.used < 65536 = omega (arith, h.most, ap (λ g. g.page) stands.ring.planned.geometry, v.served.page_greatest) in
-      let number : take 4 (page_in v f (oldest stands.ring.ring + i)) ≡ le 4 (oldest stands.ring.ring + i) = sym (take-take 4 8 (page_in v f n) (omega arith)) ∙ ap (take 4) h.head in
-      let count : take 2 (drop 4 (page_in v f (oldest stands.ring.ring + i))) ≡ le 2 h.used =
-      sym (take-take 2 4 (drop 4 (page_in v f n)) (omega arith)) ∙ (ap (take 2) (sym (drop-take 4 4 (page_in v f n))) ∙ ap (λ (l : List ℕ). take 2 (drop 4 l)) h.head) in
-      let used : page_count (page_in v f (oldest stands.ring.ring + i)) ≡ h.used = ap number_of count ∙ number_of-le 2 h.used few in
-      record {
-        committed = page-commits i e;
-        number_is = ap number_of number ∙ number_of-le 4 (oldest ring + i) small;
-        some = omega (arith, used, h.some);
-        room = omega (arith, used, h.most, sizes n, ap (λ g. g.page) stands.ring.planned.geometry);
-      }
-
-  -- a blob whose bytes stand in the pages and in the buffer
-  module _ (at : BlobRef) (bytes : List ℕ) (some : 0 < length bytes) (len_is : at.length ≡ length bytes) (here : page_stands stands.ring.ring at.page ≡ true) (entry : Entry) (page_is : entry.page ≡ at.page) (offset_is : entry.offset ≡ at.offset)
-      (holds : HoldsBlob plan (extended 1 stands.ring.ring) (image_in v f) entry bytes) where
+  -- a blob whose bytes stand in the pages and among those that wait
+  module _ (at : BlobRef) (bytes : List ℕ) (some : 0 < length bytes) (len_is : at.length ≡ length bytes) (entry : Entry) (page_is : entry.page ≡ at.page) (offset_is : entry.offset ≡ at.offset)
+      (holds : HoldsBlob plan table stands.ring.ring entry bytes) where
     abbrev room : ℕ
     room = content_per_page plan
 
@@ -177,67 +154,127 @@ module _ (v : VarData) (f : FlashState) (plan : Plan) (table : model.Table) (sta
     last = (entry.offset + length bytes - 1) / content_per_page plan
 
     wide : 0 < content_per_page plan
-    wide = omega (arith, ap (λ g. g.page) stands.ring.planned.geometry, v.served.page_least)
+    wide = omega (arith, room-is, v.served.page_least)
 
-    old_is : oldest (extended 1 stands.ring.ring) ≡ oldest stands.ring.ring
-    old_is = omega (arith, length-append ring.counts (1 ∷ []), known)
-
-    short : (n : ℕ) → n ≤ content_per_page plan → n < 65536
-    short n most = omega (arith, most, ap (λ g. g.page) stands.ring.planned.geometry, v.served.page_greatest)
-
-    counted : (page : List ℕ) (used : ℕ) → used ≤ content_per_page plan → take 2 (drop 4 page) ≡ le 2 used → page_count page ≡ used
-    counted page used most head = ap number_of head ∙ number_of-le 2 used (short used most)
-
-    full : (j : ℕ) → j < last → page_count (image_in v f (entry.page + j)) ≡ content_per_page plan
-    full j lt = counted (image_in v f (entry.page + j)) (content_per_page plan) (omega arith) (holds.full j lt)
-
-    ends : page_count (image_in v f (entry.page + last)) ≡ holds.last
-    ends = counted (image_in v f (entry.page + last)) holds.last holds.last_most holds.last_head
-
-    some-count : (j : ℕ) → j ≤ last → 1 ≤ page_count (image_in v f (entry.page + j))
-    some-count j le = elim (cases_lt j last) [
-      | inl lt ↦ omega (arith, full j lt, wide)
+    some-used : (j : ℕ) → j ≤ last → 1 ≤ (holds.pages j).used
+    some-used j le = elim (cases_lt j last) [
+      | inl lt ↦ omega (arith, holds.full j lt, wide)
       | inr ge ↦
           let same : j ≡ (entry.offset + length bytes - 1) / content_per_page plan = omega (arith, ge, le) in
-          let count = ap (λ n. page_count (image_in v f (entry.page + n))) same in
-          omega (arith, count, ends, holds.ends)
+          let used = ap (λ n. (holds.pages n).used) same in
+          omega (arith, used, holds.ends)
     ]
 
-    within : (j : ℕ) → j ≤ last → entry.page + j ≤ stands.ring.ring.next
-    within j le =
-        let lt = slice_get-short (ring.counts ++ 1 ∷ []) (entry.page + j - oldest (extended 1 ring)) 1 (holds.all_kept j le) in
-        omega (arith, lt, length-append ring.counts (1 ∷ []), old_is, known)
+    -- a page of the blob, and its image
+    record IsPage (j : ℕ) : Type 0 where
+      within : entry.page + j ≤ stands.ring.ring.next
+      image : image_in v f (entry.page + j) ≡ committed (content_body (entry.page + j) (holds.pages j))
+      good : IsContent plan (holds.pages j)
 
-    after-oldest : entry.page < stands.ring.ring.next → oldest stands.ring.ring ≤ entry.page
-    after-oldest lt = elim (cases_lt entry.page (oldest ring)) [
-      | inl before ↦ absurd (no (sym (stands-behind entry.page before) ∙ (ap (page_stands ring) page_is ∙ here)))
-      | inr ge ↦ ge
+    some-is : {a b : ContentPage} → Some a ≡ Some b → a ≡ b
+    some-is k = cc
+
+    -- what a page before the next one has, where it stands, and what one from there on has
+    abbrev here : ℕ → Bool → Option ContentPage
+    here j b = cond b (slice_get table.var_pages (full_pages (take (entry.page + j - oldest stands.ring.ring) stands.ring.ring.counts))) None
+
+    abbrev ahead : ℕ → ContentPage
+    ahead j = content_page plan (take (content_per_page plan) (drop ((entry.page + j - stands.ring.ring.next) * content_per_page plan) table.buffered))
+
+    page-of : (j : ℕ) → j ≤ last → IsPage j
+    page-of j le = elim (cases_lt (entry.page + j) ring.next) [
+      | inl lt ↦ sealed lt (page_stands stands.ring.ring (entry.page + j)) refl (sym (ap (λ (b : Bool). cond b (here j (page_stands ring (entry.page + j))) (Some (ahead j))) (lt-ltb (entry.page + j) ring.next lt)) ∙ holds.there j le)
+      | inr ge ↦ waiting ge (some-is (sym (ap (λ (b : Bool). cond b (here j (page_stands ring (entry.page + j))) (Some (ahead j))) (le-ltb (entry.page + j) ring.next ge)) ∙ holds.there j le))
     ]
       where
+        none : ◌≡◌ {A = Option ContentPage} None (Some (holds.pages j)) → ⊥
+        none k = cc
+
         no : false ≡ true → ⊥
         no k = cc
 
+        -- a kept page
+        kept : entry.page + j < stands.ring.ring.next → oldest stands.ring.ring ≤ entry.page + j → slice_get stands.ring.ring.counts (entry.page + j - oldest stands.ring.ring) ≡ Some 1 →
+            slice_get table.var_pages (full_pages (take (entry.page + j - oldest stands.ring.ring) stands.ring.ring.counts)) ≡ Some (holds.pages j) → IsPage j
+        kept lt ge one e =
+            let i = entry.page + j - oldest ring in
+            let number : oldest stands.ring.ring + (entry.page + j - oldest stands.ring.ring) ≡ entry.page + j = omega (arith, ge) in
+            let h = stands.ring.pages.image.kept i 1 one (omega arith) in
+            let same : h.holds ≡ holds.pages j = some-is (sym h.is ∙ e) in
+            record {
+              within = omega (arith, lt);
+              image = image-other v f (entry.page + j) (λ k. omega (arith, k, lt, stands.ring.next))
+                  ∙ (ap (page_in v f) (sym number) ∙ (h.bytes ∙ (ap (λ n. committed (content_body n h.holds)) number ∙ ap (λ (p : ContentPage). committed (content_body (entry.page + j) p)) same)));
+              good = each-at (IsContent plan) table.var_pages (full_pages (take i ring.counts)) (holds.pages j) stands.ring.pages.fit e;
+            }
+
+        sealed : entry.page + j < stands.ring.ring.next → (b : Bool) → page_stands stands.ring.ring (entry.page + j) ≡ b → here j (page_stands stands.ring.ring (entry.page + j)) ≡ Some (holds.pages j) → IsPage j
+        sealed lt false k e = absurd (none (sym (ap (λ (b : Bool). here j b) k) ∙ e))
+        sealed lt true k e = elim (cases_lt (entry.page + j) (oldest ring)) [
+          | inl before ↦ absurd (no (sym (stands-behind (entry.page + j) before) ∙ k))
+          | inr ge ↦ elim (count-at (entry.page + j - oldest ring) (omega (arith, ge, lt, known))) [
+            | inl zero_is ↦ absurd (no (sym (stands-kept (entry.page + j) 0 lt ge zero_is) ∙ k))
+            | inr one ↦ kept lt ge one (sym (ap (λ (b : Bool). here j b) k) ∙ e)
+          ]
+        ]
+
+        -- the next page, or one behind it, for which no byte waits
+        waiting : stands.ring.ring.next ≤ entry.page + j → ahead j ≡ holds.pages j → IsPage j
+        waiting ge e =
+            let d = entry.page + j - ring.next in
+            let fill : length table.buffered ≡ length (waiting_in v) = ap length stands.buffered in
+            let used : (holds.pages j).used ≡ length (take (content_per_page plan) (drop ((entry.page + j - stands.ring.ring.next) * content_per_page plan) table.buffered)) = ap (λ (p : ContentPage). p.used) (sym e) in
+            let size = length-take (content_per_page plan) (drop (d * content_per_page plan) table.buffered) in
+            let rest = length-drop (d * content_per_page plan) table.buffered in
+            let first : entry.page + j - stands.ring.ring.next ≡ 0 = first_page d (omega (arith, used, size, rest, some-used j le, fill, waiting-room v, room-is)) in
+            let number : entry.page + j ≡ next_in v = omega (arith, first, ge, stands.ring.next) in
+            let bytes_are : take (content_per_page plan) (drop ((entry.page + j - stands.ring.ring.next) * content_per_page plan) table.buffered) ≡ waiting_in v =
+            ap (λ n. take (content_per_page plan) (drop (n * content_per_page plan) table.buffered)) first
+            ∙ (ap (take (content_per_page plan)) (ap (λ n. drop n table.buffered) (let z : 0 * content_per_page plan ≡ 0 = omega arith in z) ∙ drop-none table.buffered)
+            ∙ (take_all (content_per_page plan) table.buffered (omega (arith, fill, waiting-room v, room-is)) ∙ stands.buffered)) in
+            let page : page_with (room_in v) (waiting_in v) ≡ holds.pages j =
+            sym (ap (content_page plan) bytes_are ∙ ap (λ n. page_with n (waiting_in v)) (sym room-is)) ∙ e in
+            record {
+              within = omega (arith, first, ge);
+              image = image-next v f (entry.page + j) number ∙ ap (λ (p : ContentPage). committed (content_body (entry.page + j) p)) page;
+              good = record {
+                some = some-used j le;
+                most = omega (arith, ap (λ (p : ContentPage). p.used) page, waiting-room v, room-is);
+                length = ap (λ (p : ContentPage). length p.bytes) (sym page) ∙ (filled-length (room_in v) (waiting_in v) (waiting-room v) ∙ room-is);
+              };
+            }
+          where
+            -- no page behind the next one has bytes
+            first_page : (d : ℕ) → d * content_per_page plan < content_per_page plan → d ≡ 0
+            first_page zero lt = refl
+            first_page (suc d) lt = let more : suc d * content_per_page plan ≡ d * content_per_page plan + content_per_page plan = omega arith in absurd (omega (arith, more, lt))
+
+    small : (j : ℕ) → j ≤ last → entry.page + j < 2 ^ 32
+    small j le = let within = (page-of j le).within in omega (arith, within, stands.ring.pages.number)
+
+    few : (j : ℕ) → j ≤ last → (holds.pages j).used < 65536
+    few j le = let most = (page-of j le).good.most in omega (arith, most, room-is, v.served.page_greatest)
+
+    fits : (j : ℕ) → j ≤ last → (holds.pages j).used ≤ length (holds.pages j).bytes
+    fits j le = let good = (page-of j le).good in omega (arith, good.most, good.length)
+
+    count : (j : ℕ) (le : j ≤ last) → page_count (image_in v f (entry.page + j)) ≡ (holds.pages j).used
+    count j le = ap page_count (page-of j le).image ∙ page-count (entry.page + j) (holds.pages j) (small j le) (few j le)
+
+    content : (j : ℕ) (le : j ≤ last) → content_of (image_in v f (entry.page + j)) ≡ take (holds.pages j).used (holds.pages j).bytes
+    content j le = ap content_of (page-of j le).image ∙ page-content (entry.page + j) (holds.pages j) (small j le) (few j le) (fits j le)
+
+    full : (j : ℕ) → j < last → page_count (image_in v f (entry.page + j)) ≡ content_per_page plan
+    full j lt = count j (omega (arith, lt)) ∙ holds.full j lt
+
     has : (j : ℕ) → j ≤ last → HasContent (entry.page + j) (image_in v f (entry.page + j))
-    has j le = elim (cases_lt (entry.page + j) ring.next) [
-      | inl lt ↦
-          let low = after-oldest (omega (arith, lt)) in
-          let i = entry.page + j - oldest ring in
-          let at_i : oldest stands.ring.ring + (entry.page + j - oldest stands.ring.ring) ≡ entry.page + j = omega (arith, low) in
-          let one : slice_get stands.ring.ring.counts (entry.page + j - oldest stands.ring.ring) ≡ Some 1 =
-          sym (slice_get-left ring.counts (1 ∷ []) (entry.page + j - oldest ring) (omega (arith, lt, low, known))) ∙ (ap (λ n. slice_get (ring.counts ++ 1 ∷ []) (entry.page + j - n)) (sym old_is) ∙ holds.all_kept j le) in
-          subst (HasContent (entry.page + j)) (sym (image-other v f (entry.page + j) (λ e. omega (arith, e, lt, stands.ring.next))))
-          (subst (λ n. HasContent n (page_in v f n)) at_i (kept-has (entry.page + j - oldest ring) one))
-      | inr ge ↦
-          let next : entry.page + j ≡ next_in v = omega (arith, ge, within j le, stands.ring.next) in
-          let small : entry.page + j < 2 ^ 32 = omega (arith, next, stands.ring.next, stands.ring.pages.number) in
-          next-has v f (entry.page + j) small next (omega (arith, some-count j le, next-count v f (entry.page + j) small next))
-    ]
+    has j le = subst (HasContent (entry.page + j)) (sym (page-of j le).image) (page-has (entry.page + j) (holds.pages j) (small j le) (few j le) (some-used j le) (fits j le))
 
     whole-here : IsWhole (image_in v f) (next_in v) (content_per_page plan) entry.page entry.offset (length bytes)
     whole-here = record {
-      good = λ j le. (omega (arith, within j le, stands.ring.next), has j le);
+      good = λ j le. let within = (page-of j le).within in (omega (arith, within, stands.ring.next), has j le);
       full = λ j lt. full j lt;
-      ends = omega (arith, ends, holds.ends, div-add-mod' (entry.offset + length bytes - 1) (content_per_page plan), some);
+      ends = omega (arith, count last (omega arith), holds.ends, div-add-mod' (entry.offset + length bytes - 1) (content_per_page plan), some);
     }
 
     pub blob-whole : IsWhole (image_in v f) (next_in v) (room_in v) at.page at.offset at.length
@@ -249,9 +286,9 @@ module _ (v : VarData) (f : FlashState) (plan : Plan) (table : model.Table) (sta
 
     pub first-within : at.offset < page_count (image_in v f at.page)
     first-within =
-        let used = counted (image_in v f entry.page) holds.used holds.most holds.head in
-        let page = ap (λ n. page_count (image_in v f n)) page_is in
-        omega (arith, used, page, holds.within, offset_is)
+        let page : entry.page + 0 ≡ at.page = omega (arith, page_is) in
+        let first = ap (λ n. page_count (image_in v f n)) (sym page) ∙ count 0 (omega arith) in
+        omega (arith, first, holds.within, offset_is)
 
     abbrev C : List ℕ
     C = contents_from (image_in v f) entry.page (next_in v + 1 - entry.page)
@@ -271,20 +308,21 @@ module _ (v : VarData) (f : FlashState) (plan : Plan) (table : model.Table) (sta
             let q = (entry.offset + j) / content_per_page plan in
             let m = (entry.offset + j) % content_per_page plan in
             let le = place-within entry.offset (length bytes) j (content_per_page plan) wide lt in
-            let inside : (entry.offset + j) % content_per_page plan < page_count (image_in v f (entry.page + (entry.offset + j) / content_per_page plan)) = by_page (cases_lt q last) le lt in
-            let byte = content-at (image_in v f (entry.page + q)) m b inside (holds.stored j b e) in
-            let pages : (entry.offset + j) / content_per_page plan < next_in v + 1 - entry.page = omega (arith, within last (omega arith), stands.ring.next, le) in
+            let inside : (entry.offset + j) % content_per_page plan < (holds.pages ((entry.offset + j) / content_per_page plan)).used = by_page (cases_lt q last) le lt in
+            let byte = ap (λ (l : List ℕ). slice_get l m) (content q le) ∙ (slice_get-take (holds.pages q).used (holds.pages q).bytes m inside ∙ holds.stored j b e) in
+            let within = (page-of last (omega arith)).within in
+            let pages : (entry.offset + j) / content_per_page plan < next_in v + 1 - entry.page = omega (arith, within, stands.ring.next, le) in
             let found = contents-at (image_in v f) (content_per_page plan) q entry.page (next_in v + 1 - entry.page) m b
             (λ i less. content-size (image_in v f (entry.page + i)) (has i (omega (arith, less, le))).room ∙ full i (omega (arith, less, le))) pages byte in
             slice_get-take (length bytes) (drop entry.offset C) j lt ∙ (slice_get-drop entry.offset C j ∙ (ap (slice_get C) (sym (div-add-mod' (entry.offset + j) (content_per_page plan))) ∙ found))
           where
             by_page : ((entry.offset + j) / content_per_page plan < last) ⊎ (last ≤ (entry.offset + j) / content_per_page plan) → (entry.offset + j) / content_per_page plan ≤ last → j < length bytes →
-                (entry.offset + j) % content_per_page plan < page_count (image_in v f (entry.page + (entry.offset + j) / content_per_page plan))
-            by_page (inl less) le lt = omega (arith, full ((entry.offset + j) / content_per_page plan) less, place-lt (entry.offset + j) (content_per_page plan) wide)
+                (entry.offset + j) % content_per_page plan < (holds.pages ((entry.offset + j) / content_per_page plan)).used
+            by_page (inl less) le lt = omega (arith, holds.full ((entry.offset + j) / content_per_page plan) less, place-lt (entry.offset + j) (content_per_page plan) wide)
             by_page (inr ge) le lt =
                 let same : (entry.offset + j) / content_per_page plan ≡ (entry.offset + length bytes - 1) / content_per_page plan = omega (arith, ge, le) in
-                let count = ap (λ n. page_count (image_in v f (entry.page + n))) same in
-                omega (arith, count, ends, holds.ends, place-last entry.offset (length bytes) j (content_per_page plan) wide lt same)
+                let used = ap (λ n. (holds.pages n).used) same in
+                omega (arith, used, holds.ends, place-last entry.offset (length bytes) j (content_per_page plan) wide lt same)
 
     pub blob-bytes : bytes_of v f at ≡ bytes
     blob-bytes =
@@ -306,7 +344,7 @@ module _ (v : VarData) (f : FlashState) (plan : Plan) (table : model.Table) (sta
 -- an entry's blob that is opened
 module _ (v : VarData) (f : FlashState) (plan : Plan) (table : model.Table) (stands : Stands v f plan table) (sizes : (n : ℕ) → length (page_at f (place (var_shape v) n)) ≡ v.geometry.page)
     (at : BlobRef) (entry : Entry) (bytes : List ℕ) (blob_is : entry.kept.blob ≡ Some bytes) (at_is : at ≡ record { page = entry.page; offset = entry.offset; length = length bytes }) (some : 1 ≤ at.length)
-    (holds : (ring : Ring) → table.var ≡ Some ring → page_stands ring entry.page ≡ true → 0 < length bytes → HoldsBytes plan v f ring at bytes) where
+    (holds : (ring : Ring) → table.var ≡ Some ring → page_stands ring entry.page ≡ true → 0 < length bytes → HoldsBlob plan table ring entry bytes) where
   page_is : entry.page ≡ at.page
   page_is = ap (λ (a : BlobRef). a.page) (sym at_is)
 
@@ -319,8 +357,8 @@ module _ (v : VarData) (f : FlashState) (plan : Plan) (table : model.Table) (sta
   some_bytes : 0 < length bytes
   some_bytes = omega (arith, len_is, some)
 
-  held : page_stands stands.ring.ring at.page ≡ true → HoldsBlob plan (extended 1 stands.ring.ring) (image_in v f) entry bytes
-  held k = holds stands.ring.ring stands.ring.ring_is (ap (page_stands stands.ring.ring) page_is ∙ k) some_bytes entry page_is offset_is
+  held : page_stands stands.ring.ring at.page ≡ true → HoldsBlob plan table stands.ring.ring entry bytes
+  held k = holds stands.ring.ring stands.ring.ring_is (ap (page_stands stands.ring.ring) page_is ∙ k) some_bytes
 
   pub found-none : IsGone v f at → blob_of table entry ≡ Lost
   found-none gone = blob-lost table stands.ring.ring entry bytes stands.ring.ring_is blob_is some_bytes (ap (page_stands stands.ring.ring) page_is ∙ gone-lost v f plan table stands sizes at gone)
@@ -329,8 +367,8 @@ module _ (v : VarData) (f : FlashState) (plan : Plan) (table : model.Table) (sta
   found-some not_gone =
       let k = kept-stands v f plan table stands sizes at some not_gone in (
         blob-stands table stands.ring.ring entry bytes stands.ring.ring_is blob_is some_bytes (ap (page_stands stands.ring.ring) page_is ∙ k),
-        blob-bytes v f plan table stands sizes at bytes some_bytes len_is k entry page_is offset_is (held k),
-        blob-whole v f plan table stands sizes at bytes some_bytes len_is k entry page_is offset_is (held k),
+        blob-bytes v f plan table stands sizes at bytes some_bytes len_is entry page_is offset_is (held k),
+        blob-whole v f plan table stands sizes at bytes some_bytes len_is entry page_is offset_is (held k),
       )
 
   pub found-err : (result : Result (Option BlobReader) ReadFault) (e : ReadFault) → result ≡ Err e → IfBad (λ (bad : BadPage). (IsGone v f at → ⊥) × IsBadFirst v f at bad) e → Finds table entry bytes f result
@@ -340,4 +378,4 @@ module _ (v : VarData) (f : FlashState) (plan : Plan) (table : model.Table) (sta
       by_fault (fault.Flash x) h = tt
       by_fault (fault.BadPage b) h =
           let k = kept-stands v f plan table stands sizes at some h.0 in
-          first-good v f plan table stands sizes at bytes some_bytes len_is k entry page_is offset_is (held k) (fault.BadPage b) h
+          first-good v f plan table stands sizes at bytes some_bytes len_is entry page_is offset_is (held k) (fault.BadPage b) h

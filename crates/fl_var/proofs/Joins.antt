@@ -1,11 +1,13 @@
 -- Seals of the buffer, one after another.
-use Rattle.std.proofs.Common.{◌≡◌, ℕ, zero, suc, ◌+◌, Bool, true, Option, Some, unwrap_or, List, [], ◌∷◌, ◌++◌, replicate, refl, sym, ◌∙◌, ap, subst, arith, append_assoc, IsTrue}
+use Rattle.std.proofs.Common.{◌≡◌, ℕ, zero, suc, ◌+◌, ◌*◌, Bool, true, Option, Some, unwrap_or, List, [], ◌∷◌, ◌++◌, drop, replicate, refl, sym, ◌∙◌, ap, subst, arith, append_assoc, IsTrue}
 use Rattle.std.specs.Prelude.{option_map, is_some}
+use Rattle.std.proofs.lemmas.List.{drop-drop}
 use Rattle.fl_flash.specs.Flash.{FlashState, Goes, page_at}
 use Rattle.fl_flash.specs.declared.flash.FlashFault.{FlashFault}
-use Rattle.fl_model.specs.Record.{Plan}
+use Rattle.fl_model.specs.Record.{Record, Plan, content_per_page}
+use Rattle.fl_model.specs.Layout.{ContentPage}
 use Rattle.fl_model.specs.Ring.{Ring}
-use Rattle.fl_model.specs.Table.{Table, RingName, VarRing, after_seal, after_seals}
+use Rattle.fl_model.specs.Table.{Table, RingName, VarRing, after_seal, after_seals, with_record}
 use Rattle.fl_model.specs.Work.{Kind, Device, PartEnd, Whole, CutIn, FailedIn, PartProgress}
 use Rattle.fl_model.specs.Within.{seal_within, seals_within, effect_within, TablePerforms}
 use Rattle.fl_model.proofs.Among.{seals-all_done, after_seals-append}
@@ -22,8 +24,9 @@ use Rattle.fl_ring.specs.Mounting.{shape_at}
 use Rattle.fl_base.specs.declared.types.Geometry.{Geometry}
 use Rattle.fl_base.specs.declared.types.RingPlace.{RingPlace}
 use Rattle.fl_var.specs.Placing.{Seals, Breaks, FaultEnds}
-use Rattle.fl_var.specs.Standing.{IsVarRing, HasRing, KeepsPages}
+use Rattle.fl_var.specs.Standing.{IsVarRing, HasRing}
 use Rattle.fl_var.specs.declared.var_data.VarData.{VarData}
+use Rattle.fl_var.proofs.Lists.{drop-none}
 
 -- the operations of joined seals
 pub seals-append : (plan : Plan) (xs ys : List RingName) (table : Table) → seals_within plan (xs ++ ys) table ≡ seals_within plan xs table ++ seals_within plan ys (after_seals plan xs table)
@@ -31,18 +34,6 @@ seals-append plan [] ys table = refl
 seals-append plan (x ∷ xs) ys table =
     ap (λ l. seal_within plan x table ++ l) (seals-append plan xs ys (after_seal plan x table))
     ∙ sym (append_assoc (seal_within plan x table) (seals_within plan xs (after_seal plan x table)) (seals_within plan ys (after_seals plan xs (after_seal plan x table))))
-
-pub keeps-pages_same : (ring : Ring) (at : ℕ → List ℕ) → KeepsPages ring at ring at
-keeps-pages_same ring at = record { later = omega arith; further = omega arith; counts = λ n low high. refl; bytes = λ n low high one. refl }
-
-pub keeps-pages_then : (a b c : Ring) (x y z : ℕ → List ℕ) → KeepsPages a x b y → KeepsPages b y c z → KeepsPages a x c z
-keeps-pages_then a b c x y z first second = record {
-  later = omega (arith, first.later, second.later);
-  further = omega (arith, first.further, second.further);
-  counts = λ n low high. second.counts n low (omega (arith, high, first.further)) ∙ first.counts n (omega (arith, low, second.later)) high;
-  bytes = λ n low high one.
-      second.bytes n low (omega (arith, high, first.further)) (first.counts n (omega (arith, low, second.later)) high ∙ one) ∙ first.bytes n (omega (arith, low, second.later)) high one;
-}
 
 pub stands-same : (ring : Ring) (at : ℕ → List ℕ) → PagesStand ring at ring at
 stands-same ring at = record { later = omega arith; further = omega arith; bytes = λ n low high. refl }
@@ -68,7 +59,7 @@ has-refilled v w f plan table ring same has = record {
   mounted = ap is_some ring ∙ has.mounted;
   ring = has.ring;
   ring_is = has.ring_is;
-  pages = subst (λ (at : ℕ → List ℕ). IsVarRing plan has.ring at) (sym (same-pages_in v w f same)) has.pages;
+  pages = subst (λ (at : ℕ → List ℕ). IsVarRing plan table.var_pages has.ring at) (sym (same-pages_in v w f same)) has.pages;
   whole = has.whole;
   clean = has.clean;
   next = ap (λ (o : Option memory.Ring). unwrap_or (option_map (λ r. place_words.next_of r) o) 0) ring ∙ has.next;
@@ -83,8 +74,21 @@ seals-refilled plan xs table rose device old v w old_f f ring same s = record {
   counts = s.counts;
   power = s.power;
   has = has-refilled v w f plan (after_seals plan xs table) ring same s.has;
-  keeps = λ before e. subst (λ (at : ℕ → List ℕ). KeepsPages before (page_in old old_f) s.has.ring at) (sym (same-pages_in v w f same)) (s.keeps before e);
   stand = λ before e. subst (λ (at : ℕ → List ℕ). PagesStand before (page_in old old_f) s.has.ring at) (sym (same-pages_in v w f same)) (s.stand before e);
+}
+
+-- another table with the same ring and pages
+abbrev pub has-joined : (v : VarData) (f : FlashState) (plan : Plan) (item : Record) (table : Table) → HasRing v f plan table → HasRing v f plan (with_record plan item table)
+has-joined v f plan item table has = record {
+  planned = has.planned;
+  mounted = has.mounted;
+  ring = has.ring;
+  ring_is = has.ring_is;
+  pages = has.pages;
+  whole = has.whole;
+  clean = has.clean;
+  next = has.next;
+  oldest_is = has.oldest_is;
 }
 
 -- nothing was sealed
@@ -96,10 +100,6 @@ seals-none plan table rose device v w f ring same has watched = record {
   counts = watched.counts;
   power = watched.on;
   has = has-refilled v w f plan table ring same has;
-  keeps = λ before e.
-      let is : before ≡ has.ring = some_is before has.ring (sym e ∙ has.ring_is) in
-      subst (λ (x : Ring). KeepsPages x (page_in v f) has.ring (page_in w f)) (sym is)
-      (subst (λ (at : ℕ → List ℕ). KeepsPages has.ring (page_in v f) has.ring at) (sym (same-pages_in v w f same)) (keeps-pages_same has.ring (page_in v f)));
   stand = λ before e.
       let is : before ≡ has.ring = some_is before has.ring (sym e ∙ has.ring_is) in
       subst (λ (x : Ring). PagesStand x (page_in v f) has.ring (page_in w f)) (sym is)
@@ -131,17 +131,16 @@ module _ (plan : Plan) (xs ys : List RingName) (table : Table) (rose : Bool) (de
       mounted = b.has.mounted;
       ring = b.has.ring;
       ring_is = ap (λ (t : Table). t.var) (after_seals-append plan xs ys table) ∙ b.has.ring_is;
-      pages = b.has.pages;
+      pages = subst (λ (ps : List ContentPage). IsVarRing plan ps b.has.ring (page_in w g)) (sym (ap (λ (t : Table). t.var_pages) (after_seals-append plan xs ys table))) b.has.pages;
       whole = b.has.whole;
       clean = b.has.clean;
       next = b.has.next;
       oldest_is = b.has.oldest_is;
     };
-    keeps = λ before e. keeps-pages_then before a.has.ring b.has.ring (page_in old old_f) (page_in v f) (page_in w g) (a.keeps before e) (b.keeps a.has.ring a.has.ring_is);
     stand = λ before e. stands-then before a.has.ring b.has.ring (page_in old old_f) (page_in v f) (page_in w g) (a.stand before e) (b.stand a.has.ring a.has.ring_is);
   }
 
-  pub breaks-join : (fault : FlashFault) (g : FlashState) → IsSamePlan old v → Breaks plan ys (after_seals plan xs table) rose a.now.device fault v f g → Breaks plan (xs ++ ys) table rose device fault old old_f g
+  pub breaks-join : (fault : FlashFault) (g : FlashState) → IsSamePlan old v → Breaks plan ys (after_seals plan xs table) rose a.now.device fault v g → Breaks plan (xs ++ ys) table rose device fault old g
   breaks-join fault g same b =
       let at = same-pages_in old v g same in
       record {
@@ -151,14 +150,12 @@ module _ (plan : Plan) (xs ys : List RingName) (table : Table) (rose : Bool) (de
         counts = b.counts;
         ring = b.ring;
         ring_is = b.ring_is;
-        pages = subst (λ (pg : ℕ → List ℕ). IsVarRing plan b.ring pg) at b.pages;
-        keeps = λ before e. subst (λ (pg : ℕ → List ℕ). KeepsPages before (page_in old old_f) b.ring pg) at
-            (keeps-pages_then before a.has.ring b.ring (page_in old old_f) (page_in v f) (page_in v g) (a.keeps before e) (b.keeps a.has.ring a.has.ring_is));
+        pages = subst (λ (pg : ℕ → List ℕ). IsVarRing plan b.now.state.var_pages b.ring pg) at b.pages;
       }
 
 -- seals after one that failed don't come to their turn
-pub breaks-front : (plan : Plan) (xs zs : List RingName) (table : Table) (rose : Bool) (device : Device) (fault : FlashFault) (old : VarData) (old_f g : FlashState) → Breaks plan xs table rose device fault old old_f g → Breaks plan (xs ++ zs) table rose device fault old old_f g
-breaks-front plan xs zs table rose device fault old old_f g b = record {
+pub breaks-front : (plan : Plan) (xs zs : List RingName) (table : Table) (rose : Bool) (device : Device) (fault : FlashFault) (old : VarData) (g : FlashState) → Breaks plan xs table rose device fault old g → Breaks plan (xs ++ zs) table rose device fault old g
+breaks-front plan xs zs table rose device fault old g b = record {
   now = b.now;
   did = subst (λ (ops : List (RingName × Kind)). TablePerforms plan rose ops device table b.now) (sym (seals-append plan xs zs table))
       (performs-front (λ operation. operation.1) (effect_within plan) rose (seals_within plan xs table) (seals_within plan zs (after_seals plan xs table)) device table b.now b.did (broken b.now.end b.answer));
@@ -167,7 +164,6 @@ breaks-front plan xs zs table rose device fault old old_f g b = record {
   ring = b.ring;
   ring_is = b.ring_is;
   pages = b.pages;
-  keeps = b.keeps;
 }
   where
     broken : (e : PartEnd Table) → FaultEnds e fault g → e ≡ Whole → ⊥
@@ -200,3 +196,13 @@ replicate-push (suc n) = ap (λ (l : List RingName). VarRing ∷ l) (replicate-p
 pub replicate-split : (n m : ℕ) → replicate n VarRing ++ replicate m VarRing ≡ replicate (n + m) VarRing
 replicate-split zero m = ap (λ k. replicate k VarRing) (omega arith)
 replicate-split (suc n) m = ap (λ (l : List RingName). VarRing ∷ l) (replicate-split n m) ∙ ap (λ k. replicate k VarRing) (let e : suc (n + m) ≡ suc n + m = omega arith in e)
+
+-- the bytes that wait after so many pages were sealed (belongs in fl_model)
+pub buffered-after : (plan : Plan) (n : ℕ) (table : Table) → (after_seals plan (replicate n VarRing) table).buffered ≡ drop (n * content_per_page plan) table.buffered
+buffered-after plan zero table =
+    let none : 0 ≡ 0 * content_per_page plan = omega arith in
+    sym (drop-none table.buffered) ∙ ap (λ k. drop k table.buffered) none
+buffered-after plan (suc n) table =
+    let more : content_per_page plan + n * content_per_page plan ≡ suc n * content_per_page plan = omega arith in
+    buffered-after plan n (after_seal plan VarRing table)
+    ∙ (drop-drop (n * content_per_page plan) (content_per_page plan) table.buffered ∙ ap (λ k. drop k table.buffered) more)

@@ -1,3 +1,4 @@
+pub mod Lists
 pub mod Waitings
 pub mod PageImages
 pub mod Wholes
@@ -8,11 +9,7 @@ pub mod Lifted
 pub mod Sealings
 pub mod Joins
 pub mod Writing
-pub mod Growing
 pub mod Placed
 pub mod Mountings
 pub mod Stored
 pub mod Found
-pub mod Contents
-pub mod Grown
-pub mod Held

@@ -1,24 +1,27 @@
 -- The operations of a ring of variable data are those of its table.
-use Rattle.std.proofs.Common.{◌≡◌, ℕ, ◌+◌, ◌<◌, ◌≤◌, Bool, true, false, Option, Some, None, Result, Ok, Err, List, [], ◌∷◌, ◌++◌, map, refl, sym, ◌∙◌, ap, subst, arith, IsOk, IsErrOf}
-use Rattle.std.specs.Prelude.{option_map}
+use Rattle.std.proofs.Common.{◌≡◌, ℕ, ◌+◌, ◌<◌, ◌≤◌, Bool, true, false, Option, Some, None, Result, Ok, Err, List, [], ◌∷◌, ◌++◌, map, drop, refl, sym, ◌∙◌, ap, subst, arith, IsOk, IsErrOf}
+use Rattle.std.specs.Prelude.{option_map, unwrap_or, take}
+use Rattle.std.proofs.lemmas.List.{append-nil}
 use Rattle.fl_flash.specs.Flash.{FlashState}
 use Rattle.fl_flash.specs.declared.flash.FlashFault.{FlashFault}
 use Rattle.fl_flash.specs.declared.flash.FlashFault.TheVariants.{PowerLost, Media}
-use Rattle.fl_model.specs.Record.{Plan}
+use Rattle.fl_model.specs.Content.{content_page}
+use Rattle.fl_model.specs.Facts.{IsContent}
+use Rattle.fl_model.specs.Layout.{ContentPage, content_body}
+use Rattle.fl_model.specs.Record.{Plan, content_per_page}
 use Rattle.fl_model.specs.Ring as model
-use Rattle.fl_model.specs.Table.{Table, RingName, VarRing, shape_of}
+use Rattle.fl_model.specs.Table.{Table, RingName, VarRing, shape_of, full_pages, pages_given_up}
 use Rattle.fl_model.specs.Work.{Kind, Body, Mark, VoidMark, Erase, effect, Device, PartEnd, Whole, CutIn, FailedIn, PartProgress}
 use Rattle.fl_model.specs.Within.{effect_within, TablePerforms}
 use Rattle.fl_model.proofs.Performs.{performs-along, performs-map, EndsAlong, Somewhere}
 use Rattle.fl_ring.specs.Counts.{model_shape}
 use Rattle.fl_ring.specs.Device.{SameDevice}
 use Rattle.fl_ring.specs.Operations.{change}
-use Rattle.fl_ring.specs.Ring.{Shape, RingState, IsShape, count}
+use Rattle.fl_ring.specs.Ring.{Shape, RingState, IsShape, count, oldest, sealed, voided}
 use Rattle.fl_ring.specs.Sealing.{Performed, AnswersEnd}
 use Rattle.fl_ring.proofs.Counts.{counts_sealed, counts_voided}
 use Rattle.fl_var.specs.Placing.{FaultEnds}
-use Rattle.fl_var.proofs.Bodies.{EachBody, KeepsBodies, keeps-then, kept-known, kept-next, kept-each, kept-keeps}
-use Rattle.fl_var.proofs.States.{counted, once, HasBody}
+use Rattle.fl_var.proofs.Bodies.{counted, once, HoldBodies, kept-known, kept-next, sealed-bodies, voided-bodies}
 
 -- an operation of the ring
 abbrev pub of_var : Kind → RingName × Kind
@@ -39,46 +42,50 @@ BeginsMark (Body ∷ kinds) = ⊥
 BeginsMark (VoidMark ∷ kinds) = ⊥
 BeginsMark (Erase ∷ kinds) = ⊥
 
--- the body is that of the next page
-pub record IsNext (plan : Plan) (body : List ℕ) (s : RingState) : Type 0 where
-  pub has : HasBody plan s.next body
+-- the page that comes of bytes that wait
+abbrev pub page_of : Plan → List ℕ → ContentPage
+page_of plan buffered = content_page plan (take (content_per_page plan) buffered)
+
+-- the body is that of the next page, which comes of the bytes that wait
+pub record IsNext (plan : Plan) (body : List ℕ) (s : RingState) (buffered : List ℕ) : Type 0 where
+  pub is : body ≡ content_body s.next (page_of plan buffered)
+  pub good : IsContent plan (page_of plan buffered)
   pub small : s.next + 1 < 4294967296
 
-abbrev pub HasCome : Plan → List ℕ → List Kind → RingState → Type 0
-HasCome plan body [] s = s.next < 4294967296
-HasCome plan body (Body ∷ kinds) s = IsNext plan body s × BeginsMark kinds
-HasCome plan body (Mark ∷ kinds) s = IsNext plan body s × AreErases kinds
-HasCome plan body (VoidMark ∷ kinds) s = (s.next + 1 < 4294967296) × AreErases kinds
-HasCome plan body (Erase ∷ kinds) s = (s.next < 4294967296) × AreErases kinds
+abbrev pub HasCome : Plan → List ℕ → List Kind → RingState → List ℕ → Type 0
+HasCome plan body [] s buffered = s.next < 4294967296
+HasCome plan body (Body ∷ kinds) s buffered = IsNext plan body s buffered × BeginsMark kinds
+HasCome plan body (Mark ∷ kinds) s buffered = IsNext plan body s buffered × AreErases kinds
+HasCome plan body (VoidMark ∷ kinds) s buffered = (s.next + 1 < 4294967296) × AreErases kinds
+HasCome plan body (Erase ∷ kinds) s buffered = (s.next < 4294967296) × AreErases kinds
 
--- the ring's state is that of the table, of which these operations are left; `first` is what it was at first
-pub record IsRingOf (plan : Plan) (body : List ℕ) (first : RingState) (kinds : List Kind) (s : RingState) (table : Table) : Type 0 where
+-- the ring's state is that of the table, of which these operations are left
+pub record IsRingOf (plan : Plan) (body : List ℕ) (kinds : List Kind) (s : RingState) (table : Table) : Type 0 where
   pub var_is : table.var ≡ Some (counted s)
-  pub bodies : EachBody (HasBody plan) s
-  pub keeps : KeepsBodies first s
+  pub bodies : HoldBodies plan (oldest s) s.kept table.var_pages
   pub known : count s ≤ s.next
-  pub come : HasCome plan body kinds s
+  pub come : HasCome plan body kinds s table.buffered
 
-pub come-small : (plan : Plan) (body : List ℕ) (kinds : List Kind) (s : RingState) → HasCome plan body kinds s → s.next < 4294967296
-come-small plan body [] s h = h
-come-small plan body (Body ∷ kinds) s h = let k = h.0.small in omega (arith, k)
-come-small plan body (Mark ∷ kinds) s h = let k = h.0.small in omega (arith, k)
-come-small plan body (VoidMark ∷ kinds) s h = omega (arith, h.0)
-come-small plan body (Erase ∷ kinds) s h = h.0
+pub come-small : (plan : Plan) (body : List ℕ) (kinds : List Kind) (s : RingState) (buffered : List ℕ) → HasCome plan body kinds s buffered → s.next < 4294967296
+come-small plan body [] s buffered h = h
+come-small plan body (Body ∷ kinds) s buffered h = let k = h.0.small in omega (arith, k)
+come-small plan body (Mark ∷ kinds) s buffered h = let k = h.0.small in omega (arith, k)
+come-small plan body (VoidMark ∷ kinds) s buffered h = omega (arith, h.0)
+come-small plan body (Erase ∷ kinds) s buffered h = h.0
 
-pub erases-come : (plan : Plan) (body : List ℕ) (kinds : List Kind) (s : RingState) → s.next < 4294967296 → AreErases kinds → HasCome plan body kinds s
-erases-come plan body [] s small h = small
-erases-come plan body (Erase ∷ kinds) s small h = (small, h)
-erases-come plan body (Body ∷ kinds) s small h = absurd h
-erases-come plan body (Mark ∷ kinds) s small h = absurd h
-erases-come plan body (VoidMark ∷ kinds) s small h = absurd h
+erases-come : (plan : Plan) (body : List ℕ) (kinds : List Kind) (s : RingState) (buffered : List ℕ) → s.next < 4294967296 → AreErases kinds → HasCome plan body kinds s buffered
+erases-come plan body [] s buffered small h = small
+erases-come plan body (Erase ∷ kinds) s buffered small h = (small, h)
+erases-come plan body (Body ∷ kinds) s buffered small h = absurd h
+erases-come plan body (Mark ∷ kinds) s buffered small h = absurd h
+erases-come plan body (VoidMark ∷ kinds) s buffered small h = absurd h
 
-mark-comes : (plan : Plan) (body : List ℕ) (kinds : List Kind) (s t : RingState) → s.next ≡ t.next → IsNext plan body s → BeginsMark kinds → HasCome plan body kinds t
-mark-comes plan body [] s t e m h = omega (arith, m.small, e)
-mark-comes plan body (Mark ∷ kinds) s t e m h = (record { has = subst (λ n. HasBody plan n body) e m.has; small = omega (arith, m.small, e) }, h)
-mark-comes plan body (Body ∷ kinds) s t e m h = absurd h
-mark-comes plan body (VoidMark ∷ kinds) s t e m h = absurd h
-mark-comes plan body (Erase ∷ kinds) s t e m h = absurd h
+mark-comes : (plan : Plan) (body : List ℕ) (kinds : List Kind) (s t : RingState) (buffered : List ℕ) → s.next ≡ t.next → IsNext plan body s buffered → BeginsMark kinds → HasCome plan body kinds t buffered
+mark-comes plan body [] s t buffered e m h = omega (arith, m.small, e)
+mark-comes plan body (Mark ∷ kinds) s t buffered e m h = (record { is = m.is ∙ ap (λ n. content_body n (page_of plan buffered)) e; good = m.good; small = omega (arith, m.small, e) }, h)
+mark-comes plan body (Body ∷ kinds) s t buffered e m h = absurd h
+mark-comes plan body (VoidMark ∷ kinds) s t buffered e m h = absurd h
+mark-comes plan body (Erase ∷ kinds) s t buffered e m h = absurd h
 
 -- the first of these operations
 erases-front : (front others : List Kind) → AreErases (front ++ others) → AreErases front
@@ -95,50 +102,52 @@ begins-front (Body ∷ front) others h = h
 begins-front (VoidMark ∷ front) others h = h
 begins-front (Erase ∷ front) others h = h
 
-pub come-front : (plan : Plan) (body : List ℕ) (front others : List Kind) (s : RingState) → HasCome plan body (front ++ others) s → HasCome plan body front s
-come-front plan body [] others s h = come-small plan body others s h
-come-front plan body (Body ∷ front) others s h = (h.0, begins-front front others h.1)
-come-front plan body (Mark ∷ front) others s h = (h.0, erases-front front others h.1)
-come-front plan body (VoidMark ∷ front) others s h = (h.0, erases-front front others h.1)
-come-front plan body (Erase ∷ front) others s h = (h.0, erases-front front others h.1)
+pub come-front : (plan : Plan) (body : List ℕ) (front others : List Kind) (s : RingState) (buffered : List ℕ) → HasCome plan body (front ++ others) s buffered → HasCome plan body front s buffered
+come-front plan body [] others s buffered h = come-small plan body others s buffered h
+come-front plan body (Body ∷ front) others s buffered h = (h.0, begins-front front others h.1)
+come-front plan body (Mark ∷ front) others s buffered h = (h.0, erases-front front others h.1)
+come-front plan body (VoidMark ∷ front) others s buffered h = (h.0, erases-front front others h.1)
+come-front plan body (Erase ∷ front) others s buffered h = (h.0, erases-front front others h.1)
 
-module _ (r : Shape) (plan : Plan) (body : List ℕ) (first : RingState) (shape : IsShape r) (here : model_shape r ≡ shape_of plan VarRing) where
+module _ (r : Shape) (plan : Plan) (body : List ℕ) (shape : IsShape r) (here : model_shape r ≡ shape_of plan VarRing) where
+  -- the pages that the model gives up
+  gone-is : (c : ℕ) (s : RingState) (table : Table) → table.var ≡ Some (counted s) → full_pages (model.given_up (model_shape r) c (counted s)) ≡ pages_given_up plan VarRing c table
+  gone-is c s table e =
+      ap (λ (m : model.Shape). full_pages (model.given_up m c (counted s))) here
+      ∙ ap (λ (o : Option model.Ring). full_pages (unwrap_or (option_map (model.given_up (shape_of plan VarRing) c) o) [])) (sym e)
+
   -- each operation keeps it
-  step-along : (kind : Kind) (kinds : List Kind) (s : RingState) (table : Table) → IsRingOf plan body first (kind ∷ kinds) s table → IsRingOf plan body first kinds (change r body kind s) (effect plan VarRing kind table)
+  step-along : (kind : Kind) (kinds : List Kind) (s : RingState) (table : Table) → IsRingOf plan body (kind ∷ kinds) s table → IsRingOf plan body kinds (change r body kind s) (effect plan VarRing kind table)
   step-along Body kinds s table h = record {
     var_is = ap (option_map model.begun) h.var_is;
     bodies = h.bodies;
-    keeps = record { later = h.keeps.later; further = h.keeps.further; same = h.keeps.same };
     known = h.known;
-    come = mark-comes plan body kinds s (record s { torn = true }) refl h.come.0 h.come.1;
+    come = mark-comes plan body kinds s (record s { torn = true }) table.buffered refl h.come.0 h.come.1;
   }
   step-along Mark kinds s table h =
       let m = h.come.0 in
       record {
         var_is = ap (option_map (model.sealed (shape_of plan VarRing) 1)) h.var_is
             ∙ ap (λ (ring : model.Ring). Some ring) (ap (λ (x : model.Shape). model.sealed x 1 (counted s)) (sym here) ∙ sym (counts_sealed once r s body));
-        bodies = kept-each r s (Some body) shape h.known (HasBody plan) (λ b e. let same : body ≡ b = cc in subst (HasBody plan s.next) same m.has) h.bodies;
-        keeps = keeps-then first s (change r body Mark s) h.keeps (kept-keeps r s (Some body) shape h.known);
+        bodies = subst (λ g. HoldBodies plan (oldest (sealed r s body)) (sealed r s body).kept (drop g table.var_pages ++ page_of plan table.buffered ∷ [])) (gone-is 1 s table h.var_is)
+            (sealed-bodies r s shape h.known plan table.var_pages body (page_of plan table.buffered) m.is m.good h.bodies);
         known = kept-known r s (Some body) shape h.known;
-        come = erases-come plan body kinds (change r body Mark s) (omega (arith, kept-next r s (Some body) shape h.known, m.small)) h.come.1;
+        come = erases-come plan body kinds (change r body Mark s) _ (omega (arith, kept-next r s (Some body) shape h.known, m.small)) h.come.1;
       }
   step-along VoidMark kinds s table h = record {
     var_is = ap (option_map (model.sealed (shape_of plan VarRing) 0)) h.var_is
         ∙ ap (λ (ring : model.Ring). Some ring) (ap (λ (x : model.Shape). model.sealed x 0 (counted s)) (sym here) ∙ sym (counts_voided once r s));
-    bodies = kept-each r s None shape h.known (HasBody plan) (λ b e. absurd (none b e)) h.bodies;
-    keeps = keeps-then first s (change r body VoidMark s) h.keeps (kept-keeps r s None shape h.known);
+    bodies = subst (λ (ps : List ContentPage). HoldBodies plan (oldest (voided r s)) (voided r s).kept ps)
+        (append-nil (drop (full_pages (model.given_up (model_shape r) 0 (counted s))) table.var_pages) ∙ ap (λ g. drop g table.var_pages) (gone-is 0 s table h.var_is))
+        (voided-bodies r s shape h.known plan table.var_pages h.bodies);
     known = kept-known r s None shape h.known;
-    come = erases-come plan body kinds (change r body VoidMark s) (omega (arith, kept-next r s None shape h.known, h.come.0)) h.come.1;
+    come = erases-come plan body kinds (change r body VoidMark s) _ (omega (arith, kept-next r s None shape h.known, h.come.0)) h.come.1;
   }
-    where
-      none : (b : List ℕ) → ◌≡◌ {A = Option (List ℕ)} None (Some b) → ⊥
-      none b e = cc
   step-along Erase kinds s table h = record {
     var_is = ap (option_map model.erased) h.var_is;
     bodies = h.bodies;
-    keeps = record { later = h.keeps.later; further = h.keeps.further; same = h.keeps.same };
     known = h.known;
-    come = erases-come plan body kinds (record s { dirty = false }) h.come.0 h.come.1;
+    come = erases-come plan body kinds (record s { dirty = false }) _ h.come.0 h.come.1;
   }
 
   -- how the operations of a table ended, by the answer
@@ -154,12 +163,12 @@ module _ (r : Shape) (plan : Plan) (body : List ℕ) (first : RingState) (shape 
     pub answer : TableAnswers now.end result new
     pub counts : SameDevice new now.device
     pub kinds : List Kind
-    pub is : IsRingOf plan body first kinds left now.state
+    pub is : IsRingOf plan body kinds left now.state
 
-  pub performed-lifts : (rose : Bool) (kinds : List Kind) (device : Device) (s : RingState) (table : Table) (result : Result (Unit {0}) FlashFault) (new : FlashState) → IsRingOf plan body first kinds s table →
+  pub performed-lifts : (rose : Bool) (kinds : List Kind) (device : Device) (s : RingState) (table : Table) (result : Result (Unit {0}) FlashFault) (new : FlashState) → IsRingOf plan body kinds s table →
       (h : Performed r (change r body) rose kinds device s result new) → VarPerformed (map of_var kinds) table rose device result new h.now.state
   performed-lifts rose kinds device s table result new is h =
-      let along = performs-along (IsRingOf plan body first) (λ kind. kind) (change r body) (effect plan VarRing) step-along rose kinds device s table h.now is h.did in
+      let along = performs-along (IsRingOf plan body) (λ kind. kind) (change r body) (effect plan VarRing) step-along rose kinds device s table h.now is h.did in
       let e = ends h.now.end along.other.end h.now.state along.other.state along.ends h.answer in
       record {
         now = along.other;
@@ -170,8 +179,8 @@ module _ (r : Shape) (plan : Plan) (body : List ℕ) (first : RingState) (shape 
         is = e.0.1;
       }
     where
-      ends : (a : PartEnd RingState) (b : PartEnd Table) (x : RingState) (t : Table) → EndsAlong (IsRingOf plan body first) a b x t → AnswersEnd a result new →
-          Somewhere (IsRingOf plan body first) x t × TableAnswers b result new
+      ends : (a : PartEnd RingState) (b : PartEnd Table) (x : RingState) (t : Table) → EndsAlong (IsRingOf plan body) a b x t → AnswersEnd a result new →
+          Somewhere (IsRingOf plan body) x t × TableAnswers b result new
       ends Whole Whole x t e a = (([], e), a)
       ends (CutIn s') (CutIn t') x t e a = (e.1, a)
       ends (FailedIn s') (FailedIn t') x t e a = (e.1, a)

@@ -4,7 +4,6 @@ use Rattle.std.proofs.Math.Nat.{mod-lt}
 use Rattle.std.proofs.lemmas.List.{length-take-le, length-drop}
 use Rattle.std.proofs.lemmas.Nat.{le-div, div-add-mod'}
 use Rattle.std.specs.List.{slice_get}
-use Rattle.fl_model.proofs.Lists.{slice_get-drop, slice_get-take}
 use Rattle.fl_page.specs.Header.{page_count}
 use Rattle.fl_var.specs.Blobs.{contents_from}
 use Rattle.fl_var.specs.Content.{content_of}
@@ -54,10 +53,7 @@ same-front (x ∷ xs) (y ∷ ys) le each =
     some_is : Some x ≡ Some y → x ≡ y
     some_is k = cc
 
--- a byte of the content of a page
-pub content-at : (page : List ℕ) (m b : ℕ) → m < page_count page → slice_get page (8 + m) ≡ Some b → slice_get (content_of page) m ≡ Some b
-content-at page m b lt e = slice_get-take (page_count page) (drop 8 page) m lt ∙ (slice_get-drop 8 page m ∙ e)
-
+-- the content of a page
 pub content-size : (page : List ℕ) → page_count page ≤ length page - 16 → length (content_of page) ≡ page_count page
 content-size page room = length-take-le (page_count page) (drop 8 page) (omega (arith, room, length-drop 8 page))
 

@@ -18,14 +18,14 @@ use Rattle.fl_page.specs.Page.{bad_page}
 use Rattle.std.specs.Prelude.{if◌then◌else◌}
 use Rattle.fl_var.specs.Blobs.{IsWhole, IsBadLater}
 use Rattle.fl_var.specs.Content.{content_body, HasContent}
-use Rattle.fl_var.specs.Memory.{next_in, waiting_in, var_shape, image_in}
+use Rattle.fl_var.specs.Memory.{next_in, waiting_in, room_in, var_shape, image_in}
 use Rattle.fl_var.specs.Reading.{Steps, IfBad, NoneBad}
 use Rattle.fl_var.specs.declared.var_data.VarData.{VarData}
 
 -- reads change no page
 pub images-same : (v : VarData) (f g : FlashState) (n : ℕ) → OnlyReads f n g → image_in v g ≡ image_in v f
 images-same v f g n reads =
-    ap {B = ℕ → List ℕ} (λ (page : ℕ → List ℕ). λ (number : ℕ). cond (number == next_in v) (committed (content_body (v.geometry.page - 8) number (waiting_in v))) (page (place (var_shape v) number))) (same_pages f g n reads)
+    ap {B = ℕ → List ℕ} (λ (page : ℕ → List ℕ). λ (number : ℕ). cond (number == next_in v) (committed (content_body (room_in v) number (waiting_in v))) (page (place (var_shape v) number))) (same_pages f g n reads)
 
 -- the same bytes from a later place of the same page on
 pub whole-same : (image : ℕ → List ℕ) (next room number from left from' left' : ℕ) → from + left ≡ from' + left' → IsWhole image next room number from left → IsWhole image next room number from' left'

@@ -1,7 +1,8 @@
 -- Bytes that are written into the buffer, page by page.
-use Rattle.std.proofs.Common.{◌≡◌, ℕ, ◌+◌, ◌-◌, ◌*◌, ◌/◌, ◌<◌, ◌≤◌, min, Bool, true, Option, unwrap_or, ◌⊎◌, inl, inr, false, Result, Ok, Err, List, [], ◌∷◌, ◌++◌, length, replicate, refl, sym, ◌∙◌, ap, subst, arith, IsTrue, IsErr}
+use Rattle.std.proofs.Common.{◌≡◌, ℕ, ◌+◌, ◌-◌, ◌*◌, ◌/◌, ◌<◌, ◌≤◌, min, Bool, true, Option, unwrap_or, ◌⊎◌, inl, inr, false, Result, Ok, Err, List, [], ◌∷◌, ◌++◌, length, take, drop, replicate, append_assoc, refl, sym, ◌∙◌, ap, subst, arith, IsTrue, IsErr}
 use Rattle.std.proofs.Math.Nat.{mul-add-div_right, div-eq_of_lt}
 use Rattle.std.proofs.lemmas.Nat.{le-div}
+use Rattle.std.proofs.lemmas.List.{append-nil, drop-drop, drop_at, length-drop, take_all, take_at, take-append-drop}
 use Rattle.std.specs.Prelude.{option_map, is_some, IfErr, IfSome, IfNone, IsErrOf, Some, None}
 use Rattle.std.specs.Option.{ForSome}
 use Rattle.fl_base.specs.declared.types.Geometry.{Geometry}
@@ -11,7 +12,7 @@ use Rattle.fl_flash.specs.Tear.{torn_now, torn_front}
 use Rattle.fl_flash.specs.declared.tear.Tear.{Tear}
 use Rattle.fl_flash.specs.declared.flash.FlashFault.{FlashFault}
 use Rattle.fl_flash.specs.declared.flash.FlashFault.TheVariants.{PowerLost, Media}
-use Rattle.fl_model.specs.Record.{Plan}
+use Rattle.fl_model.specs.Record.{Plan, content_per_page}
 use Rattle.fl_model.specs.Table.{Table, RingName, VarRing, after_seals}
 use Rattle.fl_model.specs.Work.{Device}
 use Rattle.fl_ring.specs.Place as place_words
@@ -23,14 +24,16 @@ use Rattle.fl_ring.specs.Sealing.{SealCalls}
 use Rattle.fl_ring.specs.Step.{IsWatched}
 use Rattle.fl_ring.proofs.Readings.{goes_more, goes_same}
 use Rattle.fl_var.specs.Memory.{is_mounted, next_in, waiting_in, room_in, var_shape, IsSamePlan, LiesOn}
-use Rattle.fl_var.specs.Placing.{Seals, SealsPage, Breaks, EndsWith, pages_filled}
+use Rattle.fl_var.specs.Placing.{Seals, Breaks, EndsWith, pages_placed}
 use Rattle.fl_var.specs.Standing.{HasRing}
 use Rattle.fl_var.specs.declared.var_data.VarData.{VarData}
+use Rattle.fl_var.proofs.Lists.{drop-none, drop-short}
 use Rattle.fl_var.proofs.PageImages.{waiting-length}
-use Rattle.fl_var.proofs.Joins.{seals-none, seals-refilled, seals-join, breaks-join, breaks-front, watched-first, watched-then, replicate-push, replicate-split, same-shape}
+use Rattle.fl_var.proofs.Sealings.{room-planned, seal-err}
+use Rattle.fl_var.proofs.Joins.{seals-none, seals-refilled, seals-join, breaks-join, breaks-front, buffered-after, watched-first, watched-then, replicate-push, replicate-split, same-shape}
 
--- so many bytes were written since `first`, and as many pages sealed as they filled
-pub record Writes (first : VarData) (first_f : FlashState) (len done : ℕ) (v : VarData) (f : FlashState) : Type 0 where
+-- so many of these bytes were written since `first`, and as many pages sealed as they filled
+pub record Writes (first : VarData) (first_f : FlashState) (bytes : List ℕ) (done : ℕ) (v : VarData) (f : FlashState) : Type 0 where
   pub goes : Goes first_f f
   pub same : IsSamePlan first v
   pub lies : LiesOn v f
@@ -39,15 +42,18 @@ pub record Writes (first : VarData) (first_f : FlashState) (len done : ℕ) (v :
   pub sum : length (waiting_in first) + done ≡ (next_in v - next_in first) * room_in first + length (waiting_in v)
   pub some : 1 ≤ length (waiting_in v)
   pub most : length (waiting_in v) ≤ room_in first
-  pub within : done ≤ len
-  pub full : done < len → length (waiting_in v) ≡ room_in first
+  pub within : done ≤ length bytes
+  pub full : done < length bytes → length (waiting_in v) ≡ room_in first
+  -- what the sealed pages leave waits, and what comes yet
+  pub left : drop ((next_in v - next_in first) * room_in first) (waiting_in first ++ bytes) ≡ waiting_in v ++ drop done bytes
   pub outside : IsTrue first_f.media.tells → OutsideStands (var_shape first) (page_at first_f) (page_at f)
   pub reads : f.work.reads ≡ first_f.work.reads
   pub media_reads : f.media.reads ≤ first_f.media.reads + (next_in v - next_in first)
   pub quiet : next_in v ≡ next_in first → f ≡ first_f
   pub power : (f ≡ first_f) ⊎ (f.is_on ≡ true)
   pub off : first_f.is_on ≡ false → next_in v ≡ next_in first
-  pub seals : (plan : Plan) (table : Table) (rose : Bool) (device : Device) → IsWatched first_f f rose device → HasRing first first_f plan table → Seals plan (replicate (next_in v - next_in first) VarRing) table rose device first first_f v f
+  pub seals : (plan : Plan) (table : Table) (rose : Bool) (device : Device) → IsWatched first_f f rose device → HasRing first first_f plan table → table.buffered ≡ waiting_in first ++ bytes →
+      Seals plan (replicate (next_in v - next_in first) VarRing) table rose device first first_f v f
 
 -- a ring with another buffer lies where it lay
 pub lies-refilled : (v w : VarData) (f : FlashState) → w.ring ≡ v.ring → IsSamePlan v w → LiesOn v f → LiesOn w f
@@ -81,57 +87,102 @@ pages-more fill done len n room wide sum less =
     le-div (n + 1) (fill + len - 1) room wide (omega (arith, all, sum, less))
 
 -- at first as many bytes are put as have room
-module _ (v w : VarData) (f : FlashState) (len n : ℕ) (ring : w.ring ≡ v.ring) (same : IsSamePlan v w) (lies : LiesOn v f) (mounted : is_mounted v ≡ true)
-    (room : length (waiting_in v) < room_in v) (some : 1 ≤ len) (counted : n ≡ min len (length v.waiting.body - (8 + v.waiting.fill))) (filled : w.waiting.fill ≡ v.waiting.fill + n) where
-  count : n ≡ min len (room_in v - length (waiting_in v))
-  count = counted ∙ ap (min len) (omega (arith, v.page, waiting-length v))
+module _ (v w : VarData) (f : FlashState) (bytes : List ℕ) (n : ℕ) (ring : w.ring ≡ v.ring) (same : IsSamePlan v w) (lies : LiesOn v f) (mounted : is_mounted v ≡ true)
+    (room : length (waiting_in v) < room_in v) (some : 1 ≤ length bytes) (counted : n ≡ min (length bytes) (length v.waiting.body - (8 + v.waiting.fill))) (filled : w.waiting.fill ≡ v.waiting.fill + n)
+    (put : waiting_in w ≡ waiting_in v ++ take n bytes) where
+  count : n ≡ min (length bytes) (room_in v - length (waiting_in v))
+  count = counted ∙ ap (min (length bytes)) (omega (arith, v.page, waiting-length v))
 
   fill : length (waiting_in w) ≡ length (waiting_in v) + n
   fill = waiting-length w ∙ (filled ∙ ap (λ k. k + n) (sym (waiting-length v)))
 
-  pub writes-first : Writes v f len n w f
+  pub writes-first : Writes v f bytes n w f
   writes-first =
       let next = next-same v w ring in
+      let none : next_in w - next_in v ≡ 0 = omega (arith, next) in
       record {
         goes = goes_same f;
         same = same;
         lies = lies-refilled v w f ring same lies;
         mounted = ap is_some ring ∙ mounted;
         later = omega (arith, next);
-        sum = let none : next_in w - next_in v ≡ 0 = omega (arith, next) in subst (λ k. length (waiting_in v) + n ≡ k * room_in v + length (waiting_in w)) (sym none) (omega (arith, fill));
+        sum = subst (λ k. length (waiting_in v) + n ≡ k * room_in v + length (waiting_in w)) (sym none) (omega (arith, fill));
         some = omega (arith, fill, count, some, room);
         most = omega (arith, fill, count, room);
         within = omega (arith, count);
         full = λ less. omega (arith, fill, count, less, room);
+        left =
+            let nothing : (next_in w - next_in v) * room_in v ≡ 0 = ap (λ k. k * room_in v) none ∙ (let e : 0 * room_in v ≡ 0 = omega arith in e) in
+            ap (λ k. drop k (waiting_in v ++ bytes)) nothing
+            ∙ (drop-none (waiting_in v ++ bytes)
+            ∙ (ap (λ (l : List ℕ). waiting_in v ++ l) (sym (take-append-drop n bytes)) ∙ (sym (append_assoc (waiting_in v) (take n bytes) (drop n bytes)) ∙ ap (λ (l : List ℕ). l ++ drop n bytes) (sym put))));
         outside = λ told q far. refl;
         reads = refl;
         media_reads = omega arith;
         quiet = λ e. refl;
         power = inl refl;
         off = λ down. next;
-        seals = λ plan table rose device watched has.
-            let none : next_in w - next_in v ≡ 0 = omega (arith, next) in
+        seals = λ plan table rose device watched has waits.
             subst (λ k. Seals plan (replicate k VarRing) table rose device v f w f) (sym none) (seals-none plan table rose device v w f ring same has watched);
       }
 
+-- the bytes of the next page are those in the full buffer
+module _ (first v : VarData) (first_f f : FlashState) (bytes : List ℕ) (done : ℕ) (is : Writes first first_f bytes done v f) (less : done < length bytes) where
+  waits-next : (plan : Plan) (table : Table) → HasRing first first_f plan table → table.buffered ≡ waiting_in first ++ bytes →
+      take (content_per_page plan) (after_seals plan (replicate (next_in v - next_in first) VarRing) table).buffered ≡ waiting_in v
+  waits-next plan table has waits =
+      let n = next_in v - next_in first in
+      let room = room-planned first plan has.planned in
+      let count : (next_in v - next_in first) * content_per_page plan ≡ (next_in v - next_in first) * room_in first = ap (λ k. n * k) room in
+      let left : (after_seals plan (replicate (next_in v - next_in first) VarRing) table).buffered ≡ waiting_in v ++ drop done bytes =
+      buffered-after plan n table ∙ (ap (λ k. drop k table.buffered) count ∙ (ap (λ (l : List ℕ). drop (n * room_in first) l) waits ∙ is.left)) in
+      ap (take (content_per_page plan)) left ∙ take_at (waiting_in v) (drop done bytes) (content_per_page plan) (is.full less ∙ sym room)
+
+-- what a seal does, by its contract
+abbrev pub SealsNext : VarData → FlashState → Result (Unit {0}) FlashFault → VarData → FlashState → Type 0
+SealsNext v f result mid g =
+    (plan : Plan) (table : Table) (rose : Bool) (device : Device) → IsWatched f g rose device → HasRing v f plan table → take (content_per_page plan) table.buffered ≡ waiting_in v →
+    EndsWith plan (VarRing ∷ []) table rose device v f result mid g
+
 -- the full buffer was sealed, and then bytes put
-module _ (first v mid w : VarData) (first_f f g : FlashState) (len done n : ℕ) (is : Writes first first_f len done v f) (less : done < len)
+module _ (first v mid w : VarData) (first_f f g : FlashState) (bytes : List ℕ) (done n : ℕ) (is : Writes first first_f bytes done v f) (less : done < length bytes)
     (goes : Goes f g) (same : IsSamePlan v mid) (lies : LiesOn mid g) (mounted : is_mounted mid ≡ true) (next : next_in mid ≡ next_in v + 1) (empty : waiting_in mid ≡ [])
-    (ends : (plan : Plan) (table : Table) (rose : Bool) (device : Device) → IsWatched f g rose device → HasRing v f plan table → SealsPage plan table rose device v f mid g)
+    (ends : SealsNext v f (Ok tt) mid g)
     (outside : IsTrue f.media.tells → OutsideStands (var_shape v) (page_at f) (page_at g)) (reads : g.work.reads ≡ f.work.reads) (media_reads : g.media.reads ≤ f.media.reads + 1)
-    (ring : w.ring ≡ mid.ring) (refilled : IsSamePlan mid w) (power : g.is_on ≡ true) (sealed_on : f.is_on ≡ false → ⊥) (some_len : ℕ) (len_is : some_len ≡ len - done) (counted : n ≡ min some_len (length mid.waiting.body - (8 + mid.waiting.fill))) (filled : w.waiting.fill ≡ mid.waiting.fill + n) where
-  count_there : n ≡ min (len - done) (room_in mid - length (waiting_in mid))
-  count_there = counted ∙ (ap (λ k. min k (length mid.waiting.body - (8 + mid.waiting.fill))) len_is ∙ ap (min (len - done)) (omega (arith, mid.page, waiting-length mid)))
+    (ring : w.ring ≡ mid.ring) (refilled : IsSamePlan mid w) (power : g.is_on ≡ true) (sealed_on : f.is_on ≡ false → ⊥) (some_len : ℕ) (len_is : some_len ≡ length bytes - done) (counted : n ≡ min some_len (length mid.waiting.body - (8 + mid.waiting.fill))) (filled : w.waiting.fill ≡ mid.waiting.fill + n)
+    (put : waiting_in w ≡ waiting_in mid ++ take n (take (length bytes - done) (drop done bytes))) where
+  count_there : n ≡ min (length bytes - done) (room_in mid - length (waiting_in mid))
+  count_there = counted ∙ (ap (λ k. min k (length mid.waiting.body - (8 + mid.waiting.fill))) len_is ∙ ap (min (length bytes - done)) (omega (arith, mid.page, waiting-length mid)))
 
   fill_there : length (waiting_in w) ≡ length (waiting_in mid) + n
   fill_there = waiting-length w ∙ (filled ∙ ap (λ k. k + n) (sym (waiting-length mid)))
 
-  pub writes-next : Writes first first_f len (done + n) w g
+  at : next_in w ≡ next_in v + 1
+  at = next-same mid w ring ∙ next
+
+  pages : next_in w - next_in first ≡ next_in v - next_in first + 1
+  pages = omega (arith, at, is.later)
+
+  put_there : waiting_in w ≡ take n (drop done bytes)
+  put_there =
+      put ∙ (ap (λ (l : List ℕ). l ++ take n (take (length bytes - done) (drop done bytes))) empty
+      ∙ ap (take n) (take_all (length bytes - done) (drop done bytes) (omega (arith, length-drop done bytes))))
+
+  left_there : drop ((next_in w - next_in first) * room_in first) (waiting_in first ++ bytes) ≡ waiting_in w ++ drop (done + n) bytes
+  left_there =
+      let more : (next_in w - next_in first) * room_in first ≡ (next_in v - next_in first) * room_in first + room_in first =
+      ap (λ k. k * room_in first) pages ∙ (let e : (next_in v - next_in first + 1) * room_in first ≡ (next_in v - next_in first) * room_in first + room_in first = omega arith in e) in
+      ap (λ k. drop k (waiting_in first ++ bytes)) more
+      ∙ (sym (drop-drop (room_in first) ((next_in v - next_in first) * room_in first) (waiting_in first ++ bytes))
+      ∙ (ap (drop (room_in first)) is.left
+      ∙ (drop_at (waiting_in v) (drop done bytes) (room_in first) (is.full less)
+      ∙ (sym (take-append-drop n (drop done bytes))
+      ∙ (ap (λ (l : List ℕ). l ++ drop n (drop done bytes)) (sym put_there) ∙ ap (λ (l : List ℕ). waiting_in w ++ l) (drop-drop n done bytes))))))
+
+  pub writes-next : Writes first first_f bytes (done + n) w g
   writes-next =
-      let at : next_in w ≡ next_in v + 1 = next-same mid w ring ∙ next in
       let none : length (waiting_in mid) ≡ 0 = ap length empty in
       let wide : room_in mid ≡ room_in first = room-same v mid same ∙ room-same first v is.same in
-      let pages : next_in w - next_in first ≡ next_in v - next_in first + 1 = omega (arith, at, is.later) in
       let before = is.full less in
       record {
         goes = goes_more first_f f g is.goes goes;
@@ -146,6 +197,7 @@ module _ (first v mid w : VarData) (first_f f g : FlashState) (len done n : ℕ)
         most = omega (arith, fill_there, none, count_there, wide);
         within = omega (arith, count_there, is.within, less);
         full = λ fewer. omega (arith, fill_there, none, count_there, fewer, wide, less);
+        left = left_there;
         outside = λ told q far.
             outside (subst IsTrue (sym is.goes.tells) told) q (subst (λ (r : Shape). (q < r.first) ⊎ (r.first + rings.room r ≤ q)) (sym (same-shape first v is.same)) far) ∙ is.outside told q far;
         reads = reads ∙ is.reads;
@@ -153,54 +205,60 @@ module _ (first v mid w : VarData) (first_f f g : FlashState) (len done n : ℕ)
         quiet = λ e. absurd (omega (arith, e, at, is.later));
         power = inr power;
         off = λ down. absurd (sealed_on (ap (λ (x : FlashState). x.is_on) (is.quiet (is.off down)) ∙ down));
-        seals = λ plan table rose device watched has.
-            let a = is.seals plan table rose device (watched-first first_f f g rose device watched goes) has in
-            let b = ends plan (after_seals plan (replicate (next_in v - next_in first) VarRing) table) rose a.now.device (watched-then first_f f g rose device a.now.device watched is.goes a.power a.counts) a.has in
-            let joined = seals-join plan (replicate (next_in v - next_in first) VarRing) (VarRing ∷ []) table rose device first v first_f f a mid g b.seals in
+        seals = λ plan table rose device watched has waits.
+            let a = is.seals plan table rose device (watched-first first_f f g rose device watched goes) has waits in
+            let b = ends plan (after_seals plan (replicate (next_in v - next_in first) VarRing) table) rose a.now.device (watched-then first_f f g rose device a.now.device watched is.goes a.power a.counts) a.has
+            (waits-next first v first_f f bytes done is less plan table has waits) in
+            let joined = seals-join plan (replicate (next_in v - next_in first) VarRing) (VarRing ∷ []) table rose device first v first_f f a mid g b in
             seals-refilled plan (replicate (next_in w - next_in first) VarRing) table rose device first mid w first_f g ring refilled
             (subst (λ (xs : List RingName). Seals plan xs table rose device first first_f mid g) (replicate-push (next_in v - next_in first) ∙ ap (λ k. replicate k VarRing) (sym pages)) joined);
       }
 
+-- how bytes are written
+abbrev pub WritesEnd : VarData → FlashState → List ℕ → Result (Unit {0}) FlashFault → VarData → FlashState → Type 0
+WritesEnd first first_f bytes result v f =
+    (plan : Plan) (table : Table) (rose : Bool) (device : Device) → IsWatched first_f f rose device → HasRing first first_f plan table → table.buffered ≡ waiting_in first ++ bytes →
+    EndsWith plan (replicate (pages_placed first (length bytes)) VarRing) table rose device first first_f result v f
+
 -- a seal failed
-module _ (first v w : VarData) (first_f f g : FlashState) (len done : ℕ) (fault : FlashFault) (is : Writes first first_f len done v f) (less : done < len) (wide : 0 < room_in first)
-    (goes : Goes f g) (ends : (plan : Plan) (table : Table) (rose : Bool) (device : Device) → IsWatched f g rose device → HasRing v f plan table → Breaks plan (VarRing ∷ []) table rose device fault v f g)
+module _ (first v w mid : VarData) (first_f f g : FlashState) (bytes : List ℕ) (done : ℕ) (fault : FlashFault) (is : Writes first first_f bytes done v f) (less : done < length bytes) (wide : 0 < room_in first)
+    (goes : Goes f g) (ends : SealsNext v f (Err fault) mid g)
     (result : Result (Unit {0}) FlashFault) (result_is : result ≡ Err fault) where
-  pub writes-fail : (plan : Plan) (table : Table) (rose : Bool) (device : Device) → IsWatched first_f g rose device → HasRing first first_f plan table →
-      EndsWith plan (replicate (pages_filled first len) VarRing) table rose device first first_f result w g
-  writes-fail plan table rose device watched has =
+  pub writes-fail : WritesEnd first first_f bytes result w g
+  writes-fail plan table rose device watched has waits =
       let n = next_in v - next_in first in
-      let a = is.seals plan table rose device (watched-first first_f f g rose device watched goes) has in
-      let b = ends plan (after_seals plan (replicate (next_in v - next_in first) VarRing) table) rose a.now.device (watched-then first_f f g rose device a.now.device watched is.goes a.power a.counts) a.has in
+      let len = length bytes in
+      let a = is.seals plan table rose device (watched-first first_f f g rose device watched goes) has waits in
+      let b = ends plan (after_seals plan (replicate (next_in v - next_in first) VarRing) table) rose a.now.device (watched-then first_f f g rose device a.now.device watched is.goes a.power a.counts) a.has
+      (waits-next first v first_f f bytes done is less plan table has waits) in
       let joined = breaks-join plan (replicate (next_in v - next_in first) VarRing) (VarRing ∷ []) table rose device first v first_f f a fault g is.same b in
-      let fewer : next_in v - next_in first + 1 ≤ pages_filled first len =
+      let fewer : next_in v - next_in first + 1 ≤ pages_placed first (length bytes) =
       pages-more (length (waiting_in first)) done len (next_in v - next_in first) (room_in first) wide (is.sum ∙ ap (λ k. (next_in v - next_in first) * room_in first + k) (is.full less)) less in
-      let rest = pages_filled first len - (n + 1) in
-      let whole = breaks-front plan (replicate (next_in v - next_in first + 1) VarRing) (replicate (pages_filled first len - (next_in v - next_in first + 1)) VarRing) table rose device fault first first_f g
-      (subst (λ (xs : List RingName). Breaks plan xs table rose device fault first first_f g) (replicate-push (next_in v - next_in first)) joined) in
-      let all : replicate (next_in v - next_in first + 1) VarRing ++ replicate (pages_filled first len - (next_in v - next_in first + 1)) VarRing ≡ replicate (pages_filled first len) VarRing =
-      replicate-split (next_in v - next_in first + 1) (pages_filled first len - (next_in v - next_in first + 1)) ∙ ap (λ k. replicate k VarRing) (omega (arith, fewer)) in
-      subst (λ (x : Result (Unit {0}) FlashFault). EndsWith plan (replicate (pages_filled first len) VarRing) table rose device first first_f x w g) (sym result_is)
-      (subst (λ (xs : List RingName). Breaks plan xs table rose device fault first first_f g) all whole)
+      let whole = breaks-front plan (replicate (next_in v - next_in first + 1) VarRing) (replicate (pages_placed first (length bytes) - (next_in v - next_in first + 1)) VarRing) table rose device fault first g
+      (subst (λ (xs : List RingName). Breaks plan xs table rose device fault first g) (replicate-push (next_in v - next_in first)) joined) in
+      let all : replicate (next_in v - next_in first + 1) VarRing ++ replicate (pages_placed first (length bytes) - (next_in v - next_in first + 1)) VarRing ≡ replicate (pages_placed first (length bytes)) VarRing =
+      replicate-split (next_in v - next_in first + 1) (pages_placed first (length bytes) - (next_in v - next_in first + 1)) ∙ ap (λ k. replicate k VarRing) (omega (arith, fewer)) in
+      seal-err plan (replicate (pages_placed first (length bytes)) VarRing) table rose device first first_f w g result fault result_is
+      (subst (λ (xs : List RingName). Breaks plan xs table rose device fault first g) all whole)
 
 -- all bytes were written
-module _ (first v : VarData) (first_f f : FlashState) (len done : ℕ) (is : Writes first first_f len done v f) (all : len ≤ done) where
-  pub writes-pages : pages_filled first len ≡ next_in v - next_in first
-  writes-pages = pages-of (length (waiting_in first)) len (next_in v - next_in first) (length (waiting_in v)) (room_in first) (ap (λ k. length (waiting_in first) + k) (omega (arith, all, is.within)) ∙ is.sum) is.some is.most
+module _ (first v : VarData) (first_f f : FlashState) (bytes : List ℕ) (done : ℕ) (is : Writes first first_f bytes done v f) (all : length bytes ≤ done) where
+  pub writes-pages : pages_placed first (length bytes) ≡ next_in v - next_in first
+  writes-pages =
+      pages-of (length (waiting_in first)) (length bytes) (next_in v - next_in first) (length (waiting_in v)) (room_in first) (ap (λ k. length (waiting_in first) + k) (omega (arith, all, is.within)) ∙ is.sum) is.some is.most
 
-  pub writes-fill : length (waiting_in first) + len ≡ pages_filled first len * room_in first + length (waiting_in v)
-  writes-fill = ap (λ k. length (waiting_in first) + k) (omega (arith, all, is.within)) ∙ (is.sum ∙ ap (λ k. k * room_in first + length (waiting_in v)) (sym writes-pages))
+  pub writes-waits : waiting_in v ≡ drop (pages_placed first (length bytes) * room_in first) (waiting_in first ++ bytes)
+  writes-waits =
+      sym (ap (λ k. drop (k * room_in first) (waiting_in first ++ bytes)) writes-pages
+      ∙ (is.left ∙ (ap (λ (l : List ℕ). waiting_in v ++ l) (drop-short done bytes all) ∙ append-nil (waiting_in v))))
 
-  pub writes-quiet : pages_filled first len ≡ 0 → f ≡ first_f
+  pub writes-quiet : pages_placed first (length bytes) ≡ 0 → f ≡ first_f
   writes-quiet none = is.quiet (omega (arith, none, writes-pages, is.later))
 
-  pub writes-end : (plan : Plan) (table : Table) (rose : Bool) (device : Device) → IsWatched first_f f rose device → HasRing first first_f plan table → Seals plan (replicate (pages_filled first len) VarRing) table rose device first first_f v f
-  writes-end plan table rose device watched has =
-      subst (λ k. Seals plan (replicate k VarRing) table rose device first first_f v f) (sym writes-pages) (is.seals plan table rose device watched has)
-
-  -- how it ended
-  pub writes-ok : (result : Result (Unit {0}) FlashFault) (u : Unit {0}) → result ≡ Ok u → (plan : Plan) (table : Table) (rose : Bool) (device : Device) → IsWatched first_f f rose device → HasRing first first_f plan table →
-      EndsWith plan (replicate (pages_filled first len) VarRing) table rose device first first_f result v f
-  writes-ok result u e plan table rose device watched has = subst (λ (x : Result (Unit {0}) FlashFault). EndsWith plan (replicate (pages_filled first len) VarRing) table rose device first first_f x v f) (sym e) (writes-end plan table rose device watched has)
+  pub writes-end : (plan : Plan) (table : Table) (rose : Bool) (device : Device) → IsWatched first_f f rose device → HasRing first first_f plan table → table.buffered ≡ waiting_in first ++ bytes →
+      Seals plan (replicate (pages_placed first (length bytes)) VarRing) table rose device first first_f v f
+  writes-end plan table rose device watched has waits =
+      subst (λ k. Seals plan (replicate k VarRing) table rose device first first_f v f) (sym writes-pages) (is.seals plan table rose device watched has waits)
 
 -- a cause of a later failure is one in all of them
 pub cause-later : (old mid new : FlashState) (e : FlashFault) → Goes old mid → (mid ≡ old) ⊎ (mid.is_on ≡ true) → CausedBy mid e new → CausedBy old e new
@@ -270,11 +328,11 @@ off-err {T} {U} f g x y e x_is y_is off = λ down. let h = off down in (y_is ∙
     same k q = cc
 
 -- a later seal failed
-pub writes-off : (first v : VarData) (first_f f g : FlashState) (len done : ℕ) (e : FlashFault) (result : Result (Unit {0}) FlashFault) → Writes first first_f len done v f → OffChangesNothing {T = Unit {0}} f (Err e) g → result ≡ Err e → OffChangesNothing first_f result g
-writes-off first v first_f f g len done e result is off result_is = λ down.
+pub writes-off : (first v : VarData) (first_f f g : FlashState) (bytes : List ℕ) (done : ℕ) (e : FlashFault) (result : Result (Unit {0}) FlashFault) → Writes first first_f bytes done v f → OffChangesNothing {T = Unit {0}} f (Err e) g → result ≡ Err e → OffChangesNothing first_f result g
+writes-off first v first_f f g bytes done e result is off result_is = λ down.
     let same : f ≡ first_f = is.quiet (is.off down) in
     off-err first_f g (Err e) result e refl result_is (subst (λ (x : FlashState). OffChangesNothing {T = Unit {0}} x (Err e) g) same off) down
 
 -- all was written, some of it in pages
-pub wrote-on : (first v : VarData) (first_f f : FlashState) (len done : ℕ) (is : Writes first first_f len done v f) → len ≤ done → 1 ≤ pages_filled first len → first_f.is_on ≡ false → ⊥
-wrote-on first v first_f f len done is all some down = omega (arith, writes-pages first v first_f f len done is all, is.off down, some)
+pub wrote-on : (first v : VarData) (first_f f : FlashState) (bytes : List ℕ) (done : ℕ) (is : Writes first first_f bytes done v f) → length bytes ≤ done → 1 ≤ pages_placed first (length bytes) → first_f.is_on ≡ false → ⊥
+wrote-on first v first_f f bytes done is all some down = omega (arith, writes-pages first v first_f f bytes done is all, is.off down, some)

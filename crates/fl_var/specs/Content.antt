@@ -1,13 +1,17 @@
 -- The bytes of a page of variable data.
-use Rattle.std.specs.Prelude.{◌≡◌, ℕ, ◌-◌, ◌≤◌, List, ◌++◌, length, take, drop}
+use Rattle.std.specs.Prelude.{◌≡◌, ℕ, ◌-◌, ◌≤◌, List, length, take, drop}
 use Rattle.fl_mark.specs.Mark.{state_of_page}
 use Rattle.fl_mark.specs.declared.page_state.PageState.TheVariants.{Committed}
-use Rattle.fl_model.specs.Layout.{le, filled}
+use Rattle.fl_model.specs.Layout as layout
+use Rattle.fl_model.specs.Layout.{ContentPage, filled}
 use Rattle.fl_page.specs.Header.{page_number, page_count}
 
--- the body of a page, of so many bytes, with this number and content
+-- this content on a page with room for so many bytes, and the body of that page with its number
+abbrev pub page_with : ℕ → List ℕ → ContentPage
+page_with room content = record { used = length content; bytes = filled room content }
+
 abbrev pub content_body : ℕ → ℕ → List ℕ → List ℕ
-content_body len number content = filled len (le 4 number ++ le 2 (length content) ++ le 2 0 ++ content)
+content_body room number content = layout.content_body number (page_with room content)
 
 -- the content of a page, as many bytes as the page says to use
 abbrev pub content_of : List ℕ → List ℕ

@@ -5,5 +5,4 @@ pub mod Standing
 pub mod Placing
 pub mod Mounting
 pub mod Blobs
-pub mod Growing
 pub mod Reading

@@ -46,7 +46,7 @@ page_in v f number = page_at f (ring.place (var_shape v) number)
 -- the same with one page more: the next one, as it would be if it was sealed now
 abbrev pub image_in : VarData → FlashState → ℕ → List ℕ
 image_in v f number =
-    if number == next_in v then committed (content_body (v.geometry.page - 8) number (waiting_in v)) else page_in v f number
+    if number == next_in v then committed (content_body (room_in v) number (waiting_in v)) else page_in v f number
 
 -- the content of the page with this number: the next one is in memory, and of another one these are the bytes that were read
 abbrev pub present : VarData → ℕ → List ℕ → List ℕ

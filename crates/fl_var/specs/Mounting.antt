@@ -1,5 +1,5 @@
 -- The mount of variable data.
-use Rattle.std.specs.Prelude.{◌≡◌, ◌⊎◌, ℕ, ◌+◌, ◌<◌, Bool, true, if◌then◌else◌, Some, Result, Ok, Err}
+use Rattle.std.specs.Prelude.{◌≡◌, ◌⊎◌, ℕ, ◌+◌, ◌<◌, Bool, true, if◌then◌else◌, Some, Result, Ok, Err, []}
 use Rattle.fl_flash.specs.Flash.{FlashState}
 use Rattle.fl_flash.specs.declared.flash.FlashFault.{FlashFault}
 use Rattle.fl_flash.specs.declared.flash.FlashFault.TheVariants.{Media}
@@ -7,7 +7,7 @@ use Rattle.fl_model.specs.Mount.{renumber}
 use Rattle.fl_model.specs.Record.{Plan}
 use Rattle.fl_model.specs.Ring.{Ring}
 use Rattle.fl_model.specs.Table as model
-use Rattle.fl_model.specs.Table.{RingName, VarRing}
+use Rattle.fl_model.specs.Table.{VarRing}
 use Rattle.fl_model.specs.Work.{Device, Whole, PartProgress}
 use Rattle.fl_model.specs.Within.{TablePerforms, TableUnreads, repair_within}
 use Rattle.fl_ring.specs.Device.{SameDevice}
@@ -17,7 +17,7 @@ use Rattle.fl_ring.specs.declared.fault.RingFault.TheVariants.{Flash, BadHead, B
 use Rattle.fl_ring.specs.declared.ring.Ring as memory
 use Rattle.fl_var.specs.Memory.{IsPlanned, page_in, var_shape}
 use Rattle.fl_var.specs.Placing.{FaultEnds}
-use Rattle.fl_var.specs.Standing.{IsVarRing, Stands, KeepsPages}
+use Rattle.fl_var.specs.Standing.{IsVarRing, Stands}
 use Rattle.fl_var.specs.declared.var_data.VarData.{VarData}
 
 -- a flash stands for the variable data of a table that isn't mounted, whose numbers fit after the mount
@@ -25,8 +25,8 @@ pub record Rests (v : VarData) (f : FlashState) (plan : Plan) (table : model.Tab
   pub planned : IsPlanned v plan
   pub ring : Ring
   pub ring_is : table.var ≡ Some ring
-  pub pages : IsVarRing plan ring (page_in v f)
-  pub empty : table.fill ≡ 0
+  pub pages : IsVarRing plan table.var_pages ring (page_in v f)
+  pub empty : table.buffered ≡ []
   pub fits : (numbered : Ring) → (renumber plan VarRing table).var ≡ Some numbered → numbered.next + (if ring.torn then 1 else 0) < 4294967296
 
 -- It ended well: the ring has its numbers, and all its repairs were done.
@@ -46,7 +46,7 @@ pub record MountsBadly (plan : Plan) (table : model.Table) (rose : Bool) (device
   pub counts : SameDevice new now.device
   pub ring : Ring
   pub ring_is : now.state.var ≡ Some ring
-  pub pages : IsVarRing plan ring (page_in old new)
+  pub pages : IsVarRing plan now.state.var_pages ring (page_in old new)
 
 -- the ring that its pages give has the numbers in memory
 pub record Finds (old : VarData) (old_f : FlashState) (at_least : ℕ) (v : VarData) (new : FlashState) : Type 0 where
@@ -54,17 +54,10 @@ pub record Finds (old : VarData) (old_f : FlashState) (at_least : ℕ) (v : VarD
   pub ring_is : v.ring ≡ Some ring
   pub numbers : HasNumbers old_f (var_shape old) at_least ring new
 
--- what stood on the kept pages stands there still
-abbrev pub KeepsAll : Plan → model.Table → VarData → FlashState → Ring → FlashState → Type 0
-KeepsAll plan table old old_f ring new =
-    (before : Ring) → (renumber plan VarRing table).var ≡ Some before → KeepsPages before (page_in old old_f) ring (page_in old new)
-
-abbrev pub MountEnds : Plan → model.Table → Bool → Device → VarData → FlashState → Result (Unit {0}) RingFault → VarData → FlashState → Type 0
-MountEnds plan table rose device old old_f (Ok done) v new =
-    (well : MountsWell plan table rose device v new) × KeepsAll plan table old old_f well.stands.ring.ring new
-MountEnds plan table rose device old old_f (Err (Flash fault)) v new =
-    (badly : MountsBadly plan table rose device fault old new) × KeepsAll plan table old old_f badly.ring new
-MountEnds plan table rose device old old_f (Err (BadHead heads)) v new = ⊥
-MountEnds plan table rose device old old_f (Err (BadGap page)) v new = ⊥
-MountEnds plan table rose device old old_f (Err (BadPage page wanted found)) v new = ⊥
-MountEnds plan table rose device old old_f (Err (NoNumber at_least)) v new = ⊥
+abbrev pub MountEnds : Plan → model.Table → Bool → Device → VarData → Result (Unit {0}) RingFault → VarData → FlashState → Type 0
+MountEnds plan table rose device old (Ok done) v new = MountsWell plan table rose device v new
+MountEnds plan table rose device old (Err (Flash fault)) v new = MountsBadly plan table rose device fault old new
+MountEnds plan table rose device old (Err (BadHead heads)) v new = ⊥
+MountEnds plan table rose device old (Err (BadGap page)) v new = ⊥
+MountEnds plan table rose device old (Err (BadPage page wanted found)) v new = ⊥
+MountEnds plan table rose device old (Err (NoNumber at_least)) v new = ⊥

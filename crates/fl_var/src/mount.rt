@@ -38,7 +38,7 @@ impl VarData {
         ensures mounted { is_mounted self.new ≡ is_ok result }
         ensures empty { waiting_in self.new ≡ [] }
         ensures ends { (plan : Plan) → (table : model.Table) → (rose : Bool) → (device : Device) → IsWatched (F.state flash.old) (F.state flash.new) rose device
-            → Rests self.old (F.state flash.old) plan table → at_least ≡ blob_end table → MountEnds plan table rose device self.old (F.state flash.old) result self.new (F.state flash.new) }
+            → Rests self.old (F.state flash.old) plan table → at_least ≡ blob_end table → MountEnds plan table rose device self.old result self.new (F.state flash.new) }
         ensures found { OnOk result (Finds self.old (F.state flash.old) at_least self.new (F.state flash.new)) }
         ensures fault { IfErr result (λ e. FoundFault (F.state flash.old) (var_shape self.old) at_least e) }
         ensures fails { IfErr result (λ e. FailsAs (F.state flash.old) (var_shape self.old) at_least e (F.state flash.new)) }

@@ -15,10 +15,10 @@ impl VarData {
     ghost use Rattle.fl_model.specs.Table.{Entry};
     ghost use Rattle.fl_model.specs.Record.{Plan};
     ghost use Rattle.fl_model.specs.Ring.{Ring};
+    ghost use Rattle.fl_model.specs.Agrees.{HoldsBlob};
     ghost use Rattle.fl_model.specs.Query.{page_stands};
     ghost use Rattle.fl_var.specs.Blobs.{IsGone, IsBadFirst};
     ghost use Rattle.fl_var.specs.Memory.{is_mounted, LiesOn, next_in, page_len, room_in, present, image_in, page_in};
-    ghost use Rattle.fl_var.specs.Placing.{HoldsBytes};
     ghost use Rattle.fl_var.specs.Reading.{data_of, buffer_of, chunk_of, count_left, pages_left, Opens, Finds, IfUnread, IfBad, IsOfPage};
     ghost use Rattle.fl_var.specs.Standing.{Stands};
     ghost use Rattle.fl_page.specs.Header.{page_count};
@@ -88,7 +88,7 @@ impl VarData {
         ensures opens { IsTrue (F.state flash.old).media.tells → Opens self.now (F.state flash.old) at result }
         ensures finds { (plan : Plan) (table : model.Table) (entry : Entry) (bytes : List ℕ) → IsTrue (F.state flash.old).media.tells → Stands self.now (F.state flash.old) plan table
             → entry.kept.blob ≡ Some bytes → at ≡ record { page = entry.page; offset = entry.offset; length = length bytes }
-            → ((ring : Ring) → table.var ≡ Some ring → page_stands ring entry.page ≡ true → 0 < length bytes → HoldsBytes plan self.now (F.state flash.old) ring at bytes)
+            → ((ring : Ring) → table.var ≡ Some ring → page_stands ring entry.page ≡ true → 0 < length bytes → HoldsBlob plan table ring entry bytes)
             → Finds table entry bytes (F.state flash.old) result }
         ensures fails { IfErr result (λ e. IfUnread (F.state flash.old) e (F.state flash.new)) }
     {
@@ -122,13 +122,13 @@ impl VarData {
 
 impl BlobReader<'_, '_> {
     ghost use Rattle.std.specs.Prelude.{ℕ, List, [], ◌/◌, Ok, OnErr, if◌then◌else◌};
+    ghost use Rattle.fl_model.specs.Agrees.{HoldsBlob};
     ghost use Rattle.fl_model.specs.Query.{page_stands};
     ghost use Rattle.fl_model.specs.Ring.{Ring};
     ghost use Rattle.fl_model.specs.Record.{Plan};
     ghost use Rattle.fl_model.specs.Table as model;
     ghost use Rattle.fl_model.specs.Table.{Entry};
     ghost use Rattle.fl_var.specs.Memory.{LiesOn, next_in, room_in};
-    ghost use Rattle.fl_var.specs.Placing.{HoldsBytes};
     ghost use Rattle.fl_var.specs.Reading.{data_of, buffer_of, chunk_of, count_left, pages_left, has_here, turned, Opens, Finds, IfUnread, IsOfPage};
     ghost use Rattle.fl_var.specs.Standing.{Stands};
 
@@ -151,7 +151,7 @@ impl BlobReader<'_, '_> {
         ensures opens { IsTrue (F.state flash.old).media.tells → Opens (data_of self.old) (F.state flash.old) at (turned result self.new) }
         ensures finds { (plan : Plan) (table : model.Table) (entry : Entry) (bytes : List ℕ) → IsTrue (F.state flash.old).media.tells → Stands (data_of self.old) (F.state flash.old) plan table
             → entry.kept.blob ≡ Some bytes → at ≡ record { page = entry.page; offset = entry.offset; length = length bytes }
-            → ((ring : Ring) → table.var ≡ Some ring → page_stands ring entry.page ≡ true → 0 < length bytes → HoldsBytes plan (data_of self.old) (F.state flash.old) ring at bytes)
+            → ((ring : Ring) → table.var ≡ Some ring → page_stands ring entry.page ≡ true → 0 < length bytes → HoldsBlob plan table ring entry bytes)
             → Finds table entry bytes (F.state flash.old) (turned result self.new) }
         ensures fails { IfErr result (λ e. IfUnread (F.state flash.old) e (F.state flash.new)) }
     {

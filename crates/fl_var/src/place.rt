@@ -8,16 +8,15 @@ use fl_base::BlobRef;
 use fl_flash::{Flash, FlashFault};
 
 impl VarData {
-    ghost use Rattle.std.specs.Prelude.{ℕ, Bool, Ok, ◌⊎◌, [], ◌*◌, ◌^◌, if◌then◌else◌, ◌==◌, replicate, ◌++◌};
-    ghost use Rattle.fl_model.specs.Record.{Plan};
+    ghost use Rattle.std.specs.Prelude.{ℕ, Bool, Ok, Some, ◌⊎◌, List, [], ◌∷◌, ◌*◌, ◌^◌, if◌then◌else◌, ◌==◌, replicate, ◌++◌, take, drop};
+    ghost use Rattle.fl_model.specs.Record.{Record, Plan, content_per_page};
     ghost use Rattle.fl_model.specs.Table as model;
     ghost use Rattle.fl_model.specs.Table.{VarRing};
     ghost use Rattle.fl_model.specs.Work.{Device};
     ghost use Rattle.fl_ring.specs.Ring.{OutsideStands};
     ghost use Rattle.fl_ring.specs.Step.{IsWatched};
-    ghost use Rattle.fl_var.specs.Growing.{GoesOn, Holds};
     ghost use Rattle.fl_var.specs.Memory.{is_mounted, next_in, waiting_in, room_in, var_shape, IsSamePlan, LiesOn};
-    ghost use Rattle.fl_var.specs.Placing.{is_full_in, room_seals, pages_filled, pages_placed, reference_in, EndsWith, SealEnds, PlaceEnds, RestEnds};
+    ghost use Rattle.fl_var.specs.Placing.{is_full_in, room_seals, pages_placed, reference_in, EndsWith, PlaceEnds, RestEnds};
     ghost use Rattle.fl_var.specs.Standing.{Stands, HasRing};
 
     /// Seals the bytes in the buffer as the next page.
@@ -34,7 +33,8 @@ impl VarData {
         ensures power { OnOk result ((F.state flash.new).is_on ≡ true) }
         ensures empty { OnOk result (waiting_in self.new ≡ []) }
         ensures ends { (plan : Plan) → (table : model.Table) → (rose : Bool) → (device : Device) → IsWatched (F.state flash.old) (F.state flash.new) rose device
-            → HasRing self.old (F.state flash.old) plan table → SealEnds plan table rose device self.old (F.state flash.old) result self.new (F.state flash.new) }
+            → HasRing self.old (F.state flash.old) plan table → take (content_per_page plan) table.buffered ≡ waiting_in self.old
+            → EndsWith plan (VarRing ∷ []) table rose device self.old (F.state flash.old) result self.new (F.state flash.new) }
         ensures outside { IsTrue (F.state flash.old).media.tells → OutsideStands (var_shape self.old) (page_at (F.state flash.old)) (page_at (F.state flash.new)) }
         ensures reads { (F.state flash.new).work.reads ≡ (F.state flash.old).work.reads }
         ensures media_reads { (F.state flash.new).media.reads ≤ (F.state flash.old).media.reads + 1 }
@@ -62,13 +62,12 @@ impl VarData {
         ensures lies { LiesOn self.new (F.state flash.new) }
         ensures mounted { is_mounted self.new ≡ is_ok result }
         ensures next { OnOk result (next_in self.new ≡ (if is_full_in self.old then next_in self.old + 1 else next_in self.old)) }
-        ensures fill { OnOk result (length (waiting_in self.new) ≡ (if is_full_in self.old then 0 else length (waiting_in self.old))) }
+        ensures waits { OnOk result (waiting_in self.new ≡ (if is_full_in self.old then [] else waiting_in self.old)) }
         ensures power { OnOk result ((F.state flash.new ≡ F.state flash.old) ⊎ ((F.state flash.new).is_on ≡ true)) }
         ensures room { OnOk result (length (waiting_in self.new) < room_in self.new) }
         ensures quiet { is_full_in self.old ≡ false → (result ≡ Ok tt) × (self.new ≡ self.old) × (F.state flash.new ≡ F.state flash.old) }
-        ensures ends { (plan : Plan) → (table : model.Table) → (rose : Bool) → (device : Device) → IsWatched (F.state flash.old) (F.state flash.new) rose device
-            → HasRing self.old (F.state flash.old) plan table → EndsWith plan (room_seals (is_full_in self.old)) table rose device self.old (F.state flash.old) result self.new (F.state flash.new) }
-        ensures stays { OnOk result (GoesOn [] (room_seals (is_full_in self.old)) (next_in self.new) self.old (F.state flash.old) self.new (F.state flash.new)) }
+        ensures ends { (plan : Plan) → (table : model.Table) → (rest : List ℕ) → (rose : Bool) → (device : Device) → IsWatched (F.state flash.old) (F.state flash.new) rose device
+            → HasRing self.old (F.state flash.old) plan table → table.buffered ≡ waiting_in self.old ++ rest → EndsWith plan (room_seals (is_full_in self.old)) table rose device self.old (F.state flash.old) result self.new (F.state flash.new) }
         ensures outside { IsTrue (F.state flash.old).media.tells → OutsideStands (var_shape self.old) (page_at (F.state flash.old)) (page_at (F.state flash.new)) }
         ensures reads { (F.state flash.new).work.reads ≡ (F.state flash.old).work.reads }
         ensures media_reads { (F.state flash.new).media.reads ≤ (F.state flash.old).media.reads + 1 }
@@ -94,18 +93,16 @@ impl VarData {
         ensures same { IsSamePlan self.old self.new }
         ensures lies { LiesOn self.new (F.state flash.new) }
         ensures mounted { is_mounted self.new ≡ is_ok result }
-        ensures next { OnOk result (next_in self.new ≡ next_in self.old + pages_filled self.old (length bytes.now)) }
-        ensures fill { OnOk result (length (waiting_in self.old) + length bytes.now ≡ pages_filled self.old (length bytes.now) * room_in self.old + length (waiting_in self.new)) }
+        ensures next { OnOk result (next_in self.new ≡ next_in self.old + pages_placed self.old (length bytes.now)) }
         ensures ends { (plan : Plan) → (table : model.Table) → (rose : Bool) → (device : Device) → IsWatched (F.state flash.old) (F.state flash.new) rose device
-            → HasRing self.old (F.state flash.old) plan table → EndsWith plan (replicate (pages_filled self.old (length bytes.now)) VarRing) table rose device self.old (F.state flash.old) result self.new (F.state flash.new) }
+            → HasRing self.old (F.state flash.old) plan table → table.buffered ≡ waiting_in self.old ++ bytes.now → EndsWith plan (replicate (pages_placed self.old (length bytes.now)) VarRing) table rose device self.old (F.state flash.old) result self.new (F.state flash.new) }
         ensures power { OnOk result ((F.state flash.new ≡ F.state flash.old) ⊎ ((F.state flash.new).is_on ≡ true)) }
-        ensures quiet { pages_filled self.old (length bytes.now) ≡ 0 → (result ≡ Ok tt) × (F.state flash.new ≡ F.state flash.old) }
-        ensures waits { OnOk result (pages_filled self.old (length bytes.now) ≡ 0 → waiting_in self.new ≡ waiting_in self.old ++ bytes.now) }
-        ensures goes_on { OnOk result (GoesOn bytes.now (replicate (pages_filled self.old (length bytes.now)) VarRing) (next_in self.old) self.old (F.state flash.old) self.new (F.state flash.new)) }
+        ensures quiet { pages_placed self.old (length bytes.now) ≡ 0 → (result ≡ Ok tt) × (F.state flash.new ≡ F.state flash.old) }
+        ensures waits { OnOk result (waiting_in self.new ≡ drop (pages_placed self.old (length bytes.now) * room_in self.old) (waiting_in self.old ++ bytes.now)) }
         ensures outside { IsTrue (F.state flash.old).media.tells → OutsideStands (var_shape self.old) (page_at (F.state flash.old)) (page_at (F.state flash.new)) }
         ensures reads { (F.state flash.new).work.reads ≡ (F.state flash.old).work.reads }
-        ensures media_reads { (F.state flash.new).media.reads ≤ (F.state flash.old).media.reads + pages_filled self.old (length bytes.now) }
-        ensures off { 1 ≤ pages_filled self.old (length bytes.now) → OffChangesNothing (F.state flash.old) result (F.state flash.new) }
+        ensures media_reads { (F.state flash.new).media.reads ≤ (F.state flash.old).media.reads + pages_placed self.old (length bytes.now) }
+        ensures off { 1 ≤ pages_placed self.old (length bytes.now) → OffChangesNothing (F.state flash.old) result (F.state flash.new) }
         ensures lost { IsErrOf result FlashFault.PowerLost → (F.state flash.new).is_on ≡ false }
         ensures cause { IfErr result (λ e. CausedBy (F.state flash.old) e (F.state flash.new)) }
     {
@@ -130,13 +127,12 @@ impl VarData {
         ensures mounted { is_mounted self.new ≡ is_ok result }
         ensures power { OnOk result ((F.state flash.new ≡ F.state flash.old) ⊎ ((F.state flash.new).is_on ≡ true)) }
         ensures reference { IfOk result (λ at. at ≡ reference_in self.old (length bytes.now)) }
-        ensures ends { (plan : Plan) → (table : model.Table) → (rose : Bool) → (device : Device) → IsWatched (F.state flash.old) (F.state flash.new) rose device
-            → Stands self.old (F.state flash.old) plan table → PlaceEnds plan (length bytes.now) table rose device self.old (F.state flash.old) result self.new (F.state flash.new) }
+        ensures ends { (plan : Plan) → (item : Record) → (table : model.Table) → (rose : Bool) → (device : Device) → IsWatched (F.state flash.old) (F.state flash.new) rose device
+            → Stands self.old (F.state flash.old) plan table → item.blob ≡ Some bytes.now → PlaceEnds plan item table rose device self.old (F.state flash.old) result self.new (F.state flash.new) }
         ensures quiet { length (waiting_in self.old) + length bytes.now ≤ room_in self.old → (result ≡ Ok (reference_in self.old (length bytes.now))) × (F.state flash.new ≡ F.state flash.old) }
-        ensures waits { IfOk result (λ at. length (waiting_in self.old) + length bytes.now ≤ room_in self.old → waiting_in self.new ≡ waiting_in self.old ++ bytes.now) }
+        ensures waits { OnOk result (waiting_in self.new ≡ drop (pages_placed self.old (length bytes.now) * room_in self.old) (waiting_in self.old ++ bytes.now)) }
         ensures next { OnOk result (next_in self.new ≡ next_in self.old + pages_placed self.old (length bytes.now)) }
         ensures media_reads { (F.state flash.new).media.reads ≤ (F.state flash.old).media.reads + pages_placed self.old (length bytes.now) }
-        ensures holds { IfOk result (λ at. Holds bytes.now self.old (F.state flash.old) at self.new (F.state flash.new)) }
         ensures outside { IsTrue (F.state flash.old).media.tells → OutsideStands (var_shape self.old) (page_at (F.state flash.old)) (page_at (F.state flash.new)) }
         ensures reads { (F.state flash.new).work.reads ≡ (F.state flash.old).work.reads }
         ensures off { 1 ≤ pages_placed self.old (length bytes.now) → OffChangesNothing (F.state flash.old) result (F.state flash.new) }

@@ -79,7 +79,7 @@ impl Waiting {
     /// Writes the header of the page: its number, and how many bytes of content there are.
     pub(crate) fn finish(&mut self, number: u32)
         requires blank { IsBlankBehind self.old }
-        ensures body { self.new.body ≡ content_body (length self.old.body) number (content_in self.old) }
+        ensures body { self.new.body ≡ content_body (length self.old.body - 8) number (content_in self.old) }
         ensures content { content_in self.new ≡ content_in self.old }
         ensures fill { self.new.fill ≡ self.old.fill }
         ensures size { length self.new.body ≡ length self.old.body }

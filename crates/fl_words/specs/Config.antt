@@ -43,7 +43,7 @@ columns_named (name ∷ names) = cons_column (column_named name) (columns_named 
 abbrev pub columns_in : List ℕ → Option (List Column)
 columns_in word = columns_named (slice_split (λ byte. byte == 44) word)
 
--- a table line as a plan
+-- a table line as a plan; no line asks for full index entries or a log
 abbrev pub plan_of : Geometry → TableLine → Plan
 plan_of geometry line = record {
   geometry = geometry;
@@ -58,6 +58,8 @@ plan_of geometry line = record {
   width = line.width;
   error = line.error;
   blob_limit = line.blob_limit;
+  full_index = false;
+  log_blocks = 0;
 }
 
 abbrev pub is_odd_ring : ℕ → Bool

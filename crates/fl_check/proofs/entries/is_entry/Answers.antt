@@ -22,7 +22,7 @@ returns-in-Some-clause-yes g c =
     let back = c.in-Some.ensures.some in
     if_ok _ _ c.has_bitmap.result
     (λ is has yes told. entry_for page rows n c.args.l.width c.args.listing.now c.args.j c.in-Some.back (omega (arith, back.2, c.from.ensures, c.from-2.ensures, c.first_in.ensures))
-    (subst (HasBitmap (page (page_back rows n.marks.at c.in-Some.back))) c.entry_in-bitmap.ensures (has yes told)))
+    (subst (HasBitmap (page (page_back rows n.marks.at c.in-Some.back))) c.bitmap_in-bitmap.ensures (has yes told)))
     c.has_bitmap.ensures.yes
 
 pub returns-in-Some-clause-no : goal.returns-in-Some-clause-no
@@ -32,6 +32,6 @@ returns-in-Some-clause-no g c =
     let n = c.args.l.rows in
     let back = c.in-Some.ensures.some in
     if_ok _ _ c.has_bitmap.result
-    (λ is has no told entry. has no told (subst (HasBitmap (page (page_back rows n.marks.at c.in-Some.back))) (sym c.entry_in-bitmap.ensures)
+    (λ is has no told entry. has no told (subst (HasBitmap (page (page_back rows n.marks.at c.in-Some.back))) (sym c.bitmap_in-bitmap.ensures)
     (bitmap_for page rows n c.args.l.width c.args.listing.now c.args.j c.in-Some.back back.0 back.1 (omega (arith, back.2, c.from.ensures, c.from-2.ensures, c.first_in.ensures)) entry)))
     c.has_bitmap.ensures.no

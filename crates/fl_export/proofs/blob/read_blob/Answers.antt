@@ -1,7 +1,8 @@
-use Rattle.std.proofs.Common.{◌+◌, rules, ◌≤◌, length, sym, ◌∙◌, ap, arith}
+use Rattle.std.proofs.Common.{rules, ◌≤◌, Option, IfSome, length, sym, ◌∙◌, ap, subst, arith}
 use Rattle.fl_base.specs.declared.types.BlobRef.{BlobRef}
+use Rattle.fl_model.specs.Agrees.{BlobsOf}
+use Rattle.fl_model.specs.Ring.{Ring}
 use Rattle.fl_page.proofs.Reading.{OnlyReads-then}
-use Rattle.fl_table.proofs.HeldBlobs.{standing-bytes}
 use Rattle.fl_var.specs.Reading.{data_of}
 use Rattle.fl_export.proofs.Readers.{buffer-fits, data-lies, data-stands, opened-ready}
 use Rattle.fl_export.proofs.Records.{empty-stands}
@@ -36,5 +37,5 @@ returns-clause-finds g c = λ first plan t i entry blob tells stands slot blob_i
       only = c.open-stands.ensures.reads;
       ready = opened-ready v f c.args.at c.open-stands.result c.open-stands.new.self (c.open-stands.ensures.opens tells);
       finds = c.open-stands.ensures.finds plan t entry blob tells all.in_pages blob_is at_is
-          (λ ring ring_is here some. standing-bytes v f (first + plan.data_blocks + plan.index_blocks) plan t all i entry blob slot blob_is c.args.at at_is ring ring_is here some);
+          (λ ring ring_is here some. subst (λ (o : Option Ring). IfSome o (BlobsOf plan t)) ring_is stands.facts.agrees.blobs i entry blob slot blob_is some here);
     })

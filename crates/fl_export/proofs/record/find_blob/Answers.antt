@@ -2,8 +2,12 @@ use Rattle.std.proofs.Common.{◌≡◌, true, sym, ◌∙◌}
 use Rattle.std.proofs.lemmas.Result.{err_from_is_err_and}
 use Rattle.fl_model.specs.Query.{blob_of}
 use Rattle.fl_table.specs.BlobAt.{has_blobs}
-use Rattle.fl_export.proofs.Records.{named-by, whole-field, gone-field}
+use Rattle.fl_export.proofs.Records.{named-by, unnamed, whole-field, none-field, gone-field}
 use Rattle.fl_export.proofs.record.find_blob.Goals as goal
+
+pub returns-then-has_blobs-clause-finds : goal.returns-then-has_blobs-clause-finds
+returns-then-has_blobs-clause-finds g c = λ first plan t i entry tells stands here at_is.
+    none-field (has_blobs c.args.table.now) (blob_of t entry) (sym c.has_blobs.ensures ∙ c.if-has_blobs.true) (unnamed t entry (sym c.in_default.is ∙ at_is))
 
 pub returns-in_err-read_blob-clause-finds : goal.returns-in_err-read_blob-clause-finds
 returns-in_err-read_blob-clause-finds g c = λ first plan t i entry tells stands here at_is.

@@ -1,9 +1,9 @@
-use Rattle.std.proofs.Common.{rules, ◌+◌, ◌/◌, ◌≤◌, length, sym, ◌∙◌, ap, arith}
+use Rattle.std.proofs.Common.{rules, ◌/◌, ◌≤◌, length, sym, ◌∙◌, ap, arith}
 use Rattle.fl_base.specs.declared.types.BlobRef.{BlobRef}
 use Rattle.fl_page.proofs.Reading.{OnlyReads-then}
-use Rattle.fl_table.proofs.HeldBlobs.{standing-bytes}
+use Rattle.fl_table.specs.BlobAt.{content_in}
 use Rattle.fl_var.specs.Reading.{data_of}
-use Rattle.fl_session.proofs.BlobShows.{says-empty, opened-ready, buffer-fits, data-lies, room-same, data-stands}
+use Rattle.fl_session.proofs.BlobShows.{says-empty, opened-ready, few-left, holds-blob, buffer-fits, data-lies, room-same, data-stands}
 use Rattle.fl_session.proofs.blob.show_at.Goals as goal
 
 pub returns-then-at-eq0-clause-says : goal.returns-then-at-eq0-clause-says
@@ -35,9 +35,12 @@ returns-clause-says g c = λ first plan t i entry bytes tells on stands slot blo
       here = λ is. c.open-stands.ensures.here is full;
       counted = λ is. let left = rw is at c.open-stands.ensures.left in left ∙ ap (λ (a : BlobRef). a.length) at_is;
       finds = c.open-stands.ensures.finds plan t entry bytes tells all.in_pages blob_is at_is
-          (λ ring ring_is here some. standing-bytes v f (first + plan.data_blocks + plan.index_blocks) plan t all i entry bytes slot blob_is c.args.at at_is ring ring_is here some);
+          (holds-blob plan t i entry bytes stands.facts slot blob_is);
       fails = c.open-stands.ensures.fails;
     })
+
+pub returns-then-at-eq0-clause-reads : goal.returns-then-at-eq0-clause-reads
+returns-then-at-eq0-clause-reads g c = λ first plan t i entry bytes tells stands slot blob_is at_is. omega arith
 
 pub returns-clause-reads : goal.returns-clause-reads
 returns-clause-reads g c = λ first plan t i entry bytes tells stands slot blob_is at_is.
@@ -46,6 +49,7 @@ returns-clause-reads g c = λ first plan t i entry bytes tells stands slot blob_
     let full : 1 ≤ c.args.at.length = search rules in
     let some : 1 ≤ length bytes = omega (arith, ap (λ (a : BlobRef). a.length) at_is, full) in
     let all = data-stands c.args.table.now f c.requires.lies v c.blob_reader-reader.ensures.var first plan t stands in
+    let finds = c.open-stands.ensures.finds plan t entry bytes tells all.in_pages blob_is at_is (holds-blob plan t i entry bytes stands.facts slot blob_is) in
     let more = c.show_opened-written.ensures.reads t entry bytes f (record {
       some = some;
       only = c.open-stands.ensures.reads;
@@ -53,9 +57,9 @@ returns-clause-reads g c = λ first plan t i entry bytes tells stands slot blob_
       ready = opened-ready v f c.args.at c.open-stands.result c.open-stands.new.self (c.open-stands.ensures.opens tells);
       here = λ is. c.open-stands.ensures.here is full;
       counted = λ is. let left = rw is at c.open-stands.ensures.left in left ∙ ap (λ (a : BlobRef). a.length) at_is;
-      finds = c.open-stands.ensures.finds plan t entry bytes tells all.in_pages blob_is at_is
-          (λ ring ring_is here some. standing-bytes v f (first + plan.data_blocks + plan.index_blocks) plan t all i entry bytes slot blob_is c.args.at at_is ring ring_is here some);
+      finds = finds;
       fails = c.open-stands.ensures.fails;
     }) in
-    let room = ap (λ n. c.args.at.length / n) (room-same c.args.table.now f c.requires.lies v c.blob_reader-reader.ensures.var) in
-    omega (arith, more, c.open-stands.ensures.few, room)
+    let few = few-left c.open-stands.result c.open-stands.new.self t entry bytes f c.args.at.length (content_in c.args.table.now) finds (sym (ap (λ (a : BlobRef). a.length) at_is))
+    (omega (arith, c.open-stands.ensures.few, ap (λ n. c.args.at.length / n) (room-same c.args.table.now f c.requires.lies v c.blob_reader-reader.ensures.var))) c.open-stands.ensures.left c.open-stands.ensures.no_more in
+    omega (arith, more, few)

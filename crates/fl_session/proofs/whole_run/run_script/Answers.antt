@@ -1,15 +1,20 @@
 use Rattle.std.proofs.Common.{◌≡◌, inl, inr, [], IsTrue, Ok, Err, refl, sym, ◌∙◌, subst}
 use Rattle.fl_words.specs.Medium.{header}
 use Rattle.fl_model.specs.Image.{medium_len}
+use Rattle.fl_session.specs.Ends.{told_of, effects_of}
+use Rattle.fl_session.specs.ScriptEnds.{unsaid}
 use Rattle.fl_session.proofs.Running.{nothing-added}
-use Rattle.fl_session.proofs.Ending.{begins-takes, ends-in_begin, commands-early}
-use Rattle.fl_session.proofs.Over.{whole-parts, reach-of, ends-opened, whole-of, makes-of, opens-as, opens-goes, media-goes_on, ends-refused, early-refused, make-refused, commands-words}
+use Rattle.fl_session.proofs.Ending.{begins-takes, ends-in_begin, script-over, commands-early}
+use Rattle.fl_session.proofs.Over.{whole-parts, reach-of, ends-opened, whole-of, makes-of, opens-as, opens-goes, media-goes_on, ends-refused, script-refused, early-refused, make-refused, commands-words}
 use Rattle.fl_session.proofs.Fresh.{new-blank, none-of}
 use Rattle.fl_session.proofs.whole_run.run_script.Goals as goal
 
 pub returns-in-Err-clause-ends : goal.returns-in-Err-clause-ends
 returns-in-Err-clause-ends g c = λ text told l.
-    ends-in_begin 64 text _ _ c.in-Err.status (c.in-Err.ensures.ends 64 text l) refl (record { content = refl; written = nothing-added _ })
+    ends-in_begin (effects_of (told_of (g.M.Media.state c.args.media.now) (g.M.Media.state c.args.media.now) (g.S.Source.left c.read_config.new.script) (g.K.Sink.written c.args.out.now) (g.K.Sink.written c.args.out.now))) 64 text _ c.in-Err.status (c.in-Err.ensures.ends 64 text l) (record { content = refl; written = nothing-added _ })
+
+pub returns-in-Err-clause-script : goal.returns-in-Err-clause-script
+returns-in-Err-clause-script g c = λ text l. ends-in_begin unsaid 64 text _ c.in-Err.status (c.in-Err.ensures.ends 64 text l) tt
 
 pub run_session-requires-clause-reach : goal.run_session-requires-clause-reach
 run_session-requires-clause-reach g c = λ geometry e.
@@ -36,7 +41,13 @@ returns-in-Ok-open_image-clause-ends g c = λ text told l.
     ends-opened 64 text lines c.in-Ok-read_config.begun.first c.in-Ok-read_config.begun.number _ _ _ _ _ w.0
     (g.M.Media.state c.args.media.now) (g.M.Media.state c.open_image.new.media) (g.M.Media.state c.run_session.new.media) c.args.media.ghost_name _
     (c.in-Ok-read_config.ensures.begins 64 text l) w.1 told (opens-as w.0 (g.M.Media.state c.args.media.now) (Ok tt) (g.M.Media.state c.open_image.new.media) (c.in-Ok-open_image.ensures w.0 (makes-of 64 lines w.0 w.1))) c.run_session.ensures.form goes.tells goes.faults c.run_session.ensures.goes.faults
-    (c.run_session.ensures.runs w.0 w.1 (subst IsTrue (sym goes.tells) told))
+    (c.run_session.ensures.runs w.0 w.1)
+
+pub returns-in-Ok-open_image-clause-script : goal.returns-in-Ok-open_image-clause-script
+returns-in-Ok-open_image-clause-script g c = λ text l.
+    let lines = c.read_config.new.config in
+    let w = whole-of 64 lines c.in-Ok-read_config.ensures.whole in
+    script-over 64 text lines c.in-Ok-read_config.begun.first c.in-Ok-read_config.begun.number _ _ _ w.0 _ _ _ _ (c.in-Ok-read_config.ensures.begins 64 text l) w.1 (c.run_session.ensures.runs w.0 w.1)
 
 pub returns-in-Ok-open_image-clause-words : goal.returns-in-Ok-open_image-clause-words
 returns-in-Ok-open_image-clause-words g c = commands-words _ c.run_session.ensures.statuses
@@ -51,6 +62,12 @@ returns-clause-ends g c = λ text told l.
     rw c.status_of.ensures
     (ends-refused 64 text lines c.in-Ok-read_config.begun.first c.in-Ok-read_config.begun.number _ _ _ w.0 (g.M.Media.state c.args.media.now) (g.M.Media.state c.open_image.new.media)
     c.in-Err-open_image.refusal (c.in-Ok-read_config.ensures.begins 64 text l) w.1 told (opens-as w.0 (g.M.Media.state c.args.media.now) (Err c.in-Err-open_image.refusal) (g.M.Media.state c.open_image.new.media) (c.in-Err-open_image.ensures w.0 (makes-of 64 lines w.0 w.1))))
+
+pub returns-clause-script : goal.returns-clause-script
+returns-clause-script g c = λ text l.
+    let lines = c.read_config.new.config in
+    let w = whole-of 64 lines c.in-Ok-read_config.ensures.whole in
+    rw c.status_of.ensures (script-refused 64 text lines c.in-Ok-read_config.begun.first c.in-Ok-read_config.begun.number _ _ w.0 c.in-Err-open_image.refusal (c.in-Ok-read_config.ensures.begins 64 text l) w.1)
 
 pub returns-clause-make : goal.returns-clause-make
 returns-clause-make g c = λ e.
@@ -74,4 +91,7 @@ returns-clause-goes g c =
     opens-goes (medium_len w.0) (header w.0) (g.M.Media.state c.args.media.now) (Err c.in-Err-open_image.refusal) (g.M.Media.state c.open_image.new.media) (c.in-Err-open_image.ensures w.0 (makes-of 0 c.read_config.new.config w.0 w.1))
 
 pub returns-in-Err-make_rooms-clause-ends : goal.returns-in-Err-make_rooms-clause-ends
-returns-in-Err-make_rooms-clause-ends g c = λ text told l. (nothing-added _, inl refl, inr (begins-takes 64 text _ _ _ _ _ (c.in-Ok-read_config.ensures.begins 64 text l)))
+returns-in-Err-make_rooms-clause-ends g c = λ text told l. ((nothing-added _, inl refl), inr (begins-takes 64 text _ _ _ _ _ (c.in-Ok-read_config.ensures.begins 64 text l)))
+
+pub returns-in-Err-make_rooms-clause-script : goal.returns-in-Err-make_rooms-clause-script
+returns-in-Err-make_rooms-clause-script g c = λ text l. (tt, inr (begins-takes 64 text _ _ _ _ _ (c.in-Ok-read_config.ensures.begins 64 text l)))

@@ -6,12 +6,12 @@ use Rattle.fl_session.specs.Opening.{IsBlankBehind}
 use Rattle.fl_session.proofs.whole_run.run_session.Goals as goal
 
 pub returns-clause-runs : goal.returns-clause-runs
-returns-clause-runs g c = λ configured w told.
+returns-clause-runs g c = λ configured w.
     let lines = c.args.config.now in
     let parts = whole-parts 64 lines configured w in
     let same : c.geometry.result ≡ configured.geometry = cc (c.geometry.ensures.device, parts.device) in
     let e : g.M.Media.state c.media-1.given.0 ≡ g.M.Media.state c.end-media.result.now = search rules in
-    session-runs configured lines _ _ _ _ _ _ _ _ _ _ c.geometry.result c.blocks-2.result _ (c.new-session.ensures.flash ∙ c.flash_on-flash.ensures) same (e ∙ c.end-media.ensures.state) told parts.device parts.plans
+    session-runs configured lines _ _ _ _ _ _ _ _ _ _ c.geometry.result c.blocks-2.result _ (c.new-session.ensures.flash ∙ c.flash_on-flash.ensures) same (e ∙ c.end-media.ensures.state) parts.device parts.plans
     (rw c.new-session.ensures.rooms.0 c.requires.tables)
     c.new-session.ensures.off c.new-session.ensures.fresh parts.knots_are
     _ _ _ _ _ _ _ _

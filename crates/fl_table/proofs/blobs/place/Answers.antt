@@ -5,7 +5,7 @@ use Rattle.std.proofs.lemmas.Result.{err_from_is_err_and}
 use Rattle.fl_base.specs.declared.types.BlobRef.{BlobRef}
 use Rattle.fl_flash.specs.declared.flash.FlashFault.{FlashFault}
 use Rattle.fl_table.specs.Blobs.{PlaceEndsOf, PlaceEnds, pages_for}
-use Rattle.fl_table.proofs.BlobSteps.{place-ok, place-err, place-none}
+use Rattle.fl_table.proofs.BlobSteps.{place-ok, place-none}
 use Rattle.fl_table.proofs.PowerOff.{off-ok, off-err}
 use Rattle.fl_table.proofs.blobs.place.Goals as goal
 use Rattle.fl_var.specs.declared.var_data.VarData.{VarData}
@@ -19,8 +19,7 @@ returns-clause-ends g c = λ first plan table item rose device blob_is.
     let bytes : c.args.blob ≡ Some c.in-Some-blob.bytes = search rules in
     let placed = blob_is ∙ ap (option_map (λ (b : Bor (List ℕ)). b.now)) bytes in
     subst (λ (o : Option VarData). PlaceEndsOf o f first plan item table rose device (Ok (Some c.in_ok-at.at)) (Some c.append.new.self) h) (sym is)
-    (λ watched stands. place-ok c.in-Some.var c.append.new.self f h first plan table e.same stands rose device item c.in-Some-blob.bytes.now c.in_ok-at.at placed watched
-    (e.ends plan table rose device watched stands.in_pages) e.holds)
+    (λ watched stands. place-ok c.in-Some.var c.append.new.self f h first plan table e.same stands rose device item c.in-Some-blob.bytes.now c.in_ok-at.at placed (e.ends plan item table rose device watched stands.in_pages placed))
 
 pub returns-in_err-at-clause-ends : goal.returns-in_err-at-clause-ends
 returns-in_err-at-clause-ends g c = λ first plan table item rose device blob_is.
@@ -34,7 +33,7 @@ returns-in_err-at-clause-ends g c = λ first plan table item rose device blob_is
     let answer : Err c.in_err-at.field-0.0 ≡ c.from_residual.result = sym (p.1 ∙ ap (λ (x : FlashFault). Err x) p.2) in
     subst (λ (o : Option VarData). PlaceEndsOf o f first plan item table rose device c.from_residual.result (Some c.append.new.self) h) (sym is)
     (λ watched stands. subst (λ (x : Result (Option BlobRef) FlashFault). PlaceEnds first plan item table rose device c.in-Some.var f x c.append.new.self h) answer
-    (place-err c.in-Some.var c.append.new.self f h first plan table e.same stands rose device item c.in-Some-blob.bytes.now c.in_err-at.field-0.0 placed (e.ends plan table rose device watched stands.in_pages)))
+    (e.ends plan item table rose device watched stands.in_pages placed))
 
 pub returns-in_default-blob-clause-ends : goal.returns-in_default-blob-clause-ends
 returns-in_default-blob-clause-ends g c = λ first plan table item rose device blob_is.

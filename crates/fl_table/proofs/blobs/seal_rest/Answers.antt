@@ -14,7 +14,7 @@ returns-in-Some-clause-ends g c = λ first plan table rose device.
     let e = c.seal_rest.ensures in
     let is : c.args.blobs.now ≡ Some c.in-Some.var = search rules in
     subst (λ (o : Option VarData). RestEndsOf o f first plan table rose device c.seal_rest.result (Some c.seal_rest.new.self) h) (sym is)
-    (λ watched stands. rest-ends c.in-Some.var c.seal_rest.new.self f h first plan table e.same stands rose device c.seal_rest.result e.empty (λ none. (e.quiet none).0) (e.ends plan table rose device watched stands.in_pages))
+    (λ watched stands. rest-ends c.in-Some.var c.seal_rest.new.self f h first plan table e.same stands rose device c.seal_rest.result (e.ends plan table rose device watched stands.in_pages))
 
 pub returns-in-Some-clause-off : goal.returns-in-Some-clause-off
 returns-in-Some-clause-off g c =

@@ -11,8 +11,8 @@ returns-clause-planned c = λ plan is.
     let e = c.in-Some-Some in
     let first : e.place.first_block ≡ config.rows.first_block + plan.data_blocks = subst (λ (o : Option RingPlace). IfSome o (λ place. place.first_block ≡ config.rows.first_block + plan.data_blocks)) e.is-0 is.index in
     let p = c.in_ok-index.ensures.planned plan (sym (ap (λ (x : Plan). x.geometry) is.is))
-    (sym (ap (λ (x : Plan). x.index_blocks) is.is) ∙ ap blocks_in e.is-0) (sym (ap (λ (x : Plan). x.bits) is.is) ∙ ap bits_in e.is-1) in
-    record { geometry = p.geometry; begins = p.begins ∙ first; blocks = p.blocks; bits = p.bits }
+    (sym (ap (λ (x : Plan). x.index_blocks) is.is) ∙ ap blocks_in e.is-0) (sym (ap (λ (x : Plan). x.bits) is.is) ∙ ap bits_in e.is-1) (sym (ap (λ (x : Plan). x.full_index) is.is)) in
+    record { geometry = p.geometry; begins = p.begins ∙ first; blocks = p.blocks; bits = p.bits; full = p.full }
 
 pub returns-clause-lie : goal.returns-clause-lie
 returns-clause-lie c = λ f geometry within few.

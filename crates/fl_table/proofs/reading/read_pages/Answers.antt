@@ -84,7 +84,7 @@ loop-number-preserved g c =
       still = ring-then c.args.bitmaps.now c.loop-number.bitmaps c.note_bitmap.new.bitmaps inv.still c.note_bitmap.ensures.still;
       gathered = gathers-more c.args.bitmaps.now c.loop-number.bitmaps c.note_bitmap.new.bitmaps (oldest_of ring) (next_of ring) number page.bitmap c.requires.bitmaps inv.gathered c.note_bitmap.ensures.noted;
       waits = λ told. gather-more c.args.bitmaps.now c.loop-number.bitmaps c.note_bitmap.new.bitmaps (oldest_of ring) (next_of ring) number page.bitmap pages c.requires.bitmaps inv.gathered c.note_bitmap.ensures.noted
-          (c.in_ok-page.ensures.bitmap (told_still old flash n inv.reads told) ∙ ap bitmap_on same) (inv.waits told);
+          (c.in_ok-page.ensures.bitmap (told_still old flash n inv.reads told) ∙ ap bitmap_on same) c.loop-number.invariant.same (inv.waits told);
       error = c.add_page.ensures.error ∙ inv.error;
       index = λ told error empty. points-more layout pages first n number m here more bytes same c.loop-number.last page.first error c.loop-number.index c.add_page.new.index (inv.last told) (inv.read told)
           (c.in_ok-page.ensures.read (told_still old flash n inv.reads told)) (c.in_ok-page.ensures.first (told_still old flash n inv.reads told)) (inv.index told error empty) c.add_page.ensures.points;

@@ -95,7 +95,7 @@ returns-clause-ends g c = λ first plan table rose device watched planned rests.
     let back : take t1.firsts.len (c.read_firsts.new.firsts ++ drop (length c.read_firsts.new.firsts) t1.firsts.items) ≡ c.read_firsts.new.firsts =
     written-back t1.firsts.len t1.firsts.items c.read_firsts.new.firsts c.read_firsts.new.firsts refl (c.in_ok-newest.ensures.size ∙ ap length c.deref_mut.ensures.value) t1.firsts.ok.0 in
     mounts-well first plan table rose device old is ring mid new (next_of ring - oldest_of ring) l reads sizes _ c.in_ok-end.end
-    (planned-same t _ first plan planned (record { geometry = c.forget.ensures.same.geometry; place = c.forget.ensures.same.place; bits = c.forget.ensures.same.bits })) shape refl c.forget.ensures.none
+    (planned-same t _ first plan planned (record { geometry = c.forget.ensures.same.geometry; place = c.forget.ensures.same.place; bits = c.forget.ensures.same.bits; full = c.forget.ensures.same.full })) shape refl c.forget.ensures.none
     (λ fits. subst (λ xs. AreRemembered (kept_page ring mid) (oldest_of ring) (next_of ring - oldest_of ring) xs) (sym back)
     (c.in_ok-newest.ensures.firsts (subst (λ n. next_of ring - oldest_of ring ≤ n) (ap length back ∙ c.in_ok-newest.ensures.size) fits) told))
     (end-is (place (shape_of ring)) (kept_page ring mid) (per_page t1) _ c.in_ok-newest.newest c.in_ok-end.end (c.in_ok-newest.ensures.newest told) c.in_ok-end.ensures.end)

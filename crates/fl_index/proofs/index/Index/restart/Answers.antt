@@ -1,21 +1,11 @@
-use Rattle.std.proofs.Common.{ℕ, ◌<◌, [], refl, arith}
+use Rattle.std.proofs.Common.{refl}
 use Rattle.fl_index.proofs.Memories.{ring-same}
 use Rattle.fl_index.proofs.Gathering.{none-in}
 use Rattle.fl_index.proofs.index.Index.restart.Goals as goal
 
 pub returns-clause-ring : goal.returns-clause-ring
 returns-clause-ring c = λ f begin plan table stands.
-    ring-same c.args.self.now _ f begin plan table (record { geometry = refl; place = refl; bits = refl }) (record { ring = refl; firsts = refl }) stands
+    ring-same c.args.self.now _ f begin plan table (record { geometry = refl; place = refl; bits = refl; full = refl }) (record { ring = refl; firsts = refl }) stands
 
 pub returns-clause-waits : goal.returns-clause-waits
-returns-clause-waits c = λ plan table. record {
-  first_is = refl;
-  count_is = c.requires.none;
-  bitmaps = [];
-  as_many = refl;
-  gathered = none-in _ _;
-  each = λ j n lt e. absurd (none j lt);
-}
-  where
-    none : (j : ℕ) → j < 0 → ⊥
-    none j lt = omega arith
+returns-clause-waits c = record { first_is = refl; count_is = c.requires.none; gathered = none-in _ _ }

@@ -1,4 +1,5 @@
-use Rattle.std.proofs.Common.{◌≡◌, ◌%◌, ℕ, ◌<◌, ◌≤◌, List, ◌++◌, Some, Ok, Err, length, take, drop, set, arith, refl, sym, ◌∙◌, ap, subst}
+use Rattle.fl_ring.specs.declared.ring.Ring.{Ring}
+use Rattle.std.proofs.Common.{◌≡◌, Option, None, ◌+◌, ◌*◌, ◌%◌, ℕ, ◌<◌, ◌≤◌, List, ◌++◌, Some, Ok, Err, length, take, drop, set, arith, refl, sym, ◌∙◌, ap, subst}
 use Rattle.std.proofs.lemmas.Result.{err_from_is_err_and}
 use Rattle.fl_base.specs.Bytes.{splice}
 use Rattle.fl_flash.specs.Flash.{page_at}
@@ -7,7 +8,8 @@ use Rattle.fl_ring.specs.Place.{shape_of, StandsFor}
 use Rattle.fl_ring.specs.Ring.{Shape, OutsideStands, oldest, place, sealed}
 use Rattle.fl_ring.specs.Sealing.{Performed, Seals}
 use Rattle.fl_index.specs.Page.{header_bytes}
-use Rattle.fl_index.proofs.Gathering.{written-back, headed-length}
+use Rattle.fl_index.proofs.Gathering.{written-back, headed-length, rest-headed}
+use Rattle.fl_index.specs.Memory.{per_page, len_in}
 use Rattle.fl_index.proofs.State.{shape_in, HaveSize}
 use Rattle.fl_index.proofs.Sealings.{planned-ring, lies-size, seal-ready, seal-breaks, seal-finishes}
 use Rattle.fl_index.proofs.SealAnswers.{sealing-of, some-room, number-of, seal-on}
@@ -71,7 +73,7 @@ returns-clause-ends g c = λ first plan table rose device watched stands.
     let number : c.next_number-number.result ≡ is.is.ring.next = number-of t old first plan table ring c.next_number-number.result stands has c.next_number-number.ensures is.s is.is in
     let len : c.len.result ≡ length t.firsts.items = c.len.ensures ∙ t.firsts.ok.0 in
     seal-finishes t old first plan table body is rose device new sizes_now after u _ both.0 both.1
-    (record { geometry = refl; place = refl; bits = refl }) refl refl refl
+    (record { geometry = refl; place = refl; bits = refl; full = refl }) refl refl refl
     (ap (λ n. set t.firsts.items (n % c.len.result) (Some t.first)) number ∙ ap (λ n. set t.firsts.items (is.is.ring.next % n) (Some t.first)) len)
     keeps
 
@@ -89,3 +91,41 @@ returns-clause-outside g c = λ told.
 
 pub returns-clause-power : goal.returns-clause-power
 returns-clause-power g c = λ on. seal-on _ _ _ _ _ _ _ c.in_ok-seal.ensures.calls
+
+pub invariant_of-self : goal.invariant_of-self
+invariant_of-self g c =
+    let t = c.args.self.now in
+    let back : take t.body.len (c.write_header.new.body ++ drop (length c.write_header.new.body) t.body.items) ≡ splice t.body.items 0 (header_bytes c.next_number-number.result t.first t.waiting) =
+    written-back t.body.len t.body.items c.write_header.new.body _ (c.write_header.ensures ∙ ap (λ (l : List ℕ). splice l 0 (header_bytes c.next_number-number.result t.first t.waiting)) c.deref_mut.ensures.value)
+    (headed-length c.next_number-number.result t.first t.waiting t.body.items (omega (arith, t.page, t.served.page_least))) t.body.ok.0 in
+    record {
+      served = t.served;
+      some_blocks = t.some_blocks;
+      few_blocks = t.few_blocks;
+      some_bits = t.some_bits;
+      remembered = t.remembered;
+      page = ap (λ (l : List ℕ). length l + 8) back ∙ (ap (λ n. n + 8) (headed-length c.next_number-number.result t.first t.waiting t.body.items (omega (arith, t.page, t.served.page_least))) ∙ t.page);
+      blank_rest = rest-headed c.next_number-number.result t.first t.waiting (per_page t * len_in t) t.body.items _ (omega (arith, t.page, t.served.page_least)) back t.blank_rest;
+      few = t.few;
+      left = t.left;
+      lies = λ r has. absurd (none r (sym c.take.ensures.after ∙ has));
+    }
+  where
+    none : (r : Ring) → ◌≡◌ {A = Option Ring} None (Some r) → ⊥
+    none r e = cc
+
+pub invariant_of-self-2-clause-blank_rest : goal.invariant_of-self-2-clause-blank_rest
+invariant_of-self-2-clause-blank_rest g c =
+    let t = c.args.self.now in
+    let back : take t.body.len (c.write_header.new.body ++ drop (length c.write_header.new.body) t.body.items) ≡ splice t.body.items 0 (header_bytes c.next_number-number.result t.first t.waiting) =
+    written-back t.body.len t.body.items c.write_header.new.body _ (c.write_header.ensures ∙ ap (λ (l : List ℕ). splice l 0 (header_bytes c.next_number-number.result t.first t.waiting)) c.deref_mut.ensures.value)
+    (headed-length c.next_number-number.result t.first t.waiting t.body.items (omega (arith, t.page, t.served.page_least))) t.body.ok.0 in
+    rest-headed c.next_number-number.result t.first t.waiting (per_page t * len_in t) t.body.items _ (omega (arith, t.page, t.served.page_least)) back t.blank_rest
+
+pub invariant_of-self-2-clause-page : goal.invariant_of-self-2-clause-page
+invariant_of-self-2-clause-page g c =
+    let t = c.args.self.now in
+    let back : take t.body.len (c.write_header.new.body ++ drop (length c.write_header.new.body) t.body.items) ≡ splice t.body.items 0 (header_bytes c.next_number-number.result t.first t.waiting) =
+    written-back t.body.len t.body.items c.write_header.new.body _ (c.write_header.ensures ∙ ap (λ (l : List ℕ). splice l 0 (header_bytes c.next_number-number.result t.first t.waiting)) c.deref_mut.ensures.value)
+    (headed-length c.next_number-number.result t.first t.waiting t.body.items (omega (arith, t.page, t.served.page_least))) t.body.ok.0 in
+    ap (λ (l : List ℕ). length l + 8) back ∙ (ap (λ n. n + 8) (headed-length c.next_number-number.result t.first t.waiting t.body.items (omega (arith, t.page, t.served.page_least))) ∙ t.page)

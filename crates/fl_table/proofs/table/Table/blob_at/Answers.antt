@@ -6,7 +6,10 @@ use Rattle.fl_var.specs.Memory as memory
 use Rattle.fl_var.specs.Reading.{IsOfPage}
 use Rattle.fl_var.specs.declared.reader.BlobReader.{BlobReader}
 use Rattle.fl_var.specs.declared.var_data.VarData.{VarData}
-use Rattle.fl_table.proofs.HeldBlobs.{standing-bytes}
+use Rattle.fl_model.specs.Agrees.{BlobsOf}
+use Rattle.fl_model.specs.Record.{Plan}
+use Rattle.fl_model.specs.Ring.{Ring}
+use Rattle.fl_model.specs.Table.{Table}
 use Rattle.fl_table.proofs.StillStands.{lies-still}
 use Rattle.fl_table.proofs.table.Table.blob_at.Goals as goal
 
@@ -15,6 +18,11 @@ opened : (P Q : BlobReader → Type 0) (result : Result (Option BlobReader) Read
 opened P Q (Ok (Some r)) h then = then r h
 opened P Q (Ok None) h then = h
 opened P Q (Err e) h then = h
+
+-- the blobs of a ring, where a table has it
+blobs_of : (plan : Plan) (table : Table) (ring : Ring) (o : Option Ring) → o ≡ Some ring → IfSome o (BlobsOf plan table) → BlobsOf plan table ring
+blobs_of plan table ring None e h = cc
+blobs_of plan table ring (Some r) e h = let same : r ≡ ring = cc in subst (BlobsOf plan table) same h
 
 pub returns-clause-var : goal.returns-clause-var
 returns-clause-var g c = opened _ _ c.open_blob.result c.open_blob.ensures.data
@@ -31,7 +39,7 @@ returns-clause-finds g c = λ first plan table i entry bytes told stands slot bl
     let here = first + plan.data_blocks + plan.index_blocks in
     let standing = subst (λ (o : Option VarData). Stand o f here plan table) c.in-Some.is stands.blobs in
     c.open_blob.ensures.finds plan table entry bytes told standing.in_pages blob at_is
-    (λ ring ring_is kept some. standing-bytes v f here plan table standing i entry bytes slot blob c.args.at at_is ring ring_is kept some)
+    (λ ring ring_is kept some. blobs_of plan table ring table.var ring_is stands.facts.agrees.blobs i entry bytes slot blob some kept)
 
 pub returns-clause-lies : goal.returns-clause-lies
 returns-clause-lies g c = lies-still c.args.self.now (g.F.Flash.state c.args.flash.now) (g.F.Flash.state c.open_blob.new.flash) 1 c.open_blob.ensures.reads c.requires.lies

@@ -1,4 +1,4 @@
-use Rattle.std.proofs.Common.{◌≡◌, ℕ, ◌≤◌, sym, subst}
+use Rattle.std.proofs.Common.{ℕ, ◌≤◌, sym, subst}
 use Rattle.std.proofs.lemmas.List.{length-map}
 use Rattle.fl_table.proofs.table.Table.columns.Goals as goal
 

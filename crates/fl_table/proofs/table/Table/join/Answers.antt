@@ -65,12 +65,14 @@ returns-clause-ends g c = λ first plan table rose device watched stands ok.
           limit = stands.planned.limit;
           buckets = stands.planned.buckets;
           error = stands.planned.error;
+          full = stands.planned.full;
+          log = stands.planned.log;
         }) c.add.ensures.same;
-        facts = table-facts plan (joined_to table entry h.ring h.fill) h.facts;
+        facts = table-facts plan (joined_to table entry h.ring h.content h.bytes) h.facts;
         whole = stands.whole;
         clean = stands.clean;
         pages = h.pages;
-        memory = c.add.ensures.memory plan table (joined_to table entry h.ring h.fill) entry (record {
+        memory = c.add.ensures.memory plan table (joined_to table entry h.ring h.content h.bytes) entry (record {
           ring = memory.ring;
           ring_is = memory.ring_is;
           next = memory.next;
@@ -82,8 +84,8 @@ returns-clause-ends g c = λ first plan table rose device watched stands ok.
           voids = memory.voids;
           index = memory.index;
         }) (record { rows = refl; points = refl }) refl refl (omega (arith, stands.facts.counted)) stands.planned.buckets row;
-        bitmaps = subst (λ (o : Option Index). bitmaps.Stand o new (first + plan.data_blocks) plan (joined_to table entry h.ring h.fill)) (sym c.add.ensures.bitmaps) h.bitmaps;
-        blobs = subst (λ (o : Option VarData). variable.Stand o new (first + plan.data_blocks + plan.index_blocks) plan (joined_to table entry h.ring h.fill)) (sym c.add.ensures.blobs) h.blobs;
+        bitmaps = subst (λ (o : Option Index). bitmaps.Stand o new (first + plan.data_blocks) plan (joined_to table entry h.ring h.content h.bytes)) (sym c.add.ensures.bitmaps) h.bitmaps;
+        blobs = subst (λ (o : Option VarData). variable.Stand o new (first + plan.data_blocks + plan.index_blocks) plan (joined_to table entry h.ring h.content h.bytes)) (sym c.add.ensures.blobs) h.blobs;
         points = record { older = points.older; points = points.points; last = points.last };
       });
       stand = h.stand;

@@ -3,7 +3,7 @@ use Rattle.std.proofs.lemmas.Bool.{ltb-true, ltb-false}
 use Rattle.fl_model.specs.Record.{layout_len}
 use Rattle.fl_model.specs.Table.{RingName, make_room_seals}
 use Rattle.fl_model.specs.Work.{Whole}
-use Rattle.fl_model.proofs.Puts.{full-room_seals, room-room_seals}
+use Rattle.fl_model.proofs.TableSeals.{full-room_seals, room-room_seals}
 use Rattle.fl_flash.specs.Flash.{page_at}
 use Rattle.fl_schema.specs.Schema.{layout_of}
 use Rattle.fl_table.specs.Outcomes.{SealsEnd}
@@ -37,6 +37,8 @@ returns-then-not-is_full-clause-ends g c = λ first plan table rose device watch
           limit = stands.planned.limit;
           buckets = stands.planned.buckets;
           error = stands.planned.error;
+          full = stands.planned.full;
+          log = stands.planned.log;
         };
         facts = stands.facts;
         whole = stands.whole;

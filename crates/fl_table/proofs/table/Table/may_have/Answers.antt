@@ -6,7 +6,7 @@ use Rattle.fl_index.specs.Looking.{ShowsBitmap, next_to_read}
 use Rattle.fl_model.specs.Image.{rows_at}
 use Rattle.fl_model.specs.Query.{selected}
 use Rattle.fl_table.specs.Skipping.{AreFresh, AreScanning, LooksOn, ShowsPage}
-use Rattle.fl_table.proofs.Skips.{fresh-still, looks-none, looks-plain, looks-found, looks-failed, shows-none, shows-some, shows-fault, index-stands, kept-number, some-bits, bad-index, misses-none}
+use Rattle.fl_table.proofs.Skips.{fresh-still, looks-none, looks-plain, looks-found, looks-failed, shows-none, shows-some, shows-fault, index-stands, some-bits, bad-index, misses-none}
 use Rattle.fl_table.proofs.Sizes.{table-fits}
 use Rattle.fl_table.proofs.table.Table.may_have.Goals as goal
 
@@ -17,7 +17,7 @@ returns-in-Ok-None-clause-shows g c = λ first plan table n rows told stands fre
     let is = c.in-Some-bitmaps.is in
     let index = c.in-Some-bitmaps.index in
     let shown = c.in-Ok-None.ensures.stands (first + plan.data_blocks) plan table told (index-stands t f first plan table stands index is)
-    (subst (λ (o : Option Index). AreFresh o (g.F.Flash.state c.args.flash.now) c.args.buf.now) is fresh) (kept-number t f first plan table stands index is c.args.number n rows at here) in
+    (subst (λ (o : Option Index). AreFresh o (g.F.Flash.state c.args.flash.now) c.args.buf.now) is fresh) in
     let none = subst (λ (o : Option ℕ). ShowsBitmap plan table c.args.number (Ok o)) c.in-Ok-None.field-0-is shown in
     subst (λ (s : Option Span). ShowsPage plan table s c.args.number (rows_at table n rows) (Ok true)) (sym c.in-Some.is)
     (shows-none plan table c.in-Some.span c.args.number (rows_at table n rows) none.0)
@@ -29,7 +29,7 @@ returns-in-Ok-Some-clause-shows g c = λ first plan table n rows told stands fre
     let is = c.in-Some-bitmaps.is in
     let index = c.in-Some-bitmaps.index in
     let shown = c.in-Ok-Some.ensures.stands (first + plan.data_blocks) plan table told (index-stands t f first plan table stands index is)
-    (subst (λ (o : Option Index). AreFresh o (g.F.Flash.state c.args.flash.now) c.args.buf.now) is fresh) (kept-number t f first plan table stands index is c.args.number n rows at here) in
+    (subst (λ (o : Option Index). AreFresh o (g.F.Flash.state c.args.flash.now) c.args.buf.now) is fresh) in
     let found = subst (λ (o : Option ℕ). ShowsBitmap plan table c.args.number (Ok o)) c.in-Ok-Some.field-0-is shown in
     subst (λ (s : Option Span). ShowsPage plan table s c.args.number (rows_at table n rows) (Ok (not (bit_and c.in-Ok-Some.bitmap c.mask.result == 0)))) (sym c.in-Some.is)
     (shows-some plan table c.in-Some.span c.args.number c.in-Ok-Some.bitmap c.mask.result (rows_at table n rows) found.0 (found.1 n rows at here some)
@@ -42,7 +42,7 @@ returns-in-Err-clause-shows g c = λ first plan table n rows told stands fresh a
     let is = c.in-Some-bitmaps.is in
     let index = c.in-Some-bitmaps.index in
     let shown = c.in-Err.ensures.stands (first + plan.data_blocks) plan table told (index-stands t f first plan table stands index is)
-    (subst (λ (o : Option Index). AreFresh o (g.F.Flash.state c.args.flash.now) c.args.buf.now) is fresh) (kept-number t f first plan table stands index is c.args.number n rows at here) in
+    (subst (λ (o : Option Index). AreFresh o (g.F.Flash.state c.args.flash.now) c.args.buf.now) is fresh) in
     shows-fault plan table c.args.span c.args.number n (rows_at table n rows) c.in-Err.fault shown
 
 pub returns-in-Ok-None-clause-looks : goal.returns-in-Ok-None-clause-looks
@@ -101,7 +101,7 @@ returns-in-Ok-Some-clause-misses g c = λ first plan table n rows range told sta
     let is = c.in-Some-bitmaps.is in
     let index = c.in-Some-bitmaps.index in
     let shown = c.in-Ok-Some.ensures.stands (first + plan.data_blocks) plan table told (index-stands t f first plan table stands index is)
-    (subst (λ (o : Option Index). AreFresh o (g.F.Flash.state c.args.flash.now) c.args.buf.now) is fresh) (kept-number t f first plan table stands index is c.args.number n rows at here) in
+    (subst (λ (o : Option Index). AreFresh o (g.F.Flash.state c.args.flash.now) c.args.buf.now) is fresh) in
     let found = subst (λ (o : Option ℕ). ShowsBitmap plan table c.args.number (Ok o)) c.in-Ok-Some.field-0-is shown in
     let none = misses-none (bit_and c.in-Ok-Some.bitmap c.mask.result) missed in
     subst (λ (s : Option Span). selected range s (rows_at table n rows) ≡ []) (sym c.in-Some.is)

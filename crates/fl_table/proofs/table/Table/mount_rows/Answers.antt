@@ -13,7 +13,8 @@ use Rattle.fl_var.specs.Memory.{var_shape}
 use Rattle.fl_table.proofs.Blobbing as blobbing
 use Rattle.fl_table.proofs.Following.{watched-front, watched-then}
 use Rattle.fl_table.proofs.MountJoined.{mount-cause-later}
-use Rattle.fl_table.proofs.MountVar.{data-fails, mounted-ends, rows-fail, rows-mount, with_var}
+use Rattle.fl_table.proofs.BlobSeals.{with_var}
+use Rattle.fl_table.proofs.MountVar.{data-fails, mounted-ends, rows-fail, rows-mount}
 use Rattle.fl_table.proofs.Plain.{table-facts}
 use Rattle.fl_base.specs.declared.types.Geometry.{Geometry}
 use Rattle.fl_base.specs.declared.types.RingPlace.{RingPlace}
@@ -68,8 +69,10 @@ returns-clause-ends g c = λ first plan table rose device watched planned rests 
         limit = w.planned.limit;
         buckets = w.planned.buckets;
         error = w.planned.error;
+        full = w.planned.full;
+        log = w.planned.log;
       };
-      facts = table-facts plan (with_var (ready plan w.now.state) h.ring h.fill) h.facts;
+      facts = table-facts plan (with_var (ready plan w.now.state) h.ring h.content h.bytes) h.facts;
       whole = w.whole;
       clean = w.clean;
       pages = h.pages;

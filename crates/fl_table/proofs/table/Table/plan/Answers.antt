@@ -26,6 +26,8 @@ returns-clause-planned g c = λ plan is. record {
   limit = sym (ap (λ (p : Plan). p.blob_limit) is.is);
   buckets = search rules;
   error = search rules;
+  full = sym (ap (λ (p : Plan). p.full_index) is.is);
+  log = sym (ap (λ (p : Plan). p.log_blocks) is.is);
 }
 
 pub returns-clause-lies : goal.returns-clause-lies

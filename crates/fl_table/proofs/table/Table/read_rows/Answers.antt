@@ -133,6 +133,8 @@ returns-clause-ends g c = λ first plan table rose device watched planned rests 
         limit = planned.limit;
         buckets = planned.buckets;
         error = planned.error ∙ sym ensures.error;
+        full = planned.full;
+        log = planned.log;
       };
       facts = ready_facts first plan table rose device old is ring mid new n l reads sizes still;
       memory = started-memory first plan table rose device old is ring mid new n l reads sizes still _
@@ -146,6 +148,8 @@ returns-clause-ends g c = λ first plan table rose device watched planned rests 
             limit = planned.limit;
             buckets = planned.buckets;
             error = planned.error ∙ sym ensures.error;
+            full = planned.full;
+            log = planned.log;
           }) here
           forgotten.empty forgotten.bits (ensures.last told)
           (λ fits. subst (λ (cs : List ℕ). AreNoted (layout_of t.schema) (pages_of ring mid) (oldest_of ring) (next_of ring - oldest_of ring) cs) (sym back)

@@ -3,7 +3,7 @@ use Rattle.std.proofs.lemmas.Result.{err_from_is_err_and, IfErr-weaker}
 use Rattle.fl_model.specs.Table.{RingName, DataRing, after_seals}
 use Rattle.fl_table.specs.Bitmaps.{HaveRoom, bitmap_seals, next_of}
 use Rattle.fl_table.specs.Blobs as variable
-use Rattle.fl_table.specs.Blobs.{blob_seals}
+use Rattle.fl_table.specs.Blobs.{rest_seals}
 use Rattle.fl_table.specs.Outcomes.{SealsEnd}
 use Rattle.fl_table.proofs.Following.{cause-later, seals-stop, seals-then, watched-front, watched-then}
 use Rattle.fl_flash.specs.Flash.{page_at}
@@ -25,7 +25,7 @@ returns-in_err-seal_bitmaps-clause-ends g c = λ first plan table rose device wa
     let some : table.pending ≡ 0 → ⊥ = λ none. absurd (omega (arith, none, writer-count t f first plan table stands, c.requires.some)) in
     let p = err_from_is_err_and c.from_residual.result c.from_residual.ensures.1 in
     rw (p.1, p.2) (subst (λ (rings : List RingName). SealsEnd first plan rings table rose device (Err c.in_err-seal_bitmaps.field-0.0) c.seal_bitmaps.new.self f new) (sym (some-table_seals plan table some))
-    (seals-stop first plan (bitmap_seals plan table) (blob_seals (after_seals plan (bitmap_seals plan table) table) ++ DataRing ∷ []) table rose device c.in_err-seal_bitmaps.field-0.0 new (c.in_err-seal_bitmaps.ensures.ends first plan table rose device watched stands)))
+    (seals-stop first plan (bitmap_seals plan table) (rest_seals (after_seals plan (bitmap_seals plan table) table) ++ DataRing ∷ []) table rose device c.in_err-seal_bitmaps.field-0.0 new (c.in_err-seal_bitmaps.ensures.ends first plan table rose device watched stands)))
 
 pub returns-in_err-seal_blobs-clause-ends : goal.returns-in_err-seal_blobs-clause-ends
 returns-in_err-seal_blobs-clause-ends g c = λ first plan table rose device watched stands.
@@ -40,8 +40,8 @@ returns-in_err-seal_blobs-clause-ends g c = λ first plan table rose device watc
     let k = c.in_err-seal_blobs.ensures.ends first plan after rose h.now.device (watched-then f mid new rose device h.now.device watched goes h.power h.counts) h.stands in
     let p = err_from_is_err_and c.from_residual-in_err-seal_blobs.result c.from_residual-in_err-seal_blobs.ensures.1 in
     rw (p.1, p.2) (subst (λ (rings : List RingName). SealsEnd first plan rings table rose device (Err c.in_err-seal_blobs.field-0.0) c.seal_blobs.new.self f new) (sym (some-table_seals plan table some))
-    (seals-then first plan (bitmap_seals plan table) (blob_seals after ++ DataRing ∷ []) table rose device c.seal_bitmaps.new.self f mid (Err c.in_err-seal_blobs.field-0.0) c.seal_blobs.new.self new h
-    (seals-stop first plan (blob_seals after) (DataRing ∷ []) after rose h.now.device c.in_err-seal_blobs.field-0.0 new k)))
+    (seals-then first plan (bitmap_seals plan table) (rest_seals after ++ DataRing ∷ []) table rose device c.seal_bitmaps.new.self f mid (Err c.in_err-seal_blobs.field-0.0) c.seal_blobs.new.self new h
+    (seals-stop first plan (rest_seals after) (DataRing ∷ []) after rose h.now.device c.in_err-seal_blobs.field-0.0 new k)))
 
 pub returns-clause-ends : goal.returns-clause-ends
 returns-clause-ends g c = λ first plan table rose device watched stands.
@@ -59,9 +59,9 @@ returns-clause-ends g c = λ first plan table rose device watched stands.
     let last = watched-then first_flash mid new rose h.now.device b.now.device
     (watched-then f first_flash new rose device h.now.device watched c.in_ok-seal_bitmaps.ensures.goes h.power h.counts) c.in_ok-seal_blobs.ensures.goes b.power b.counts in
     subst (λ (rings : List RingName). SealsEnd first plan rings table rose device c.seal_rows.result c.seal_rows.new.self f new) (sym (some-table_seals plan table some))
-    (seals-then first plan (bitmap_seals plan table) (blob_seals after ++ DataRing ∷ []) table rose device c.seal_bitmaps.new.self f first_flash c.seal_rows.result c.seal_rows.new.self new h
-    (seals-then first plan (blob_seals after) (DataRing ∷ []) after rose h.now.device c.seal_blobs.new.self first_flash mid c.seal_rows.result c.seal_rows.new.self new b
-    (c.seal_rows.ensures.ends first plan (after_seals plan (blob_seals after) after) rose b.now.device last b.stands)))
+    (seals-then first plan (bitmap_seals plan table) (rest_seals after ++ DataRing ∷ []) table rose device c.seal_bitmaps.new.self f first_flash c.seal_rows.result c.seal_rows.new.self new h
+    (seals-then first plan (rest_seals after) (DataRing ∷ []) after rose h.now.device c.seal_blobs.new.self first_flash mid c.seal_rows.result c.seal_rows.new.self new b
+    (c.seal_rows.ensures.ends first plan (after_seals plan (rest_seals after) after) rose b.now.device last b.stands)))
 
 pub returns-in_err-seal_blobs-clause-cause : goal.returns-in_err-seal_blobs-clause-cause
 returns-in_err-seal_blobs-clause-cause g c =

@@ -28,7 +28,7 @@ returns-clause-ends g c = λ first plan table rose device watched stands.
     (c.in_default.ensures.ends (first + plan.data_blocks) plan table rose device) in
     let memory = stands.memory in
     made-finishes t _ f (g.F.Flash.state c.make_room.new.flash) first plan (bitmap_seals plan table) table rose device c.make_room.new.bitmaps h
-    (λ index waiting firsts facts pages bitmaps. record {
+    (λ index listed waiting facts pages bitmaps. record {
       planned = record {
         geometry = stands.planned.geometry;
         layout = stands.planned.layout;
@@ -39,6 +39,8 @@ returns-clause-ends g c = λ first plan table rose device watched stands.
         limit = stands.planned.limit;
         buckets = stands.planned.buckets;
         error = stands.planned.error;
+        full = stands.planned.full;
+        log = stands.planned.log;
       };
       facts = facts;
       whole = stands.whole;
@@ -57,8 +59,8 @@ returns-clause-ends g c = λ first plan table rose device watched stands.
         index = memory.index;
       };
       bitmaps = bitmaps;
-      blobs = stand-moved t.blobs f (g.F.Flash.state c.make_room.new.flash) first plan table (with_index table index waiting firsts)
-          (var-stand t.bitmaps (page_at f) (page_at (g.F.Flash.state c.make_room.new.flash)) first plan stands.planned.index (c.in_default.ensures.outside watched.told)) refl refl refl refl stands.blobs;
+      blobs = stand-moved t.blobs f (g.F.Flash.state c.make_room.new.flash) first plan table (with_index table index listed waiting)
+          (var-stand t.bitmaps (page_at f) (page_at (g.F.Flash.state c.make_room.new.flash)) first plan stands.planned.index (c.in_default.ensures.outside watched.told)) refl refl refl (λ i entry e. (i, e)) stands.blobs;
       points = record { older = stands.points.older; points = stands.points.points; last = stands.points.last };
     })
 

@@ -1,9 +1,9 @@
 use Rattle.std.proofs.Common.{sym, ◌∙◌, ◌+◌, Ok, Err, arith, ap, refl, None}
 use Rattle.fl_flash.specs.Flash.{page_at}
-use Rattle.fl_table.specs.Blobs.{blob_seals}
+use Rattle.fl_table.specs.Blobs.{rest_seals}
 use Rattle.fl_table.proofs.BlobStands.{rest-done, rested-finishes, index-before, bitmaps-stand}
 use Rattle.fl_table.proofs.Blobbing.{after-empty, numbers-left, same-some, still-planned, after-most}
-use Rattle.fl_table.proofs.Plain.{table-facts, table-parts}
+use Rattle.fl_table.proofs.Plain.{table-facts}
 use Rattle.fl_table.proofs.Outsides.{var-outside}
 use Rattle.fl_table.proofs.StillStands.{lies-moved}
 use Rattle.fl_ring.specs.declared.ring.Ring.{Ring}
@@ -29,8 +29,8 @@ returns-clause-ends g c = λ first plan table rose device watched stands.
     let h = rest-done t f new first plan table rose device stands watched t.blobs (Ok c.in_default.field-0) c.seal_rest.new.blobs refl (t.blobs_left c.requires.running c.requires.some) outside c.in_default.ensures.next
     (c.in_default.ensures.ends (first + plan.data_blocks + plan.index_blocks) plan table rose device) in
     let memory = stands.memory in
-    rested-finishes _ f new first plan (blob_seals table) table rose device c.seal_rest.new.blobs h
-    (λ ring fill facts pages blobs. record {
+    rested-finishes _ f new first plan (rest_seals table) table rose device c.seal_rest.new.blobs h
+    (λ ring content bytes facts pages blobs. record {
       planned = record {
         geometry = stands.planned.geometry;
         layout = stands.planned.layout;
@@ -41,6 +41,8 @@ returns-clause-ends g c = λ first plan table rose device watched stands.
         limit = stands.planned.limit;
         buckets = stands.planned.buckets;
         error = stands.planned.error;
+        full = stands.planned.full;
+        log = stands.planned.log;
       };
       facts = table-facts plan _ facts;
       whole = stands.whole;
@@ -58,7 +60,7 @@ returns-clause-ends g c = λ first plan table rose device watched stands.
         voids = memory.voids;
         index = memory.index;
       };
-      bitmaps = bitmaps-stand t.bitmaps f new first plan table ring fill stands.planned.index (omega (arith, ap (λ x. x.block) stands.planned.geometry, t.served.block_least)) (table-parts plan table stands.facts) facts
+      bitmaps = bitmaps-stand t.bitmaps f new first plan table ring content bytes stands.planned.index (omega (arith, ap (λ x. x.block) stands.planned.geometry, t.served.block_least)) facts
           (λ some. index-before t.blobs (page_at f) (page_at new) first plan stands.planned.var outside some) stands.bitmaps;
       blobs = blobs;
       points = record { older = stands.points.older; points = stands.points.points; last = stands.points.last };

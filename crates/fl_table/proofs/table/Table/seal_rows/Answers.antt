@@ -21,6 +21,7 @@ use Rattle.fl_table.proofs.Blobbing as blobbing
 use Rattle.fl_table.proofs.Blobbing.{var-stands}
 use Rattle.fl_index.proofs.SealAnswers.{seal-on}
 use Rattle.fl_table.proofs.SealAnswers.{planned-ring, planned-shape, lies-size, sealing-of, seal-ready, writer-count, ring-next, counts-room, note-same, written-back}
+use Rattle.fl_table.proofs.VarFacts.{rest-of}
 use Rattle.fl_table.proofs.VoidPages.{voids-told}
 use Rattle.fl_table.proofs.Sealings.{IsSealing, KeepsAll, seal-breaks, seal-finishes}
 use Rattle.fl_table.proofs.Following.{ends-alone}
@@ -115,7 +116,7 @@ returns-clause-ends g c = λ first plan table rose device watched stands.
     let memory = stands.memory in
     let first_key : model.first_pending table ≡ Some c.key-first_key.result =
     first-key table (row_of c.row.result) (c.row.ensures.row (map stored_row (model.pending_entries table)) memory.gathers) ∙ ap (λ k. Some k) (sym c.key-first_key.ensures) in
-    let facts = table-parts plan table stands.facts in
+    let facts = table-parts plan table (stands.planned.full, stands.planned.log) stands.facts in
     ends-alone first plan table rose device (Ok u) _ old new (record {
       now = sealed.now;
       did = sealed.did;
@@ -133,6 +134,8 @@ returns-clause-ends g c = λ first plan table rose device watched stands.
           limit = stands.planned.limit;
           buckets = stands.planned.buckets;
           error = stands.planned.error ∙ sym c.add_further.ensures.error;
+          full = stands.planned.full;
+          log = stands.planned.log;
         };
         facts = table-facts plan (after_seal plan DataRing table) sealed.facts;
         whole = sealed.untorn;
@@ -152,10 +155,10 @@ returns-clause-ends g c = λ first plan table rose device watched stands.
               (c.oldest.ensures ∙ sealed.oldest_is) (planned-shape t first plan stands.planned) (omega (arith, c.requires.some, writer-count t old first plan table stands)) c.deref.ensures.value c.voids_among-gone.ensures c.saturating_sub-self.ensures;
           index = index-sealed plan table t.index c.add_further.new.self c.key-first_key.result c.next_number-number.result stands.facts stands.points memory.index first_key number c.add_further.ensures.points;
         };
-        bitmaps = stand-sealed t.bitmaps c.note_bitmap.new.bitmaps old new first plan table c.next_number-number.result t.bitmap (planned-shape t first plan stands.planned) stands.planned.index facts sealed.facts
+        bitmaps = stand-sealed t.bitmaps c.note_bitmap.new.bitmaps old new first plan table c.next_number-number.result t.bitmap stands.planned.index facts sealed.facts
             (index-stands (page_at old) (page_at new) first plan outside) number stands.memory.bitmap c.note_bitmap.ensures.noted stands.bitmaps;
-        blobs = blobbing.stand-sealed t.blobs old new first plan table (after_seal plan DataRing table) (sum (rings.given_up (shape_of_ring plan DataRing) table.pending table.rows))
-            (var-stands (page_at old) (page_at new) first plan outside) refl refl refl c.requires.blobs stands.blobs;
+        blobs = blobbing.stand-moved t.blobs old new first plan table (after_seal plan DataRing table) (var-stands (page_at old) (page_at new) first plan outside) refl refl refl
+            (rest-of (sum (rings.given_up (shape_of_ring plan DataRing) table.pending table.rows)) table.entries) stands.blobs;
         points = points-sealed plan table stands.facts (planned-shape t first plan stands.planned) stands.points (omega (arith, c.requires.some, writer-count t old first plan table stands));
       };
       stand = sealed.stand;

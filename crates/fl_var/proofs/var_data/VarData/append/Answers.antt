@@ -1,49 +1,51 @@
-use Rattle.std.proofs.Common.{rules, ◌≡◌, ◌≤◌, inl, inr, true, ◌⊎◌, sym, Ok, Err, Result, ◌++◌, length, refl, ◌∙◌, ap, subst, arith}
-use Rattle.std.proofs.lemmas.Result.{err_from_is_err_and}
-use Rattle.fl_flash.specs.declared.flash.FlashFault.{FlashFault}
-use Rattle.fl_var.specs.Memory.{next_in, waiting_in}
-use Rattle.fl_var.specs.Placing.{is_full_in, pages_filled, pages_placed}
-use Rattle.fl_var.specs.declared.var_data.VarData.{VarData}
-use Rattle.fl_var.proofs.Growing.{holds, holds-none, waits-none}
-use Rattle.fl_var.proofs.Joins.{watched-first}
+use Rattle.std.proofs.Common.{rules, ◌≡◌, ◌≤◌, inl, inr, true, ◌⊎◌, sym, Ok, Err, Result, length, refl, ◌∙◌, ap, subst, arith}
 use Rattle.std.proofs.lemmas.Bool.{cases_Bool}
+use Rattle.std.proofs.lemmas.Result.{err_from_is_err_and}
 use Rattle.fl_flash.specs.Flash.{FlashState, OffChangesNothing}
-use Rattle.fl_var.proofs.Placed.{placed-filled, place-none, place-err, place-breaks_room, place-breaks, place-ends, watched-second, room-for}
+use Rattle.fl_flash.specs.declared.flash.FlashFault.{FlashFault}
+use Rattle.fl_model.specs.Table.{with_record}
+use Rattle.fl_var.specs.Memory.{next_in, waiting_in}
+use Rattle.fl_var.specs.Placing.{is_full_in, pages_placed}
+use Rattle.fl_var.specs.declared.var_data.VarData.{VarData}
+use Rattle.fl_var.proofs.Joins.{watched-first}
+use Rattle.fl_var.proofs.Placed.{joined-has, joined-bytes, buffered-room, watched-second, place-none, place-err, place-breaks_room, place-breaks, placed-whole, room-for, full-placed, next-split, reads-split, waits-split, waits-none, placed-none}
 use Rattle.fl_var.proofs.Writing.{cause-err, off-err, ok-on, lost-on}
 use Rattle.fl_var.proofs.var_data.VarData.append.Goals as goal
 
 pub returns-then-is_empty-clause-ends : goal.returns-then-is_empty-clause-ends
-returns-then-is_empty-clause-ends g c = λ plan table rose device watched stands.
+returns-then-is_empty-clause-ends g c = λ plan item table rose device watched stands blob_is.
     let none : length c.args.bytes.now ≡ 0 = search rules in
-    place-none plan table rose device c.args.self.now (g.F.Flash.state c.args.flash.now) (length c.args.bytes.now) none watched stands
+    place-none plan item table rose device c.args.self.now (g.F.Flash.state c.args.flash.now) c.args.bytes.now none blob_is watched stands
 
 pub returns-in_err-make_room-clause-ends : goal.returns-in_err-make_room-clause-ends
-returns-in_err-make_room-clause-ends g c = λ plan table rose device watched stands.
+returns-in_err-make_room-clause-ends g c = λ plan item table rose device watched stands blob_is.
     let v = c.args.self.now in
     let f = g.F.Flash.state c.args.flash.now in
     let h = g.F.Flash.state c.make_room.new.flash in
-    let len = length c.args.bytes.now in
+    let bytes = c.args.bytes.now in
     let some : 1 ≤ length c.args.bytes.now = search rules in
     let p = err_from_is_err_and c.from_residual.result c.from_residual.ensures.1 in
-    place-err plan table rose device v f len c.from_residual.result _ h c.in_err-make_room.field-0.0 (p.1 ∙ ap (λ (x : FlashFault). Err x) p.2)
-    (place-breaks_room v f h plan table len rose device c.in_err-make_room.field-0.0 stands some (c.in_err-make_room.ensures.ends plan table rose device watched stands.ring))
+    place-err plan item table rose device v f c.from_residual.result _ h c.in_err-make_room.field-0.0 (p.1 ∙ ap (λ (x : FlashFault). Err x) p.2)
+    (place-breaks_room v f plan item table bytes stands blob_is some h rose device c.in_err-make_room.field-0.0
+    (c.in_err-make_room.ensures.ends plan (with_record plan item table) bytes rose device watched (joined-has v f plan item table bytes stands blob_is) (joined-bytes v f plan item table bytes stands blob_is)))
 
 pub returns-in_err-write-clause-ends : goal.returns-in_err-write-clause-ends
-returns-in_err-write-clause-ends g c = λ plan table rose device watched stands.
+returns-in_err-write-clause-ends g c = λ plan item table rose device watched stands blob_is.
     let v = c.args.self.now in
     let mid = c.make_room.new.self in
     let f = g.F.Flash.state c.args.flash.now in
     let mid_f = g.F.Flash.state c.make_room.new.flash in
     let h = g.F.Flash.state c.write.new.flash in
-    let len = length c.args.bytes.now in
+    let bytes = c.args.bytes.now in
     let e = c.in_ok-make_room.ensures in
     let some : 1 ≤ length c.args.bytes.now = search rules in
     let second = c.in_err-write.ensures.goes in
-    let a = e.ends plan table rose device (watched-first f mid_f h rose device watched second) stands.ring in
+    let a = e.ends plan (with_record plan item table) bytes rose device (watched-first f mid_f h rose device watched second) (joined-has v f plan item table bytes stands blob_is) (joined-bytes v f plan item table bytes stands blob_is) in
     let p = err_from_is_err_and c.from_residual-in_err-write.result c.from_residual-in_err-write.ensures.1 in
-    let b = c.in_err-write.ensures.ends plan _ rose a.now.device (watched-second v mid f plan table len stands some e.same e.next e.fill mid_f h rose device watched e.goes second a) a.has in
-    place-err plan table rose device v f len c.from_residual-in_err-write.result _ h c.in_err-write.field-0.0 (p.1 ∙ ap (λ (x : FlashFault). Err x) p.2)
-    (place-breaks v mid f plan table len stands some e.same e.next e.fill mid_f h rose device watched e.goes second a c.in_err-write.field-0.0 b)
+    let b = c.in_err-write.ensures.ends plan _ rose a.now.device (watched-second v f plan item table bytes stands blob_is mid some e.same e.waits mid_f h rose device watched e.goes a) a.has
+    (buffered-room v f plan item table bytes stands blob_is mid some e.same e.waits) in
+    place-err plan item table rose device v f c.from_residual-in_err-write.result _ h c.in_err-write.field-0.0 (p.1 ∙ ap (λ (x : FlashFault). Err x) p.2)
+    (place-breaks v f plan item table bytes stands blob_is mid some e.same e.waits mid_f h rose device watched e.goes a c.in_err-write.field-0.0 b)
 
 pub returns-in_err-write-clause-cause : goal.returns-in_err-write-clause-cause
 returns-in_err-write-clause-cause g c =
@@ -53,22 +55,23 @@ returns-in_err-write-clause-cause g c =
     e.goes e.power c.in_err-write.ensures.cause
 
 pub returns-clause-ends : goal.returns-clause-ends
-returns-clause-ends g c = λ plan table rose device watched stands.
+returns-clause-ends g c = λ plan item table rose device watched stands blob_is.
     let v = c.args.self.now in
     let mid = c.make_room.new.self in
     let f = g.F.Flash.state c.args.flash.now in
     let mid_f = g.F.Flash.state c.make_room.new.flash in
     let h = g.F.Flash.state c.write.new.flash in
-    let len = length c.args.bytes.now in
+    let bytes = c.args.bytes.now in
     let e = c.in_ok-make_room.ensures in
     let w = c.in_ok-write.ensures in
     let some : 1 ≤ length c.args.bytes.now = search rules in
-    let a = e.ends plan table rose device (watched-first f mid_f h rose device watched w.goes) stands.ring in
-    let b = w.ends plan _ rose a.now.device (watched-second v mid f plan table len stands some e.same e.next e.fill mid_f h rose device watched e.goes w.goes a) a.has in
+    let a = e.ends plan (with_record plan item table) bytes rose device (watched-first f mid_f h rose device watched w.goes) (joined-has v f plan item table bytes stands blob_is) (joined-bytes v f plan item table bytes stands blob_is) in
+    let b = w.ends plan _ rose a.now.device (watched-second v f plan item table bytes stands blob_is mid some e.same e.waits mid_f h rose device watched e.goes a) a.has
+    (buffered-room v f plan item table bytes stands blob_is mid some e.same e.waits) in
     let page : c.next_number.result ≡ next_in c.make_room.new.self = c.next_number.ensures in
     let offset : length c.content.result.now ≡ length (waiting_in c.make_room.new.self) = ap length c.content.ensures.content in
     let at = ap (λ n. record { page = n; offset = length c.content.result.now; length = length c.args.bytes.now }) page ∙ ap (λ n. record { page = next_in c.make_room.new.self; offset = n; length = length c.args.bytes.now }) offset in
-    place-ends v mid f plan table len stands some e.same e.next e.fill mid_f h rose device watched e.goes w.goes a c.write.new.self _ at w.fill b
+    placed-whole v f plan item table bytes stands blob_is mid some e.same e.waits mid_f h rose device watched e.goes a c.write.new.self b _ at e.next w.waits
 
 pub returns-clause-power : goal.returns-clause-power
 returns-clause-power g c = elim c.in_ok-write.ensures.power [
@@ -82,38 +85,53 @@ returns-clause-quiet g c = λ room.
     let some : 1 ≤ length c.args.bytes.now = search rules in
     let left = room-for v (length c.args.bytes.now) some room in
     let still = c.in_ok-make_room.ensures.quiet left.0 in
-    let none : pages_filled c.make_room.new.self (length c.args.bytes.now) ≡ 0 = ap (λ (x : VarData). pages_filled x (length c.args.bytes.now)) still.1 ∙ left.1 in
+    let none : pages_placed c.make_room.new.self (length c.args.bytes.now) ≡ 0 = ap (λ (x : VarData). pages_placed x (length c.args.bytes.now)) still.1 ∙ left.1 in
     (search rules, (c.in_ok-write.ensures.quiet none).1 ∙ still.2)
 
 pub returns-then-is_empty-clause-waits : goal.returns-then-is_empty-clause-waits
-returns-then-is_empty-clause-waits g c = λ room.
+returns-then-is_empty-clause-waits g c =
     let none : length c.args.bytes.now ≡ 0 = search rules in
     waits-none c.args.self.now c.args.bytes.now none
 
-pub returns-then-is_empty-clause-holds : goal.returns-then-is_empty-clause-holds
-returns-then-is_empty-clause-holds g c =
-    let none : length c.args.bytes.now ≡ 0 = search rules in
-    holds-none c.args.self.now (g.F.Flash.state c.args.flash.now) c.args.bytes.now none
-
 pub returns-clause-waits : goal.returns-clause-waits
-returns-clause-waits g c = λ room.
-    let v = c.args.self.now in
-    let some : 1 ≤ length c.args.bytes.now = search rules in
-    let left = room-for v (length c.args.bytes.now) some room in
-    let still = c.in_ok-make_room.ensures.quiet left.0 in
-    let none : pages_filled c.make_room.new.self (length c.args.bytes.now) ≡ 0 = ap (λ (x : VarData). pages_filled x (length c.args.bytes.now)) still.1 ∙ left.1 in
-    c.in_ok-write.ensures.waits none ∙ ap (λ (x : VarData). waiting_in x ++ c.args.bytes.now) still.1
-
-pub returns-clause-holds : goal.returns-clause-holds
-returns-clause-holds g c =
+returns-clause-waits g c =
     let some : 1 ≤ length c.args.bytes.now = search rules in
     let e = c.in_ok-make_room.ensures in
-    let w = c.in_ok-write.ensures in
-    let page : c.next_number.result ≡ next_in c.make_room.new.self = c.next_number.ensures in
-    let offset : length c.content.result.now ≡ length (waiting_in c.make_room.new.self) = ap length c.content.ensures.content in
-    let at = ap (λ n. record { page = n; offset = length c.content.result.now; length = length c.args.bytes.now }) page ∙ ap (λ n. record { page = next_in c.make_room.new.self; offset = n; length = length c.args.bytes.now }) offset in
-    holds c.args.self.now c.make_room.new.self c.write.new.self (g.F.Flash.state c.args.flash.now) (g.F.Flash.state c.make_room.new.flash) (g.F.Flash.state c.write.new.flash) c.args.bytes.now _ at
-    e.goes w.goes some e.same e.next e.fill e.room w.next w.fill e.ends w.ends e.stays w.goes_on
+    waits-split c.args.self.now c.make_room.new.self c.args.bytes.now some e.same e.waits (waiting_in c.write.new.self) c.in_ok-write.ensures.waits
+
+pub returns-then-is_empty-clause-next : goal.returns-then-is_empty-clause-next
+returns-then-is_empty-clause-next g c =
+    let none : length c.args.bytes.now ≡ 0 = search rules in
+    omega (arith, placed-none c.args.self.now (length c.args.bytes.now) none)
+
+pub returns-clause-next : goal.returns-clause-next
+returns-clause-next g c =
+    let some : 1 ≤ length c.args.bytes.now = search rules in
+    let e = c.in_ok-make_room.ensures in
+    next-split c.args.self.now c.make_room.new.self c.args.bytes.now some e.same e.waits (next_in c.write.new.self) e.next c.in_ok-write.ensures.next
+
+pub returns-in_err-make_room-clause-media_reads : goal.returns-in_err-make_room-clause-media_reads
+returns-in_err-make_room-clause-media_reads g c =
+    let some : 1 ≤ length c.args.bytes.now = search rules in
+    elim (cases_Bool (is_full_in c.args.self.now)) [
+      | inl full ↦ omega (arith, c.in_err-make_room.ensures.media_reads, full-placed c.args.self.now c.args.bytes.now some full)
+      | inr not_full ↦ absurd (not_ok c.in_err-make_room.field-0.0 _ refl (c.in_err-make_room.ensures.quiet not_full).0)
+    ]
+  where
+    not_ok : (e : FlashFault) (x : Result (Unit {0}) FlashFault) → x ≡ Err e → x ≡ Ok tt → ⊥
+    not_ok e x is k = cc
+
+pub returns-in_err-write-clause-media_reads : goal.returns-in_err-write-clause-media_reads
+returns-in_err-write-clause-media_reads g c =
+    let some : 1 ≤ length c.args.bytes.now = search rules in
+    let e = c.in_ok-make_room.ensures in
+    reads-split c.args.self.now c.make_room.new.self c.args.bytes.now some e.same e.waits _ _ _ (λ not_full. ap (λ (x : FlashState). x.media.reads) (e.quiet not_full).2) e.media_reads c.in_err-write.ensures.media_reads
+
+pub returns-clause-media_reads : goal.returns-clause-media_reads
+returns-clause-media_reads g c =
+    let some : 1 ≤ length c.args.bytes.now = search rules in
+    let e = c.in_ok-make_room.ensures in
+    reads-split c.args.self.now c.make_room.new.self c.args.bytes.now some e.same e.waits _ _ _ (λ not_full. ap (λ (x : FlashState). x.media.reads) (e.quiet not_full).2) e.media_reads c.in_ok-write.ensures.media_reads
 
 pub returns-in_err-write-clause-quiet : goal.returns-in_err-write-clause-quiet
 returns-in_err-write-clause-quiet g c = λ room.
@@ -121,7 +139,7 @@ returns-in_err-write-clause-quiet g c = λ room.
     let some : 1 ≤ length c.args.bytes.now = search rules in
     let left = room-for v (length c.args.bytes.now) some room in
     let still = c.in_ok-make_room.ensures.quiet left.0 in
-    let none : pages_filled c.make_room.new.self (length c.args.bytes.now) ≡ 0 = ap (λ (x : VarData). pages_filled x (length c.args.bytes.now)) still.1 ∙ left.1 in
+    let none : pages_placed c.make_room.new.self (length c.args.bytes.now) ≡ 0 = ap (λ (x : VarData). pages_placed x (length c.args.bytes.now)) still.1 ∙ left.1 in
     absurd (not_ok c.in_err-write.field-0.0 _ refl (c.in_err-write.ensures.quiet none).0)
   where
     not_ok : (e : FlashFault) (x : Result (Unit {0}) FlashFault) → x ≡ Err e → x ≡ Ok tt → ⊥
@@ -130,7 +148,7 @@ returns-in_err-write-clause-quiet g c = λ room.
 pub returns-then-is_empty-clause-off : goal.returns-then-is_empty-clause-off
 returns-then-is_empty-clause-off g c = λ some.
     let none : length c.args.bytes.now ≡ 0 = search rules in
-    absurd (omega (arith, some, ap (pages_placed c.args.self.now) none))
+    absurd (omega (arith, some, placed-none c.args.self.now (length c.args.bytes.now) none))
 
 pub returns-in_err-make_room-clause-off : goal.returns-in_err-make_room-clause-off
 returns-in_err-make_room-clause-off g c = λ some.
@@ -146,15 +164,14 @@ returns-in_err-make_room-clause-off g c = λ some.
 pub returns-in_err-write-clause-off : goal.returns-in_err-write-clause-off
 returns-in_err-write-clause-off g c = λ some down.
     let v = c.args.self.now in
-    let more : 1 ≤ length c.args.bytes.now = search rules in
     let e = c.in_ok-make_room.ensures in
     let p = err_from_is_err_and c.from_residual-in_err-write.result c.from_residual-in_err-write.ensures.1 in
     elim (cases_Bool (is_full_in c.args.self.now)) [
       | inl full ↦ absurd (ok-on _ _ _ (e.off full) down)
       | inr not_full ↦
           let still = e.quiet not_full in
-          let pages : 1 ≤ pages_filled c.make_room.new.self (length c.args.bytes.now) =
-          omega (arith, some, placed-filled v (length c.args.bytes.now) more not_full, ap (λ (x : VarData). pages_filled x (length c.args.bytes.now)) still.1) in
+          let pages : 1 ≤ pages_placed c.make_room.new.self (length c.args.bytes.now) =
+          omega (arith, some, ap (λ (x : VarData). pages_placed x (length c.args.bytes.now)) still.1) in
           off-err (g.F.Flash.state c.args.flash.now) (g.F.Flash.state c.write.new.flash) _ c.from_residual-in_err-write.result c.in_err-write.field-0.0 refl (p.1 ∙ ap (λ (x : FlashFault). Err x) p.2)
           (subst (λ (x : FlashState). OffChangesNothing {T = Unit {0}} x (Err c.in_err-write.field-0.0) (g.F.Flash.state c.write.new.flash)) still.2 (c.in_err-write.ensures.off pages)) down
     ]
@@ -162,14 +179,13 @@ returns-in_err-write-clause-off g c = λ some down.
 pub returns-clause-off : goal.returns-clause-off
 returns-clause-off g c = λ some down.
     let v = c.args.self.now in
-    let more : 1 ≤ length c.args.bytes.now = search rules in
     let e = c.in_ok-make_room.ensures in
     elim (cases_Bool (is_full_in c.args.self.now)) [
       | inl full ↦ absurd (ok-on _ _ _ (e.off full) down)
       | inr not_full ↦
           let still = e.quiet not_full in
-          let pages : 1 ≤ pages_filled c.make_room.new.self (length c.args.bytes.now) =
-          omega (arith, some, placed-filled v (length c.args.bytes.now) more not_full, ap (λ (x : VarData). pages_filled x (length c.args.bytes.now)) still.1) in
+          let pages : 1 ≤ pages_placed c.make_room.new.self (length c.args.bytes.now) =
+          omega (arith, some, ap (λ (x : VarData). pages_placed x (length c.args.bytes.now)) still.1) in
           absurd (ok-on _ _ _ (c.in_ok-write.ensures.off pages) (ap (λ (x : FlashState). x.is_on) still.2 ∙ down))
     ]
 

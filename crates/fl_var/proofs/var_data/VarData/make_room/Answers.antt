@@ -1,14 +1,12 @@
-use Rattle.std.proofs.Common.{rules, ◌≡◌, ◌+◌, ℕ, Bool, true, false, cond, Result, Ok, Err, List, [], length, sym, ◌∙◌, ap, subst}
+use Rattle.std.proofs.Common.{rules, ◌≡◌, ◌+◌, Bool, true, false, cond, [], sym, ◌∙◌, ap, subst}
 use Rattle.std.specs.Prelude.{OnOk}
-use Rattle.fl_flash.specs.declared.flash.FlashFault.{FlashFault}
 use Rattle.fl_var.specs.Memory.{next_in, waiting_in}
 use Rattle.fl_var.specs.Placing.{is_full_in}
-use Rattle.fl_var.proofs.Growing.{room-same, room-goes}
-use Rattle.fl_var.proofs.Placed.{full-same, room-sealed, room-left}
+use Rattle.fl_var.proofs.Placed.{full-same, room-sealed, room-left, room-waits}
 use Rattle.fl_var.proofs.var_data.VarData.make_room.Goals as goal
 
 pub returns-then-not-is_full-clause-ends : goal.returns-then-not-is_full-clause-ends
-returns-then-not-is_full-clause-ends g c = λ plan table rose device watched has.
+returns-then-not-is_full-clause-ends g c = λ plan table rest rose device watched has waits.
     let v = c.args.self.now in
     let e : is_full_in c.args.self.now ≡ false = sym (full-same v) ∙ search rules in
     room-left plan table rose device v (g.F.Flash.state c.args.flash.now) (is_full_in v) e watched has
@@ -24,23 +22,10 @@ returns-clause-quiet g c = λ left.
     differ k = cc
 
 pub returns-clause-ends : goal.returns-clause-ends
-returns-clause-ends g c = λ plan table rose device watched has.
+returns-clause-ends g c = λ plan table rest rose device watched has waits.
     let v = c.args.self.now in
     let e : is_full_in c.args.self.now ≡ true = sym (full-same v) ∙ search rules in
-    room-sealed plan table rose device v (g.F.Flash.state c.args.flash.now) (is_full_in v) c.seal.result c.seal.new.self (g.F.Flash.state c.seal.new.flash) e (c.seal.ensures.ends plan table rose device watched has)
-
-pub returns-then-not-is_full-clause-stays : goal.returns-then-not-is_full-clause-stays
-returns-then-not-is_full-clause-stays g c =
-    let v = c.args.self.now in
-    let e : is_full_in c.args.self.now ≡ false = sym (full-same v) ∙ search rules in
-    room-same v (g.F.Flash.state c.args.flash.now) (is_full_in v) e
-
-pub returns-clause-stays : goal.returns-clause-stays
-returns-clause-stays g c =
-    let v = c.args.self.now in
-    let e : is_full_in c.args.self.now ≡ true = sym (full-same v) ∙ search rules in
-    let s = c.seal.ensures in
-    room-goes v (g.F.Flash.state c.args.flash.now) (is_full_in v) c.seal.result c.seal.new.self (g.F.Flash.state c.seal.new.flash) e s.next s.empty s.ends
+    room-sealed plan table rose device v (g.F.Flash.state c.args.flash.now) (is_full_in v) c.seal.result c.seal.new.self (g.F.Flash.state c.seal.new.flash) e (c.seal.ensures.ends plan table rose device watched has (room-waits v plan table.buffered rest has.planned e waits))
 
 pub returns-clause-next : goal.returns-clause-next
 returns-clause-next g c =
@@ -48,15 +33,17 @@ returns-clause-next g c =
     let e : is_full_in c.args.self.now ≡ true = sym (full-same v) ∙ search rules in
     subst (λ (b : Bool). OnOk c.seal.result (next_in c.seal.new.self ≡ cond b (next_in c.args.self.now + 1) (next_in c.args.self.now))) (sym e) c.seal.ensures.next
 
-pub returns-clause-fill : goal.returns-clause-fill
-returns-clause-fill g c =
+pub returns-then-not-is_full-clause-waits : goal.returns-then-not-is_full-clause-waits
+returns-then-not-is_full-clause-waits g c =
+    let v = c.args.self.now in
+    let e : is_full_in c.args.self.now ≡ false = sym (full-same v) ∙ search rules in
+    ap (λ (b : Bool). cond b [] (waiting_in v)) (sym e)
+
+pub returns-clause-waits : goal.returns-clause-waits
+returns-clause-waits g c =
     let v = c.args.self.now in
     let e : is_full_in c.args.self.now ≡ true = sym (full-same v) ∙ search rules in
-    subst (λ (b : Bool). OnOk c.seal.result (length (waiting_in c.seal.new.self) ≡ cond b 0 (length (waiting_in c.args.self.now)))) (sym e) (none c.seal.result (waiting_in c.seal.new.self) c.seal.ensures.empty)
-  where
-    none : (x : Result (Unit {0}) FlashFault) (xs : List ℕ) → OnOk x (xs ≡ []) → OnOk x (length xs ≡ 0)
-    none (Ok u) xs k = ap length k
-    none (Err fault) xs k = tt
+    subst (λ (b : Bool). OnOk c.seal.result (waiting_in c.seal.new.self ≡ cond b [] (waiting_in c.args.self.now))) (sym e) c.seal.ensures.empty
 
 pub returns-then-not-is_full-clause-off : goal.returns-then-not-is_full-clause-off
 returns-then-not-is_full-clause-off g c = λ full.

@@ -4,8 +4,7 @@ use Rattle.fl_ring.specs.Mounting as ring_mounting
 use Rattle.fl_ring.specs.Mounting.{shape_at, HasNumbers, IsGood}
 use Rattle.fl_ring.specs.Numbers.{renumbered}
 use Rattle.fl_ring.specs.declared.fault.RingFault.{RingFault}
-use Rattle.fl_var.specs.Memory.{page_in}
-use Rattle.fl_var.proofs.States.{state_from}
+use Rattle.fl_var.proofs.States.{state_of}
 use Rattle.std.proofs.lemmas.Result.{err_from_is_err_and}
 use Rattle.fl_var.proofs.Mountings.{good, mount-well, mount-badly, mount-fault, mount-err}
 use Rattle.fl_var.proofs.Sealings.{pages-size}
@@ -21,12 +20,12 @@ returns-in_err-ring-clause-ends g c = λ plan table rose device watched rests le
     let goes = c.in_err-ring.ensures.beside.goes in
     let sizes = pages-size v f (g.met.F.Flash.reaches c.args.flash.now) lies.geometry lies.within in
     let later = pages-size v h (g.met.F.Flash.reaches c.mount.new.flash) (goes.geometry ∙ lies.geometry) (omega (arith, goes.blocks, lies.within)) in
-    let s = state_from (page_in v f) v.geometry.page rests.ring in
+    let s = state_of rests.ring table.var_pages in
     let is_good = subst (λ (x : Geometry). IsGood f (shape_at v.place x) c.args.at_least s) (sym lies.geometry) (good v f h plan table c.args.at_least rests least_is sizes later watched.told) in
     let ends = subst (λ (x : Geometry). ring_mounting.MountEnds (shape_at v.place x) rose device (renumbered (shape_at v.place x) c.args.at_least s) (Err e) h) lies.geometry (c.in_err-ring.ensures.ends s rose device is_good watched) in
     let p = err_from_is_err_and c.from_residual.result c.from_residual.ensures.1 in
-    mount-err plan table rose device v f _ h c.from_residual.result e (p.1 ∙ ap (λ (x : RingFault). Err x) p.2)
-    (mount-fault plan table rose device v f _ h _ _ e ends (λ fault. mount-badly v f h plan table c.args.at_least rests least_is sizes later rose device fault v))
+    mount-err plan table rose device v _ h c.from_residual.result e (p.1 ∙ ap (λ (x : RingFault). Err x) p.2)
+    (mount-fault plan table rose device v _ h _ _ e ends (λ fault. mount-badly v f h plan table c.args.at_least rests least_is sizes later rose device fault v))
 
 pub returns-clause-ends : goal.returns-clause-ends
 returns-clause-ends g c = λ plan table rose device watched rests least_is.
@@ -37,7 +36,7 @@ returns-clause-ends g c = λ plan table rose device watched rests least_is.
     let goes = c.in_ok-ring.ensures.beside.goes in
     let sizes = pages-size v f (g.met.F.Flash.reaches c.args.flash.now) lies.geometry lies.within in
     let later = pages-size v h (g.met.F.Flash.reaches c.mount.new.flash) (goes.geometry ∙ lies.geometry) (omega (arith, goes.blocks, lies.within)) in
-    let s = state_from (page_in v f) v.geometry.page rests.ring in
+    let s = state_of rests.ring table.var_pages in
     let is_good = subst (λ (x : Geometry). IsGood f (shape_at v.place x) c.args.at_least s) (sym lies.geometry) (good v f h plan table c.args.at_least rests least_is sizes later watched.told) in
     let ends = subst (λ (x : Geometry). ring_mounting.MountEnds (shape_at v.place x) rose device (renumbered (shape_at v.place x) c.args.at_least s) (Ok c.in_ok-ring.ring) h) lies.geometry (c.in_ok-ring.ensures.ends s rose device is_good watched) in
     mount-well v f h plan table c.args.at_least rests least_is sizes later rose device _ c.in_ok-ring.ring ends refl (record { geometry = refl; place = refl }) refl c.clear.ensures.content

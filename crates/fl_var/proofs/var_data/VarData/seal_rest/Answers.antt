@@ -1,14 +1,17 @@
 use Rattle.std.proofs.Common.{rules, ◌≡◌, ◌≤◌, length}
 use Rattle.fl_var.specs.Memory.{waiting_in}
-use Rattle.fl_var.proofs.Placed.{rest-none, rest-some}
+use Rattle.fl_var.proofs.Placed.{rest-none, rest-waits, rest-some}
 use Rattle.fl_var.proofs.var_data.VarData.seal_rest.Goals as goal
 
 pub returns-then-is_empty-clause-ends : goal.returns-then-is_empty-clause-ends
 returns-then-is_empty-clause-ends g c = λ plan table rose device watched stands.
     let none : length (waiting_in c.args.self.now) ≡ 0 = search rules in
-    rest-none plan table rose device c.args.self.now (g.F.Flash.state c.args.flash.now) _ none watched stands
+    rest-none plan table rose device c.args.self.now (g.F.Flash.state c.args.flash.now) none watched stands
 
 pub returns-clause-ends : goal.returns-clause-ends
 returns-clause-ends g c = λ plan table rose device watched stands.
+    let v = c.args.self.now in
+    let f = g.F.Flash.state c.args.flash.now in
     let some : 1 ≤ length (waiting_in c.args.self.now) = search rules in
-    rest-some plan table rose device c.args.self.now (g.F.Flash.state c.args.flash.now) c.seal.result c.seal.new.self (g.F.Flash.state c.seal.new.flash) some stands (c.seal.ensures.ends plan table rose device watched stands.ring)
+    rest-some plan table v f some stands rose device c.seal.result c.seal.new.self (g.F.Flash.state c.seal.new.flash) c.seal.ensures.empty
+    (c.seal.ensures.ends plan table rose device watched stands.ring (rest-waits plan table v f some stands))

@@ -3,28 +3,26 @@ use Rattle.std.proofs.lemmas.List.{places}
 use Rattle.std.proofs.lemmas.Result.{err_from_is_err_and}
 use Rattle.fl_flash.specs.declared.flash.FlashFault.{FlashFault}
 use Rattle.fl_var.specs.Memory.{room_in}
-use Rattle.fl_var.proofs.Growing.{wrote-first, wrote-more, wrote-still, wrote-all}
-use Rattle.fl_var.proofs.Writing.{writes-first, writes-next, writes-fail, writes-fill, writes-quiet, writes-end, writes-off, wrote-on, ok-on, cause-err, lost-on}
+use Rattle.fl_var.proofs.Writing.{writes-first, writes-next, writes-fail, writes-waits, writes-quiet, writes-end, writes-off, wrote-on, ok-on, cause-err, lost-on}
 use Rattle.fl_var.proofs.var_data.VarData.write.Goals as goal
 
 pub loop-done-init : goal.loop-done-init
 loop-done-init g c = (
-  writes-first c.args.self.now _ (g.F.Flash.state c.args.flash.now) (length c.args.bytes.now) c.put-done.result refl (record { geometry = refl; place = refl }) c.requires.lies c.requires.mounted c.requires.room c.requires.some
-      c.put-done.ensures.count c.put-done.ensures.fill,
+  writes-first c.args.self.now _ (g.F.Flash.state c.args.flash.now) c.args.bytes.now c.put-done.result refl (record { geometry = refl; place = refl }) c.requires.lies c.requires.mounted c.requires.room c.requires.some
+      c.put-done.ensures.count c.put-done.ensures.fill c.put-done.ensures.content,
   refl,
   c.requires.few,
   c.requires.left,
-  wrote-first c.args.self.now _ (g.F.Flash.state c.args.flash.now) (take c.put-done.result c.args.bytes.now) refl (record { geometry = refl; place = refl }) c.put-done.ensures.content,
 )
 
 pub returns-in_err-seal-clause-ends : goal.returns-in_err-seal-clause-ends
-returns-in_err-seal-clause-ends g c = λ plan table rose device watched has.
+returns-in_err-seal-clause-ends g c =
     let v = c.args.self.now in
     let p = err_from_is_err_and c.from_residual.result c.from_residual.ensures.1 in
     let less : c.loop-done.done < length c.args.bytes.now = search rules in
     let wide : 0 < room_in c.args.self.now = omega (arith, v.served.page_least) in
-    writes-fail v c.loop-done.self _ (g.F.Flash.state c.args.flash.now) (g.F.Flash.state c.loop-done.flash) (g.F.Flash.state c.seal.new.flash) (length c.args.bytes.now) c.loop-done.done c.in_err-seal.field-0.0
-    c.loop-done.invariant.0 less wide c.in_err-seal.ensures.goes c.in_err-seal.ensures.ends c.from_residual.result (p.1 ∙ ap (λ (e : FlashFault). Err e) p.2) plan table rose device watched has
+    writes-fail v c.loop-done.self _ c.seal.new.self (g.F.Flash.state c.args.flash.now) (g.F.Flash.state c.loop-done.flash) (g.F.Flash.state c.seal.new.flash) c.args.bytes.now c.loop-done.done c.in_err-seal.field-0.0
+    c.loop-done.invariant.0 less wide c.in_err-seal.ensures.goes c.in_err-seal.ensures.ends c.from_residual.result (p.1 ∙ ap (λ (e : FlashFault). Err e) p.2)
 
 pub returns-in_err-seal-clause-cause : goal.returns-in_err-seal-clause-cause
 returns-in_err-seal-clause-cause g c =
@@ -38,25 +36,18 @@ loop-done-preserved g c =
     let less : c.loop-done.done < length c.args.bytes.now = search rules in
     let rest : length (take (length c.args.bytes.now - c.loop-done.done) (drop c.loop-done.done c.args.bytes.now)) ≡ length c.args.bytes.now - c.loop-done.done = search (rules, places) in
     let e = c.in_ok-seal.ensures in (
-      writes-next c.args.self.now c.loop-done.self c.seal.new.self _ (g.F.Flash.state c.args.flash.now) (g.F.Flash.state c.loop-done.flash) (g.F.Flash.state c.seal.new.flash) (length c.args.bytes.now) c.loop-done.done
+      writes-next c.args.self.now c.loop-done.self c.seal.new.self _ (g.F.Flash.state c.args.flash.now) (g.F.Flash.state c.loop-done.flash) (g.F.Flash.state c.seal.new.flash) c.args.bytes.now c.loop-done.done
           c.put-done-in-loop-done.result c.loop-done.invariant.0 less e.goes e.same e.lies e.mounted e.next e.empty e.ends e.outside e.reads e.media_reads refl (record { geometry = refl; place = refl }) e.power (ok-on _ _ _ e.off)
-          (length (take (length c.args.bytes.now - c.loop-done.done) (drop c.loop-done.done c.args.bytes.now))) rest c.put-done-in-loop-done.ensures.count c.put-done-in-loop-done.ensures.fill,
+          (length (take (length c.args.bytes.now - c.loop-done.done) (drop c.loop-done.done c.args.bytes.now))) rest c.put-done-in-loop-done.ensures.count c.put-done-in-loop-done.ensures.fill c.put-done-in-loop-done.ensures.content,
       refl,
       c.requires.few,
       c.requires.left,
-      wrote-more c.args.self.now c.loop-done.self c.seal.new.self _ (g.F.Flash.state c.args.flash.now) (g.F.Flash.state c.loop-done.flash) (g.F.Flash.state c.seal.new.flash) c.args.bytes.now c.loop-done.done c.put-done-in-loop-done.result
-          (length c.args.bytes.now - c.loop-done.done) refl c.loop-done.invariant.0 c.loop-done.invariant.4 e.goes e.next e.empty e.ends refl (record { geometry = refl; place = refl }) c.put-done-in-loop-done.ensures.content,
     )
-
-pub returns-clause-fill : goal.returns-clause-fill
-returns-clause-fill g c =
-    let all : length c.args.bytes.now ≤ c.loop-done.done = search rules in
-    writes-fill c.args.self.now c.loop-done.self (g.F.Flash.state c.args.flash.now) (g.F.Flash.state c.loop-done.flash) (length c.args.bytes.now) c.loop-done.done c.loop-done.invariant.0 all
 
 pub returns-clause-ends : goal.returns-clause-ends
 returns-clause-ends g c =
     let all : length c.args.bytes.now ≤ c.loop-done.done = search rules in
-    writes-end c.args.self.now c.loop-done.self (g.F.Flash.state c.args.flash.now) (g.F.Flash.state c.loop-done.flash) (length c.args.bytes.now) c.loop-done.done c.loop-done.invariant.0 all
+    writes-end c.args.self.now c.loop-done.self (g.F.Flash.state c.args.flash.now) (g.F.Flash.state c.loop-done.flash) c.args.bytes.now c.loop-done.done c.loop-done.invariant.0 all
 
 pub returns-clause-power : goal.returns-clause-power
 returns-clause-power g c = c.loop-done.invariant.0.power
@@ -64,28 +55,23 @@ returns-clause-power g c = c.loop-done.invariant.0.power
 pub returns-clause-quiet : goal.returns-clause-quiet
 returns-clause-quiet g c = λ none.
     let all : length c.args.bytes.now ≤ c.loop-done.done = search rules in
-    (refl, writes-quiet c.args.self.now c.loop-done.self (g.F.Flash.state c.args.flash.now) (g.F.Flash.state c.loop-done.flash) (length c.args.bytes.now) c.loop-done.done c.loop-done.invariant.0 all none)
+    (refl, writes-quiet c.args.self.now c.loop-done.self (g.F.Flash.state c.args.flash.now) (g.F.Flash.state c.loop-done.flash) c.args.bytes.now c.loop-done.done c.loop-done.invariant.0 all none)
 
 pub returns-clause-waits : goal.returns-clause-waits
 returns-clause-waits g c =
     let all : length c.args.bytes.now ≤ c.loop-done.done = search rules in
-    wrote-still c.args.self.now c.loop-done.self (g.F.Flash.state c.args.flash.now) (g.F.Flash.state c.loop-done.flash) c.args.bytes.now c.loop-done.done c.loop-done.invariant.0 c.loop-done.invariant.4 all
-
-pub returns-clause-goes_on : goal.returns-clause-goes_on
-returns-clause-goes_on g c =
-    let all : length c.args.bytes.now ≤ c.loop-done.done = search rules in
-    wrote-all c.args.self.now c.loop-done.self (g.F.Flash.state c.args.flash.now) (g.F.Flash.state c.loop-done.flash) c.args.bytes.now c.loop-done.done c.loop-done.invariant.0 c.loop-done.invariant.4 all
+    writes-waits c.args.self.now c.loop-done.self (g.F.Flash.state c.args.flash.now) (g.F.Flash.state c.loop-done.flash) c.args.bytes.now c.loop-done.done c.loop-done.invariant.0 all
 
 pub returns-in_err-seal-clause-off : goal.returns-in_err-seal-clause-off
 returns-in_err-seal-clause-off g c = λ some.
     let p = err_from_is_err_and c.from_residual.result c.from_residual.ensures.1 in
-    writes-off c.args.self.now c.loop-done.self (g.F.Flash.state c.args.flash.now) (g.F.Flash.state c.loop-done.flash) (g.F.Flash.state c.seal.new.flash) (length c.args.bytes.now) c.loop-done.done c.in_err-seal.field-0.0 c.from_residual.result
+    writes-off c.args.self.now c.loop-done.self (g.F.Flash.state c.args.flash.now) (g.F.Flash.state c.loop-done.flash) (g.F.Flash.state c.seal.new.flash) c.args.bytes.now c.loop-done.done c.in_err-seal.field-0.0 c.from_residual.result
     c.loop-done.invariant.0 c.in_err-seal.ensures.off (p.1 ∙ ap (λ (e : FlashFault). Err e) p.2)
 
 pub returns-clause-off : goal.returns-clause-off
 returns-clause-off g c = λ some down.
     let all : length c.args.bytes.now ≤ c.loop-done.done = search rules in
-    absurd (wrote-on c.args.self.now c.loop-done.self (g.F.Flash.state c.args.flash.now) (g.F.Flash.state c.loop-done.flash) (length c.args.bytes.now) c.loop-done.done c.loop-done.invariant.0 all some down)
+    absurd (wrote-on c.args.self.now c.loop-done.self (g.F.Flash.state c.args.flash.now) (g.F.Flash.state c.loop-done.flash) c.args.bytes.now c.loop-done.done c.loop-done.invariant.0 all some down)
 
 pub returns-in_err-seal-clause-lost : goal.returns-in_err-seal-clause-lost
 returns-in_err-seal-clause-lost g c = λ lost.

@@ -1,0 +1,5 @@
+use Rattle.fl_model.proofs.Shipping.{ships-parts}
+use Rattle.fl_model.proofs.ships_parts.Goals as goal
+
+pub returns : goal.returns
+returns c = ships-parts

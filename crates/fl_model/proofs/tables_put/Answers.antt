@@ -1,0 +1,5 @@
+use Rattle.fl_model.proofs.Putting.{puts-at}
+use Rattle.fl_model.proofs.tables_put.Goals as goal
+
+pub returns : goal.returns
+returns c = puts-at

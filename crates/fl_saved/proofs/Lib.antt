@@ -1,0 +1,16 @@
+pub mod Orders
+pub mod Gathered
+pub mod WholeBlobs
+pub mod Places
+pub mod States
+pub mod Rings
+pub mod RowPages
+pub mod Passing
+pub mod VarPages
+pub mod BlobBytes
+pub mod BlobsTold
+pub mod Texts
+pub mod FromLines
+pub mod ShortTables
+pub mod ShortBlobs
+pub mod Saved

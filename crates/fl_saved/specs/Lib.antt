@@ -1,0 +1,3 @@
+pub mod ShortBlobs
+pub mod Passed
+pub mod Saved

@@ -1,0 +1,7 @@
+pub mod Chains
+pub mod Keeping
+pub mod Planning
+pub mod Reading
+pub mod Rows
+pub mod Starting
+pub mod Tables

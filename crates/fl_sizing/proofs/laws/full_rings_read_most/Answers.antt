@@ -1,0 +1,5 @@
+use Rattle.fl_sizing.proofs.Keeping.{full-reads}
+use Rattle.fl_sizing.proofs.laws.full_rings_read_most.Goals as goal
+
+pub returns : goal.returns
+returns c = full-reads

@@ -1,0 +1,5 @@
+use Rattle.fl_sizing.proofs.Keeping.{keeps-pages}
+use Rattle.fl_sizing.proofs.laws.rings_keep.Goals as goal
+
+pub returns : goal.returns
+returns c = keeps-pages

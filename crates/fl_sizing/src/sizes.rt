@@ -1,0 +1,189 @@
+// The sizes of a table.
+ghost use Rattle.std.specs.Prelude.{◌≡◌, ◌≤◌, ◌^◌, ◌-◌, ◌/◌, ◌+◌, IsTrue};
+ghost use Rattle.fl_bitmap.specs.Widths.{is_bits};
+ghost use Rattle.fl_model.specs.Record.{rows_per_page};
+ghost use Rattle.fl_plan.specs.Limits.{IsWithinLimits};
+ghost use Rattle.fl_plan.specs.Plan.{Label, plan_of_table};
+ghost use Rattle.fl_sizing.specs.Sizes.{pages_kept, rows_kept, index_pages, index_blocks, blob_bytes, blocks_wanted, table_memory, full_reads, most_reads, sizes_of};
+
+use crate::rings::{blocks_for, end_reads, least_pages, most_pages, rounded_up};
+use fl_plan::TableConfig;
+
+/// What follows for a table from its line, in bytes, rows, pages, blocks and reads.
+#[derive(Clone, Copy, Debug, PartialEq, Eq)]
+pub struct TableSizes {
+    /// The bytes of a row.
+    pub row_bytes: u64,
+    /// How many rows a page has room for.
+    pub rows_per_page: u64,
+    /// The data pages that are always kept, once the ring was full, and the rows of so many full ones.
+    pub pages_kept: u64,
+    pub rows_kept: u64,
+    /// The index pages that list all data pages, and the blocks that always keep these; 0 without an index.
+    pub index_pages: u64,
+    pub index_blocks: u64,
+    /// The bytes of the pages of variable data that are always kept, once their ring was full of full pages. The first of them may be
+    /// the end of a blob that is gone.
+    pub blob_bytes: u64,
+    /// The bytes of memory that it takes.
+    pub memory: u64,
+    /// The reads of a mount of full rings without void pages, and those of any mount at most.
+    pub full_reads: u64,
+    pub most_reads: u64,
+}
+
+/// How many rows a page has room for.
+fn rows_per_page(config: &TableConfig) -> u64
+    requires { IsWithinLimits config.now }
+    ensures exact { (label : Label) → result ≡ rows_per_page (plan_of_table label config.now) }
+    ensures few { result ≤ 4096 }
+{
+    (u64::from(config.geometry.page) - 24) / u64::from(config.row_len())
+}
+
+/// How many entries an index page has room for, of bitmaps of so many bits.
+fn entries_per_page(page: u32, bits: u32) -> u64
+    requires least { 64 ≤ page }
+    requires most { page ≤ 4096 }
+    requires bits { IsTrue (is_bits bits) }
+    ensures exact { result ≡ (page - 24) / (bits / 8 + 0) }
+    ensures some { 1 ≤ result }
+    ensures few { result ≤ 4096 }
+{
+    (u64::from(page) - 24) / u64::from(bits / 8)
+}
+
+/// The index pages that list all data pages; none where there is no index.
+fn index_pages(config: &TableConfig) -> u64
+    requires { IsWithinLimits config.now }
+    ensures exact { (label : Label) → result ≡ index_pages (plan_of_table label config.now) }
+    ensures few { result ≤ 2 ^ 31 }
+{
+    let (Some(_), Some(buckets)) = (&config.index, &config.buckets) else {
+        return 0;
+    };
+    let pages = most_pages(
+        u64::from(config.rows.blocks),
+        u64::from(config.geometry.block),
+    );
+    rounded_up(pages, entries_per_page(config.geometry.page, buckets.bits))
+}
+
+/// The blocks that always keep these; none where there is no index.
+fn index_blocks(config: &TableConfig) -> u64
+    requires { IsWithinLimits config.now }
+    ensures exact { (label : Label) → result ≡ index_blocks (plan_of_table label config.now) }
+    ensures few { result ≤ 2 ^ 34 }
+{
+    let Some(_) = &config.index else {
+        return 0;
+    };
+    blocks_for(index_pages(config), u64::from(config.geometry.block)).max(3)
+}
+
+/// The data pages that are always kept, once the ring was full.
+fn pages_kept(config: &TableConfig) -> u64
+    requires { IsWithinLimits config.now }
+    ensures exact { (label : Label) → result ≡ pages_kept (plan_of_table label config.now) }
+    ensures few { result ≤ 2 ^ 22 }
+{
+    least_pages(
+        u64::from(config.rows.blocks),
+        u64::from(config.geometry.block),
+    )
+}
+
+/// The rows of so many full pages.
+fn rows_kept(config: &TableConfig) -> u64
+    requires { IsWithinLimits config.now }
+    ensures exact { (label : Label) → result ≡ rows_kept (plan_of_table label config.now) }
+    ensures few { result ≤ 2 ^ 34 }
+{
+    rows_per_page(config) * pages_kept(config)
+}
+
+/// The bytes of the pages of variable data that are always kept, once their ring was full of full pages.
+fn blob_bytes(config: &TableConfig) -> u64
+    requires { IsWithinLimits config.now }
+    ensures { (label : Label) → result ≡ blob_bytes (plan_of_table label config.now) }
+{
+    (u64::from(config.geometry.page) - 16)
+        * least_pages(
+            u64::from(config.var_blocks()),
+            u64::from(config.geometry.block),
+        )
+}
+
+/// The blocks of a table whose index has as many as are wanted.
+pub(crate) fn blocks_wanted(config: &TableConfig) -> u64
+    requires { IsWithinLimits config.now }
+    ensures exact { (label : Label) → result ≡ blocks_wanted (plan_of_table label config.now) }
+    ensures few { result ≤ 2 ^ 35 }
+{
+    u64::from(config.rows.blocks) + index_blocks(config) + u64::from(config.var_blocks())
+}
+
+/// The bytes of memory that it takes.
+pub(crate) fn memory(config: &TableConfig) -> u64
+    requires { IsWithinLimits config.now }
+    ensures exact { (label : Label) → result ≡ table_memory (plan_of_table label config.now) }
+    ensures few { result ≤ 2 ^ 32 }
+{
+    let blocks = 3 * u64::from(config.rows.blocks)
+        + 9 * u64::from(config.index_blocks())
+        + u64::from(config.var_blocks());
+    let rings = 1 + u64::from(config.index.is_some()) + u64::from(config.var.is_some());
+    blocks * u64::from(config.geometry.block) + rings * u64::from(config.geometry.page)
+}
+
+/// The reads of a mount of full rings without void pages.
+fn full_reads(config: &TableConfig) -> u64
+    requires { IsWithinLimits config.now }
+    ensures { (label : Label) → result ≡ full_reads (plan_of_table label config.now) }
+{
+    let per_block = u64::from(config.geometry.block);
+    let rows = u64::from(config.rows.blocks);
+    let mut reads = most_pages(rows, per_block) + end_reads(rows, per_block);
+    if config.index.is_some() {
+        let blocks = u64::from(config.index_blocks());
+        reads += most_pages(blocks, per_block) + end_reads(blocks, per_block);
+    }
+    if config.var.is_some() {
+        reads += end_reads(u64::from(config.var_blocks()), per_block);
+    }
+    reads
+}
+
+/// The reads of any mount at most.
+fn most_reads(config: &TableConfig) -> u64
+    requires { IsWithinLimits config.now }
+    ensures { (label : Label) → result ≡ most_reads (plan_of_table label config.now) }
+{
+    let blocks = u64::from(config.rows.blocks)
+        + u64::from(config.index_blocks())
+        + u64::from(config.var_blocks());
+    4 * (blocks * u64::from(config.geometry.block))
+}
+
+impl TableSizes {
+    /// Those of a table.
+    pub fn of(config: &TableConfig) -> TableSizes
+        requires { IsWithinLimits config.now }
+        ensures exact { (label : Label) → result ≡ sizes_of (plan_of_table label config.now) }
+        ensures rows { result.rows_kept ≤ 2 ^ 34 }
+        ensures memory { result.memory ≤ 2 ^ 32 }
+    {
+        TableSizes {
+            row_bytes: u64::from(config.row_len()),
+            rows_per_page: rows_per_page(config),
+            pages_kept: pages_kept(config),
+            rows_kept: rows_kept(config),
+            index_pages: index_pages(config),
+            index_blocks: index_blocks(config),
+            blob_bytes: blob_bytes(config),
+            memory: memory(config),
+            full_reads: full_reads(config),
+            most_reads: most_reads(config),
+        }
+    }
+}
