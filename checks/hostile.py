@@ -1,7 +1,8 @@
 #!/usr/bin/env python3
 """hostile.py PROGRAM: devices, streams and images that mean harm, held against a plain list.
 
-A script puts 60 records with blobs into small rings, which come round several times, and flushes after each seventh. Then
+A script puts 60 records with blobs into small rings, which come round several times, and flushes after each seventh: of a table whose
+index entries are bitmaps alone, and of one whose entries are full. Then
 
   * each of its programs and erases is cut, by each kind of cut,
   * each call of the image's file fails in turn, with nothing of its work done or with half of it,
@@ -27,7 +28,9 @@ import tempfile
 HERE = pathlib.Path(__file__).resolve().parent
 WORKERS = os.cpu_count() or 1
 
-CONFIG = "device 128 2\ntable u 8 i32 3 3 3 64 0 10 1 224\n"
+BITMAPS = "device 128 2\ntable u 8 i32 3 3 3 64 0 10 1 224\n"
+FULL = BITMAPS.rstrip("\n") + " index2\n"
+FORMS = {"bitmaps": BITMAPS, "full": FULL}
 ROWS, BLOCK, BLOCKS = 4, 2, 3
 KEYS = 60
 KINDS = ("before", "after", "half", "noise 5")
@@ -92,7 +95,7 @@ def commands():
 
 
 COMMANDS = list(commands())
-SCRIPT = CONFIG + "mount\n" + "".join(f"{line}\n" for line, _ in COMMANDS)
+SCRIPT = "mount\n" + "".join(f"{line}\n" for line, _ in COMMANDS)
 
 
 class Program:
@@ -134,9 +137,9 @@ LAST = 220
 AFTERWARDS = f"put u {LAST} {value(LAST)} blob {blob(LAST).hex()}\nflush u\noff\nmount\nblob u {LAST}\n"
 
 
-def why_not(program, image, lists):
+def why_not(program, image, config, lists):
     """Why the image isn't right where it may hold one of these lists; nothing where it is."""
-    script = CONFIG + "mount\n" + LOOKS + BLOBS + AFTERWARDS + LOOKS
+    script = config + "mount\n" + LOOKS + BLOBS + AFTERWARDS + LOOKS
     status, replies = program.run(image, script)
     if status or replies[:1] != ["ok"]:
         return f"status {status}, {replies[:1]}"
@@ -190,56 +193,60 @@ def answered(replies):
 
 def cut_each(program, folder):
     """Cuts each program and erase of the script, by each kind."""
-    status, replies = program.run(folder / "whole", SCRIPT + "stat u\n")
-    if status or replies[:-1] != ["ok"] * (1 + len(COMMANDS)):
-        return 0, [f"the script: status {status}, {replies[-1:]}"]
-    words = replies[-1].split()
-    operations = int(words[-3]) + int(words[-1])
-
     def cut(case):
-        number, kind = case
-        image = folder / f"cut-{number}-{kind[0:2]}"
-        script = SCRIPT.replace("mount\n", f"mount\ncut {number} {kind}\n", 1)
+        form, number, kind = case
+        image = folder / f"cut-{form}-{number}-{kind[0:2]}"
+        script = FORMS[form] + SCRIPT.replace("mount\n", f"mount\ncut {number} {kind}\n", 1)
         status, replies = program.run(image, script)
         lost = [reply for reply in replies if reply not in ("ok", "not mounted")]
         if status or lost != ["power lost"]:
-            return f"cut {number} {kind}: status {status}, {lost}"
-        why = why_not(program, image, [answered(replies[2:])])
+            return f"{form}, cut {number} {kind}: status {status}, {lost}"
+        why = why_not(program, image, FORMS[form], [answered(replies[2:])])
         image.unlink()
-        return why and f"cut {number} {kind}: {why}"
+        return why and f"{form}, cut {number} {kind}: {why}"
 
-    return in_turn(cut, [(number, kind) for number in range(1, operations + 1) for kind in KINDS])
+    cases = []
+    for form, config in FORMS.items():
+        status, replies = program.run(folder / f"whole-{form}", config + SCRIPT + "stat u\n")
+        if status or replies[:-1] != ["ok"] * (1 + len(COMMANDS)):
+            return 0, [f"the script with {form}: status {status}, {replies[-1:]}"]
+        words = replies[-1].split()
+        operations = int(words[-3]) + int(words[-1])
+        cases += [(form, number, kind) for number in range(1, operations + 1) for kind in KINDS]
+    return in_turn(cut, cases)
 
 
 def fail_image(program, folder):
     """Each call of the image's file fails in turn, the making of the image and its mount among them."""
-    script = SCRIPT + LOOKS
-    status, _, calls = program.fail(folder / "counted", script, "image", -1)
-    if status or calls < 100:
-        return 0, [f"the calls of the image's file: status {status}, {calls} calls"]
-
     def fail(case):
-        number, half = case
-        image = folder / f"call-{number}-{half}"
-        status, replies, _ = program.fail(image, script, "image", number, half)
+        form, number, half = case
+        image = folder / f"call-{form}-{number}-{half}"
+        status, replies, _ = program.fail(image, FORMS[form] + SCRIPT + LOOKS, "image", number, half)
         if status == 5:
             why = None if not replies else f"{replies[:1]}"
             image.unlink(missing_ok=True)
         elif status:
             why = f"status {status}"
         else:
-            why = why_not(program, image, [answered(replies[1:])])
+            why = why_not(program, image, FORMS[form], [answered(replies[1:])])
             image.unlink()
-        return why and f"call {number}{' by half' if half else ''} of the image's file: {why}"
+        return why and f"{form}, call {number}{' by half' if half else ''} of the image's file: {why}"
 
-    return in_turn(fail, [(number, half) for number in range(1, calls + 1) for half in (False, True)])
+    cases = []
+    for form, config in FORMS.items():
+        status, _, calls = program.fail(folder / f"counted-{form}", config + SCRIPT + LOOKS, "image", -1)
+        if status or calls < 100:
+            return 0, [f"the calls of the image's file with {form}: status {status}, {calls} calls"]
+        cases += [(form, number, half) for number in range(1, calls + 1) for half in (False, True)]
+    return in_turn(fail, cases)
 
 
 def fail_streams(program, folder):
     """Each read of the script and each write of the replies fails in turn."""
+    script = BITMAPS + SCRIPT + LOOKS
     cases = []
     for on, wanted in (("source", 3), ("sink", 4)):
-        status, replies, calls = program.fail(folder / f"counted-{on}", SCRIPT + LOOKS, on, -1)
+        status, replies, calls = program.fail(folder / f"counted-{on}", script, on, -1)
         if status or not calls:
             return 0, [f"the calls of the {on}: status {status}, {calls} calls"]
         cases += [(on, wanted, number, replies) for number in range(1, calls + 1)]
@@ -247,14 +254,14 @@ def fail_streams(program, folder):
     def fail(case):
         on, wanted, number, whole = case
         image = folder / f"{on}-{number}"
-        status, replies, _ = program.fail(image, SCRIPT + LOOKS, on, number)
+        status, replies, _ = program.fail(image, script, on, number)
         if status != wanted or replies != whole[:len(replies)]:
             return f"call {number} of the {on}: status {status}, {replies[-1:]}"
         if not image.exists():
             return None
         # (commands of the piece in hand may be done whose replies aren't out)
         lists = [answered(["ok"] * count) for count in range(max(len(replies) - 1, 0), len(COMMANDS) + 1)]
-        why = why_not(program, image, lists)
+        why = why_not(program, image, BITMAPS, lists)
         return why and f"call {number} of the {on}: {why}"
 
     return in_turn(fail, cases)

@@ -54,6 +54,24 @@ device
   bytes of memory 30464
 ' ''
 flashts plan <<< 'device 128 4
+table s 8 i32 40 3 0 8 0 10 1 0 index2'
+ends "a plan of full index entries" 0 $'table s
+  bytes a row 12
+  rows a page 8
+  pages always kept 155
+  rows kept of full pages 1240
+  index pages wanted 27
+  index blocks wanted 8
+  bytes kept of full blob pages 0
+  bytes of memory 844
+  reads of a mount without void pages 229
+  reads of a mount at most 688
+device
+  blocks 43
+  blocks wanted 48
+  bytes of memory 1868
+' ''
+flashts plan <<< 'device 128 4
 table t 8 i32 2 0 0 8 0 10 1 0'
 ends "a plan of a line that is refused" 6 '' $'flashts: configuration line 2 is refused\nflashts: DATA is 2 and has to be 3 to 16384 blocks\n'
 printf '%s\n%s\n' "$configuration" "$configuration" > script

@@ -48,6 +48,9 @@ reason 'load t 0 1 1' 'word 3 is 0 and has to be a number from 1 to 1000000; the
 reason 'close 4' 'word 2 is 4 and has to be a cursor: 0, 1, 2 or 3; the form is close CURSOR'
 reason 'select t 0 9 1 gte 2' 'word 6 is gte and has to be one of lt, le, eq, ne, ge and gt; the form is select NAME LOW HIGH COLUMN OP VALUE'
 reason 'project t 0 9 1,x' 'word 5 is 1,x and has to be 1 to 8 numbers of columns, joined by commas; the form is project NAME LOW HIGH LIST'
+lined='the form is table NAME KEY COLUMNS DATA INDEX VAR BITS BASE WIDTH ERROR BLOB [index2]'
+reason 'table u x i32 3 3 0 8 0 10 1 0 index3' "word 13 is index3 and has to be index2, or to be left out; $lined"
+reason 'table u 8 i32 3 3 0 8 0 10 1 0 index2 index2' "words are 14, and $lined"
 reason $'pu\e[1mt\xff' 'there is no command pu.[1mt.'
 reason "$(head -c 40 /dev/zero | tr '\0' x)" 'there is no command xxxxxxxxxxxxxxxxxxxxxxxx..'
 reason "$(head -c 5000 /dev/zero | tr '\0' x)" 'it has more than 4096 bytes'
@@ -110,6 +113,7 @@ table '8 i32 3 3 0 0 0 10 1 0' 'an index ring of 3 blocks needs BITS of 8, 16 or
 table '8 i32 3 0 0 8 0 0 1 0' 'WIDTH is 0 and has to be 1 to 9223372036854775807'
 table '8 i32 3 0 0 8 0 10 256 0' 'ERROR is 256 and has to be 0 to 255'
 table '8 i32 3 0 0 8 0 10 1 60' 'longest blob 60 needs a ring of variable data of at least 3 blocks'
+table '8 i32 3 0 0 8 0 10 1 0 index2' 'index2 needs an index ring: INDEX is 0 and has to be 3 to 16384 blocks, or index2 has to be left out'
 table '8 i32 3 0 3 8 0 10 1 1501' 'longest blob is 1501, and 3 blocks of variable data keep blobs of 1 to 672 bytes'
 refused 'device 64 2
 table t 8 i64,i64,i64,i64,i64 3 0 0 8 0 10 1 0' 'a row has 48 bytes, and a page of 64 has room for 40'
@@ -129,6 +133,18 @@ leaves "an image of another configuration" 7 '' $'flashts: the image has another
 flashts run image <<< "$configuration
 table u 8 i32 3 0 0 8 0 10 1 0"
 leaves "an image of fewer tables" 7 '' $'flashts: the image has another configuration\nflashts: line 3 of the configuration: table is nothing in the image and table in the script\n'
+indexed='table t 8 i32 3 3 0 8 0 10 1 0'
+flashts run plain <<< "$device
+$indexed"
+flashts run full <<< "$device
+$indexed index2"
+flashts run plain <<< "$device
+$indexed index2"
+ends "an image of bitmaps alone" 7 '' $'flashts: the image has another configuration\nflashts: line 2 of the configuration: FORMAT is nothing in the image and index2 in the script\n'
+flashts run full <<< "$device
+$indexed"
+ends "an image of full index entries" 7 '' $'flashts: the image has another configuration\nflashts: line 2 of the configuration: FORMAT is index2 in the image and nothing in the script\n'
+rm plain full
 cp image whole
 printf x >> image
 cp image before

@@ -8,6 +8,7 @@ pub mod DataPages
 pub mod Decisions
 pub mod FormedRows
 pub mod FoundBy
+pub mod FullEntries
 pub mod GoodNumbering
 pub mod GoodNumbers
 pub mod GoodStates

@@ -1,32 +1,38 @@
 -- The kept index pages so far: what they list, and the end of the newest one.
 use Rattle.std.proofs.Common.{◌≡◌, ℕ, List, ◌+◌, ◌-◌, ◌<◌, ◌≤◌, inl, inr, sym, ap, subst, arith}
 use Rattle.std.proofs.lemmas.Bool.{cases_eq}
-use Rattle.fl_index.specs.Page.{page_first}
+use Rattle.fl_index.specs.Page.{page_first, found_at}
 use Rattle.fl_ring.specs.Newest.{page_back}
 use Rattle.fl_ring.specs.Ring.{Shape}
 use Rattle.fl_check.specs.Claims.{AllBelow, FailsFirst}
-use Rattle.fl_check.specs.Entries.{entries_in, entry_at, HasBitmap, IsEntry, Lists, first_listed, IsListing, AreSeen, HasEntries, HaveEntries}
+use Rattle.fl_check.specs.Entries.{IndexOver, entries_in, IsEntry, Lists, first_listed, IsListing, AreSeen, HasEntries, HaveEntries}
 use Rattle.fl_check.specs.Marks.{kept_page}
-use Rattle.fl_check.specs.declared.entries.Indexing.{Indexing}
+use Rattle.fl_check.specs.Told.{TellsPage}
 use Rattle.fl_check.specs.declared.entries.Seen.{Seen}
 use Rattle.fl_check.specs.declared.numbering.Numbering.{Numbering}
 
 -- one entry, by how many pages before the next one its data page stands
-module _ (page : ℕ → List ℕ) (rows : Shape) (n : Numbering) (width : ℕ) (listing : List ℕ) (j : ℕ) where
-  pub entry_for : (back : ℕ) → page_first listing + j + back ≡ n.next → HasBitmap (page (page_back rows n.marks.at back)) (entry_at width listing j) → IsEntry page rows n width listing j
+module _ (page : ℕ → List ℕ) (rows : Shape) (l : IndexOver) (listing : List ℕ) (j : ℕ) where
+  abbrev n : Numbering
+  n = l.rows
+
+  abbrev TellsBack : ℕ → Type 0
+  TellsBack back = TellsPage l.layout (page (page_back rows l.rows.marks.at back)) (found_at l.form listing j)
+
+  pub entry_for : (back : ℕ) → page_first listing + j + back ≡ l.rows.next → TellsPage l.layout (page (page_back rows l.rows.marks.at back)) (found_at l.form listing j) → IsEntry page rows l listing j
   entry_for back e has i lt is =
       let same : back ≡ n.marks.kept - i = omega (arith, e, is) in
-      subst (λ (b : ℕ). HasBitmap (page (page_back rows n.marks.at b)) (entry_at width listing j)) same has
+      subst TellsBack same has
 
-  pub bitmap_for : (back : ℕ) → 1 ≤ back → back ≤ n.marks.kept → page_first listing + j + back ≡ n.next → IsEntry page rows n width listing j → HasBitmap (page (page_back rows n.marks.at back)) (entry_at width listing j)
-  bitmap_for back some few e is =
+  pub told_for : (back : ℕ) → 1 ≤ back → back ≤ l.rows.marks.kept → page_first listing + j + back ≡ l.rows.next → IsEntry page rows l listing j → TellsPage l.layout (page (page_back rows l.rows.marks.at back)) (found_at l.form listing j)
+  told_for back some few e is =
       let same : n.marks.kept - (n.marks.kept - back) ≡ back = omega (arith, few) in
-      subst (λ (b : ℕ). HasBitmap (page (page_back rows n.marks.at b)) (entry_at width listing j)) same (is (n.marks.kept - back) (omega (arith, some, few)) (omega (arith, e, few)))
+      subst TellsBack same (is (n.marks.kept - back) (omega (arith, some, few)) (omega (arith, e, few)))
 
-  pub no_entry : ((back : ℕ) → 1 ≤ back → back ≤ n.marks.kept → page_first listing + j + back ≡ n.next → ⊥) → IsEntry page rows n width listing j
+  pub no_entry : ((back : ℕ) → 1 ≤ back → back ≤ l.rows.marks.kept → page_first listing + j + back ≡ l.rows.next → ⊥) → IsEntry page rows l listing j
   no_entry none i lt is = absurd (none (n.marks.kept - i) (omega (arith, lt)) (omega arith) is)
 
-module _ (page : ℕ → List ℕ) (index rows : Shape) (l : Indexing) where
+module _ (page : ℕ → List ℕ) (index rows : Shape) (l : IndexOver) where
   pub none_seen : (s : Seen) → s.end ≡ 0 → AreSeen page index rows l 0 s
   none_seen s e = record {
     listings = λ k lt. absurd (omega (arith, lt));
@@ -55,7 +61,7 @@ module _ (page : ℕ → List ℕ) (index rows : Shape) (l : Indexing) where
 
     -- the page after them is committed
     module _ (lists : Lists page index l.index i) where
-      pub listing_more : (new : Seen) → new.last ≡ i → new.end ≡ first_listed page index l.index i + entries_in index.size l.width → s.end ≤ first_listed page index l.index i → AllBelow (IsEntry page rows l.rows l.width (page (kept_page index l.index i))) (entries_in index.size l.width)
+      pub listing_more : (new : Seen) → new.last ≡ i → new.end ≡ first_listed page index l.index i + entries_in index.size l.form → s.end ≤ first_listed page index l.index i → AllBelow (IsEntry page rows l (page (kept_page index l.index i))) (entries_in index.size l.form)
           → AreSeen page index rows l (i + 1) new
       listing_more new last_is end_is up entries = record {
         listings = λ k lt lists_k. elim (cases_eq k i) [
@@ -87,7 +93,7 @@ module _ (page : ℕ → List ℕ) (index rows : Shape) (l : Indexing) where
             omega (arith, up, was.2, low);
       }
 
-      pub misentered : i < l.index.kept → (AllBelow (IsEntry page rows l.rows l.width (page (kept_page index l.index i))) (entries_in index.size l.width) → ⊥)
+      pub misentered : i < l.index.kept → (AllBelow (IsEntry page rows l (page (kept_page index l.index i))) (entries_in index.size l.form) → ⊥)
           → FailsFirst (HasEntries page index rows l) l.index.kept i
       misentered within none = record { within = within; before = before within; here = λ has. none (has.listing lists).entries }
 
@@ -106,9 +112,9 @@ module _ (page : ℕ → List ℕ) (index rows : Shape) (l : Indexing) where
         }
 
 -- the entries of the same bytes on the same flash
-pub entries_move : (page page' : ℕ → List ℕ) (rows : Shape) (n : Numbering) (width : ℕ) (bytes bytes' : List ℕ) (many many' : ℕ) → page' ≡ page → bytes ≡ bytes' → many ≡ many'
-    → AllBelow (IsEntry page' rows n width bytes) many → AllBelow (IsEntry page rows n width bytes') many'
-entries_move page page' rows n width bytes bytes' many many' same here few all =
-    subst (λ (k : ℕ). AllBelow (IsEntry page rows n width bytes') k) few
-    (subst (λ (b : List ℕ). AllBelow (IsEntry page rows n width b) many) here
-    (subst (λ (p : ℕ → List ℕ). AllBelow (IsEntry p rows n width bytes) many) same all))
+pub entries_move : (page page' : ℕ → List ℕ) (rows : Shape) (l : IndexOver) (bytes bytes' : List ℕ) (many many' : ℕ) → page' ≡ page → bytes ≡ bytes' → many ≡ many'
+    → AllBelow (IsEntry page' rows l bytes) many → AllBelow (IsEntry page rows l bytes') many'
+entries_move page page' rows l bytes bytes' many many' same here few all =
+    subst (λ (k : ℕ). AllBelow (IsEntry page rows l bytes') k) few
+    (subst (λ (b : List ℕ). AllBelow (IsEntry page rows l b) many) here
+    (subst (λ (p : ℕ → List ℕ). AllBelow (IsEntry p rows l bytes) many) same all))

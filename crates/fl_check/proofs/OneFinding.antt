@@ -4,12 +4,11 @@ use Rattle.fl_base.specs.declared.types.RingPlace.{RingPlace}
 use Rattle.fl_plan.specs.declared.table_config.TableConfig.{TableConfig}
 use Rattle.fl_ring.specs.Ring.{Shape}
 use Rattle.fl_check.specs.Claims.{AllBelow}
-use Rattle.fl_check.specs.Entries.{HasEntries, HaveEntries, EntriesBreak}
+use Rattle.fl_check.specs.Entries.{IndexOver, HasEntries, HaveEntries, EntriesBreak}
 use Rattle.fl_check.specs.Marks.{kept_page}
 use Rattle.fl_check.specs.References.{PageLeads, ReferencesBreak}
 use Rattle.fl_check.specs.RingRules.{IsRingSound, BreaksRing}
 use Rattle.fl_check.specs.Whole.{OfRing, shape_in, rows_shape, layout_in, indexing, index_end, tally_in, IsIndexForm, IsRowsForm, IsVarForm, IsIndexSound, AreRowsSound, IsVarSound, AreRingsSound, AreEntriesSound, AreReferencesSound, IsSound, IsFirstFault, IsFinding}
-use Rattle.fl_check.specs.declared.entries.Indexing.{Indexing}
 use Rattle.fl_check.specs.declared.finding.Finding.{Finding}
 use Rattle.fl_check.specs.declared.finding.Finding.TheVariants.{Sound, Fault}
 use Rattle.fl_check.specs.declared.finding.RingName.{RingName}
@@ -150,7 +149,7 @@ module _ (config : TableConfig) (page : ℕ → List ℕ) where
     pub rule : fault.rule ≡ Entry
     pub breaks : EntriesBreak page (shape_in config place) (rows_shape config) (indexing config n t.rows) fault.page
 
-  entries_once : (index rows : Shape) (l : Indexing) (p q : ℕ) → EntriesBreak page index rows l p → EntriesBreak page index rows l q → p ≡ q
+  entries_once : (index rows : Shape) (l : IndexOver) (p q : ℕ) → EntriesBreak page index rows l p → EntriesBreak page index rows l q → p ≡ q
   entries_once index rows l p q a b = a.is ∙ ap (kept_page index l.index) (fails_once (HasEntries page index rows l) l.index.kept a.i b.i a.first b.first) ∙ sym b.is
 
   entries_decided : (t : TableNumbers) → Decided (λ (u : Unit {0}). AreEntriesSound config page t) (EntriesBreakIn t)

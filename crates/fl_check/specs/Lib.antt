@@ -20,4 +20,5 @@ pub mod Rising
 pub mod States
 pub mod Stop
 pub mod Tally
+pub mod Told
 pub mod Whole

@@ -1,8 +1,9 @@
--- A table that is sound: its rings keep their rules, the entries of its index are the bitmaps of its data pages, and the
--- references of its rows lead to their blobs. And of one that isn't, the first rule that doesn't hold.
+-- A table that is sound: its rings keep their rules, the entries of its index tell of its data pages, and the references of
+-- its rows lead to their blobs. And of one that isn't, the first rule that doesn't hold.
 use Rattle.std.specs.Prelude.{◌≡◌, ◌⊎◌, ℕ, ◌+◌, ◌^◌, ◌/◌, ◌<◌, ◌≤◌, Option, Some, None, IfSome, nat_lt, List, length}
 use Rattle.fl_base.specs.declared.types.RingPlace.{RingPlace}
 use Rattle.fl_flash.specs.Flash.{FlashState, pages}
+use Rattle.fl_index.specs.declared.page.EntryForm.{EntryForm}
 use Rattle.fl_model.specs.Record.{RowLayout}
 use Rattle.fl_plan.specs.declared.table_config.TableConfig.{TableConfig}
 use Rattle.fl_plan.specs.Limits.{IsWithinLimits}
@@ -14,13 +15,12 @@ use Rattle.fl_schema.specs.Form.{layout_with}
 use Rattle.fl_check.specs.Claims.{AllBelow}
 use Rattle.fl_check.specs.ContentPage.{IsContentPage}
 use Rattle.fl_check.specs.DataPage.{IsDataPage}
-use Rattle.fl_check.specs.Entries.{entries_in, HaveEntries, EntriesBreak}
+use Rattle.fl_check.specs.Entries.{IndexOver, entries_in, HaveEntries, EntriesBreak}
 use Rattle.fl_check.specs.IndexPage.{IsIndexPage}
 use Rattle.fl_check.specs.Marks.{AreWithin}
 use Rattle.fl_check.specs.References.{PageLeads, ReferencesBreak}
 use Rattle.fl_check.specs.RingRules.{IsRingSound, BreaksRing}
 use Rattle.fl_check.specs.Tally.{listed_to, tally_of}
-use Rattle.fl_check.specs.declared.entries.Indexing.{Indexing}
 use Rattle.fl_check.specs.declared.finding.Finding.{Finding}
 use Rattle.fl_check.specs.declared.finding.Finding.TheVariants.{Sound, Fault}
 use Rattle.fl_check.specs.declared.finding.RingName.{RingName}
@@ -53,9 +53,9 @@ rows_shape config = shape_in config config.rows
 abbrev pub layout_in : TableConfig → RowLayout
 layout_in config = layout_with config.key config.columns.items (nat_lt 0 (blocks_in config.var))
 
--- the bytes of an entry of its index
-abbrev pub width_in : TableConfig → ℕ
-width_in config = bits_in config.buckets / 8
+-- the form of the entries of its index
+abbrev pub form_in : TableConfig → EntryForm
+form_in config = record { width = bits_in config.buckets / 8; full = config.full_index }
 
 -- ---- the forms of its pages
 
@@ -86,7 +86,7 @@ IsIndexSound config page index = OfRing (λ place n. IsRingSound (IsIndexForm co
 
 -- the number after the data pages that the index lists
 abbrev pub end_in : TableConfig → (ℕ → List ℕ) → Option RingPlace → Option Numbering → ℕ
-end_in config page (Some place) (Some n) = listed_to (entries_in config.geometry.page (width_in config)) page (shape_in config place) n.marks n.marks.kept
+end_in config page (Some place) (Some n) = listed_to (entries_in config.geometry.page (form_in config)) page (shape_in config place) n.marks n.marks.kept
 end_in config page None n = 0
 end_in config page (Some place) None = 0
 
@@ -111,8 +111,8 @@ pub record AreRingsSound (config : TableConfig) (page : ℕ → List ℕ) (t : T
 
 -- ---- its index and its references
 
-abbrev pub indexing : TableConfig → Numbering → Numbering → Indexing
-indexing config index rows = record { width = width_in config; index = index.marks; rows = rows }
+abbrev pub indexing : TableConfig → Numbering → Numbering → IndexOver
+indexing config index rows = record { form = form_in config; layout = layout_in config; index = index.marks; rows = rows }
 
 abbrev pub AreEntriesSound : TableConfig → (ℕ → List ℕ) → TableNumbers → Type 0
 AreEntriesSound config page t = OfRing (λ place n. HaveEntries page (shape_in config place) (rows_shape config) (indexing config n t.rows)) config.index t.index

@@ -24,6 +24,7 @@ mod rising;
 mod rule;
 mod states;
 mod tally;
+mod told;
 mod whole;
 
 pub use bodies::{Form, check_bodies};

@@ -22,7 +22,7 @@ use fl_ring::{Ring, is_committed, look};
 use fl_schema::Schema;
 
 /// The number of a page.
-fn number_in(page: &[u8]) -> u32
+pub(crate) fn number_in(page: &[u8]) -> u32
     requires { 24 ≤ length page.now }
     ensures { result ≡ page_number page.now }
 {

@@ -78,7 +78,7 @@ fn reference_end(blob: Option<BlobRef>) -> u64
 }
 
 /// One more than the greatest page at which a blob of these rows begins, or `so_far` where that is more.
-fn blobs_end(view: &PageView<'_, 8>, so_far: u64) -> u64
+pub(crate) fn blobs_end(view: &PageView<'_, 8>, so_far: u64) -> u64
     requires { count_of view.now < 65536 }
     ensures { result ≡ blobs_end so_far (rows_of view.now) }
 {

@@ -12,12 +12,12 @@ ghost use Rattle.fl_check.specs.Looks.{OnlyLooks, CheckFails, OffFails, OffCheck
 ghost use Rattle.fl_check.specs.Marks.{AreWithin};
 ghost use Rattle.fl_check.specs.Rising.{HaveRows};
 ghost use Rattle.fl_check.specs.RingRules.{IsRingSound, BreaksRing};
-ghost use Rattle.fl_check.specs.Whole.{Fits, LiesWithin, OfRing, shape_in, rows_shape, layout_in, IsRowsForm, IsVarForm, IsIndexSound, AreRowsSound, AreRingsSound, AreEntriesSound, AreReferencesSound, IsSound, BreaksIndex, BreaksVarBy, BreaksEntries, BreaksReferences, IsFirstFault, index_end, tally_in, IsFinding};
+ghost use Rattle.fl_check.specs.Whole.{Fits, LiesWithin, OfRing, shape_in, rows_shape, layout_in, form_in, IsRowsForm, IsVarForm, IsIndexSound, AreRowsSound, AreRingsSound, AreEntriesSound, AreReferencesSound, IsSound, BreaksIndex, BreaksVarBy, BreaksEntries, BreaksReferences, IsFirstFault, index_end, tally_in, IsFinding};
 ghost use Rattle.fl_check.specs.declared.finding.RingName.{RingName};
 ghost use Rattle.fl_check.specs.declared.halt.Halt.{Halt};
 ghost use Rattle.fl_check.specs.declared.rule.Rule.{Rule};
 
-use crate::entries::{Indexing, check_entries};
+use crate::entries::{Indexing, check_entries, entries_in};
 use crate::finding::{CheckFault, Finding, RingName};
 use crate::forms::{ContentForm, DataForm};
 use crate::halt::{Fault, Halt, in_ring};
@@ -30,6 +30,7 @@ use crate::rule::Rule;
 use crate::tally::{Tally, find_end, tally_pages};
 use fl_base::NoMemory;
 use fl_flash::{Flash, FlashFault, PageBuf};
+use fl_index::EntryForm;
 use fl_plan::TableConfig;
 use fl_ring::Ring;
 use fl_schema::Schema;
@@ -60,6 +61,23 @@ pub(crate) struct Checked<'c> {
 }
 
 impl Checked<'_> {
+    /// The form of the entries of the index, where there is one.
+    fn entry_form(&self) -> EntryForm
+        requires limits { IsWithinLimits self.now.config.now }
+        requires index { IsTrue (is_some self.now.config.now.index) }
+        ensures exact { result ≡ form_in self.now.config.now }
+        ensures some { 1 ≤ result.width }
+        ensures few { result.width ≤ 8 }
+    {
+        let Some(buckets) = self.config.buckets else {
+            unreachable!()
+        };
+        EntryForm {
+            width: (buckets.bits / 8) as usize,
+            full: self.config.full_index,
+        }
+    }
+
     /// Checks the rules of the ring of index pages, where there is one.
     fn check_index<F: Flash>(
         &self,
@@ -80,13 +98,10 @@ impl Checked<'_> {
         let Some(place) = self.config.index else {
             return Ok(None);
         };
-        let Some(buckets) = self.config.buckets else {
-            unreachable!()
-        };
         let ring = Ring::unnumbered(flash, place);
         let form = IndexForm {
             config: self.config,
-            bits: buckets.bits,
+            entries: self.entry_form(),
         };
         let n = in_ring(RingName::Index, check_ring(&ring, flash, 0, &form, buf))?;
         Ok(Some(n))
@@ -112,11 +127,8 @@ impl Checked<'_> {
             return Ok(0);
         };
         let Some(n) = index else { unreachable!() };
-        let Some(buckets) = self.config.buckets else {
-            unreachable!()
-        };
         let ring = Ring::unnumbered(flash, place);
-        let per_page = (self.config.geometry.page - 24) / (buckets.bits / 8);
+        let per_page = entries_in(self.config.geometry.page as usize, self.entry_form());
         find_end(&ring, flash, n.marks, per_page, buf)
     }
 
@@ -250,13 +262,11 @@ impl Checked<'_> {
             return Ok(());
         };
         let Some(n) = t.index else { unreachable!() };
-        let Some(buckets) = self.config.buckets else {
-            unreachable!()
-        };
         let index = Ring::unnumbered(flash, place);
         let rows = Ring::unnumbered(flash, self.config.rows);
         let l = Indexing {
-            width: buckets.bits / 8,
+            form: self.entry_form(),
+            schema: &self.schema,
             index: n.marks,
             rows: t.rows,
         };

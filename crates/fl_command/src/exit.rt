@@ -45,7 +45,8 @@ impl Exit {
         }
     }
 
-    /// The end of a run or a job that would have ended so, after the last of what it wrote was handed out, or couldn't be.
+    /// This end, if the last of what was written could be handed out; else that of a run or a job whose output can't be written, which
+    /// keeps what is told beside its status.
     pub fn behind(self, handed: Result<(), SinkFailed>) -> Exit
         ensures handed { OnOk handed (result ≡ self) }
         ensures failed { OnErr handed (result ≡ unwritten self) }

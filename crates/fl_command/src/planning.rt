@@ -7,7 +7,7 @@ use fl_base::{Sink, Source};
 use fl_sizing::{PlanJob, plan_tables};
 use std::alloc::Global;
 
-/// Does what `plan_tables` does, and hands out why a line is refused. There is no image.
+/// Plans the tables of the lines that are read, and hands out beside the end why a line is refused. There is no image.
 pub fn plan<S: Source, K: Sink>(alloc: Global, job: PlanJob, input: &mut S, out: &mut K) -> Ending
     requires { IfSome job.interval (λ seconds. seconds ≤ 1000000) }
     ensures ends { PlanEndsAs job.interval (S.left input.old) (S.faults input.old) (K.written out.old) (K.faults out.old)

@@ -51,9 +51,9 @@ buckets-width (Some buckets) line are = are.2
 pub same-plan : (geometry : Geometry) (line : TableLine) (config : TableConfig) (at-index at-var : ℕ) → config.geometry ≡ geometry → key_width config.key ≡ line.key →
     columns_in line.columns ≡ Some (map column_of config.columns.items) → config.rows.blocks ≡ line.data_blocks →
     IsRingAt config.index at-index line.index_blocks → IsRingAt config.var at-var line.var_blocks → AreBucketsIn config.buckets line →
-    config.error ≡ line.error → config.blob_limit ≡ line.blob_limit →
+    config.error ≡ line.error → config.blob_limit ≡ line.blob_limit → config.full_index ≡ line.full_index →
     plan_of_table (record { name = line.name; base = line.base; width = line.width }) config ≡ plan_of geometry line
-same-plan geometry line config at-index at-var here key columns rows index var buckets error blob =
+same-plan geometry line config at-index at-var here key columns rows index var buckets error blob full =
     rw (
       here,
       key,
@@ -66,6 +66,7 @@ same-plan geometry line config at-index at-var here key columns rows index var b
       buckets-width config.buckets line buckets,
       error,
       blob,
+      full,
     ) refl
 
 -- a word has a column at least

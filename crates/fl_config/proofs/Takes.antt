@@ -14,7 +14,7 @@ use Rattle.fl_words.specs.Config.{ConfigFault, first_fault, table_faults, plan_o
 use Rattle.fl_plan.specs.declared.table_config.TableConfig.{TableConfig}
 use Rattle.fl_plan.specs.Plan.{Label, plan_of_table}
 use Rattle.fl_plan.specs.Limits.{IsWithin, IsRingSize, IsWithinLimits}
-use Rattle.fl_plan.specs.Refusal.{pages_misfit, is_bad_ring, field_faults, room_faults, config_fault, nameless}
+use Rattle.fl_plan.specs.Refusal.{pages_misfit, is_bad_ring, field_faults, room_faults, format_faults, config_fault, nameless}
 use Rattle.fl_plan.proofs.Faults.{some-first, some-then, none-both}
 use Rattle.fl_config.specs.declared.entry.Entry.{Entry}
 use Rattle.fl_config.specs.Entry.{plan_in}
@@ -34,10 +34,11 @@ pub large-is : (geometry : Geometry) (blocks : ℕ) (plans : List Plan) (plan : 
     too_large geometry (plans ++ plan ∷ []) ≡ pages_misfit geometry (blocks + blocks_of plan)
 large-is geometry blocks plans plan is = ap (λ b. pages_misfit geometry b) (sum-push plans plan ∙ ap (λ b. b + blocks_of plan) (sym is))
 
--- the last two tests of a line
+-- the last tests of a line
 abbrev pub last_faults : Geometry → List Plan → Plan → List (Bool × ConfigFault)
 last_faults geometry plans plan =
-    (nat_lt (geometry.page - 24) (row_len plan), words.RowTooLong) ∷ (too_large geometry (plans ++ plan ∷ []), words.DeviceTooLarge) ∷ []
+    (nat_lt (geometry.page - 24) (row_len plan), words.RowTooLong) ∷ (too_large geometry (plans ++ plan ∷ []), words.DeviceTooLarge)
+    ∷ (plan.full_index && (plan.index_blocks == 0), words.Format) ∷ []
 
 pub last-is : (geometry : Geometry) (blocks : ℕ) (plans : List Plan) (plan : Plan) → blocks ≡ sum_by blocks_of plans → last_faults geometry plans plan ≡ size_faults geometry blocks plan
 last-is geometry blocks plans plan is = rw (large-is geometry blocks plans plan is) refl
@@ -86,10 +87,23 @@ fields-pass config limits =
       error,
     ) refl
 
-two-none : (r s : Bool) (f g : ConfigFault) → first_fault ((r, f) ∷ (s, g) ∷ []) ≡ None → (r ≡ false) × (s ≡ false)
-two-none true s f g none = absurd (cc)
-two-none false true f g none = absurd (cc)
-two-none false false f g none = (refl, refl)
+-- the first of tests that all pass, and the others
+first-passes : (test : Bool) (fault : ConfigFault) (tests : List (Bool × ConfigFault)) → first_fault ((test, fault) ∷ tests) ≡ None → (test ≡ false) × (first_fault tests ≡ None)
+first-passes true fault tests none = absurd (cc)
+first-passes false fault tests none = (refl, none)
+
+-- what the last tests decide, where they all pass
+record Passes (row size format : Bool) : Type 0 where
+  row_is : row ≡ false
+  size_is : size ≡ false
+  format_is : format ≡ false
+
+last-pass : (row size format : Bool) → first_fault ((row, words.RowTooLong) ∷ (size, words.DeviceTooLarge) ∷ (format, words.Format) ∷ []) ≡ None → Passes row size format
+last-pass row size format none =
+    let last : List (Bool × ConfigFault) = (format, words.Format) ∷ [] in
+    let a = first-passes row words.RowTooLong ((size, words.DeviceTooLarge) ∷ last) none in
+    let b = first-passes size words.DeviceTooLarge last a.1 in
+    record { row_is = a.0; size_is = b.0; format_is = (first-passes format words.Format [] b.1).0 }
 
 -- a table that its line doesn't refuse isn't refused by itself
 pub passes-alone : (config : TableConfig) (blocks : ℕ) (plan : Plan) (label : Label) → plan_of_table label config ≡ plan → IsWithinLimits config → bad_blob_limit plan ≡ false →
@@ -97,12 +111,14 @@ pub passes-alone : (config : TableConfig) (blocks : ℕ) (plan : Plan) (label : 
 passes-alone config blocks plan label is limits blob none =
     let alone = plan_of_table nameless config in
     let kept : bad_blob_limit alone ≡ false = ap bad_blob_limit is ∙ blob in
-    let tests = two-none (nat_lt (config.geometry.page - 24) (row_len plan)) (pages_misfit config.geometry (blocks + blocks_of plan)) _ _ none in
-    let row : nat_lt (config.geometry.page - 24) (row_len alone) ≡ false = ap (λ p. nat_lt (config.geometry.page - 24) (row_len p)) is ∙ tests.0 in
+    let tests = last-pass (nat_lt (config.geometry.page - 24) (row_len plan)) (pages_misfit config.geometry (blocks + blocks_of plan)) (plan.full_index && (plan.index_blocks == 0)) none in
+    let row : nat_lt (config.geometry.page - 24) (row_len alone) ≡ false = ap (λ p. nat_lt (config.geometry.page - 24) (row_len p)) is ∙ tests.row_is in
     let few : sum_by blocks_of (alone ∷ []) ≤ blocks + blocks_of plan = omega (arith, ap blocks_of is, sum_by-cons blocks_of alone []) in
-    let size : too_large config.geometry (alone ∷ []) ≡ false = fewer-fit config.geometry (sum_by blocks_of (alone ∷ [])) (blocks + blocks_of plan) few tests.1 in
-    none-both (field_faults config ++ room_faults alone) ((too_large config.geometry (alone ∷ []), words.DeviceTooLarge) ∷ [])
-    (none-both (field_faults config) (room_faults alone) (fields-pass config limits) (rw kept (rw row refl))) (rw size refl)
+    let size : too_large config.geometry (alone ∷ []) ≡ false = fewer-fit config.geometry (sum_by blocks_of (alone ∷ [])) (blocks + blocks_of plan) few tests.size_is in
+    let format : (alone.full_index && (alone.index_blocks == 0)) ≡ false = ap (λ p. p.full_index && (p.index_blocks == 0)) is ∙ tests.format_is in
+    none-both (field_faults config ++ room_faults alone ++ (too_large config.geometry (alone ∷ []), words.DeviceTooLarge) ∷ []) (format_faults alone)
+    (none-both (field_faults config ++ room_faults alone) ((too_large config.geometry (alone ∷ []), words.DeviceTooLarge) ∷ [])
+    (none-both (field_faults config) (room_faults alone) (fields-pass config limits) (rw kept (rw row refl))) (rw size refl)) (rw format refl)
 
 -- what is told of a line by its first, its next and its last tests
 abbrev pub last_part : Geometry → List Plan → TableLine → List (Bool × ConfigFault)
@@ -125,7 +141,8 @@ told-none geometry plans line place here last =
     none-both (place_faults plans line) (line_faults geometry line ++ last_part geometry plans line) place (none-both (line_faults geometry line) (last_part geometry plans line) here last)
 
 pub large-none : (geometry : Geometry) (plans : List Plan) (plan : Plan) → first_fault (last_faults geometry plans plan) ≡ None → too_large geometry (plans ++ plan ∷ []) ≡ false
-large-none geometry plans plan none = (two-none (nat_lt (geometry.page - 24) (row_len plan)) (too_large geometry (plans ++ plan ∷ [])) _ _ none).1
+large-none geometry plans plan none =
+    (last-pass (nat_lt (geometry.page - 24) (row_len plan)) (too_large geometry (plans ++ plan ∷ [])) (plan.full_index && (plan.index_blocks == 0)) none).size_is
 
 pub size-last : (geometry : Geometry) (blocks : ℕ) (plans : List Plan) (line : TableLine) (config : TableConfig) (label : Label) → blocks ≡ sum_by blocks_of plans →
     plan_of_table label config ≡ plan_of geometry line → size_faults config.geometry blocks (plan_of_table label config) ≡ last_part geometry plans line

@@ -1,5 +1,5 @@
 -- The words of a line, one after another.
-use Rattle.std.proofs.Common.{◌≡◌, ℕ, ◌+◌, ◌<◌, ◌≤◌, List, [], ◌∷◌, ◌++◌, length, map, take, get_or, length-take-le, le_of_lt, append_assoc, lit≤, arith, refl, sym, ◌∙◌, ap}
+use Rattle.std.proofs.Common.{◌≡◌, ℕ, ◌+◌, ◌<◌, ◌≤◌, Bool, true, false, cond, List, [], ◌∷◌, ◌++◌, length, map, take, get_or, length-take-le, le_of_lt, append_assoc, lit≤, arith, refl, sym, ◌∙◌, ap}
 use Rattle.std.specs.List.{join_with_byte}
 use Rattle.std.proofs.lemmas.List.{take_more}
 use Rattle.std.specs.Fmt.{digits}
@@ -23,8 +23,26 @@ spaced-join text first (word ∷ words) =
     ap (λ t. spaced_onto t words) (append_assoc text first (32 ∷ word)) ∙ spaced-join text (first ++ 32 ∷ word) words
     ∙ ap (λ l. text ++ l) (join-onto 32 first word words)
 
-pub line-onto : (text first : List ℕ) (words : List (List ℕ)) → spaced_onto (text ++ first) words ++ 10 ∷ [] ≡ text ++ (join_with_byte 32 (first ∷ words) ++ 10 ∷ [])
+line-onto : (text first : List ℕ) (words : List (List ℕ)) → spaced_onto (text ++ first) words ++ 10 ∷ [] ≡ text ++ (join_with_byte 32 (first ∷ words) ++ 10 ∷ [])
 line-onto text first words = ap (λ l. l ++ 10 ∷ []) (spaced-join text first words) ∙ append_assoc text (join_with_byte 32 (first ∷ words)) (10 ∷ [])
+
+spaced-append : (text : List ℕ) (words more : List (List ℕ)) → spaced_onto (spaced_onto text words) more ≡ spaced_onto text (words ++ more)
+spaced-append text [] more = refl
+spaced-append text (word ∷ words) more = spaced-append (text ++ 32 ∷ word) words more
+
+-- words that may be missing
+spaced-maybe : (there : Bool) (text : List ℕ) (words : List (List ℕ)) → cond there (spaced_onto text words) text ≡ spaced_onto text (cond there words [])
+spaced-maybe true text words = refl
+spaced-maybe false text words = refl
+
+-- .. one last word
+pub ending-onto : (text first : List ℕ) (words : List (List ℕ)) (there : Bool) (word : List ℕ) →
+    cond there (spaced_onto (text ++ first) words ++ 32 ∷ word) (spaced_onto (text ++ first) words) ++ 10 ∷ []
+    ≡ text ++ (join_with_byte 32 (first ∷ (words ++ cond there (word ∷ []) [])) ++ 10 ∷ [])
+ending-onto text first words there word =
+    let more = cond there (word ∷ []) [] in
+    let all = spaced-maybe there (spaced_onto (text ++ first) words) (word ∷ []) ∙ spaced-append (text ++ first) words more in
+    ap (λ (l : List ℕ). l ++ 10 ∷ []) all ∙ line-onto text first (words ++ more)
 
 -- the name of a type is that of its column, and short
 pub column_name-is : (of : ColumnType) → column_name (column_of of) ≡ name_of of

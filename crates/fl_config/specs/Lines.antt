@@ -42,8 +42,9 @@ number_faults geometry line =
 abbrev pub line_faults : Geometry → TableLine → List (Bool × ConfigFault)
 line_faults geometry line = key_faults line ++ word_faults line.columns ++ number_faults geometry line
 
--- the length of its row, and the size of all rings with its own
+-- the length of its row, the size of all rings with its own, and whether full index entries have an index
 abbrev pub size_faults : Geometry → ℕ → Plan → List (Bool × ConfigFault)
 size_faults geometry blocks plan =
     (nat_lt (geometry.page - 24) (row_len plan), words.RowTooLong)
-    ∷ (pages_misfit geometry (blocks + blocks_of plan), words.DeviceTooLarge) ∷ []
+    ∷ (pages_misfit geometry (blocks + blocks_of plan), words.DeviceTooLarge)
+    ∷ (plan.full_index && (plan.index_blocks == 0), words.Format) ∷ []

@@ -25,6 +25,7 @@ line_of words = record {
   width = words.width;
   error = words.error;
   blob_limit = words.blob;
+  full_index = words.full;
 }
 
 -- the ring of so many blocks stands at a block; none where it has no blocks

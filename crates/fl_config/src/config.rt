@@ -80,6 +80,7 @@ impl Config {
                 width,
                 error,
                 blob,
+                full,
             } => self.add_table(&TableWords {
                 name: *name,
                 key: *key,
@@ -92,6 +93,7 @@ impl Config {
                 width: *width,
                 error: *error,
                 blob: *blob,
+                full: *full,
             }),
             _ => Ok(()),
         }

@@ -64,6 +64,7 @@ impl Default for Entry {
                 buckets: None,
                 error: 0,
                 blob_limit: 0,
+                full_index: false,
             },
         }
     }

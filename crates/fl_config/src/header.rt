@@ -1,5 +1,5 @@
 // The text of the configuration at the front of an image.
-ghost use Rattle.std.specs.Prelude.{◌≡◌, ◌+◌, ◌≤◌, ◌∷◌, ◌++◌, [], length, map};
+ghost use Rattle.std.specs.Prelude.{◌≡◌, ◌+◌, ◌≤◌, ◌∷◌, ◌++◌, [], length, map, codes, if◌then◌else◌};
 ghost use Rattle.std.specs.List.{flat_map, join_with_byte};
 ghost use Rattle.fl_words.specs.Medium.{column_name, device_text, table_text};
 ghost use Rattle.fl_schema.specs.Types.{column_of};
@@ -98,6 +98,17 @@ impl HeaderText {
         self.add(b"\n");
     }
 
+    /// The word for full index entries behind a space, where they are full.
+    fn add_format(&mut self, full: bool)
+        requires { length self.old + 7 ≤ ROOM }
+        ensures text { self.new ≡ (if full then self.old ++ 32 ∷ codes "index2" else self.old) }
+        ensures short { length self.new ≤ length self.old + 7 }
+    {
+        if full {
+            self.add_word(b"index2");
+        }
+    }
+
     pub(crate) fn add_table(&mut self, table: &Entry)
         requires { length self.old + 200 ≤ ROOM }
         ensures text { self.new ≡ self.old ++ table_text (plan_in table.now) }
@@ -115,6 +126,7 @@ impl HeaderText {
         self.add_number(table.width());
         self.add_number(table.config.error);
         self.add_number(table.config.blob_limit);
+        self.add_format(table.config.full_index);
         self.add(b"\n");
     }
 

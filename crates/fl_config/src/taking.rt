@@ -69,6 +69,9 @@ fn check_size(config: &TableConfig, blocks: u32) -> Result<(), ConfigRefusal>
     if !has_room_for(config.geometry, u64::from(blocks) + config.blocks()) {
         return Err(ConfigRefusal::DeviceTooLarge);
     }
+    if config.lacks_index() {
+        return Err(ConfigRefusal::Format);
+    }
     Ok(())
 }
 

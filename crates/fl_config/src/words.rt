@@ -29,6 +29,7 @@ pub(crate) struct TableWords<'a> {
     pub(crate) width: u64,
     pub(crate) error: u64,
     pub(crate) blob: u64,
+    pub(crate) full: bool,
 }
 
 fn is_ring(blocks: u64) -> bool
@@ -164,6 +165,7 @@ impl TableWords<'_> {
             buckets: self.buckets(),
             error: self.error as u32,
             blob_limit: self.blob as u32,
+            full_index: self.full,
         }
     }
 }

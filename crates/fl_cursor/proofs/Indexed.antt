@@ -1,5 +1,5 @@
 -- A look at the index, for the page that comes next.
-use Rattle.std.proofs.Common.{◌≡◌, inl, inr, ℕ, ◌+◌, ◌-◌, ◌<◌, ◌≤◌, Bool, false, not, Option, Some, None, Result, Ok, Err, IfOk, IsTrue, List, [], length, sym, ◌∙◌, ap, subst, arith}
+use Rattle.std.proofs.Common.{◌≡◌, inl, inr, ℕ, ◌+◌, ◌-◌, ◌<◌, ◌≤◌, Bool, true, false, not, cond, Option, Some, None, Result, Ok, Err, IfOk, IsTrue, List, [], length, refl, sym, ◌∙◌, ap, subst, arith}
 use Rattle.std.specs.Borrow.{MutBor}
 use Rattle.std.specs.List.{slice_get, list_any}
 use Rattle.std.proofs.lemmas.Bool.{cases_lt}
@@ -22,21 +22,24 @@ use Rattle.fl_page.specs.declared.fault.ReadFault.TheVariants.{Flash, BadPage}
 use Rattle.fl_table.specs.Kept.{place_of}
 use Rattle.fl_table.specs.Look.{oldest_in, rows_noted}
 use Rattle.fl_table.specs.Memory.{next_in}
-use Rattle.fl_table.specs.Skipping.{AreFresh, AreScanning, HoldGood, IsBadIndex, LooksOn, ShowsPage}
+use Rattle.fl_table.specs.Skipping as skipping
+use Rattle.fl_table.specs.Skipping.{AreFresh, AreScanning, HoldGood, IsBadIndex, LooksOn, ShowsPage, wants_page}
+use Rattle.fl_table.specs.declared.skip.Ahead.{Ahead}
+use Rattle.fl_table.specs.declared.skip.Ahead.TheVariants.{Wanted, Missed, Beyond}
 use Rattle.fl_table.specs.Standing.{Stands}
 use Rattle.fl_table.specs.declared.table.Table.{Table}
 use Rattle.fl_cursor.specs.Asked.{is_asked}
 use Rattle.fl_cursor.specs.Cursor.{table_of, asked_of, index_page, IsStanding, IsTold, IsLooking, AreFreshIn, AreBadIn, MayBeBad, IfBad}
 use Rattle.fl_cursor.specs.Listed.{bytes_at, rows_on}
-use Rattle.fl_cursor.specs.Reads.{is_missed}
+use Rattle.fl_cursor.specs.Reads.{is_beyond, is_missed}
 use Rattle.fl_cursor.specs.declared.cursor.Cursor.{Cursor}
 use Rattle.fl_cursor.specs.declared.place.Place.{Place}
 use Rattle.fl_cursor.specs.declared.place.Place.TheVariants.{Start, Pages, InPage, Pending, Ended}
 use Rattle.fl_cursor.proofs.Beginning.{stands-moved}
 use Rattle.fl_cursor.proofs.Passing.{NotLeft}
 use Rattle.fl_cursor.proofs.Stood.{standing-tells, at-number, back}
-use Rattle.fl_cursor.proofs.Turning.{Looked}
-use Rattle.fl_cursor.proofs.Wanted.{missed-wanted, rows-are, none-matches, unmatched-left, unmatched-asked}
+use Rattle.fl_cursor.proofs.Turning.{Looked, ahead_at}
+use Rattle.fl_cursor.proofs.Wanted.{beyond-same, missed-wanted, rows-are, none-matches, unmatched-left, unmatched-asked}
 
 -- what a buffer holds, by a flash and by what that holds
 fresh-on : (bitmaps : Option Index) (f : FlashState) (buf : BufferState) → AreFreshIn bitmaps (contents_of f) buf → AreFresh bitmaps f buf
@@ -73,15 +76,15 @@ looking-none bitmaps (InPage number row) buf none = scanning-none bitmaps (numbe
 looking-none bitmaps (Pending row) buf none = tt
 looking-none bitmaps Ended buf none = tt
 
-module _ {KNOTS SLOTS : ℕ} (old : Cursor KNOTS SLOTS) (next : ℕ) (here_is : old.place ≡ Pages next) (from : oldest_in (table_of old) ≤ next) (before : next < next_in (table_of old)) (f new : FlashState) (result : Result Bool ReadFault) (index : MutBor BufferState) where
+module _ {KNOTS SLOTS : ℕ} (old : Cursor KNOTS SLOTS) (next : ℕ) (here_is : old.place ≡ Pages next) (from : oldest_in (table_of old) ≤ next) (before : next < next_in (table_of old)) (f new : FlashState) (result : Result Ahead ReadFault) (index : MutBor BufferState) where
   pub looked : index.ghost_name ≡ old.index_buf.ghost_name → length index.now.bytes ≡ length old.index_buf.now.bytes → OnlyReads f new → (HoldGood (table_of old).bitmaps (index_page old) → HoldGood (table_of old).bitmaps index.now) →
       (IsTrue f.media.tells → AreFresh (table_of old).bitmaps f (index_page old) → AreFresh (table_of old).bitmaps new index.now) →
       ((first : ℕ) (plan : Plan) (table : model.Table) → IsTrue f.media.tells → Stands (table_of old) f first plan table → AreFresh (table_of old).bitmaps f (index_page old) → AreScanning (table_of old).bitmaps next (index_page old) →
       LooksOn (table_of old).bitmaps (asked_of old).span next (index_page old) f.work.reads result new.work.reads index.now) →
       ((first : ℕ) (plan : Plan) (table : model.Table) (n rows : ℕ) → IsTrue f.media.tells → Stands (table_of old) f first plan table → AreFresh (table_of old).bitmaps f (index_page old) → next ≡ rings.oldest table.rows + n →
-      slice_get table.rows.counts n ≡ Some rows → 0 < rows → ShowsPage plan table (asked_of old).span next (rows_at table n rows) result) →
+      slice_get table.rows.counts n ≡ Some rows → 0 < rows → ShowsPage plan table (asked_of old).span (asked_of old).top next (rows_at table n rows) result) →
       ((first : ℕ) (plan : Plan) (table : model.Table) (n rows : ℕ) (range : KeyRange) → IsTrue f.media.tells → Stands (table_of old) f first plan table → AreFresh (table_of old).bitmaps f (index_page old) → next ≡ rings.oldest table.rows + n →
-      slice_get table.rows.counts n ≡ Some rows → 0 < rows → result ≡ Ok false → selected range (asked_of old).span (rows_at table n rows) ≡ []) →
+      slice_get table.rows.counts n ≡ Some rows → 0 < rows → result ≡ Ok Missed → selected range (asked_of old).span (rows_at table n rows) ≡ []) →
       Looked old next (contents_of f) f.work.reads result new.work.reads index
   looked named room counts good fresh looks shows misses = record {
     named = named;
@@ -117,14 +120,25 @@ module _ {KNOTS SLOTS : ℕ} (old : Cursor KNOTS SLOTS) (next : ℕ) (here_is : 
       not_zero : (n : ℕ) → (n ≡ 0 → ⊥) → 0 < n
       not_zero n some = elim (cases_lt 0 n) [ inl lt ↦ lt | inr le ↦ absurd (some (omega (arith, le))) ]
 
-      by_result : (told : IsTold old (contents_of f)) → (rows_noted (table_of old) next ≡ 0 → ⊥) → (result : Result Bool ReadFault) →
-          ShowsPage told.standing.plan told.standing.table (asked_of old).span next (rows_at told.standing.table (next - rings.oldest told.standing.table.rows) (rows_noted (table_of old) next)) result →
-          IfOk result (λ may. is_missed (table_of old) (asked_of old).span next (rows_on (table_of old) (contents_of f) next) ≡ not may)
-      by_result told some (Ok may) shown = missed-wanted (table_of old) (contents_of f) told.standing next from before (asked_of old).span ∙ ap not (sym shown)
+      by_result : (told : IsTold old (contents_of f)) → (rows_noted (table_of old) next ≡ 0 → ⊥) → (result : Result Ahead ReadFault) →
+          ShowsPage told.standing.plan told.standing.table (asked_of old).span (asked_of old).top next (rows_at told.standing.table (next - rings.oldest told.standing.table.rows) (rows_noted (table_of old) next)) result →
+          IfOk result (λ ahead. ahead ≡ ahead_at (is_beyond (table_of old) (contents_of f) (asked_of old).span (asked_of old).top next) (is_missed (table_of old) (asked_of old).span next (rows_on (table_of old) (contents_of f) next)))
+      by_result told some (Ok ahead) shown =
+          let entries = rows_at told.standing.table (next - rings.oldest told.standing.table.rows) (rows_noted (table_of old) next) in
+          let beyond = beyond-same (table_of old) (contents_of f) told.standing next from before (asked_of old).span (asked_of old).top (not_zero (rows_noted (table_of old) next) some) in
+          let missed = missed-wanted (table_of old) (contents_of f) told.standing next from before (asked_of old).span in
+          shown
+          ∙ (ap (cond (skipping.is_beyond told.standing.plan told.standing.table (asked_of old).span (asked_of old).top next entries) Beyond) (swapped (wants_page told.standing.plan told.standing.table (asked_of old).span next entries))
+          ∙ (ap (λ b. ahead_at b (not (wants_page told.standing.plan told.standing.table (asked_of old).span next entries))) (sym beyond)
+          ∙ ap (ahead_at (is_beyond (table_of old) (contents_of f) (asked_of old).span (asked_of old).top next)) (sym missed)))
+        where
+          swapped : (wants : Bool) → cond wants Wanted Missed ≡ cond (not wants) Missed Wanted
+          swapped true = refl
+          swapped false = refl
       by_result told some (Err fault) shown = tt
 
 -- what was answered, by another name
-pub looked-as : {KNOTS SLOTS : ℕ} {old : Cursor KNOTS SLOTS} {next reads mid : ℕ} {contents : Contents} {index : MutBor BufferState} {a b : Bool} → a ≡ b → Looked old next contents reads (Ok a) mid index → Looked old next contents reads (Ok b) mid index
+pub looked-as : {KNOTS SLOTS : ℕ} {old : Cursor KNOTS SLOTS} {next reads mid : ℕ} {contents : Contents} {index : MutBor BufferState} {a b : Ahead} → a ≡ b → Looked old next contents reads (Ok a) mid index → Looked old next contents reads (Ok b) mid index
 looked-as {old} {next} {reads} {mid} {contents} {index} e h = subst (λ x. Looked old next contents reads (Ok x) mid index) e h
 
 -- a bad index page that is answered

@@ -182,7 +182,7 @@ module _ {KNOTS SLOTS : ℕ} (t : Table KNOTS SLOTS) (contents : Contents) where
 
 module _ {KNOTS SLOTS : ℕ} (t : Table KNOTS SLOTS) (contents : Contents) (h : IsStanding t contents) where
   -- the rows of an earlier page are below those of a later one
-  earlier : (a b : ℕ) (x y : Row) → oldest_in t ≤ a → a < b → b < next_in t → slice_get (rows_on t contents a) 0 ≡ Some x → slice_get (rows_on t contents b) 0 ≡ Some y → x.key < y.key
+  pub earlier : (a b : ℕ) (x y : Row) → oldest_in t ≤ a → a < b → b < next_in t → slice_get (rows_on t contents a) 0 ≡ Some x → slice_get (rows_on t contents b) 0 ≡ Some y → x.key < y.key
   earlier a b x y low lt high first_x first_y =
       let k = a - oldest_in t in
       let m = b - (a + 1) in

@@ -7,6 +7,7 @@ pub mod Taking
 pub mod InPage
 pub mod AmongPending
 pub mod Stood
+pub mod Beyond
 pub mod Starting
 pub mod Turning
 pub mod Indexed
@@ -16,6 +17,7 @@ pub mod Beginning
 pub mod Finding
 pub mod Ending
 pub mod Selected
-pub mod Limited
 pub mod Later
+pub mod PageBehind
+pub mod Limited
 pub mod Least

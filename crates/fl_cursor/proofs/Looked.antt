@@ -71,7 +71,7 @@ looked-from t contents top (suc n) number =
     by_rows false later = later
 
 -- none is behind the last key
-none-up : (top : Option ℕ) (key : ℕ) (rows : List Row) → is_last top key ≡ true → Above key rows → list_any (λ row. is_up_to top row.key) rows ≡ false
+pub none-up : (top : Option ℕ) (key : ℕ) (rows : List Row) → is_last top key ≡ true → Above key rows → list_any (λ row. is_up_to top row.key) rows ≡ false
 none-up top key [] last h = refl
 none-up top key (row ∷ rows) last h = ap (λ b. b || list_any (λ row. is_up_to top row.key) rows) (past-last top key row.key last h.0) ∙ none-up top key rows last h.1
 

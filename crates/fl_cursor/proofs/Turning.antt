@@ -1,5 +1,5 @@
 -- A cursor that reads the next page, or goes past a page without rows.
-use Rattle.std.proofs.Common.{◌≡◌, ℕ, suc, ◌+◌, ◌-◌, ◌^◌, ◌<◌, ◌≤◌, Bool, true, false, not, ◌||◌, cond, ◌==◌, Result, Ok, Err, IfOk, List, [], ◌∷◌, ◌++◌, length, refl, sym, ◌∙◌, ap, subst, append_assoc, arith}
+use Rattle.std.proofs.Common.{◌≡◌, ℕ, suc, ◌+◌, ◌-◌, ◌^◌, ◌<◌, ◌≤◌, Bool, true, false, ◌||◌, cond, ◌==◌, Result, Ok, Err, IfOk, List, [], ◌∷◌, ◌++◌, length, refl, sym, ◌∙◌, ap, subst, append_assoc, arith}
 use Rattle.std.specs.Borrow.{MutBor}
 use Rattle.std.specs.List.{list_any, AllByRecursion}
 use Rattle.std.proofs.lemmas.Bool.{eq-eqb, eqb-true, false_from_ne_true}
@@ -14,16 +14,19 @@ use Rattle.fl_page.specs.declared.fault.ReadFault.{ReadFault}
 use Rattle.fl_table.specs.Look.{layout_in, oldest_in, rows_noted, buffered_rows}
 use Rattle.fl_table.specs.Memory.{next_in}
 use Rattle.fl_table.specs.Skipping.{AreScanning, HoldGood, LooksOn, unread_of, due_of}
+use Rattle.fl_table.specs.declared.skip.Ahead.{Ahead}
+use Rattle.fl_table.specs.declared.skip.Ahead.TheVariants.{Wanted, Missed, Beyond}
 use Rattle.fl_cursor.specs.Asked.{is_asked}
 use Rattle.fl_cursor.specs.Cursor.{table_of, asked_of, buffer_of, index_page, rows_behind, Passes, IsPlaced, IsTold, IsLooking, AreFreshIn}
 use Rattle.fl_cursor.specs.Going.{Goes, Fails}
 use Rattle.fl_cursor.specs.Listed.{bytes_at, rows_on, rows_over, rows_from, rows_of}
-use Rattle.fl_cursor.specs.Reads.{has_last, is_missed, is_skipped, pages_to_last, pages_asked, pages_looked_up, most_from, least_from}
+use Rattle.fl_cursor.specs.Reads.{has_last, is_beyond, is_missed, is_skipped, pages_to_last, pages_asked, pages_looked_up, most_from, least_from}
 use Rattle.fl_cursor.specs.declared.cursor.Cursor.{Cursor}
 use Rattle.fl_cursor.specs.declared.place.Place.{Place}
-use Rattle.fl_cursor.specs.declared.place.Place.TheVariants.{Pages, InPage}
-use Rattle.fl_cursor.proofs.Looked.{looking-later, unread-less, due-more, looked-from}
-use Rattle.fl_cursor.proofs.Passing.{NotLeft, passes-same, passes-over, each-weaker}
+use Rattle.fl_cursor.specs.declared.place.Place.TheVariants.{Pages, InPage, Ended}
+use Rattle.fl_cursor.proofs.Beyond.{Past, beyond-begins, none-beyond, past-beyond}
+use Rattle.fl_cursor.proofs.Looked.{looking-later, unread-less, due-more, due-nothing, looked-from}
+use Rattle.fl_cursor.proofs.Passing.{NotLeft, passes-end, passes-same, passes-over, each-weaker}
 use Rattle.fl_cursor.proofs.Stood.{standing-committed}
 use Rattle.fl_cursor.proofs.Taking.{moves-on}
 
@@ -49,16 +52,53 @@ turns old buf index place contents reads reads_now named room index_named index_
   least = least;
 }
 
+-- what is known of a page that lies beyond the last key, or is missed
+abbrev pub ahead_at : (beyond missed : Bool) → Ahead
+ahead_at beyond missed = cond beyond Beyond (cond missed Missed Wanted)
+
+wanted-at : (beyond missed : Bool) → Wanted ≡ ahead_at beyond missed → (beyond ≡ false) × (missed ≡ false)
+wanted-at false false e = (refl, refl)
+wanted-at true missed e = absurd (other e)
+  where
+    other : Wanted ≡ Beyond → ⊥
+    other e = cc
+wanted-at false true e = absurd (other e)
+  where
+    other : Wanted ≡ Missed → ⊥
+    other e = cc
+
+missed-at : (beyond missed : Bool) → Missed ≡ ahead_at beyond missed → (beyond ≡ false) × (missed ≡ true)
+missed-at false true e = (refl, refl)
+missed-at true missed e = absurd (other e)
+  where
+    other : Missed ≡ Beyond → ⊥
+    other e = cc
+missed-at false false e = absurd (other e)
+  where
+    other : Missed ≡ Wanted → ⊥
+    other e = cc
+
+beyond-at : (beyond missed : Bool) → Beyond ≡ ahead_at beyond missed → beyond ≡ true
+beyond-at true missed e = refl
+beyond-at false true e = absurd (other e)
+  where
+    other : Beyond ≡ Missed → ⊥
+    other e = cc
+beyond-at false false e = absurd (other e)
+  where
+    other : Beyond ≡ Wanted → ⊥
+    other e = cc
+
 -- What a look at the index made of the buffer of index pages.
-pub record Looked {KNOTS SLOTS : ℕ} (old : Cursor KNOTS SLOTS) (next : ℕ) (contents : Contents) (reads : ℕ) (result : Result Bool ReadFault) (mid : ℕ) (index : MutBor BufferState) : Type 0 where
+pub record Looked {KNOTS SLOTS : ℕ} (old : Cursor KNOTS SLOTS) (next : ℕ) (contents : Contents) (reads : ℕ) (result : Result Ahead ReadFault) (mid : ℕ) (index : MutBor BufferState) : Type 0 where
   pub named : index.ghost_name ≡ old.index_buf.ghost_name
   pub room : length index.now.bytes ≡ length old.index_buf.now.bytes
   pub good : HoldGood (table_of old).bitmaps (index_page old) → HoldGood (table_of old).bitmaps index.now
   pub later : mid < 2 ^ 64 - 1 → reads ≤ mid
   pub fresh : IsTold old contents → AreFreshIn (table_of old).bitmaps contents index.now
   pub looks : IsTold old contents → LooksOn (table_of old).bitmaps (asked_of old).span next (index_page old) reads result mid index.now
-  pub shows : IsTold old contents → (rows_noted (table_of old) next ≡ 0 → ⊥) → IfOk result (λ may. is_missed (table_of old) (asked_of old).span next (rows_on (table_of old) contents next) ≡ not may)
-  pub misses : IsTold old contents → (rows_noted (table_of old) next ≡ 0 → ⊥) → result ≡ Ok false →
+  pub shows : IsTold old contents → (rows_noted (table_of old) next ≡ 0 → ⊥) → IfOk result (λ ahead. ahead ≡ ahead_at (is_beyond (table_of old) contents (asked_of old).span (asked_of old).top next) (is_missed (table_of old) (asked_of old).span next (rows_on (table_of old) contents next)))
+  pub misses : IsTold old contents → (rows_noted (table_of old) next ≡ 0 → ⊥) → result ≡ Ok Missed →
       NotLeft (asked_of old) (rows_on (table_of old) contents next) × (list_any (is_asked (asked_of old)) (rows_on (table_of old) contents next) ≡ false)
 
 module _ {KNOTS SLOTS : ℕ} (old : Cursor KNOTS SLOTS) (next : ℕ) (here_is : old.place ≡ Pages next) (from : oldest_in (table_of old) ≤ next) (before : next < next_in (table_of old)) (contents : Contents) (reads : ℕ) where
@@ -87,11 +127,22 @@ module _ {KNOTS SLOTS : ℕ} (old : Cursor KNOTS SLOTS) (next : ℕ) (here_is : 
   passes-here told = passes-same (asked_of old) (rows_of (table_of old) contents) (rows_behind (table_of old) contents (buffer_of old) old.place) (rows_on (table_of old) contents next ++ behind) ahead-here told.passes
 
   most-here : most_from (table_of old) contents (asked_of old) (index_page old) (buffer_of old) old.place
-      ≡ cond (is_skipped (table_of old) contents (asked_of old).span next) pages_behind (1 + cond (has_last (asked_of old).top (rows_on (table_of old) contents next)) 0 pages_behind)
+      ≡ cond (is_beyond (table_of old) contents (asked_of old).span (asked_of old).top next) 0
+      (cond (is_skipped (table_of old) contents (asked_of old).span next) pages_behind (1 + cond (has_last (asked_of old).top (rows_on (table_of old) contents next)) 0 pages_behind))
       + unread_of (asked_of old).span (table_of old).bitmaps next (index_page old)
   most-here =
       ap (most_from (table_of old) contents (asked_of old) (index_page old) (buffer_of old)) here_is
       ∙ ap (λ n. pages_to_last (table_of old) contents (asked_of old).span (asked_of old).top next n + unread_of (asked_of old).span (table_of old).bitmaps next (index_page old)) one-page
+
+  -- where it doesn't lie beyond the last key
+  most-kept : is_beyond (table_of old) contents (asked_of old).span (asked_of old).top next ≡ false →
+      most_from (table_of old) contents (asked_of old) (index_page old) (buffer_of old) old.place
+      ≡ cond (is_skipped (table_of old) contents (asked_of old).span next) pages_behind (1 + cond (has_last (asked_of old).top (rows_on (table_of old) contents next)) 0 pages_behind)
+      + unread_of (asked_of old).span (table_of old).bitmaps next (index_page old)
+  most-kept kept =
+      most-here
+      ∙ ap (λ b. cond b 0 (cond (is_skipped (table_of old) contents (asked_of old).span next) pages_behind (1 + cond (has_last (asked_of old).top (rows_on (table_of old) contents next)) 0 pages_behind))
+      + unread_of (asked_of old).span (table_of old).bitmaps next (index_page old)) kept
 
   least-here : least_from (table_of old) contents (asked_of old) (index_page old) old.place
       ≡ cond (list_any (is_asked (asked_of old)) (rows_on (table_of old) contents next)) 1 0 + asked_behind
@@ -123,7 +174,7 @@ module _ {KNOTS SLOTS : ℕ} (old : Cursor KNOTS SLOTS) (next : ℕ) (here_is : 
       (λ told. passes-same (asked_of old) (rows_of (table_of old) contents) (rows_on (table_of old) contents next ++ behind) behind (ap (λ (xs : List Row). xs ++ behind) rows) (passes-here told))
       (λ told. looking-later (table_of old).bitmaps next (next + 1) (index_page old) (omega arith) (looking-here told))
       (λ told.
-      let most = most-here ∙ ap (λ b. cond (b || is_missed (table_of old) (asked_of old).span next (rows_on (table_of old) contents next)) pages_behind (1 + cond (has_last (asked_of old).top (rows_on (table_of old) contents next)) 0 pages_behind)
+      let most = most-kept (none-beyond (table_of old) contents (asked_of old).span (asked_of old).top next rows) ∙ ap (λ b. cond (b || is_missed (table_of old) (asked_of old).span next (rows_on (table_of old) contents next)) pages_behind (1 + cond (has_last (asked_of old).top (rows_on (table_of old) contents next)) 0 pages_behind)
       + unread_of (asked_of old).span (table_of old).bitmaps next (index_page old)) is in
       let less = unread-less (asked_of old).span (table_of old).bitmaps next (next + 1) (index_page old) (omega arith) in
       omega (arith, most, less))
@@ -138,33 +189,33 @@ module _ {KNOTS SLOTS : ℕ} (old : Cursor KNOTS SLOTS) (next : ℕ) (here_is : 
   skipped-is : (rows_noted (table_of old) next ≡ 0 → ⊥) → (b : Bool) → is_missed (table_of old) (asked_of old).span next (rows_on (table_of old) contents next) ≡ b → is_skipped (table_of old) contents (asked_of old).span next ≡ b
   skipped-is some b missed = ap (λ x. x || is_missed (table_of old) (asked_of old).span next (rows_on (table_of old) contents next)) (not-none some) ∙ missed
 
-  most-by : (rows_noted (table_of old) next ≡ 0 → ⊥) → (b : Bool) → is_missed (table_of old) (asked_of old).span next (rows_on (table_of old) contents next) ≡ b →
+  most-by : (rows_noted (table_of old) next ≡ 0 → ⊥) → (b : Bool) → (is_beyond (table_of old) contents (asked_of old).span (asked_of old).top next ≡ false) × (is_missed (table_of old) (asked_of old).span next (rows_on (table_of old) contents next) ≡ b) →
       most_from (table_of old) contents (asked_of old) (index_page old) (buffer_of old) old.place
       ≡ cond b pages_behind (1 + cond (has_last (asked_of old).top (rows_on (table_of old) contents next)) 0 pages_behind) + unread_of (asked_of old).span (table_of old).bitmaps next (index_page old)
-  most-by some b missed = most-here ∙ ap (λ x. cond x pages_behind (1 + cond (has_last (asked_of old).top (rows_on (table_of old) contents next)) 0 pages_behind) + unread_of (asked_of old).span (table_of old).bitmaps next (index_page old)) (skipped-is some b missed)
+  most-by some b known = most-kept known.0 ∙ ap (λ x. cond x pages_behind (1 + cond (has_last (asked_of old).top (rows_on (table_of old) contents next)) 0 pages_behind) + unread_of (asked_of old).span (table_of old).bitmaps next (index_page old)) (skipped-is some b known.1)
 
   module _ (index : MutBor BufferState) (some : rows_noted (table_of old) next ≡ 0 → ⊥) where
-    looks-at : (result : Result Bool ReadFault) (mid : ℕ) → Looked old next contents reads result mid index → IsTold old contents → LooksOn (table_of old).bitmaps (asked_of old).span next (index_page old) reads result mid index.now
+    looks-at : (result : Result Ahead ReadFault) (mid : ℕ) → Looked old next contents reads result mid index → IsTold old contents → LooksOn (table_of old).bitmaps (asked_of old).span next (index_page old) reads result mid index.now
     looks-at result mid l told = l.looks told
 
-    looking-then : (result : Result Bool ReadFault) (mid : ℕ) → Looked old next contents reads result mid index → IsTold old contents → AreScanning (table_of old).bitmaps (next + 1) index.now
+    looking-then : (result : Result Ahead ReadFault) (mid : ℕ) → Looked old next contents reads result mid index → IsTold old contents → AreScanning (table_of old).bitmaps (next + 1) index.now
     looking-then result mid l told = looking-later (table_of old).bitmaps next (next + 1) index.now (omega arith) (l.looks told).scanning
 
     less-then : unread_of (asked_of old).span (table_of old).bitmaps (next + 1) index.now ≤ unread_of (asked_of old).span (table_of old).bitmaps next index.now
     less-then = unread-less (asked_of old).span (table_of old).bitmaps next (next + 1) index.now (omega arith)
 
     -- a page that its bitmap tells to have no row of the span is passed
-    pub page-missed : (mid : ℕ) → Looked old next contents reads (Ok false) mid index → Goes false contents reads old mid (record old { index_buf = index; place = Pages (next + 1) })
+    pub page-missed : (mid : ℕ) → Looked old next contents reads (Ok Missed) mid index → Goes false contents reads old mid (record old { index_buf = index; place = Pages (next + 1) })
     page-missed mid l =
         turns old old.rows_buf index (Pages (next + 1)) contents reads mid refl refl l.named l.room l.good kept-next l.later
         (λ told. passes-over (asked_of old) (rows_of (table_of old) contents) (rows_on (table_of old) contents next) behind (passes-here told) (l.misses told some refl).0)
-        l.fresh (looking-then (Ok false) mid l)
+        l.fresh (looking-then (Ok Missed) mid l)
         (λ told.
-        let most = most-by some true (l.shows told some) in
+        let most = most-by some true (missed-at _ _ (l.shows told some)) in
         let once = (l.looks told).once in
         omega (arith, most, once, less-then))
         (λ told.
-        let most = most-by some true (l.shows told some) in
+        let most = most-by some true (missed-at _ _ (l.shows told some)) in
         let fewer = (l.looks told).fewer in
         omega (arith, most, fewer, less-then))
         (λ told lt.
@@ -174,8 +225,29 @@ module _ {KNOTS SLOTS : ℕ} (old : Cursor KNOTS SLOTS) (next : ℕ) (here_is : 
         let due = (l.looks told).least looked_behind looked-later lt in
         omega (arith, least, few, due))
 
+    -- behind a page that its entry tells to begin above the last key no row is left
+    pub page-beyond : (mid : ℕ) → Looked old next contents reads (Ok Beyond) mid index → Goes false contents reads old mid (record old { index_buf = index; place = Ended })
+    page-beyond mid l =
+        turns old old.rows_buf index Ended contents reads mid refl refl l.named l.room l.good tt l.later
+        (λ told. passes-end (asked_of old) (rows_of (table_of old) contents) (rows_on (table_of old) contents next ++ behind) (passes-here told) (past told).none)
+        l.fresh (λ told. tt)
+        (λ told. let most = (l.looks told).most in omega (arith, most-here, most))
+        (λ told. omega arith)
+        (λ told lt.
+        let p = past told in
+        let later = l.later lt in
+        let due = ap (λ (numbers : List ℕ). due_of (asked_of old).span (table_of old).bitmaps numbers (index_page old)) p.looked ∙ due-nothing (asked_of old).span (table_of old).bitmaps (index_page old) in
+        let asked = p.asked_none in
+        let least = ap (least_from (table_of old) contents (asked_of old) (index_page old)) here_is in
+        omega (arith, least, asked, due, later))
+      where
+        past : IsTold old contents → Past (table_of old) contents (asked_of old) next
+        past told =
+            past-beyond (table_of old) contents (asked_of old) next before (rows_of (table_of old) contents) told.ascends (passes-here told)
+            (beyond-begins (table_of old) contents (asked_of old).span (asked_of old).top next (beyond-at _ _ (l.shows told some)))
+
     -- a read failed: the place is the same, and the buffers may hold other pages
-    fails-on : (buf : MutBor BufferState) (result : Result Bool ReadFault) (mid reads_now : ℕ) → Looked old next contents reads result mid index → buf.ghost_name ≡ old.rows_buf.ghost_name → length buf.now.bytes ≡ length old.rows_buf.now.bytes →
+    fails-on : (buf : MutBor BufferState) (result : Result Ahead ReadFault) (mid reads_now : ℕ) → Looked old next contents reads result mid index → buf.ghost_name ≡ old.rows_buf.ghost_name → length buf.now.bytes ≡ length old.rows_buf.now.bytes →
         (IsTold old contents → reads_now ≤ reads + most_from (table_of old) contents (asked_of old) (index_page old) (buffer_of old) old.place) → Fails contents reads old reads_now (record old { rows_buf = buf; index_buf = index })
     fails-on buf result mid reads_now l named room most = record {
       keeps = record { table = refl; rows_name = named; rows_room = room; index_name = l.named; index_room = l.room };
@@ -208,11 +280,11 @@ module _ {KNOTS SLOTS : ℕ} (old : Cursor KNOTS SLOTS) (next : ℕ) (here_is : 
     pub look-fails : (mid : ℕ) (fault : ReadFault) → Looked old next contents reads (Err fault) mid index → Fails contents reads old mid (record old { index_buf = index })
     look-fails mid fault l = fails-on old.rows_buf (Err fault) mid mid l refl refl (λ told. let le = (l.looks told).most in omega (arith, le, most-here))
 
-    module _ (mid : ℕ) (l : Looked old next contents reads (Ok true) mid index) (buf : MutBor BufferState) (reads_now : ℕ) (named : buf.ghost_name ≡ old.rows_buf.ghost_name) (room : length buf.now.bytes ≡ length old.rows_buf.now.bytes) (one : reads_now ≤ mid + 1) where
+    module _ (mid : ℕ) (l : Looked old next contents reads (Ok Wanted) mid index) (buf : MutBor BufferState) (reads_now : ℕ) (named : buf.ghost_name ≡ old.rows_buf.ghost_name) (room : length buf.now.bytes ≡ length old.rows_buf.now.bytes) (one : reads_now ≤ mid + 1) where
       -- the read of the page failed
       pub page-fails : Fails contents reads old reads_now (record old { rows_buf = buf; index_buf = index })
-      page-fails = fails-on buf (Ok true) mid reads_now l named room (λ told.
-          let most = most-by some false (l.shows told some) in
+      page-fails = fails-on buf (Ok Wanted) mid reads_now l named room (λ told.
+          let most = most-by some false (wanted-at _ _ (l.shows told some)) in
           let le = (l.looks told).most in
           omega (arith, most, le, one))
 
@@ -229,12 +301,12 @@ module _ {KNOTS SLOTS : ℕ} (old : Cursor KNOTS SLOTS) (next : ℕ) (here_is : 
             turns old buf index (InPage next 0) contents reads reads_now named room l.named l.room l.good (from, before, good, omega arith) later-here
             (λ told. passes-same (asked_of old) (rows_of (table_of old) contents) (rows_on (table_of old) contents next ++ behind) (rows_in (layout_in (table_of old)) buf.now.bytes ++ behind)
             (ap (λ (xs : List Row). xs ++ behind) (rows-here told)) (passes-here told))
-            l.fresh (looking-then (Ok true) mid l)
+            l.fresh (looking-then (Ok Wanted) mid l)
             (λ told.
-            let most = most-by some false (l.shows told some) ∙ ap (λ (xs : List Row). 1 + cond (has_last (asked_of old).top xs) 0 pages_behind + unread_of (asked_of old).span (table_of old).bitmaps next (index_page old)) (rows-here told) in
+            let most = most-by some false (wanted-at _ _ (l.shows told some)) ∙ ap (λ (xs : List Row). 1 + cond (has_last (asked_of old).top xs) 0 pages_behind + unread_of (asked_of old).span (table_of old).bitmaps next (index_page old)) (rows-here told) in
             by_last (has_last (asked_of old).top (rows_in (layout_in (table_of old)) buf.now.bytes)) (l.looks told) most)
             (λ told.
-            let most = most-by some false (l.shows told some) ∙ ap (λ (xs : List Row). 1 + cond (has_last (asked_of old).top xs) 0 pages_behind + unread_of (asked_of old).span (table_of old).bitmaps next (index_page old)) (rows-here told) in
+            let most = most-by some false (wanted-at _ _ (l.shows told some)) ∙ ap (λ (xs : List Row). 1 + cond (has_last (asked_of old).top xs) 0 pages_behind + unread_of (asked_of old).span (table_of old).bitmaps next (index_page old)) (rows-here told) in
             fewer_by_last (has_last (asked_of old).top (rows_in (layout_in (table_of old)) buf.now.bytes)) (l.looks told) most)
             (λ told lt.
             let le = least_one lt in
@@ -247,13 +319,13 @@ module _ {KNOTS SLOTS : ℕ} (old : Cursor KNOTS SLOTS) (next : ℕ) (here_is : 
             at-most-one true = omega arith
             at-most-one false = omega arith
 
-            by_last : (b : Bool) → LooksOn (table_of old).bitmaps (asked_of old).span next (index_page old) reads (Ok true) mid index.now →
+            by_last : (b : Bool) → LooksOn (table_of old).bitmaps (asked_of old).span next (index_page old) reads (Ok Wanted) mid index.now →
                 most_from (table_of old) contents (asked_of old) (index_page old) (buffer_of old) old.place ≡ 1 + cond b 0 pages_behind + unread_of (asked_of old).span (table_of old).bitmaps next (index_page old) →
                 reads_now + cond b 0 (pages_behind + unread_of (asked_of old).span (table_of old).bitmaps (next + 1) index.now) ≤ reads + most_from (table_of old) contents (asked_of old) (index_page old) (buffer_of old) old.place
             by_last true looks most = omega (arith, most, one, looks.most)
             by_last false looks most = omega (arith, most, one, looks.once, less-then)
 
-            fewer_by_last : (b : Bool) → LooksOn (table_of old).bitmaps (asked_of old).span next (index_page old) reads (Ok true) mid index.now →
+            fewer_by_last : (b : Bool) → LooksOn (table_of old).bitmaps (asked_of old).span next (index_page old) reads (Ok Wanted) mid index.now →
                 most_from (table_of old) contents (asked_of old) (index_page old) (buffer_of old) old.place ≡ 1 + cond b 0 pages_behind + unread_of (asked_of old).span (table_of old).bitmaps next (index_page old) →
                 cond b 0 (pages_behind + unread_of (asked_of old).span (table_of old).bitmaps (next + 1) index.now) ≤ most_from (table_of old) contents (asked_of old) (index_page old) (buffer_of old) old.place
             fewer_by_last true looks most = omega arith

@@ -1,5 +1,5 @@
 -- The pages that bitmaps let a cursor skip, in memory and in the words of the model.
-use Rattle.std.proofs.Common.{◌≡◌, ℕ, zero, suc, ◌+◌, ◌-◌, ◌^◌, ◌<◌, ◌≤◌, Bool, true, false, not, ◌&&◌, ◌||◌, cond, ◌==◌, nat_lt, Option, Some, None, option_map, unwrap_or, List, [], ◌∷◌, filter, fold, map, take, drop, bit_and, bit_or, refl, sym, ◌∙◌, ap, subst, arith}
+use Rattle.std.proofs.Common.{◌≡◌, ℕ, zero, suc, ◌+◌, ◌-◌, ◌^◌, ◌<◌, ◌≤◌, Bool, true, false, not, ◌&&◌, ◌||◌, cond, ◌==◌, nat_lt, Option, Some, None, option_map, unwrap_or, List, [], ◌∷◌, length, filter, fold, map, take, drop, bit_and, bit_or, refl, sym, ◌∙◌, ap, subst, arith}
 use Rattle.std.specs.Prelude.{pos, int_le}
 use Rattle.std.specs.List.{slice_get, sum, list_any, AllByRecursion}
 use Rattle.std.proofs.lemmas.Bool.{eq-eqb, eqb-true, false_from_ne_true}
@@ -20,19 +20,21 @@ use Rattle.fl_model.specs.Ring as rings
 use Rattle.fl_model.specs.Row.{Row, stored_row}
 use Rattle.fl_model.specs.Spline.{pages_from}
 use Rattle.fl_model.specs.Table.{Entry}
+use Rattle.fl_model.specs.Table as model
 use Rattle.fl_page.specs.Contents.{Contents}
 use Rattle.fl_table.specs.Bitmaps.{ArePlanned}
 use Rattle.fl_table.specs.Look.{oldest_in, rows_noted}
 use Rattle.fl_table.specs.Memory.{next_in, HasBuckets}
 use Rattle.fl_table.specs.Skipping.{wants_page}
+use Rattle.fl_table.specs.Skipping as skipping
 use Rattle.fl_table.specs.declared.table.Table.{Table}
 use Rattle.fl_table.proofs.Skips.{mask-meets, index-stands, some-bits}
 use Rattle.fl_cursor.specs.Asked.{is_asked}
 use Rattle.fl_cursor.specs.Cursor.{IsStanding}
 use Rattle.fl_cursor.specs.Listed.{rows_on}
-use Rattle.fl_cursor.specs.Reads.{bitmap_in, mask_for, is_indexed_in, is_missed}
+use Rattle.fl_cursor.specs.Reads.{begins_above, bitmap_in, has_full, mask_for, is_beyond, is_indexed_in, is_missed}
 use Rattle.fl_cursor.proofs.Passing.{NotLeft}
-use Rattle.fl_cursor.proofs.Stood.{kept-rows, at-number, back}
+use Rattle.fl_cursor.proofs.Stood.{kept-rows, at-number, back, standing-many}
 
 -- ---- the rows of a page
 
@@ -161,6 +163,38 @@ module _ {KNOTS SLOTS : ℕ} (t : Table KNOTS SLOTS) (contents : Contents) (h : 
             ap (λ (o : Option Index). is_indexed_in o number && (bit_and (bitmap_in t.buckets (rows_on t contents number)) (mask_for t.buckets span) == 0)) is
             ∙ sym (ap (λ b. not (not b || nat_lt 0 (bit_and (bitmap_of h.plan entries) (mask_of h.plan span)))) (plain is))
         by_index (Some index) is = with_index span index is t.buckets refl
+
+    -- .. and it lies beyond the last key where the model's index tells so
+    begins-same : (top : Option ℕ) → 0 < rows_noted t number → begins_above top (rows_on t contents number) ≡ not (is_up_to top (model.first_key entries))
+    begins-same top some = ap (begins_above top) rows-are ∙ by_rows entries (omega (arith, some, standing-many t contents h number from before, ap (λ (xs : List Row). length xs) rows-are))
+      where
+        by_rows : (xs : List Entry) → 0 < length (map stored_row xs) → begins_above top (map stored_row xs) ≡ not (is_up_to top (model.first_key xs))
+        by_rows [] lt = absurd (omega (arith, lt))
+        by_rows (x ∷ xs) lt = refl
+
+    pub beyond-same : (span : Option Span) (top : Option ℕ) → 0 < rows_noted t number → is_beyond t contents span top number ≡ skipping.is_beyond h.plan h.table span top number entries
+    beyond-same None top some = refl
+    beyond-same (Some span) top some = by_index t.bitmaps refl
+      where
+        and-none : (a b c : Bool) → b ≡ false → ((a && b) && c) ≡ false
+        and-none true false c e = refl
+        and-none false b c e = refl
+        and-none true true c e = absurd (no e)
+          where
+            no : true ≡ false → ⊥
+            no e = cc
+
+        by_index : (bitmaps : Option Index) → t.bitmaps ≡ bitmaps → ((has_full t.bitmaps && is_indexed_in t.bitmaps number) && begins_above top (rows_on t contents number)) ≡ ((h.plan.full_index && is_indexed h.plan h.table number) && not (is_up_to top (model.first_key entries)))
+        by_index None is =
+            ap (λ (o : Option Index). (has_full o && is_indexed_in o number) && begins_above top (rows_on t contents number)) is
+            ∙ sym (and-none h.plan.full_index (is_indexed h.plan h.table number) (not (is_up_to top (model.first_key entries))) (plain is))
+        by_index (Some index) is =
+            let planned = subst (λ (o : Option Index). ArePlanned o (h.first + h.plan.data_blocks) h.plan) is h.stands.planned.index in
+            let indexed = indexed-is index h.flash (h.first + h.plan.data_blocks) h.plan h.table (index-stands t h.flash h.first h.plan h.table h.stands index is) number in
+            ap (λ (o : Option Index). (has_full o && is_indexed_in o number) && begins_above top (rows_on t contents number)) is
+            ∙ (ap (λ b. (b && is_indexed_in (Some index) number) && begins_above top (rows_on t contents number)) (sym planned.full)
+            ∙ (ap (λ b. (h.plan.full_index && b) && begins_above top (rows_on t contents number)) (sym indexed)
+            ∙ ap (λ b. (h.plan.full_index && is_indexed h.plan h.table number) && b) (begins-same top some)))
 
     -- .. in the words of the scan limit
     pub wanted-same : (span : Option Span) → 0 < rows_noted t number → wants_page h.plan h.table span number entries ≡ is_wanted h.plan h.table span number

@@ -1,5 +1,5 @@
 -- How many reads the steps to come make.
-use Rattle.std.specs.Prelude.{◌≡◌, ◌≤◌, ℕ, zero, suc, ◌+◌, ◌-◌, ◌==◌, pos, Bool, true, false, ◌&&◌, ◌||◌, nat_le, Option, Some, None, is_some, option_map, unwrap_or, List, [], ◌∷◌, drop, fold, bit_and, slice_get, if◌then◌else◌}
+use Rattle.std.specs.Prelude.{◌≡◌, ◌≤◌, ℕ, zero, suc, ◌+◌, ◌-◌, ◌==◌, pos, Bool, true, false, not, ◌&&◌, ◌||◌, nat_le, Option, Some, None, is_some, option_map, unwrap_or, List, [], ◌∷◌, drop, fold, bit_and, slice_get, if◌then◌else◌}
 use Rattle.std.specs.List.{list_any}
 use Rattle.fl_model.specs.Query as model
 use Rattle.fl_model.specs.Query.{is_up_to}
@@ -7,7 +7,7 @@ use Rattle.fl_base.specs.declared.types.Span.{Span}
 use Rattle.fl_bitmap.specs.Bucket.{mask_in, with_value}
 use Rattle.fl_bitmap.specs.declared.buckets.Buckets.{Buckets}
 use Rattle.fl_flash.specs.Buffer.{BufferState}
-use Rattle.fl_index.specs.Memory.{is_waiting, listing_in}
+use Rattle.fl_index.specs.Memory.{form_in, is_waiting, listing_in}
 use Rattle.fl_index.specs.declared.index.Index.{Index}
 use Rattle.fl_model.specs.Row.{Row}
 use Rattle.fl_page.specs.Contents.{Contents}
@@ -49,15 +49,31 @@ abbrev pub is_missed : {KNOTS SLOTS : ℕ} → Table KNOTS SLOTS → Option Span
 is_missed t None number rows = false
 is_missed t (Some span) number rows = is_indexed_in (index_in t) number && (bit_and (bitmap_in (buckets_in t) rows) (mask_for (buckets_in t) span) == 0)
 
+-- the entries of an index tell more of a data page than its bitmap
+abbrev pub has_full : Option Index → Bool
+has_full None = false
+has_full (Some index) = (form_in index).full
+
+-- the first of these rows is above the last key that may be given
+abbrev pub begins_above : Option ℕ → List Row → Bool
+begins_above top rows = unwrap_or (option_map (λ first. not (is_up_to top first)) (first_key rows)) false
+
+-- the full entry of a page tells so of its rows, where values are asked for
+abbrev pub is_beyond : {KNOTS SLOTS : ℕ} → Table KNOTS SLOTS → Contents → Option Span → Option ℕ → ℕ → Bool
+is_beyond t contents None top number = false
+is_beyond t contents (Some span) top number = has_full (index_in t) && is_indexed_in (index_in t) number && begins_above top (rows_on t contents number)
+
 -- it isn't read, because it has no rows or because its bitmap tells so
 abbrev pub is_skipped : {KNOTS SLOTS : ℕ} → Table KNOTS SLOTS → Contents → Option Span → ℕ → Bool
 is_skipped t contents span number = (rows_noted t number == 0) || is_missed t span number (rows_on t contents number)
 
--- the pages to be read from this one on, up to the first with a row behind which none may be given
+-- the pages to be read from this one on, up to the first with a row behind which none may be given, or before one whose entry
+-- tells that it begins above the last key
 abbrev pub pages_to_last : {KNOTS SLOTS : ℕ} → Table KNOTS SLOTS → Contents → Option Span → Option ℕ → ℕ → ℕ → ℕ
 pages_to_last t contents span top number zero = 0
 pages_to_last t contents span top number (suc n) =
-    if is_skipped t contents span number then pages_to_last t contents span top (number + 1) n
+    if is_beyond t contents span top number then 0
+    else if is_skipped t contents span number then pages_to_last t contents span top (number + 1) n
     else 1 + (if has_last top (rows_on t contents number) then 0 else pages_to_last t contents span top (number + 1) n)
 
 -- the pages from this one on that are looked up: those with a row up to the last key that may be given
@@ -132,9 +148,9 @@ least_of cursor contents = least_from (table_of cursor) contents (asked_of curso
 
 -- ---- the place where it begins
 
--- At the pages, where the lowest key isn't pending; else the pages are done.
+-- At the pages, where the lowest key may be given and isn't pending; else the pages are done.
 abbrev pub IsBegun : {KNOTS SLOTS : ℕ} → model.Cursor → Table KNOTS SLOTS → Place → Type 0
-IsBegun asked t Start = begins_by (lowest_of asked) (buffered_rows t) ≡ false
+IsBegun asked t Start = (begins_by (lowest_of asked) (buffered_rows t) ≡ false) × (is_up_to asked.top (lowest_of asked) ≡ true)
 IsBegun asked t (Pending row) = begins_by (lowest_of asked) (buffered_rows t) ≡ true
 IsBegun asked t Ended = is_up_to asked.top (lowest_of asked) ≡ false
 IsBegun asked t (Pages next) = ⊥

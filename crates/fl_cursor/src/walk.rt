@@ -11,6 +11,7 @@ use crate::search::Sought;
 use fl_base::Steps;
 use fl_flash::Flash;
 use fl_page::ReadFault;
+use fl_table::Ahead;
 
 impl<const KNOTS: usize, const SLOTS: usize> Cursor<'_, '_, '_, KNOTS, SLOTS> {
     ghost use Rattle.fl_flash.specs.Flash.{FlashState};
@@ -134,7 +135,8 @@ impl<const KNOTS: usize, const SLOTS: usize> Cursor<'_, '_, '_, KNOTS, SLOTS> {
     }
 
     /// Goes into the page with this number, which is read once, or past it where it has no rows or its bitmap tells that
-    /// none of them is asked for. Behind the pages that may have a row to be given are the pending rows.
+    /// none of them is asked for. Where its index entry tells that it begins above the last key that may be given, no row is
+    /// left. Behind the pages that may have a row to be given are the pending rows.
     fn read_page<F: Flash>(&mut self, next: u32, end: u32, flash: &mut F) -> Result<(), ReadFault>
         requires ready { IsReady self.old (contents_of (F.state flash.old)) }
         requires next { place_of self.old ≡ Place.Pages next }
@@ -157,12 +159,19 @@ impl<const KNOTS: usize, const SLOTS: usize> Cursor<'_, '_, '_, KNOTS, SLOTS> {
             self.place = behind;
             return Ok(());
         }
-        if !self
+        match self
             .table
-            .may_have(flash, next, self.mark.span, self.index_buf)?
+            .look_ahead(flash, next, self.mark.span, self.mark.top, self.index_buf)?
         {
-            self.place = behind;
-            return Ok(());
+            Ahead::Wanted => {}
+            Ahead::Missed => {
+                self.place = behind;
+                return Ok(());
+            }
+            Ahead::Beyond => {
+                self.place = Place::Ended;
+                return Ok(());
+            }
         }
         if !self.table.read_page(flash, next, self.rows_buf)? {
             self.place = behind;

@@ -43,7 +43,8 @@ fn status_of(fault: ExportFault, at: usize) -> ToolStatus
     }
 }
 
-/// The status of a job over an image of four tables at most, one of which isn't mounted.
+/// The status of a job that ends since one of the image's tables, four at most, can't be mounted: that of the device where the
+/// flash failed, else that of a bad image, with the table's place, from 0.
 pub fn mount_status(bad: BadMount) -> ToolStatus
     requires { bad.at < 4 }
     ensures { result ≡ mount_status bad.fault bad.at }

@@ -1,15 +1,20 @@
--- One header more of those that a mount reads.
-use Rattle.std.proofs.Common.{◌≡◌, ◌≢◌, ◌⊎◌, inl, inr, ℕ, suc, ◌+◌, ◌%◌, ◌<◌, ◌≤◌, Option, Some, None, List, length, get_or, set, refl, sym, ◌∙◌, ap, subst, arith, length-set, get_or-set_other, get_or-set_same}
+-- The headers of the pages of an index: the newest one, and one first data page more of those that a mount reads.
+use Rattle.std.proofs.Common.{◌≡◌, ◌≢◌, ◌⊎◌, inl, inr, ℕ, zero, suc, ◌+◌, ◌-◌, ◌%◌, ◌<◌, ◌≤◌, true, false, Option, Some, None, List, length, take, drop, get_or, set, refl, sym, ◌∙◌, ap, subst, arith, length-set, get_or-set_other, get_or-set_same}
 use Rattle.std.proofs.Math.Nat.{mod-lt}
-use Rattle.std.proofs.lemmas.Bool.{cases_lt}
-use Rattle.std.specs.Option.{option_map, option_or}
+use Rattle.std.proofs.lemmas.Bool.{cases_lt, true≢false}
+use Rattle.std.proofs.lemmas.List.{take-take, drop-take}
+use Rattle.std.specs.Option.{option_map}
 use Rattle.fl_mark.specs.Mark.{state_of_page}
 use Rattle.fl_mark.specs.declared.page_state.PageState.{PageState}
 use Rattle.fl_mark.specs.declared.page_state.PageState.TheVariants.{Blank, Torn, Committed, Void}
+use Rattle.fl_model.specs.Row.{number_of}
+use Rattle.fl_ring.specs.Newest.{commits, NewestAmong}
+use Rattle.fl_ring.specs.Ring.{Shape, place}
+use Rattle.fl_ring.specs.declared.newest.NewestPage.{NewestPage}
 use Rattle.fl_ring.proofs.Modulo.{apart}
 use Rattle.fl_index.specs.declared.mount.Newest.{Newest}
-use Rattle.fl_index.specs.Headers.{IsHeader, IsNewest, AreRemembered}
-use Rattle.fl_index.specs.Page.{page_first, first_on, first_where, newest_of, newest_where}
+use Rattle.fl_index.specs.Headers.{header_of, IsNewest, AreRemembered}
+use Rattle.fl_index.specs.Page.{page_first, page_entries, first_on, first_where, newest_of, newest_where}
 
 no-first : (state : PageState) (first : ℕ) → (state ≡ Committed → ⊥) → first_where state first ≡ None
 no-first Committed first h = absurd (h refl)
@@ -23,22 +28,67 @@ no-newest Blank number older h = refl
 no-newest Torn number older h = refl
 no-newest Void number older h = refl
 
-pub header-first : (at : ℕ) (page : List ℕ) (header : Option Newest) → IsHeader at page header → option_map (λ h. h.first) header ≡ first_on page
-header-first at page None h = sym (no-first (state_of_page page) (page_first page) h)
-header-first at page (Some header) h = ap (λ (n : Newest). Some n.first) h.1 ∙ ap (λ (s : PageState). first_where s (page_first page)) (sym h.0)
+-- the first data page of a page that is committed, or isn't
+pub no-first-on : (page : List ℕ) → (state_of_page page ≡ Committed → ⊥) → first_on page ≡ None
+no-first-on page h = no-first (state_of_page page) (page_first page) h
+
+pub first-on : (page : List ℕ) → state_of_page page ≡ Committed → first_on page ≡ Some (page_first page)
+first-on page e = ap (λ (s : PageState). first_where s (page_first page)) e
+
+-- what stands before the entries of a page
+header-part : (page : List ℕ) (n m : ℕ) → n + m ≤ 16 → take m (drop n (take 16 page)) ≡ take m (drop n page)
+header-part page n m le =
+    sym (drop-take n m (take 16 page)) ∙ (ap (drop n) (take-take (n + m) 16 page le) ∙ drop-take n m page)
+
+abbrev header_with : ℕ → ℕ → ℕ → Newest
+header_with at first count = record { page = at; first = first; count = count }
+
+pub header-same : (at : ℕ) (page : List ℕ) → header_of at (take 16 page) ≡ header_of at page
+header-same at page =
+    ap (λ (k : ℕ). header_with at k (page_entries (take 16 page))) (ap number_of (header-part page 4 4 (omega arith)))
+    ∙ ap (header_with at (page_first page)) (ap number_of (header-part page 8 2 (omega arith)))
+
+committed-by : (s : PageState) → commits s ≡ true → s ≡ Committed
+committed-by Committed e = refl
+committed-by Blank e = absurd (true≢false (sym e))
+committed-by Torn e = absurd (true≢false (sym e))
+committed-by Void e = absurd (true≢false (sym e))
+
+not-committed : (s : PageState) → commits s ≡ false → s ≡ Committed → ⊥
+not-committed s e is = true≢false (ap commits (sym is) ∙ e)
+
+-- the newest of so many pages, as a search backwards finds it
+module _ (page : ℕ → List ℕ) (from : ℕ) where
+  -- the pages from a number on aren't committed
+  older : (n k : ℕ) → n ≤ k → ((number : ℕ) → from + n ≤ number → number < from + k → commits (state_of_page (page number)) ≡ false) → newest_of page from k ≡ newest_of page from n
+  older n zero le none = ap (newest_of page from) (let e : zero ≡ n = omega (arith, le) in e)
+  older n (suc k) le none = by_place (cases_lt k n) (λ below. older n k below (λ number low high. none number low (omega (arith, high))))
+    where
+      by_place : (k < n) ⊎ (n ≤ k) → (n ≤ k → newest_of page from k ≡ newest_of page from n) → newest_of page from (suc k) ≡ newest_of page from n
+      by_place (inl lt) rest = ap (newest_of page from) (let e : suc k ≡ n = omega (arith, le, lt) in e)
+      by_place (inr below) rest =
+          no-newest (state_of_page (page (from + k))) (from + k) (newest_of page from k) (not-committed (state_of_page (page (from + k))) (none (from + k) (omega (arith, below)) (omega arith)))
+          ∙ rest below
+
+pub newest-header : (pages : ℕ → List ℕ) (r : Shape) (from to : ℕ) (newest : Option NewestPage) → from ≤ to → NewestAmong pages r from to newest →
+    IsNewest (place r) (λ number. pages (place r number)) (newest_of (λ number. pages (place r number)) from (to - from)) (option_map (λ n. header_of (place r n.number) n.header) newest)
+newest-header pages r from to None le none =
+    let at : ℕ → List ℕ = λ number. pages (place r number) in
+    let nothing : newest_of at from (to - from) ≡ None = older at from 0 (to - from) (omega arith) (λ number low high. none number (omega (arith, low)) (omega (arith, high, le))) in
+    subst (λ (o : Option ℕ). IsNewest (place r) at o None) (sym nothing) refl
+newest-header pages r from to (Some n) le is =
+    let at : ℕ → List ℕ = λ number. pages (place r number) in
+    let k = n.number - from in
+    let number : from + k ≡ n.number = omega (arith, is.within) in
+    let here : state_of_page (at (from + k)) ≡ Committed = ap (λ (m : ℕ). state_of_page (at m)) number ∙ committed-by (state_of_page (at n.number)) is.committed in
+    let last : newest_of at from (to - from) ≡ Some n.number =
+    older at from (suc k) (to - from) (omega (arith, is.within)) (λ m low high. is.later m (omega (arith, low, number)) (omega (arith, high, le)))
+    ∙ (ap (λ (s : PageState). newest_where s (from + k) (newest_of at from k)) here ∙ ap (λ (m : ℕ). Some m) number) in
+    subst (λ (o : Option ℕ). IsNewest (place r) at o (Some (header_of (place r n.number) n.header))) (sym last)
+    (ap (λ (l : List ℕ). Some (header_of (place r n.number) l)) is.header ∙ ap (λ (h : Newest). Some h) (header-same (place r n.number) (at n.number)))
 
 -- `number` is that of the page after n pages, and m the pages with it
-module _ (at : ℕ → ℕ) (page : ℕ → List ℕ) (from n number m : ℕ) (here : number ≡ from + n) (more : m ≡ suc n) where
-  pub newest-more : (newest header : Option Newest) → IsNewest at page (newest_of page from n) newest → IsHeader (at number) (page number) header → IsNewest at page (newest_of page from m) (option_or header newest)
-  newest-more newest header were h =
-      subst (λ k. IsNewest at page (newest_of page from k) (option_or header newest)) (sym more)
-      (by_header header (subst (λ k. IsHeader (at k) (page k) header) here h))
-    where
-      by_header : (header : Option Newest) → IsHeader (at (from + n)) (page (from + n)) header → IsNewest at page (newest_of page from (suc n)) (option_or header newest)
-      by_header None h = subst (λ (o : Option ℕ). IsNewest at page o newest) (sym (no-newest (state_of_page (page (from + n))) (from + n) (newest_of page from n) h)) were
-      by_header (Some header) h =
-          subst (λ (s : PageState). IsNewest at page (newest_where s (from + n) (newest_of page from n)) (Some header)) (sym h.0) (ap (λ (x : Newest). Some x) h.1)
-
+module _ (page : ℕ → List ℕ) (from n number m : ℕ) (here : number ≡ from + n) (more : m ≡ suc n) where
   pub remembered-more : (firsts : List (Option ℕ)) (first : Option ℕ) → m ≤ length firsts → first ≡ first_on (page number) → AreRemembered page from n firsts → AreRemembered page from m (set firsts (number % length firsts) first)
   remembered-more firsts first fits is were i lt =
       ap (λ k. get_or (set firsts (number % length firsts) first) ((from + i) % k) None) (length-set firsts (number % length firsts) first) ∙ by_place (cases_lt i n)

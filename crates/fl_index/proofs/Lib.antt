@@ -14,6 +14,7 @@ pub mod Listings
 pub mod Showing
 pub mod BitmapsAlone
 pub mod Held
+pub mod Loadings
 pub mod Lookups
 pub mod Counts
 pub mod Scans

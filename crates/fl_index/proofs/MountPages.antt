@@ -9,7 +9,9 @@ use Rattle.fl_mark.specs.Mark.{state_of_page}
 use Rattle.fl_mark.specs.declared.page_state.PageState.{PageState}
 use Rattle.fl_mark.specs.declared.page_state.PageState.TheVariants.{Void}
 use Rattle.fl_mark.proofs.InModel.{model_state}
+use Rattle.fl_model.specs.Agrees.{TellPages}
 use Rattle.fl_model.specs.Layout.{IndexEntry, IndexPage}
+use Rattle.fl_model.specs.Mount.{index_end}
 use Rattle.fl_model.specs.Record.{Plan, entry_len, entries_per_page}
 use Rattle.fl_model.specs.Ring as model
 use Rattle.fl_model.specs.Table.{Table, full_pages, firsts}
@@ -27,7 +29,7 @@ module _ (page : ℕ → List ℕ) (first : ℕ) (plan : Plan) (table : Table) (
   abbrev at : ℕ → List ℕ
   at = bytes_in page first plan
 
-  void-none : (i : ℕ) → slice_get ring.counts i ≡ Some 0 → state_of_page (bytes_in page first plan (model.oldest ring + i)) ≡ Void
+  pub void-none : (i : ℕ) → slice_get ring.counts i ≡ Some 0 → state_of_page (bytes_in page first plan (model.oldest ring + i)) ≡ Void
   void-none i e = (model_state (bytes_in page first plan (model.oldest ring + i)) (omega (arith, sizes (model.oldest ring + i), large))).void.1 (image.void i e)
 
   -- a page with entries
@@ -37,6 +39,9 @@ module _ (page : ℕ → List ℕ) (first : ℕ) (plan : Plan) (table : Table) (
     pub is : IsIndexPage plan (model.oldest ring + i) first_page entries (bytes_in page first plan (model.oldest ring + i))
     pub listed : slice_get (firsts table) (full_pages (take i ring.counts)) ≡ Some first_page
     pub small : first_page + entries_per_page plan < 2 ^ 32
+    pub before_end : first_page + entries_per_page plan ≤ index_end plan table
+    pub many : length entries ≡ entries_per_page plan
+    pub tell : TellPages plan table first_page entries
 
   pub is-listed : (i c : ℕ) → slice_get ring.counts i ≡ Some c → 0 < c → IsListed i
   is-listed i c e some =
@@ -52,6 +57,9 @@ module _ (page : ℕ → List ℕ) (first : ℕ) (plan : Plan) (table : Table) (
             (omega (arith, end, facts.listed, facts.rows_number)) many (omega (arith, div-le_self (plan.geometry.page - 24) (entry_len plan), few)) h.bytes;
         listed = listed;
         small = omega (arith, end, facts.listed, facts.rows_number);
+        before_end = end;
+        many = many;
+        tell = facts.tell (full_pages (take i ring.counts)) h.holds h.is;
       }
 
   -- the first data page that it lists

@@ -43,7 +43,7 @@ use Rattle.fl_index.specs.Outcomes.{FaultEnds}
 use Rattle.fl_index.proofs.Lifted.{of_index, AreErases, IndexPerformed, performed-lifts, voided-state, erased-state}
 use Rattle.fl_index.proofs.Sealings.{fault-ends, all-whole}
 use Rattle.fl_index.proofs.Showing.{any-some}
-use Rattle.fl_index.proofs.State.{shape_in, full_count, IsStateOf, holds-moved}
+use Rattle.fl_index.proofs.State.{shape_in, full_count, has-some, IsStateOf, holds-moved}
 
 -- ---- the numbers
 
@@ -168,17 +168,10 @@ module _ (first : ℕ) (plan : Plan) (shape : model.IsShape (shape_of plan Index
       (record {
         ring = numbering.renumbered (shape_of plan IndexRing) 0 is.ring;
         facts = facts_by (list_any (nat_lt 0) is.ring.counts);
-        counts = ap (numbering.renumbered (shape_of plan IndexRing) 0) is.counts ∙ sym (counts_renumbered (full_count plan) (shape_in first plan) 0 s holds_some);
+        counts = ap (numbering.renumbered (shape_of plan IndexRing) 0) is.counts ∙ sym (counts_renumbered (full_count plan) (shape_in first plan) 0 s (has-some plan some s));
         bodies = λ i body lt at. bodies_by (list_any (nat_lt 0) is.ring.counts) refl i body (subst (λ (k : List (Option (List ℕ))). i < length k) (same-kept (shape_in first plan) 0 s) lt)
             (subst (λ (k : List (Option (List ℕ))). get_or k i None ≡ Some body) (same-kept (shape_in first plan) 0 s) at);
       })
-    where
-      holds_some : (i : ℕ) → i < count s → IfSome (get_or s.kept i None) (λ body. 0 < entries_per_page plan)
-      holds_some i lt = by_body (get_or s.kept i None)
-        where
-          by_body : (x : Option (List ℕ)) → IfSome x (λ body. 0 < entries_per_page plan)
-          by_body None = tt
-          by_body (Some body) = some
 
   -- a body begins with its number
   body_is : (i : ℕ) (body : List ℕ) → i < count s → get_or s.kept i None ≡ Some body → number_of body ≡ oldest s + i

@@ -102,7 +102,7 @@ told-some plan rows some = ap (λ b. plan.full_index || b) (lt-ltb 0 rows some) 
     or_true true = refl
     or_true false = refl
 
-told-found : (plan : Plan) (rows : List Entry) (entries : List IndexEntry) (j : ℕ) (page : List ℕ) (k : ℕ) → ((b : IndexEntry) → slice_get entries j ≡ Some b → IsAt (plan_form plan) page k b) →
+pub told-found : (plan : Plan) (rows : List Entry) (entries : List IndexEntry) (j : ℕ) (page : List ℕ) (k : ℕ) → ((b : IndexEntry) → slice_get entries j ≡ Some b → IsAt (plan_form plan) page k b) →
     TellsAt plan rows (slice_get entries j) → IsTrue (is_bits plan.bits) → TellsRows plan rows (found_at (plan_form plan) page k)
 told-found plan rows entries j page k at tells bits = by_entry (slice_get entries j) refl tells
   where

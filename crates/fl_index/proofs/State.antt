@@ -134,14 +134,15 @@ index_state first plan page ring = record {
   dirty = ring.dirty;
 }
 
-module _ (first : ℕ) (plan : Plan) (page : ℕ → List ℕ) (sizes : HaveSize first plan page) (shape : IsShape (shape_in first plan)) (some : 0 < entries_per_page plan) where
-  has_some : (s : RingState) → HoldsSome (full_count plan) s
-  has_some s i lt = by_body (get_or s.kept i None)
-    where
-      by_body : (x : Option (List ℕ)) → IfSome x (λ body. 0 < entries_per_page plan)
-      by_body None = tt
-      by_body (Some body) = some
+-- each of its pages with a body has entries
+pub has-some : (plan : Plan) → 0 < entries_per_page plan → (s : RingState) → HoldsSome (full_count plan) s
+has-some plan some s i lt = by_body (get_or s.kept i None)
+  where
+    by_body : (x : Option (List ℕ)) → IfSome x (λ body. 0 < entries_per_page plan)
+    by_body None = tt
+    by_body (Some body) = some
 
+module _ (first : ℕ) (plan : Plan) (page : ℕ → List ℕ) (sizes : HaveSize first plan page) (shape : IsShape (shape_in first plan)) (some : 0 < entries_per_page plan) where
   -- the state that a flash stands for
   pub record Found (table : Table) : Type 0 where
     pub s : RingState
@@ -152,7 +153,7 @@ module _ (first : ℕ) (plan : Plan) (page : ℕ → List ℕ) (sizes : HaveSize
   to-state table ring facts image = record {
     s = index_state first plan page ring;
     is = record { ring = ring; facts = facts; counts = counts; bodies = bodies };
-    on = on_from_image (shape_in first plan) page (index_state first plan page ring) (full_count plan) sizes shape (has_some (index_state first plan page ring)) (HoldsEntries plan table ring)
+    on = on_from_image (shape_in first plan) page (index_state first plan page ring) (full_count plan) sizes shape (has-some plan some (index_state first plan page ring)) (HoldsEntries plan table ring)
         (ring-from (shape_in first plan) (index_state first plan page ring) ring.counts (sym len) facts.is_ring)
         (λ i body at h. page_is i body at h)
         (subst (λ (r : model.Ring). IsRingImage (shape_of plan IndexRing) r (bytes_in page first plan) (HoldsEntries plan table ring)) counts image);
@@ -201,5 +202,5 @@ module _ (first : ℕ) (plan : Plan) (page : ℕ → List ℕ) (sizes : HaveSize
   pub to-index : (table : Table) (s : RingState) (is : IsStateOf plan table s) → OnRing (shape_in first plan) page s → HoldsIndex page first plan table is.ring
   to-index table s is on =
       subst (λ (r : model.Ring). IsRingImage (shape_of plan IndexRing) r (bytes_in page first plan) (HoldsEntries plan table is.ring)) (sym is.counts)
-      (image_from_on (shape_in first plan) page s (full_count plan) sizes shape (has_some s) (HoldsEntries plan table is.ring)
+      (image_from_on (shape_in first plan) page s (full_count plan) sizes shape (has-some plan some s) (HoldsEntries plan table is.ring)
       (λ i body at page_is. subst (λ (p : List ℕ). HoldsEntries plan table is.ring i (entries_per_page plan) p) (sym page_is) (is.bodies i body (kept-short s.kept i body at) at)) on)

@@ -83,3 +83,18 @@ RefusesIndex index old (BadGap page) new = HasBadRing index old (BadGap page) ne
 RefusesIndex index old (BadPage page wanted found) new =
     HasBadRing index old (BadPage page wanted found) new ⊎ HasBadEnd index old (BadPage page wanted found) new
 RefusesIndex index old (NoNumber at_least) new = HasBadRing index old (NoNumber at_least) new
+
+-- the first part of a mount: the ring was found and repaired, and its pages were read by that alone
+pub record FindsEnd (index : Index) (old : FlashState) (end : Option ℕ) (now : Index) (new : FlashState) : Type 0 where
+  pub ring : Ring
+  pub ring_is : now.ring ≡ Some ring
+  pub numbers : HasNumbers old (ring_shape index) 0 ring new
+  pub end_is : IsEnd (per_page index) (pages_of index new) (newest_in index ring new) end
+
+-- why it fails: it reads no page after the repairs
+abbrev pub RefusesEnd : Index → FlashState → RingFault → FlashState → Type 0
+RefusesEnd index old (Flash fault) new = FailsAs old (ring_shape index) 0 (Flash fault) new
+RefusesEnd index old (BadHead heads) new = RefusesIndex index old (BadHead heads) new
+RefusesEnd index old (BadGap page) new = RefusesIndex index old (BadGap page) new
+RefusesEnd index old (BadPage page wanted found) new = RefusesIndex index old (BadPage page wanted found) new
+RefusesEnd index old (NoNumber at_least) new = RefusesIndex index old (NoNumber at_least) new

@@ -1,8 +1,6 @@
 -- What a mount reads in the headers of the kept pages, over any bytes.
 use Rattle.std.specs.Prelude.{◌≡◌, ℕ, ◌+◌, ◌%◌, ◌<◌, Option, Some, None, List, length, slice_index_or}
 use Rattle.fl_flash.specs.Flash.{FlashState, page_at}
-use Rattle.fl_mark.specs.Mark.{state_of_page}
-use Rattle.fl_mark.specs.declared.page_state.PageState.TheVariants.{Committed}
 use Rattle.fl_ring.specs.Place.{shape_of}
 use Rattle.fl_ring.specs.Ring.{place}
 use Rattle.fl_ring.specs.declared.ring.Ring.{Ring}
@@ -16,11 +14,6 @@ kept_page ring f number = page_at f (place (shape_of ring) number)
 -- the header of a committed flash page with these bytes
 abbrev pub header_of : ℕ → List ℕ → Newest
 header_of at page = record { page = at; first = page_first page; count = page_entries page }
-
--- a page that isn't committed has none
-abbrev pub IsHeader : ℕ → List ℕ → Option Newest → Type 0
-IsHeader at page None = state_of_page page ≡ Committed → ⊥
-IsHeader at page (Some header) = (state_of_page page ≡ Committed) × (header ≡ header_of at page)
 
 -- the header of the page with a number, where there is one
 abbrev pub IsNewest : (ℕ → ℕ) → (ℕ → List ℕ) → Option ℕ → Option Newest → Type 0

@@ -4,4 +4,5 @@ pub mod Memory
 pub mod Standing
 pub mod Outcomes
 pub mod Finding
+pub mod Loading
 pub mod Looking

@@ -15,8 +15,8 @@ use Rattle.fl_ring.specs.Kept.{PagesStand}
 use Rattle.fl_ring.specs.declared.fault.RingFault.{RingFault}
 use Rattle.fl_ring.specs.declared.fault.RingFault.TheVariants.{Flash, BadHead, BadGap, BadPage, NoNumber}
 use Rattle.fl_index.specs.declared.index.Index.{Index}
-use Rattle.fl_index.specs.Memory.{waiting_in}
-use Rattle.fl_index.specs.Standing.{Rests, StandsForRing, Stands, bytes_in}
+use Rattle.fl_index.specs.Memory.{oldest_in, waiting_in}
+use Rattle.fl_index.specs.Standing.{Rests, RemembersAll, RemembersBelow, StandsWith, Stands, bytes_in}
 
 -- an index page is sealed where as many bitmaps wait as it holds
 abbrev pub index_seals : Plan → Table → List RingName
@@ -63,16 +63,21 @@ MakesRoom first plan table rose device (Err fault) index old new = Breaks first 
 abbrev pub end_of : Plan → Table → Option ℕ
 end_of plan table = option_map (λ page. page + entries_per_page plan) (last_or None (firsts table))
 
--- A mount that ended well: the ring is that of the table's index, and no bitmap waits.
-pub record MountsWell (first : ℕ) (plan : Plan) (table : Table) (rose : Bool) (device : Device) (end : Option ℕ) (index : Index) (new : FlashState) : Type 0 where
+-- A mount that ended well, or its first part: the ring is that of the table's index, of whose pages this much is remembered, and no
+-- entry waits.
+pub record EndsWell (Remembers : Index → Plan → Table → Ring → Type 0) (first : ℕ) (plan : Plan) (table : Table) (rose : Bool) (device : Device) (end : Option ℕ) (index : Index) (new : FlashState) : Type 0 where
   pub now : PartProgress Table
   pub did : TablePerforms plan rose (repair_within plan IndexRing (renumber plan IndexRing table)) device (renumber plan IndexRing table) now
   pub whole : now.end ≡ Whole
   pub counts : SameDevice new now.device
   pub power : new.is_on ≡ true
-  pub stands : StandsForRing index new first plan now.state
+  pub stands : StandsWith Remembers index new first plan now.state
   pub idle : waiting_in index ≡ 0
+  pub idle_now : now.state.waiting ≡ []
   pub answer : end ≡ end_of plan now.state
+
+abbrev pub MountsWell : ℕ → Plan → Table → Bool → Device → Option ℕ → Index → FlashState → Type 0
+MountsWell first plan table rose device end index new = EndsWell RemembersAll first plan table rose device end index new
 
 -- It failed in an operation of a repair, or in a read: what was repaired until then stays.
 pub record MountsBadly (first : ℕ) (plan : Plan) (table : Table) (rose : Bool) (device : Device) (fault : FlashFault) (new : FlashState) : Type 0 where
@@ -82,10 +87,18 @@ pub record MountsBadly (first : ℕ) (plan : Plan) (table : Table) (rose : Bool)
   pub counts : SameDevice new now.device
   pub rests : Rests new first plan now.state
 
+-- how a mount ends, or its first part
+abbrev pub EndsAs : (Index → Plan → Table → Ring → Type 0) → ℕ → Plan → Table → Bool → Device → Result (Option ℕ) RingFault → Index → FlashState → Type 0
+EndsAs Remembers first plan table rose device (Ok end) index new = EndsWell Remembers first plan table rose device end index new
+EndsAs Remembers first plan table rose device (Err (Flash fault)) index new = MountsBadly first plan table rose device fault new
+EndsAs Remembers first plan table rose device (Err (BadHead heads)) index new = ⊥
+EndsAs Remembers first plan table rose device (Err (BadGap page)) index new = ⊥
+EndsAs Remembers first plan table rose device (Err (BadPage page wanted found)) index new = ⊥
+EndsAs Remembers first plan table rose device (Err (NoNumber at_least)) index new = ⊥
+
 abbrev pub MountEnds : ℕ → Plan → Table → Bool → Device → Result (Option ℕ) RingFault → Index → FlashState → Type 0
-MountEnds first plan table rose device (Ok end) index new = MountsWell first plan table rose device end index new
-MountEnds first plan table rose device (Err (Flash fault)) index new = MountsBadly first plan table rose device fault new
-MountEnds first plan table rose device (Err (BadHead heads)) index new = ⊥
-MountEnds first plan table rose device (Err (BadGap page)) index new = ⊥
-MountEnds first plan table rose device (Err (BadPage page wanted found)) index new = ⊥
-MountEnds first plan table rose device (Err (NoNumber at_least)) index new = ⊥
+MountEnds first plan table rose device result index new = EndsAs RemembersAll first plan table rose device result index new
+
+-- .. after the first part the first data page of no index page is known
+abbrev pub FindEnds : ℕ → Plan → Table → Bool → Device → Result (Option ℕ) RingFault → Index → FlashState → Type 0
+FindEnds first plan table rose device result index new = EndsAs (RemembersBelow (oldest_in index)) first plan table rose device result index new

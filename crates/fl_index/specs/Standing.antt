@@ -1,5 +1,5 @@
 -- An index in memory and a flash, and the index of the table of the model for which they stand.
-use Rattle.std.specs.Prelude.{◌≡◌, ◌⊎◌, ℕ, ◌+◌, ◌-◌, ◌*◌, ◌%◌, ◌^◌, ◌<◌, ◌≤◌, false, ◌==◌, Some, None, List, [], length, take, sum, slice_get, if◌then◌else◌}
+use Rattle.std.specs.Prelude.{◌≡◌, ◌⊎◌, ℕ, ◌+◌, ◌-◌, ◌*◌, ◌%◌, ◌^◌, ◌<◌, ◌≤◌, false, ◌==◌, Option, Some, None, List, [], length, take, sum, slice_get, if◌then◌else◌}
 use Rattle.std.specs.List.{AllByRecursion}
 use Rattle.fl_flash.specs.Flash.{FlashState, page_at}
 use Rattle.fl_model.specs.Record.{Plan, entries_per_page}
@@ -47,8 +47,21 @@ pub record Rests (f : FlashState) (first : ℕ) (plan : Plan) (table : Table) : 
   pub idle : table.waiting ≡ []
   pub pages : HoldsIndex (page_at f) first plan table ring
 
+-- the first data page that the kept index page at a place lists, which holds so many entries
+abbrev pub first_told : Plan → Table → Ring → ℕ → ℕ → Option ℕ
+first_told plan table ring i count = if count == 0 then None else slice_get (firsts table) (full_pages (take i ring.counts))
+
+-- what is remembered of the kept index pages: the first data page of each of them ..
+abbrev pub RemembersAll : Index → Plan → Table → Ring → Type 0
+RemembersAll index plan table ring = (i count : ℕ) → slice_get ring.counts i ≡ Some count → first_in index (oldest ring + i) ≡ first_told plan table ring i count
+
+-- .. or of those below a number
+abbrev pub RemembersBelow : ℕ → Index → Plan → Table → Ring → Type 0
+RemembersBelow number index plan table ring =
+    (i count : ℕ) → oldest ring + i < number → slice_get ring.counts i ≡ Some count → first_in index (oldest ring + i) ≡ first_told plan table ring i count
+
 -- the ring in memory and on a flash is that of the table's index, which has no torn page, and no block that waits for its erase
-pub record StandsForRing (index : Index) (f : FlashState) (first : ℕ) (plan : Plan) (table : Table) : Type 0 where
+pub record StandsWith (Remembers : Index → Plan → Table → Ring → Type 0) (index : Index) (f : FlashState) (first : ℕ) (plan : Plan) (table : Table) : Type 0 where
   pub planned : IsPlanned index first plan
   pub ring : Ring
   pub facts : HasIndex plan table ring
@@ -59,9 +72,14 @@ pub record StandsForRing (index : Index) (f : FlashState) (first : ℕ) (plan : 
   pub memory_is : index.ring ≡ Some in_memory
   pub next : memory.next_of in_memory ≡ ring.next
   pub oldest_is : memory.oldest_of in_memory ≡ oldest ring
-  -- the first data page of each kept index page is remembered
-  pub first_of : (i count : ℕ) → slice_get ring.counts i ≡ Some count →
-      first_in index (oldest ring + i) ≡ (if count == 0 then None else slice_get (firsts table) (full_pages (take i ring.counts)))
+  pub first_of : Remembers index plan table ring
+
+-- .. and the first data page of each kept index page is remembered, or of each that was loaded so far
+abbrev pub StandsForRing : Index → FlashState → ℕ → Plan → Table → Type 0
+StandsForRing index f first plan table = StandsWith RemembersAll index f first plan table
+
+abbrev pub StandsBelow : ℕ → Index → FlashState → ℕ → Plan → Table → Type 0
+StandsBelow number index f first plan table = StandsWith (RemembersBelow number) index f first plan table
 
 -- these entries wait in memory, those of the data pages from one on
 pub record Waits (index : Index) (first : ℕ) (entries : List IndexEntry) : Type 0 where

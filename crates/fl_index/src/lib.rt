@@ -2,6 +2,7 @@
 #![tactic(auto)]
 
 mod index;
+mod load;
 mod lookup;
 mod mount;
 mod page;
@@ -9,4 +10,5 @@ mod seal;
 mod waiting;
 
 pub use index::Index;
+pub use load::Loaded;
 pub use page::{EntryForm, Found, Full, bitmap_in, entry_len, first_in, found_in};

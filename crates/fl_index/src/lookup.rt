@@ -1,5 +1,5 @@
 // A lookup of a data page's entry.
-ghost use Rattle.std.specs.Prelude.{◌≡◌, ◌⊎◌, ◌+◌, ◌-◌, ◌*◌, ◌^◌, ◌<◌, ◌≤◌, None, Some, Ok, Err, true, false, length, IsTrue, IfSome, IfErr, OnOk, OnErr, if◌then◌else◌, unwrap_or};
+ghost use Rattle.std.specs.Prelude.{◌≡◌, ◌⊎◌, ◌+◌, ◌-◌, ◌*◌, ◌^◌, ◌<◌, ◌≤◌, None, Some, Ok, Err, true, false, length, IsTrue, IfSome, IfOk, IfErr, OnOk, OnErr, if◌then◌else◌, unwrap_or};
 ghost use Rattle.fl_flash.specs.Flash.{page_at};
 ghost use Rattle.fl_flash.specs.Media.{next_count};
 ghost use Rattle.fl_page.specs.Contents as contents;
@@ -7,8 +7,10 @@ ghost use Rattle.fl_page.specs.declared.fault.ReadFault.TheVariants as fault;
 ghost use Rattle.fl_ring.specs.Looking.{OnlyReads};
 ghost use Rattle.fl_ring.specs.Place.{shape_of, LiesOn as LiesIn};
 ghost use Rattle.fl_ring.specs.Ring.{place};
-ghost use Rattle.fl_index.specs.Looking.{bitmap_found};
-ghost use Rattle.fl_index.specs.Page.{page_number};
+ghost use Rattle.fl_mark.specs.Mark.{state_of_page};
+ghost use Rattle.fl_mark.specs.declared.page_state.PageState.TheVariants.{Committed};
+ghost use Rattle.fl_index.specs.Looking.{bad_page, bitmap_found};
+ghost use Rattle.fl_index.specs.Page.{page_number, IsGoodPage};
 
 use crate::index::Index;
 use crate::page::{Found, count_in, found_in, number_in};
@@ -214,19 +216,34 @@ impl Index {
         ensures found { (number : ℕ) → listing.entry ≡ entry_of self.now listing.page number → IsFound entire self.now listing.page number bytes.now result }
         ensures no_flash { IfErr result (IfUnread (λ e. ⊥)) }
     {
-        let PageState::Committed = state_of(bytes) else {
-            return Ok(None);
+        match self.is_listing(listing.page, bytes) {
+            Ok(false) => Ok(None),
+            Ok(true) => Ok(Some(found_in(bytes, self.form(), listing.entry))),
+            Err(bad) => Err(ReadFault::BadPage(bad)),
+        }
+    }
+
+    /// Whether the kept index page with this number lists data pages, by its bytes. A committed one has to have its number
+    /// and its count.
+    pub(crate) fn is_listing(&self, number: u32, page: &[u8]) -> Result<bool, BadPage>
+        requires size { length page.now ≡ self.now.geometry.page }
+        ensures none { IfOk result (λ b. b ≡ false → state_of_page page.now ≡ Committed → ⊥) }
+        ensures some { IfOk result (λ b. b ≡ true → (state_of_page page.now ≡ Committed) × IsGoodPage (per_page self.now) number page.now) }
+        ensures bad { IfErr result (λ bad. (state_of_page page.now ≡ Committed) × (IsGoodPage (per_page self.now) number page.now → ⊥) × (bad ≡ bad_page number page.now)) }
+    {
+        let PageState::Committed = state_of(page) else {
+            return Ok(false);
         };
-        let found = number_in(bytes);
-        let count = u32::from(count_in(bytes));
-        if found != listing.page || count != self.capacity() {
-            return Err(ReadFault::BadPage(BadPage {
-                wanted: listing.page,
+        let found = number_in(page);
+        let count = u32::from(count_in(page));
+        if found != number || count != self.capacity() {
+            return Err(BadPage {
+                wanted: number,
                 found,
                 count,
-            }));
+            });
         }
-        Ok(Some(found_in(bytes, self.form(), listing.entry)))
+        Ok(true)
     }
 }
 

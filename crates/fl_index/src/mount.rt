@@ -7,14 +7,14 @@ ghost use Rattle.fl_ring.specs.Place.{shape_of, next_of, oldest_of, LiesOn as Li
 ghost use Rattle.fl_ring.specs.Ring.{room, place};
 ghost use Rattle.fl_ring.specs.declared.fault.RingFault.{RingFault};
 ghost use Rattle.fl_flash.specs.declared.flash.FlashFault.{FlashFault};
-ghost use Rattle.fl_index.specs.Headers.{IsHeader, IsNewest, AreRemembered, kept_page};
-ghost use Rattle.fl_index.specs.Page.{newest_of};
+ghost use Rattle.fl_index.specs.Headers.{header_of, AreRemembered, kept_page};
+ghost use Rattle.fl_index.specs.Page.{first_on};
 
 use crate::index::Index;
 use crate::page::{count_in, first_in};
 use fl_flash::{Flash, FlashFault, PageBuf};
 use fl_mark::{PageState, state_of};
-use fl_ring::{Ring, RingFault};
+use fl_ring::{NewestPage, Ring, RingFault};
 
 /// The newest committed index page: where it stands, and what its header says.
 #[derive(Clone, Copy)]
@@ -29,11 +29,15 @@ impl Index {
     ghost use Rattle.fl_model.specs.Record.{Plan};
     ghost use Rattle.fl_model.specs.Table as model;
     ghost use Rattle.fl_model.specs.Work.{Device};
+    ghost use Rattle.fl_model.specs.MountLimit.{part_mount_limit};
+    ghost use Rattle.fl_model.specs.Table.{IndexRing, shape_of as model_shape};
+    ghost use Rattle.fl_ring.specs.Mounting.{search_reads};
+    ghost use Rattle.fl_ring.specs.Repairing.{Beside};
     ghost use Rattle.fl_ring.specs.Ring.{OutsideStands};
     ghost use Rattle.fl_ring.specs.Step.{IsWatched};
-    ghost use Rattle.fl_index.specs.Finding.{FewReads, FewRepairs, FindsIndex, RefusesIndex};
+    ghost use Rattle.fl_index.specs.Finding.{FewReads, FewRepairs, FindsEnd, FindsIndex, RefusesEnd, RefusesIndex};
     ghost use Rattle.fl_index.specs.Memory.{is_running, waiting_in, per_page, ring_shape, IsPlanned, IsSamePlan, LiesOn};
-    ghost use Rattle.fl_index.specs.Outcomes.{MountEnds};
+    ghost use Rattle.fl_index.specs.Outcomes.{FindEnds, MountEnds};
     ghost use Rattle.fl_index.specs.Standing.{Rests};
 
     // As it was before its first mount.
@@ -75,10 +79,51 @@ impl Index {
         ensures off { (F.state flash.old).is_on ≡ false → (result ≡ Err (RingFault.Flash FlashFault.PowerLost)) × ((F.state flash.new) ≡ F.state flash.old) }
         ensures power { OnOk result ((F.state flash.new).is_on ≡ true) }
     {
+        let end = self.find(flash, buf)?;
+        let Some(ring) = self.ring.take() else {
+            unreachable!()
+        };
+        read_firsts(&ring, &mut self.firsts, flash, buf)?;
+        self.ring = Some(ring);
+        Ok(end)
+    }
+
+    /// Finds the ring of the index and repairs it: the first part of a mount. It answers the number after the data pages that
+    /// the newest committed page lists, and none where there is no such page. No page is read but by the mount of the ring, so
+    /// the pages that list data pages are known only as `load` reads them. No entry waits afterwards, and the buffer
+    /// holds no page.
+    ///
+    /// # Errors
+    ///
+    /// Those of the ring's mount, and a bad page where the newest committed one has another count than it has to, or lists
+    /// numbers of more than four bytes. After an error the index isn't mounted.
+    pub fn find<F: Flash>(
+        &mut self,
+        flash: &mut F,
+        buf: &mut PageBuf,
+    ) -> Result<Option<u32>, RingFault>
+        requires lies { LiesOn self.old (F.state flash.old) }
+        requires room { length buf.old.bytes ≡ (F.state flash.old).geometry.page }
+        ensures ends { (first : ℕ) → (plan : Plan) → (table : model.Table) → (rose : Bool) → (device : Device) → IsWatched (F.state flash.old) (F.state flash.new) rose device
+            → IsPlanned self.old first plan → Rests (F.state flash.old) first plan table → FindEnds first plan table rose device result self.new (F.state flash.new) }
+        ensures running { is_running self.new ≡ is_ok result }
+        ensures idle { waiting_in self.new ≡ 0 }
+        ensures found { IfOk result (λ end. IsTrue (F.state flash.old).media.tells → FindsEnd self.old (F.state flash.old) end self.new (F.state flash.new)) }
+        ensures refused { IfErr result (λ e. IsTrue (F.state flash.old).media.tells → RefusesEnd self.old (F.state flash.old) e (F.state flash.new)) }
+        ensures reads { (first : ℕ) → (plan : Plan) → (table : model.Table) → IsTrue (F.state flash.old).media.tells → IsPlanned self.old first plan → Rests (F.state flash.old) first plan table
+            → (F.state flash.new).work.reads ≤ (F.state flash.old).work.reads + part_mount_limit (model_shape plan IndexRing) table.index }
+        ensures beside { Beside (ring_shape self.old) (search_reads (ring_shape self.old) + (ring_shape self.old).per_block) 1 1 (F.state flash.old) (F.state flash.new) }
+        ensures same { IsSamePlan self.old self.new }
+        ensures lies { LiesOn self.new (F.state flash.new) }
+        ensures cause { IfErr result (λ e. IfFlash (λ fault. CausedBy (F.state flash.old) fault (F.state flash.new)) e) }
+        ensures off { (F.state flash.old).is_on ≡ false → (result ≡ Err (RingFault.Flash FlashFault.PowerLost)) × ((F.state flash.new) ≡ F.state flash.old) }
+        ensures power { OnOk result ((F.state flash.new).is_on ≡ true) }
+        ensures room { length buf.new.bytes ≡ length buf.old.bytes }
+        ensures holds { buf.new.holds ≡ None }
+    {
         self.forget();
-        let ring = Ring::mount(flash, self.place, 0, buf)?;
-        let newest = read_firsts(&ring, &mut self.firsts, flash, buf)?;
-        let end = self.end_of(newest)?;
+        let (ring, newest) = Ring::mount_with_newest(flash, self.place, 0, buf)?;
+        let end = self.end_of(header_of(&ring, newest))?;
         self.ring = Some(ring);
         Ok(end)
     }
@@ -104,18 +149,32 @@ impl Index {
     }
 }
 
-/// Reads a page, and gives its header where it is committed. The buffer holds no page afterwards.
-fn read_header<F: Flash>(
+/// The header of the newest committed page of a ring, where it keeps any.
+fn header_of(ring: &Ring, newest: Option<NewestPage>) -> Option<Newest>
+    ensures { result ≡ option_map (λ n. header_of (place (shape_of ring.now) n.number) n.header) newest }
+{
+    match newest {
+        Some(newest) => Some(Newest {
+            page: ring.place_of(newest.number),
+            first: first_in(&newest.header),
+            count: u32::from(count_in(&newest.header)),
+        }),
+        None => None,
+    }
+}
+
+/// Reads a page, and gives the first data page that it lists. The buffer holds no page afterwards.
+fn read_first<F: Flash>(
     flash: &mut F,
     page: u32,
     buf: &mut PageBuf,
-) -> Result<Option<Newest>, FlashFault>
+) -> Result<Option<u32>, FlashFault>
     requires exists { page < pages (F.state flash.old) }
     requires room { length buf.old.bytes ≡ (F.state flash.old).geometry.page }
     ensures reads { OnlyReads (F.state flash.old) 1 (F.state flash.new) }
     ensures room { length buf.new.bytes ≡ length buf.old.bytes }
     ensures none { buf.new.holds ≡ None }
-    ensures header { IfOk result (λ header. IsTrue (F.state flash.old).media.tells → IsHeader page (page_at (F.state flash.old) page) header) }
+    ensures first { IfOk result (λ first. IsTrue (F.state flash.old).media.tells → first ≡ first_on (page_at (F.state flash.old) page)) }
     ensures fails { IfErr result (λ e. ReadFails (F.state flash.old) e (F.state flash.new)) }
     ensures power { OnOk result ((F.state flash.new).is_on ≡ true) }
 {
@@ -125,21 +184,7 @@ fn read_header<F: Flash>(
     let PageState::Committed = state_of(bytes) else {
         return Ok(None);
     };
-    Ok(Some(Newest {
-        page,
-        first: first_in(bytes),
-        count: u32::from(count_in(bytes)),
-    }))
-}
-
-/// The first data page that a page with this header lists.
-fn first_of(header: Option<Newest>) -> Option<u32>
-    ensures { result ≡ option_map (λ h. h.first) header }
-{
-    match header {
-        Some(header) => Some(header.first),
-        None => None,
-    }
+    Ok(Some(first_in(bytes)))
 }
 
 /// Reads the kept pages of a ring, from the oldest on, and remembers the first data page that each lists.
@@ -148,7 +193,7 @@ fn read_firsts<F: Flash>(
     firsts: &mut [Option<u32>],
     flash: &mut F,
     buf: &mut PageBuf,
-) -> Result<Option<Newest>, FlashFault>
+) -> Result<(), FlashFault>
     requires lies { LiesIn ring.now (F.state flash.old) }
     requires room { length buf.old.bytes ≡ (F.state flash.old).geometry.page }
     requires none { buf.old.holds ≡ None }
@@ -159,17 +204,13 @@ fn read_firsts<F: Flash>(
     ensures size { length firsts.new ≡ length firsts.old }
     ensures firsts { OnOk result (next_of ring.now - oldest_of ring.now ≤ length firsts.old → IsTrue (F.state flash.old).media.tells →
         AreRemembered (kept_page ring.now (F.state flash.old)) (oldest_of ring.now) (next_of ring.now - oldest_of ring.now) firsts.new) }
-    ensures newest { IfOk result (λ newest. IsTrue (F.state flash.old).media.tells →
-        IsNewest (place (shape_of ring.now)) (kept_page ring.now (F.state flash.old)) (newest_of (kept_page ring.now (F.state flash.old)) (oldest_of ring.now) (next_of ring.now - oldest_of ring.now)) newest) }
     ensures fails { IfErr result (λ e. ReadFails (F.state flash.old) e (F.state flash.new)) }
     ensures power { OnOk result ((F.state flash.old).is_on ≡ true → (F.state flash.new).is_on ≡ true) }
 {
-    let mut newest = None;
     for number in ring.oldest()..ring.next_number() {
-        let header = read_header(flash, ring.place_of(number), buf)?;
+        let first = read_first(flash, ring.place_of(number), buf)?;
         let at = number as usize % firsts.len();
-        firsts[at] = first_of(header);
-        newest = header.or(newest);
+        firsts[at] = first;
     }
-    Ok(newest)
+    Ok(())
 }

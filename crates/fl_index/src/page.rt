@@ -154,3 +154,13 @@ pub(crate) fn write_entry(body: &mut [u8], form: EntryForm, entry: usize, bitmap
         write_full(body, at + form.width, full);
     }
 }
+
+/// Copies so many bytes of the entries of an index page to a body.
+pub(crate) fn copy_entries(body: &mut [u8], page: &[u8], bytes: usize)
+    requires body { 16 + bytes ≤ length body.old }
+    requires page { 16 + bytes ≤ length page.now }
+    ensures { body.new ≡ splice body.old 16 (take bytes (drop 16 page.now)) }
+{
+    let end = HEADER + bytes;
+    body[HEADER..end].copy_from_slice(&page[HEADER..end]);
+}

@@ -49,8 +49,8 @@ impl Index {
         self.waiting += 1;
     }
 
-    /// The entry of a data page, where it waits.
-    pub(crate) fn waiting_entry(&self, number: u32) -> Option<Found>
+    /// The entry of a data page, where it waits or was loaded.
+    pub fn waiting_entry(&self, number: u32) -> Option<Found>
         ensures { result ≡ (if is_waiting self.now number then Some (found_waiting self.now (number - first_waiting self.now)) else None) }
     {
         if number < self.first || number - self.first >= self.waiting {

@@ -38,7 +38,7 @@ const LISTING: [u8; 56] = [
 ];
 
 // Data page 0, whose row has a blob at this place.
-fn blob_page(page: u8, offset: u8, length: u8) -> [u8; 38] {
+pub(crate) fn blob_page(page: u8, offset: u8, length: u8) -> [u8; 38] {
     [
         0, 0, 0, 0, 1, 0, 0, 0, 1, 0, 0, 0, 0, 0, 0, 0, 1, 0, 0, 0, 0, 0, 0, 0, 0, 0, 0, 0, page,
         0, 0, 0, offset, 0, length, 0, 0, 0,
@@ -46,7 +46,7 @@ fn blob_page(page: u8, offset: u8, length: u8) -> [u8; 38] {
 }
 
 // A page of variable data with this number, and the number of its bytes of content.
-fn content_page(number: u8, used: u8) -> [u8; 8] {
+pub(crate) fn content_page(number: u8, used: u8) -> [u8; 8] {
     [number, 0, 0, 0, used, 0, 0, 0]
 }
 
@@ -73,7 +73,12 @@ pub(crate) fn image(
 }
 
 // What a check writes of such an image, with so many bytes in its pages.
-fn check(alloc: Global, text: &str, pages: u16, pieces: &[Piece<'_>]) -> Result<MemSink, NoMemory> {
+pub(crate) fn check(
+    alloc: Global,
+    text: &str,
+    pages: u16,
+    pieces: &[Piece<'_>],
+) -> Result<MemSink, NoMemory> {
     let bytes = image(alloc, text, pages, pieces)?;
     let len = bytes.len();
     let mut media = MemMedia::new(alloc, bytes, len)?;

@@ -7,6 +7,8 @@ mod checks;
 #[cfg(test)]
 mod exports;
 #[cfg(test)]
+mod full_entries;
+#[cfg(test)]
 mod imports;
 #[cfg(test)]
 mod maps;

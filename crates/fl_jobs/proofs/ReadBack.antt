@@ -1,6 +1,6 @@
 -- The header of a configuration is read as that configuration.
 use Rattle.std.proofs.Common.{◌≡◌, ℕ, zero, suc, ◌-◌, ◌<◌, ◌≤◌, Bool, true, false, not, ◌&&◌, ◌||◌, nat_lt, nat_le, cond, Option, Some, None, IsTrue, Ok, List, [], ◌∷◌, ◌++◌, length, map, replicate, codes, decimal, refl, sym, ◌∙◌, ap, subst, append_assoc, append-nil, length-append, arith, rules}
-use Rattle.std.specs.Prelude.{◌==◌, is_none, unwrap_or}
+use Rattle.std.specs.Prelude.{◌==◌, is_none, unwrap_or, if◌then◌else◌}
 use Rattle.std.specs.Fmt.{signed_decimal}
 use Rattle.std.specs.Option.{option_and_then}
 use Rattle.std.specs.List.{AllByRecursion, list_all, list_any, slice_get, slice_split, flat_map, join_with_byte}
@@ -13,7 +13,7 @@ use Rattle.fl_words.specs.Command as command
 use Rattle.fl_words.specs.Command.{Command, TableLine}
 use Rattle.fl_words.specs.Config as words
 use Rattle.fl_words.specs.Config.{ConfigFault, Lines, no_lines, configured, unless, first_fault, device_faults, table_faults, plan_of, columns_in, is_odd_ring, bad_blob_limit, too_large}
-use Rattle.fl_words.specs.Grammar.{command_of, words_command, is_name, is_letter, is_digit, words_in}
+use Rattle.fl_words.specs.Grammar.{command_of, words_command, full_index_in, is_name, is_letter, is_digit, words_in}
 use Rattle.fl_words.specs.Medium.{column_name, device_text, table_text}
 use Rattle.fl_schema.specs.Types.{column_of}
 use Rattle.fl_config.specs.Whole.{is_whole_of, Makes}
@@ -83,19 +83,35 @@ again plan = record {
   width = plan.width;
   error = plan.error;
   blob_limit = plan.blob_limit;
+  full_index = plan.full_index;
 }
+
+-- .. and the word for full index entries behind its other words
+abbrev format-words : Bool → List (List ℕ)
+format-words full = if full then codes "index2" ∷ [] else []
 
 abbrev table-others : Plan → List (List ℕ)
 table-others plan =
     plan.name ∷ decimal plan.key_bytes ∷ join_with_byte 44 (map column_name plan.columns)
     ∷ decimal plan.data_blocks ∷ decimal plan.index_blocks ∷ decimal plan.var_blocks ∷ decimal plan.bits ∷ signed_decimal plan.base
-    ∷ decimal plan.width ∷ decimal plan.error ∷ decimal plan.blob_limit ∷ []
+    ∷ decimal plan.width ∷ decimal plan.error ∷ decimal plan.blob_limit ∷ format-words plan.full_index
 
 abbrev table-words : Plan → List (List ℕ)
 table-words plan = codes "table" ∷ table-others plan
 
 table-word : IsWord (codes "table")
 table-word = record { some = omega arith; visible = (omega arith, (omega arith, (omega arith, (omega arith, (omega arith, tt))))) }
+
+index2-word : IsWord (codes "index2")
+index2-word = record { some = omega arith; visible = (omega arith, (omega arith, (omega arith, (omega arith, (omega arith, (omega arith, tt)))))) }
+
+format-word : (full : Bool) → AllByRecursion IsWord (format-words full)
+format-word true = (index2-word, tt)
+format-word false = tt
+
+format-read : (full : Bool) → full_index_in (format-words full) ≡ Some full
+format-read true = refl
+format-read false = refl
 
 name-byte : (byte : ℕ) → (is_letter byte || is_digit byte) ≡ true → 32 < byte
 name-byte byte h = grind (arith, nat_tests, h)
@@ -149,7 +165,8 @@ faults_by geometry plans line cols =
     ∷ (nat_lt 255 line.error, words.ErrorBound)
     ∷ (bad_blob_limit plan, words.BlobLimit)
     ∷ (nat_lt (geometry.page - 24) (row_len plan), words.RowTooLong)
-    ∷ (too_large geometry (plans ++ plan ∷ []), words.DeviceTooLarge) ∷ []
+    ∷ (too_large geometry (plans ++ plan ∷ []), words.DeviceTooLarge)
+    ∷ (line.full_index && (line.index_blocks == 0), words.Format) ∷ []
 
 -- where no fault applies, no test passes
 pub test-passes : (tests : List (Bool × ConfigFault)) (i : ℕ) (test : Bool × ConfigFault) → first_fault tests ≡ None → slice_get tests i ≡ Some test → test.0 ≡ false
@@ -205,6 +222,7 @@ module _ (geometry : Geometry) (before : List Plan) (line : TableLine) (read : I
         decimal-number line.width read.width,
         decimal-number line.error read.error,
         decimal-number line.blob_limit read.blob_limit,
+        format-read line.full_index,
       )
       refl
 
@@ -225,7 +243,7 @@ module _ (geometry : Geometry) (before : List Plan) (line : TableLine) (read : I
                 decimal-word line.var_blocks read.var_blocks,
                 (
                   decimal-word line.bits read.bits,
-                  (signed-word line.base read.base, (decimal-word line.width read.width, (decimal-word line.error read.error, (decimal-word line.blob_limit read.blob_limit, tt)))),
+                  (signed-word line.base read.base, (decimal-word line.width read.width, (decimal-word line.error read.error, (decimal-word line.blob_limit read.blob_limit, format-word line.full_index)))),
                 ),
               ),
             ),

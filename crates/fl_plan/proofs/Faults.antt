@@ -45,6 +45,21 @@ some-then (Some fault) xs ys none is = after-none xs ys none ∙ is
 pub none-both : (xs ys : List (Bool × ConfigFault)) → first_fault xs ≡ None → first_fault ys ≡ None → first_fault (xs ++ ys) ≡ None
 none-both xs ys first then = after-none xs ys first ∙ then
 
+-- tests that find no fault find none in either part
+pub none_first : (xs ys : List (Bool × ConfigFault)) → first_fault (xs ++ ys) ≡ None → first_fault xs ≡ None
+none_first xs ys e = by_first (first_fault xs) (sym (first_fault-append xs ys) ∙ e)
+  where
+    by_first : (o : Option ConfigFault) → first_of o (first_fault ys) ≡ None → o ≡ None
+    by_first None k = refl
+    by_first (Some fault) k = cc
+
+pub none_last : (xs ys : List (Bool × ConfigFault)) → first_fault (xs ++ ys) ≡ None → first_fault ys ≡ None
+none_last xs ys e = by_first (first_fault xs) (sym (first_fault-append xs ys) ∙ e)
+  where
+    by_first : (o : Option ConfigFault) → first_of o (first_fault ys) ≡ None → first_fault ys ≡ None
+    by_first None k = k
+    by_first (Some fault) k = cc
+
 -- a ring of few blocks, or none
 pub blocks_in-le : (place : Option RingPlace) → IfSome place IsRingSize → blocks_in place ≤ 16384
 blocks_in-le None few = omega arith

@@ -1,5 +1,5 @@
 -- A table's configuration as the plan of the model.
-use Rattle.std.specs.Prelude.{◌≡◌, ℕ, ◌+◌, ℤ, false, Option, Some, None, IfSome, List, map}
+use Rattle.std.specs.Prelude.{◌≡◌, ℕ, ◌+◌, ℤ, Option, Some, None, IfSome, List, map}
 use Rattle.fl_base.specs.declared.types.RingPlace.{RingPlace}
 use Rattle.fl_bitmap.specs.declared.buckets.Buckets.{Buckets}
 use Rattle.fl_schema.specs.Types.{column_of}
@@ -47,7 +47,7 @@ plan_of_table label config = record {
   width = width_in label.width config.buckets;
   error = config.error;
   blob_limit = config.blob_limit;
-  full_index = false;
+  full_index = config.full_index;
   log_blocks = 0;
 }
 

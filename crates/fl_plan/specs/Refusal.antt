@@ -6,7 +6,7 @@ use Rattle.fl_model.specs.Record.{Plan, row_len}
 use Rattle.fl_words.specs.Config as words
 use Rattle.fl_words.specs.Config.{ConfigFault, first_fault, device_faults, bad_blob_limit, too_large}
 use Rattle.fl_plan.specs.declared.refusal.ConfigRefusal.{ConfigRefusal}
-use Rattle.fl_plan.specs.declared.refusal.ConfigRefusal.TheVariants.{DeviceTwice, TableFirst, PageSize, BlockSize, TooManyTables, NameTaken, KeyWidth, ColumnType, ColumnCount, DataBlocks, IndexBlocks, VarBlocks, Bits, Width, ErrorBound, BlobLimit, RowTooLong, DeviceTooLarge, NoMemory}
+use Rattle.fl_plan.specs.declared.refusal.ConfigRefusal.TheVariants.{DeviceTwice, TableFirst, PageSize, BlockSize, TooManyTables, NameTaken, KeyWidth, ColumnType, ColumnCount, DataBlocks, IndexBlocks, VarBlocks, Bits, Width, ErrorBound, BlobLimit, RowTooLong, DeviceTooLarge, Format, NoMemory}
 use Rattle.fl_plan.specs.declared.table_config.TableConfig.{TableConfig}
 use Rattle.fl_plan.specs.Plan.{Label, plan_of_table}
 
@@ -30,6 +30,7 @@ fault_of ErrorBound = Some words.ErrorBound
 fault_of BlobLimit = Some words.BlobLimit
 fault_of RowTooLong = Some words.RowTooLong
 fault_of DeviceTooLarge = Some words.DeviceTooLarge
+fault_of Format = Some words.Format
 fault_of NoMemory = None
 
 -- the greatest length of a blob isn't one that a ring of so many blocks, or none, can keep
@@ -70,13 +71,17 @@ room_faults plan =
 abbrev pub size_faults : Geometry → List Plan → List (Bool × ConfigFault)
 size_faults geometry plans = (too_large geometry plans, words.DeviceTooLarge) ∷ []
 
+-- .. and whether full index entries have an index
+abbrev pub format_faults : Plan → List (Bool × ConfigFault)
+format_faults plan = (plan.full_index && (plan.index_blocks == 0), words.Format) ∷ []
+
 abbrev pub nameless : Label
 nameless = record { name = []; base = pos 0; width = 0 }
 
 abbrev pub config_fault : TableConfig → Option ConfigFault
 config_fault config =
     let plan = plan_of_table nameless config in
-    first_fault (field_faults config ++ room_faults plan ++ size_faults config.geometry (plan ∷ []))
+    first_fault (field_faults config ++ room_faults plan ++ size_faults config.geometry (plan ∷ []) ++ format_faults plan)
 
 -- a result tells a fault of a line, or that there is none; it is no matter of memory
 abbrev pub Tells : {A : Type 0} → Result A ConfigRefusal → Option ConfigFault → Type 0

@@ -42,6 +42,8 @@ pub enum ConfigRefusal {
     RowTooLong,
     /// The rings have more than 65,536 pages or more than 67,108,864 bytes.
     DeviceTooLarge,
+    /// Index entries are to be full, and there is no index ring.
+    Format,
     /// Memory ran out.
     NoMemory,
 }

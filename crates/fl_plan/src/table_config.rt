@@ -1,5 +1,5 @@
 // The configuration of one table.
-ghost use Rattle.std.specs.Prelude.{◌≡◌, ◌≤◌, OnOk};
+ghost use Rattle.std.specs.Prelude.{◌≡◌, ◌≤◌, ◌&&◌, ◌==◌, OnOk};
 ghost use Rattle.fl_model.specs.Record.{row_len, blocks_of};
 ghost use Rattle.fl_words.specs.Config.{first_fault};
 ghost use Rattle.fl_plan.specs.Plan.{Label, blocks_in, plan_of_table};
@@ -31,6 +31,9 @@ pub struct TableConfig {
     pub error: u32,
     /// The greatest length of a blob, in bytes; 0 where there is no ring of variable data.
     pub blob_limit: u32,
+    /// Whether an index entry tells of its data page more than the bitmap: its first key, its count of rows and where its
+    /// blobs end. There is an index ring then.
+    pub full_index: bool,
 }
 
 fn blocks_in(place: Option<RingPlace>) -> u32
@@ -94,7 +97,17 @@ impl TableConfig {
         if !has_room_for(self.geometry, self.blocks()) {
             return Err(ConfigRefusal::DeviceTooLarge);
         }
+        if self.lacks_index() {
+            return Err(ConfigRefusal::Format);
+        }
         Ok(())
+    }
+
+    /// Whether its index entries are to be full, and there is no index.
+    pub fn lacks_index(&self) -> bool
+        ensures { result ≡ (self.now.full_index && (blocks_in self.now.index == 0)) }
+    {
+        self.full_index && self.index_blocks() == 0
     }
 
     fn check_fields(&self) -> Result<(), ConfigRefusal>

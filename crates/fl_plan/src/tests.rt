@@ -26,6 +26,7 @@ fn table(numbers: Numbers, columns: ArrayVec<ColumnType, 8>) -> TableConfig {
         buckets: None,
         error,
         blob_limit,
+        full_index: false,
     }
 }
 
@@ -95,5 +96,20 @@ fn columns(rt: HostRuntime) -> Result<(), Fail> {
     let long = table((2, 64, 3, None, None, 1, 0), wide);
     assert_eq!(rt; long.row_len(), 48);
     assert_eq!(rt; long.check(), Err(ConfigRefusal::RowTooLong));
+    Ok(())
+}
+
+#[test]
+fn full_index(rt: HostRuntime) -> Result<(), Fail> {
+    for (block, wanted) in [
+        (2, Err(ConfigRefusal::Format)),
+        (256, Err(ConfigRefusal::DeviceTooLarge)),
+    ] {
+        let mut columns = ArrayVec::new();
+        columns.push(ColumnType::I32);
+        let mut full = table((block, 128, 257, None, None, 1, 0), columns);
+        full.full_index = true;
+        assert_eq!(rt; full.check(), wanted);
+    }
     Ok(())
 }

@@ -99,6 +99,7 @@ fn line_of(command: &Command, room: &LineRoom, device: &ConfigLine, config: &Con
             width,
             error,
             blob,
+            full: _,
         } => {
             let mut line = *device;
             line.blocks = u64::from(config.blocks());

@@ -8,7 +8,9 @@ pub(crate) const PUT: &str = "put NAME KEY VALUE.. [blob HEX]";
 pub(crate) fn form_of(command: &[u8]) -> Option<&'static str> {
     match command {
         b"device" => Some("device PAGE BLOCK"),
-        b"table" => Some("table NAME KEY COLUMNS DATA INDEX VAR BITS BASE WIDTH ERROR BLOB"),
+        b"table" => {
+            Some("table NAME KEY COLUMNS DATA INDEX VAR BITS BASE WIDTH ERROR BLOB [index2]")
+        }
         b"mount" => Some("mount"),
         b"off" => Some("off"),
         b"cut" => Some("cut N KIND [SEED]"),

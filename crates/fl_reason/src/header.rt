@@ -88,9 +88,42 @@ fn name_of(line: usize, word: usize) -> Word {
     let form: &[u8] = if line == 1 {
         b"device PAGE BLOCK"
     } else {
-        b"table NAME KEY COLUMNS DATA INDEX VAR BITS BASE WIDTH ERROR BLOB"
+        b"table NAME KEY COLUMNS DATA INDEX VAR BITS BASE WIDTH ERROR BLOB FORMAT"
     };
     Word::of(word_at(form, word))
+}
+
+fn byte_at(header: &[u8; HEADER], at: usize) -> u8 {
+    header.get(at).copied().unwrap_or(b' ')
+}
+
+/// The word behind the one that ends here; nothing where the line ends too.
+fn word_behind(header: &[u8; HEADER], end: usize) -> Word {
+    if byte_at(header, end) == b'\n' {
+        return Word::of(b"");
+    }
+    word_from(header, end.saturating_add(1))
+}
+
+/// The first word that differs between the script's configuration and the image's, by the first byte that does.
+fn word_reason(own: &[u8; HEADER], image: &[u8; HEADER], at: usize) -> HeaderReason {
+    let (line, word) = place_of(own, at);
+    if is_space(byte_at(own, at)) && is_space(byte_at(image, at)) {
+        // One line ends where the other goes on with a word.
+        return HeaderReason::Word {
+            line,
+            place: name_of(line, word.saturating_add(1)),
+            image: word_behind(image, at),
+            script: word_behind(own, at),
+        };
+    }
+    let begin = word_begin(own, at);
+    HeaderReason::Word {
+        line,
+        place: name_of(line, word),
+        image: word_from(image, begin),
+        script: word_from(own, begin),
+    }
 }
 
 /// Where the configuration of the image on a medium is another than the script's. None where the front of the script isn't
@@ -120,12 +153,5 @@ pub fn header_reason<M: Media>(
     let Some(at) = first_difference(&own, &image) else {
         return Some(lengths);
     };
-    let begin = word_begin(&own, at);
-    let (line, word) = place_of(&own, at);
-    Some(HeaderReason::Word {
-        line,
-        place: name_of(line, word),
-        image: word_from(&image, begin),
-        script: word_from(&own, begin),
-    })
+    Some(word_reason(&own, &image, at))
 }

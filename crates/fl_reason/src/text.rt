@@ -43,6 +43,7 @@ impl Display for Wanted {
             Wanted::Cut => f.write_str("one of before, after, half and noise"),
             Wanted::Columns => f.write_str("1 to 8 numbers of columns, joined by commas"),
             Wanted::Blob => f.write_str("- or an even number of hexadecimal digits"),
+            Wanted::FullIndex => f.write_str("index2, or to be left out"),
         }
     }
 }
@@ -107,6 +108,7 @@ impl Display for ConfigReason {
             ConfigRefusal::BlobLimit => fmt_blob(line, f),
             ConfigRefusal::RowTooLong => fmt_long_row(line, f),
             ConfigRefusal::DeviceTooLarge => fmt_large(line, f),
+            ConfigRefusal::Format => fmt_no_index(line, f),
             ConfigRefusal::NoMemory => f.write_str("there is no memory"),
         }
     }
@@ -231,6 +233,15 @@ fn fmt_large<W: fmt::Write>(line: &ConfigLine, f: &mut fmt::Formatter<W>) -> fmt
     write!(
         f,
         "all rings have {blocks} blocks of {block} pages of {page} bytes; at most 65536 pages and 67108864 bytes fit"
+    )
+}
+
+// Full index entries without an index.
+fn fmt_no_index<W: fmt::Write>(line: &ConfigLine, f: &mut fmt::Formatter<W>) -> fmt::Result {
+    let index = line.index;
+    write!(
+        f,
+        "index2 needs an index ring: INDEX is {index} and has to be 3 to 16384 blocks, or index2 has to be left out"
     )
 }
 

@@ -23,6 +23,8 @@ pub enum Wanted {
     Columns,
     /// The digits of a blob.
     Blob,
+    /// The word for full index entries.
+    FullIndex,
 }
 
 impl Wanted {
@@ -45,6 +47,7 @@ impl Wanted {
             Wanted::Cut => matches!(word, b"before" | b"after" | b"half" | b"noise"),
             Wanted::Columns => are_columns(word),
             Wanted::Blob => is_blob(word),
+            Wanted::FullIndex => word == b"index2".as_slice(),
         }
     }
 }
@@ -93,6 +96,7 @@ fn wanted_of(place: &[u8]) -> Option<Wanted> {
         b"OP" => Some(Wanted::Comparison),
         b"KIND" => Some(Wanted::Cut),
         b"LIST" => Some(Wanted::Columns),
+        b"[index2]" => Some(Wanted::FullIndex),
         b"BASE" | b"VALUE" | b"[VLOW" | b"VHIGH]" => Some(Wanted::Signed),
         b"COUNT" | b"STEP" => Some(Wanted::Number {
             least: 1,

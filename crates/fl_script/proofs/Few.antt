@@ -1,5 +1,5 @@
 -- The words of a line of so many.
-use Rattle.std.proofs.Common.{◌≡◌, ℕ, ◌<◌, ◌≤◌, List, [], ◌∷◌, length, map, get_or, Result, Err, refl, arith, Bor, inl, inr}
+use Rattle.std.proofs.Common.{◌≡◌, ℕ, zero, suc, ◌-◌, ◌<◌, ◌≤◌, List, [], ◌∷◌, length, map, take, drop, get_or, Result, Err, refl, sym, ap, arith, Bor, inl, inr}
 use Rattle.fl_words.specs.Grammar.{LineFault, Number, number, ◌>>=◌}
 use Rattle.fl_words.specs.Command.{Command}
 use Rattle.fl_script.specs.Lines.{IsBadRange}
@@ -40,21 +40,28 @@ six (a ∷ b ∷ c ∷ d ∷ e ∷ []) least most = absurd (omega (arith, least)
 six (a ∷ b ∷ c ∷ d ∷ e ∷ f ∷ []) least most = refl
 six (a ∷ b ∷ c ∷ d ∷ e ∷ f ∷ g ∷ words) least most = absurd (omega (arith, most))
 
-pub eleven : (words : List (Bor (List ℕ))) → 11 ≤ length words → length words < 12
-    → map (λ word. word.now) words ≡ word_at words 0 ∷ word_at words 1 ∷ word_at words 2 ∷ word_at words 3 ∷ word_at words 4 ∷ word_at words 5 ∷ word_at words 6 ∷ word_at words 7 ∷ word_at words 8 ∷ word_at words 9 ∷ word_at words 10 ∷ []
-eleven [] least most = absurd (omega (arith, least))
-eleven (a ∷ []) least most = absurd (omega (arith, least))
-eleven (a ∷ b ∷ []) least most = absurd (omega (arith, least))
-eleven (a ∷ b ∷ c ∷ []) least most = absurd (omega (arith, least))
-eleven (a ∷ b ∷ c ∷ d ∷ []) least most = absurd (omega (arith, least))
-eleven (a ∷ b ∷ c ∷ d ∷ e ∷ []) least most = absurd (omega (arith, least))
-eleven (a ∷ b ∷ c ∷ d ∷ e ∷ f ∷ []) least most = absurd (omega (arith, least))
-eleven (a ∷ b ∷ c ∷ d ∷ e ∷ f ∷ g ∷ []) least most = absurd (omega (arith, least))
-eleven (a ∷ b ∷ c ∷ d ∷ e ∷ f ∷ g ∷ h ∷ []) least most = absurd (omega (arith, least))
-eleven (a ∷ b ∷ c ∷ d ∷ e ∷ f ∷ g ∷ h ∷ i ∷ []) least most = absurd (omega (arith, least))
-eleven (a ∷ b ∷ c ∷ d ∷ e ∷ f ∷ g ∷ h ∷ i ∷ j ∷ []) least most = absurd (omega (arith, least))
-eleven (a ∷ b ∷ c ∷ d ∷ e ∷ f ∷ g ∷ h ∷ i ∷ j ∷ k ∷ []) least most = refl
-eleven (a ∷ b ∷ c ∷ d ∷ e ∷ f ∷ g ∷ h ∷ i ∷ j ∷ k ∷ l ∷ words) least most = absurd (omega (arith, most))
+-- a list taken whole
+take_all : {X : Type 0} (n : ℕ) (xs : List X) → length xs ≤ n → take n xs ≡ xs
+take_all zero [] h = refl
+take_all zero (x ∷ xs) h = absurd (omega (arith, h))
+take_all (suc n) [] h = refl
+take_all (suc n) (x ∷ xs) h = ap (λ ys. x ∷ ys) (take_all n xs (omega (arith, h)))
+
+-- eleven words, and the others
+pub eleven : (words : List (Bor (List ℕ))) → 11 ≤ length words
+    → map (λ word. word.now) words ≡ word_at words 0 ∷ word_at words 1 ∷ word_at words 2 ∷ word_at words 3 ∷ word_at words 4 ∷ word_at words 5 ∷ word_at words 6 ∷ word_at words 7 ∷ word_at words 8 ∷ word_at words 9 ∷ word_at words 10 ∷ map (λ word. word.now) (take (length words - 11) (drop 11 words))
+eleven [] least = absurd (omega (arith, least))
+eleven (a ∷ []) least = absurd (omega (arith, least))
+eleven (a ∷ b ∷ []) least = absurd (omega (arith, least))
+eleven (a ∷ b ∷ c ∷ []) least = absurd (omega (arith, least))
+eleven (a ∷ b ∷ c ∷ d ∷ []) least = absurd (omega (arith, least))
+eleven (a ∷ b ∷ c ∷ d ∷ e ∷ []) least = absurd (omega (arith, least))
+eleven (a ∷ b ∷ c ∷ d ∷ e ∷ f ∷ []) least = absurd (omega (arith, least))
+eleven (a ∷ b ∷ c ∷ d ∷ e ∷ f ∷ g ∷ []) least = absurd (omega (arith, least))
+eleven (a ∷ b ∷ c ∷ d ∷ e ∷ f ∷ g ∷ h ∷ []) least = absurd (omega (arith, least))
+eleven (a ∷ b ∷ c ∷ d ∷ e ∷ f ∷ g ∷ h ∷ i ∷ []) least = absurd (omega (arith, least))
+eleven (a ∷ b ∷ c ∷ d ∷ e ∷ f ∷ g ∷ h ∷ i ∷ j ∷ []) least = absurd (omega (arith, least))
+eleven (a ∷ b ∷ c ∷ d ∷ e ∷ f ∷ g ∷ h ∷ i ∷ j ∷ k ∷ words) least = ap (λ (others : List (Bor (List ℕ))). a.now ∷ b.now ∷ c.now ∷ d.now ∷ e.now ∷ f.now ∷ g.now ∷ h.now ∷ i.now ∷ j.now ∷ k.now ∷ map (λ word. word.now) others) (sym (take_all (length (a ∷ b ∷ c ∷ d ∷ e ∷ f ∷ g ∷ h ∷ i ∷ j ∷ k ∷ words) - 11) words (omega arith)))
 
 -- where low or high isn't a number
 pub bad_range : (low high : List ℕ) → IsBadRange low high → (f : ℕ → ℕ → Result Command LineFault) → (number low >>= λ l. number high >>= λ h. f l h) ≡ Err Number

@@ -13,7 +13,8 @@ pub enum Command {
         page: u64,
         block: u64,
     },
-    /// `rows`, `index` and `var` are the blocks of the three rings, `blob` is the greatest length of a blob.
+    /// `rows`, `index` and `var` are the blocks of the three rings, `blob` is the greatest length of a blob, and `full` says
+    /// whether index entries are full.
     Table {
         name: Name,
         key: u64,
@@ -25,6 +26,7 @@ pub enum Command {
         width: u64,
         error: u64,
         blob: u64,
+        full: bool,
     },
     Mount,
     Off,

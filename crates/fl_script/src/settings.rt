@@ -1,5 +1,5 @@
 // Lines that set the store up, and what the lines of several commands share.
-ghost use Rattle.std.specs.Prelude.{◌≡◌, ◌≤◌, ℕ, List, map, [], length, true, IsOk, MatchResult};
+ghost use Rattle.std.specs.Prelude.{◌≡◌, ◌≤◌, ℕ, List, map, [], length, true, Some, None, IsOk, MatchResult};
 ghost use Rattle.std.specs.List.{All};
 ghost use Rattle.fl_words.specs.Grammar as grammar;
 ghost use Rattle.fl_script.specs.Lines.{line_view, leaves};
@@ -23,7 +23,20 @@ pub(crate) fn device_line(words: &[&[u8]]) -> Result<Command, LineFault>
     })
 }
 
-/// `table` NAME KEY COLUMNS DATA INDEX VAR BITS BASE WIDTH ERROR BLOB
+/// Whether index entries are full, by the words behind those of a table: none, or `index2`.
+fn full_index(words: &[&[u8]]) -> Result<bool, LineFault>
+    ensures { MatchResult result
+        (λ full. grammar.full_index_in (map (λ word. word.now) words.now) ≡ Some full)
+        (λ e. (grammar.full_index_in (map (λ word. word.now) words.now) ≡ None) × (e ≡ LineFault.Form)) }
+{
+    match words {
+        [] => Ok(false),
+        [word] if is(word, b"index2") => Ok(true),
+        _ => Err(LineFault::Form),
+    }
+}
+
+/// `table` NAME KEY COLUMNS DATA INDEX VAR BITS BASE WIDTH ERROR BLOB, and optionally `index2`
 pub(crate) fn table_line(words: &[&[u8]], room: &mut LineRoom) -> Result<Command, LineFault>
     requires { All (λ word. length word.now ≤ 4096) words.now }
     ensures command { line_view result room.new ≡ grammar.table_line (map (λ word. word.now) words.now) }
@@ -41,11 +54,13 @@ pub(crate) fn table_line(words: &[&[u8]], room: &mut LineRoom) -> Result<Command
         width,
         error,
         blob,
+        others @ ..,
     ] = words
     else {
         return Err(LineFault::Form);
     };
     let name = name(table)?;
+    let full = full_index(others)?;
     room.copy(columns);
     Ok(Command::Table {
         name,
@@ -58,6 +73,7 @@ pub(crate) fn table_line(words: &[&[u8]], room: &mut LineRoom) -> Result<Command
         width: number(width)?,
         error: number(error)?,
         blob: number(blob)?,
+        full,
     })
 }
 

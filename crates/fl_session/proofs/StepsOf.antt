@@ -119,8 +119,8 @@ default-view (code.TheVariants.Device page block) room r m n k p f s t l o u v w
   where
     none : None ≡ Some (command.Device page block) → ⊥
     none e = cc
-default-view (code.TheVariants.Table name key rows index var bits base width error blob) room r m n k p f s t l o u v w q x y z j b = absurd (none r.runs)
+default-view (code.TheVariants.Table name key rows index var bits base width error blob full) room r m n k p f s t l o u v w q x y z j b = absurd (none r.runs)
   where
-    none : None ≡ Some (command_view (code.TheVariants.Table name key rows index var bits base width error blob) room) → ⊥
+    none : None ≡ Some (command_view (code.TheVariants.Table name key rows index var bits base width error blob full) room) → ⊥
     none e = cc
 default-view (code.TheVariants.Blob name key) room r m n k p f s t l o u v w q x y z j b = absurd (b name key refl)

@@ -23,8 +23,9 @@ pub trait Executor {
     /// The flash on which it stands.
     ghost flash: { Self → FlashState };
 
-    /// Executes a command and writes its replies. Where the sink fails, all but the cursors is as it is after
-    /// the command.
+    /// Executes a command and writes its replies.
+    /// # Errors
+    /// The sink failed: a first part of the replies is written, and all but the cursors is as it is after the command.
     fn execute<K: Sink>(
         &mut self,
         command: &Command,

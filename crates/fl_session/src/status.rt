@@ -28,7 +28,7 @@ pub enum Status {
 }
 
 impl Status {
-    /// The number with which the program ends.
+    /// The number with which the program ends, from 0 to 9, in the order in which the statuses stand here.
     pub fn number(self) -> u8
         ensures { result ≡ number_of self }
     {

@@ -199,7 +199,8 @@ fn run_script<M: Media, S: Source, K: Sink>(
 }
 
 /// Runs a script over an image: reads the words and the configuration, opens the image, and executes line after line.
-/// Each reply is written before the next line is read.
+/// Each reply is written before the next line is read. `Done`, `Line`, `ScriptRead`, `OutWrite`, `ScriptLong` and `NoMemory` may come
+/// after commands whose replies are written; the others come before the first command.
 pub fn run<M: Media, S: Source, K: Sink>(
     alloc: Global,
     words: &[String],

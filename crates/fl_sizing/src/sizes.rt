@@ -1,5 +1,5 @@
 // The sizes of a table.
-ghost use Rattle.std.specs.Prelude.{◌≡◌, ◌≤◌, ◌^◌, ◌-◌, ◌/◌, ◌+◌, IsTrue};
+ghost use Rattle.std.specs.Prelude.{◌≡◌, ◌≤◌, ◌^◌, ◌-◌, ◌/◌, ◌+◌, IsTrue, if◌then◌else◌};
 ghost use Rattle.fl_bitmap.specs.Widths.{is_bits};
 ghost use Rattle.fl_model.specs.Record.{rows_per_page};
 ghost use Rattle.fl_plan.specs.Limits.{IsWithinLimits};
@@ -41,16 +41,17 @@ fn rows_per_page(config: &TableConfig) -> u64
     (u64::from(config.geometry.page) - 24) / u64::from(config.row_len())
 }
 
-/// How many entries an index page has room for, of bitmaps of so many bits.
-fn entries_per_page(page: u32, bits: u32) -> u64
+/// How many entries an index page has room for: of bitmaps of so many bits, and where they are full of 14 bytes more.
+fn entries_per_page(page: u32, bits: u32, full: bool) -> u64
     requires least { 64 ≤ page }
     requires most { page ≤ 4096 }
     requires bits { IsTrue (is_bits bits) }
-    ensures exact { result ≡ (page - 24) / (bits / 8 + 0) }
+    ensures exact { result ≡ (page - 24) / (bits / 8 + (if full then 14 else 0)) }
     ensures some { 1 ≤ result }
     ensures few { result ≤ 4096 }
 {
-    (u64::from(page) - 24) / u64::from(bits / 8)
+    let more = if full { 14 } else { 0 };
+    (u64::from(page) - 24) / (u64::from(bits / 8) + more)
 }
 
 /// The index pages that list all data pages; none where there is no index.
@@ -66,7 +67,8 @@ fn index_pages(config: &TableConfig) -> u64
         u64::from(config.rows.blocks),
         u64::from(config.geometry.block),
     );
-    rounded_up(pages, entries_per_page(config.geometry.page, buckets.bits))
+    let entries = entries_per_page(config.geometry.page, buckets.bits, config.full_index);
+    rounded_up(pages, entries)
 }
 
 /// The blocks that always keep these; none where there is no index.

@@ -1,24 +1,33 @@
 -- The rules of the data ring hold where a flash stands for a table.
-use Rattle.std.proofs.Common.{◌≡◌, ℕ, zero, suc, ◌+◌, ◌<◌, ◌≤◌, Bool, true, cond, nat_lt, ◌==◌, IsTrue, Some, None, is_some, length, drop, take, refl, sym, ◌∙◌, ap, arith}
+use Rattle.std.proofs.Common.{◌≡◌, inl, inr, ℕ, zero, suc, ◌+◌, ◌-◌, ◌*◌, ◌/◌, ◌%◌, ◌^◌, ◌<◌, ◌≤◌, Bool, true, false, cond, nat_lt, ◌==◌, IsTrue, Option, Some, None, IfSome, is_some, List, [], length, map, drop, take, refl, sym, ◌∙◌, ap, subst, arith, length-take}
 use Rattle.std.specs.List.{slice_get, sum}
-use Rattle.std.proofs.lemmas.Bool.{lt-ltb, ne_eqb}
+use Rattle.std.proofs.Math.Nat.{div-le_self}
+use Rattle.std.proofs.lemmas.Bool.{cases_lt, lt-ltb, ne_eqb, true≢false}
 use Rattle.fl_bitmap.specs.Widths.{is_bits}
 use Rattle.fl_find.specs.Pages.{rows_where}
 use Rattle.fl_flash.specs.Flash.{FlashState, page_at}
 use Rattle.fl_flash.specs.Places.{extent}
+use Rattle.fl_index.specs.Page.{bitmap_at, full_at, found_at, full_view, fields_of}
+use Rattle.fl_index.specs.declared.page.Full as code
+use Rattle.fl_index.specs.declared.page.Found.{Found}
+use Rattle.fl_index.proofs.Gathering.{plan_form, bitmap-small}
+use Rattle.fl_index.proofs.Showing.{IsAt}
 use Rattle.fl_mark.specs.Mark.{state_of_page}
 use Rattle.fl_mark.specs.declared.page_state.PageState.{PageState}
 use Rattle.fl_mark.specs.declared.page_state.PageState.TheVariants.{Blank, Torn, Committed, Void}
-use Rattle.fl_model.specs.Facts.{IsTable}
+use Rattle.fl_model.specs.Facts.{IsTable, FitsPlan}
+use Rattle.fl_model.specs.Agrees.{Tells}
 use Rattle.fl_model.specs.Image.{rows_at}
-use Rattle.fl_model.specs.Layout.{bitmap_of, data_body}
+use Rattle.fl_model.specs.Layout.{IndexEntry, full_of, bitmap_of, data_body}
 use Rattle.fl_model.specs.Mount.{index_end}
-use Rattle.fl_model.specs.Record.{Plan}
+use Rattle.fl_model.specs.Record.{Plan, key_limit, row_len, rows_per_page}
 use Rattle.fl_model.specs.Ring as model
-use Rattle.fl_model.specs.Table.{Table, DataRing, shape_of}
-use Rattle.fl_model.proofs.Lists.{slice_get-short}
+use Rattle.fl_model.specs.Row.{stored_row}
+use Rattle.fl_model.specs.Table.{Table, Entry, DataRing, shape_of}
+use Rattle.fl_model.proofs.Lists.{slice_get-short, slice_get-drop, slice_get-front, each-at, each-drop, each-take}
 use Rattle.fl_model.proofs.Pages.{pages-at}
-use Rattle.fl_page.specs.Page.{rows_in}
+use Rattle.fl_page.specs.Header.{page_number}
+use Rattle.fl_page.specs.Page.{rows_in, IsGoodPage}
 use Rattle.fl_page.proofs.Gathering.{layout_some}
 use Rattle.fl_plan.specs.Plan.{Label, blocks_in, plan_of_table}
 use Rattle.fl_plan.specs.declared.table_config.TableConfig.{TableConfig}
@@ -28,23 +37,28 @@ use Rattle.fl_ring.specs.Ring.{Shape, IsShape, OnRing, place}
 use Rattle.fl_table.specs.Pages.{Rests}
 use Rattle.fl_table.specs.Reading.{bitmap_where, page_bitmap}
 use Rattle.fl_table.proofs.Gathering.{page-bitmap}
-use Rattle.fl_table.proofs.KeptPages.{kept}
+use Rattle.fl_schema.specs.Form.{key_width}
+use Rattle.fl_schema.specs.declared.schema.KeyWidth.{KeyWidth}
+use Rattle.fl_schema.specs.declared.schema.KeyWidth.TheVariants.{Four, Eight}
+use Rattle.fl_table.proofs.KeptPages.{kept, table-numbered}
 use Rattle.fl_table.proofs.MountGood.{good-ring}
 use Rattle.fl_table.proofs.Plain.{IsPlainTable, table-parts}
-use Rattle.fl_table.proofs.Planning.{few-blobs}
+use Rattle.fl_plan.proofs.Fits.{few-blobs, row-fits}
 use Rattle.fl_table.proofs.Repaired.{IsIdle, lost-idle}
 use Rattle.fl_table.proofs.States.{state_of, state-count, to-ring, HaveSize}
-use Rattle.fl_check.specs.Entries.{header_bitmap}
 use Rattle.fl_check.specs.Marks.{kept_page}
 use Rattle.fl_check.specs.Rising.{KeysAscend}
+use Rattle.fl_check.specs.Told.{header_bitmap, full_in, TellsCommitted, TellsVoid, TellsPage}
 use Rattle.fl_check.specs.Whole.{Fits, layout_in, rows_shape, IsRowsForm}
 use Rattle.fl_check.specs.declared.numbering.Numbering.{Numbering}
 use Rattle.fl_check.proofs.KeptPages.{good}
 use Rattle.fl_check.proofs.TablePages.{is_data_page}
-use Rattle.fl_sound.proofs.ConfigFacts.{row-fits, few-indexed, has-buckets}
+use Rattle.fl_sound.proofs.ConfigFacts.{few-indexed, has-buckets}
 use Rattle.fl_sound.proofs.DataRing.{HaveRowsOf, keys-ascend}
+use Rattle.fl_sound.proofs.Lists.{take-none}
 use Rattle.fl_sound.proofs.RingReads.{IsOf, Reads}
 use Rattle.fl_sound.proofs.RingSound.{SoundRing, AreFormed, sizes, sound-ring}
+use Rattle.fl_sound.proofs.Told.{full-stored, fields-fit}
 
 state-committed : (s : PageState) → commits s ≡ true → s ≡ Committed
 state-committed Blank e = cc
@@ -76,7 +90,7 @@ module _ (label : Label) (config : TableConfig) (f : FlashState) (table : Table)
   idle = lost-idle table is.rests.settled.lost
 
   pub plain : IsPlainTable (plan_of_table label config) table
-  plain = table-parts (plan_of_table label config) table (refl, refl) facts
+  plain = table-parts (plan_of_table label config) table refl facts
 
   pub counted : sum table.rows.counts ≡ length table.entries
   counted = let k = facts in let i = idle in omega (arith, k.counted, i.pending)
@@ -114,8 +128,16 @@ module _ (label : Label) (config : TableConfig) (f : FlashState) (table : Table)
     state : (i c : ℕ) → slice_get table.rows.counts i ≡ Some c → 0 < c → state_of_page (page_at f (kept_page (rows_shape config) n.marks i)) ≡ Committed
     state i c e some = state-committed (state_of_page (page_at f (kept_page (rows_shape config) n.marks i))) (reads.committed i c e ∙ lt-ltb 0 c some)
 
-    pub rows-of : HaveRowsOf (layout_in config) (page_at f) (rows_shape config) table n
-    rows-of i c e some =
+    abbrev at : ℕ → List ℕ
+    at i = page_at f (kept_page (rows_shape config) n.marks i)
+
+    -- what a page with rows reads as
+    record IsRead (i c : ℕ) : Type 0 where
+      rows : rows_in (layout_in config) (page_at f (kept_page (rows_shape config) n.marks i)) ≡ map stored_row (rows_at table i c)
+      good : IsGoodPage (layout_in config) (page_number (page_at f (kept_page (rows_shape config) n.marks i))) (page_at f (kept_page (rows_shape config) n.marks i))
+
+    read : (i c : ℕ) → slice_get table.rows.counts i ≡ Some c → 0 < c → IsRead i c
+    read i c e some =
         let here : page_at f (kept_page (rows_shape config) n.marks i) ≡ page_at f (place (rows_shape config) (model.oldest table.rows + i)) = reads.at i (slice_get-short table.rows.counts i c e) in
         let committed = sym (ap state_of_page here) ∙ state i c e some in
         let fit = row-fits config is.fits.passes in
@@ -123,16 +145,98 @@ module _ (label : Label) (config : TableConfig) (f : FlashState) (table : Table)
         let row_some = layout_some config.key config.columns.items (nat_lt 0 (blocks_in config.var)) in
         let k = kept (page_at f) first plan table config.key config.columns.items (nat_lt 0 (blocks_in config.var)) refl (few-blobs config is.fits.passes) plain idle.pending large
         (omega (arith, fit, large)) (omega (arith, row_some)) is.fits.limits.geometry.page_high size on i c e in
-        ap (rows_in (layout_in config)) here
-        ∙ sym (ap (λ (s : PageState). rows_where s (layout_in config) (page_at f (place (rows_shape config) (model.oldest table.rows + i)))) committed)
-        ∙ k.rows
+        let good = subst (λ (p : List ℕ). IsGoodPage (layout_in config) (model.oldest table.rows + i) p) (sym here) (k.good committed) in
+        record {
+          rows = ap (rows_in (layout_in config)) here
+              ∙ sym (ap (λ (s : PageState). rows_where s (layout_in config) (page_at f (place (rows_shape config) (model.oldest table.rows + i)))) committed)
+              ∙ k.rows;
+          good = record { number_is = refl; some = good.some; room = good.room };
+        }
 
-    -- the bitmaps in the headers of its pages
-    pub headers : IsTrue (is_bits plan.bits) → (m c : ℕ) → slice_get table.rows.counts m ≡ Some c → 0 < c → header_bitmap (page_at f (kept_page (rows_shape config) n.marks m)) ≡ bitmap_of (plan_of_table label config) (rows_at table m c)
+    pub rows-of : HaveRowsOf (layout_in config) (page_at f) (rows_shape config) table n
+    rows-of i c e some = (read i c e some).rows
+
+    -- ---- what index entries tell of its pages
+
+    headers : IsTrue (is_bits plan.bits) → (m c : ℕ) → slice_get table.rows.counts m ≡ Some c → 0 < c → header_bitmap (page_at f (kept_page (rows_shape config) n.marks m)) ≡ bitmap_of (plan_of_table label config) (rows_at table m c)
     headers bits m c e some =
         let p = page_at f (kept_page (rows_shape config) n.marks m) in
         let holds = reads.at m (slice_get-short table.rows.counts m c e) ∙ is.rests.pages.rows.kept m c e some in
         sym (ap (λ (s : PageState). bitmap_where s (page_bitmap p)) (state m c e some)) ∙ page-bitmap plan (model.oldest table.rows + m) (rows_at table m c) p bits holds
+
+    keys-small : key_limit (plan_of_table label config) < 2 ^ 64
+    keys-small = by_key config.key
+      where
+        by_key : (key : KeyWidth) → 2 ^ (8 * key_width key) - 1 < 2 ^ 64
+        by_key Four = omega arith
+        by_key Eight = omega arith
+
+    -- the fields of a full entry have room for what its rows tell
+    fields : (m c : ℕ) → slice_get table.rows.counts m ≡ Some c → full_view (fields_of (full_of (rows_at table m c))) ≡ full_in (map stored_row (rows_at table m c))
+    fields m c e =
+        let before = sum (take m table.rows.counts) in
+        let k = facts in
+        let most = each-at (λ (count : ℕ). count ≤ rows_per_page plan) table.rows.counts m c k.few_rows e in
+        let many = length-take c (drop (sum (take m table.rows.counts)) table.entries) in
+        let high = is.fits.limits.geometry.page_high in
+        let less = div-le_self (config.geometry.page - 24) (row_len plan) in
+        fields-fit plan (rows_at table m c) (each-take (FitsPlan plan) c (drop before table.entries) (each-drop (FitsPlan plan) before table.entries k.fit)) keys-small
+        (omega (arith, many, most, less, high))
+        (λ j entry blob there is_blob some. table-numbered plan table plain idle.pending (before + j) entry blob
+        (sym (slice_get-drop before table.entries j) ∙ slice_get-front c (drop before table.entries) j entry there) is_blob some)
+        ∙ sym (full-stored (rows_at table m c))
+
+    -- an entry that tells of these rows, where it is read
+    module _ (bits : IsTrue (is_bits plan.bits)) (bytes : List ℕ) (j : ℕ) (entry : IndexEntry) (is_at : IsAt (plan_form (plan_of_table label config)) bytes j entry) where
+      bitmap-read : (rows : List Entry) → Tells (plan_of_table label config) rows entry → bitmap_at (plan_form (plan_of_table label config)) bytes j ≡ bitmap_of (plan_of_table label config) rows
+      bitmap-read rows tells = is_at.bitmap ∙ ap (λ (k : ℕ). k % 256 ^ (plan.bits / 8)) tells.bitmap ∙ bitmap-small plan rows bits
+
+      full-told : (P : code.Full → Type 0) (rows : List Entry) → Tells (plan_of_table label config) rows entry → P (fields_of (full_of rows)) → IfSome (found_at (plan_form (plan_of_table label config)) bytes j).full P
+      full-told P rows tells here = by_form plan.full_index refl
+        where
+          by_form : (b : Bool) → plan.full_index ≡ b → IfSome (cond b (Some (full_at (plan_form (plan_of_table label config)) bytes j)) None) P
+          by_form true e = subst P (sym (is_at.full e ∙ ap fields_of (tells.full e))) here
+          by_form false e = tt
+
+      committed-told : (m c : ℕ) → slice_get table.rows.counts m ≡ Some c → 0 < c → Tells (plan_of_table label config) (rows_at table m c) entry
+          → TellsCommitted (layout_in config) (page_at f (kept_page (rows_shape config) n.marks m)) (found_at (plan_form (plan_of_table label config)) bytes j)
+      committed-told m c e some tells = record {
+        bitmap = bitmap-read (rows_at table m c) tells ∙ sym (headers bits m c e some);
+        full = full-told (λ (full : code.Full). IsGoodPage (layout_in config) (page_number (at m)) (at m) × (full_view full ≡ full_in (rows_in (layout_in config) (at m)))) (rows_at table m c) tells
+            ((read m c e some).good, fields m c e ∙ ap full_in (sym (rows-of m c e some)));
+      }
+
+      void-told : (rows : List Entry) → rows ≡ [] → Tells (plan_of_table label config) rows entry → TellsVoid (found_at (plan_form (plan_of_table label config)) bytes j)
+      void-told rows none tells =
+          full-told (λ (full : code.Full). (bitmap_at (plan_form plan) bytes j ≡ 0) × (full_view full ≡ full_of [])) rows tells
+          (bitmap-read rows tells ∙ ap (bitmap_of plan) none ∙ no-bits (plan.bits == 0), ap (λ (es : List Entry). full_view (fields_of (full_of es))) none)
+        where
+          no-bits : (b : Bool) → ◌≡◌ {A = ℕ} (cond b 0 0) 0
+          no-bits true = refl
+          no-bits false = refl
+
+    -- what tells of the rows of a kept page tells of the page
+    pub told : IsTrue (is_bits plan.bits) → (m c : ℕ) → slice_get table.rows.counts m ≡ Some c → (bytes : List ℕ) (j : ℕ) (entry : IndexEntry) → IsAt (plan_form (plan_of_table label config)) bytes j entry
+        → Tells (plan_of_table label config) (rows_at table m c) entry → TellsPage (layout_in config) (page_at f (kept_page (rows_shape config) n.marks m)) (found_at (plan_form (plan_of_table label config)) bytes j)
+    told bits m c e bytes j entry is_at tells = elim (cases_lt 0 c) [
+      | inl some ↦ record {
+        rows = λ committed. committed-told bits bytes j entry is_at m c e some tells;
+        void = λ not. absurd (true≢false (sym (reads.committed m c e ∙ lt-ltb 0 c some) ∙ not));
+      }
+      | inr none ↦
+          let z : c ≡ 0 = omega (arith, none) in
+          record {
+            rows = λ committed. absurd (true≢false (sym committed ∙ reads.committed m c e ∙ ap (nat_lt 0) z));
+            void = λ not. void-told bits bytes j entry is_at (rows_at table m c) (ap (λ (k : ℕ). take k (drop (sum (take m table.rows.counts)) table.entries)) z ∙ take-none (drop (sum (take m table.rows.counts)) table.entries)) tells;
+          }
+    ]
+
+    -- a bitmap alone tells nothing of a void page
+    pub untold : (m : ℕ) → slice_get table.rows.counts m ≡ Some 0 → (found : Found) → found.full ≡ None → TellsPage (layout_in config) (page_at f (kept_page (rows_shape config) n.marks m)) found
+    untold m e found none = record {
+      rows = λ committed. absurd (true≢false (sym committed ∙ reads.committed m 0 e));
+      void = λ not. subst (λ (o : Option code.Full). IfSome o (λ full. (found.bitmap ≡ 0) × (full_view full ≡ full_of []))) (sym none) tt;
+    }
 
     keys : KeysAscend (layout_in config) (page_at f) (rows_shape config) n.marks
     keys = keys-ascend (layout_in config) (page_at f) (rows_shape config) (index_end plan table) table n reads counted rows-of (good.keys plan table facts)

@@ -1,8 +1,8 @@
 -- The text of a configuration that accepted lines make has room in the header of its images.
-use Rattle.std.proofs.Common.{◌≡◌, ℕ, ℤ, pos, negsuc, suc, ◌+◌, ◌-◌, ◌*◌, ◌<◌, ◌≤◌, true, false, ◌&&◌, ◌||◌, nat_le, nat_lt, Option, Some, None, List, [], ◌∷◌, ◌++◌, length, map, replicate, codes, decimal, length-append, refl, sym, ap, subst, arith}
+use Rattle.std.proofs.Common.{◌≡◌, ℕ, ℤ, pos, negsuc, suc, ◌+◌, ◌-◌, ◌*◌, ◌<◌, ◌≤◌, Bool, true, false, ◌&&◌, ◌||◌, nat_le, nat_lt, Option, Some, None, List, [], ◌∷◌, ◌++◌, length, map, replicate, codes, decimal, length-append, refl, sym, ap, subst, arith}
 use Rattle.std.specs.Fmt.{signed_decimal}
 use Rattle.std.specs.List.{list_all, slice_split, flat_map, join_with_byte}
-use Rattle.std.specs.Prelude.{◌==◌, unwrap_or}
+use Rattle.std.specs.Prelude.{◌==◌, unwrap_or, if◌then◌else◌}
 use Rattle.std.proofs.lemmas.Bool.{and_parts, leb-true, ltb-false}
 use Rattle.std.proofs.lemmas.Bool.Decides.{nat_tests}
 use Rattle.std.proofs.lemmas.Fmt.{length-decimal-le}
@@ -48,6 +48,11 @@ signed-short : (z : ℤ) → IsSigned z → length (signed_decimal z) ≤ 21
 signed-short (pos n) le = omega (arith, decimal-short n (omega (arith, le)))
 signed-short (negsuc n) le = omega (arith, decimal-short (suc n) (omega (arith, le)))
 
+-- the word for full index entries
+format-short : (full : Bool) → spaced (if full then codes "index2" ∷ [] else []) ≤ 7
+format-short true = omega arith
+format-short false = omega arith
+
 name-short : (name : List ℕ) → is_name name ≡ true → length name ≤ 8
 name-short [] h = omega arith
 name-short (byte ∷ bytes) h =
@@ -78,6 +83,11 @@ module _ (geometry : Geometry) (before : List Plan) (line : TableLine) (read : I
       ltb-false 8 (length (unwrap_or (columns_in line.columns) []))
       (test-passes (table_faults geometry before line) 4 (nat_lt 8 (length (plan_of geometry line).columns), words.ColumnCount) passes refl)
 
+  error-short : length (decimal line.error) ≤ 3
+  error-short =
+      let few : line.error ≤ 255 = ltb-false 255 line.error (test-passes (table_faults geometry before line) 10 (nat_lt 255 line.error, words.ErrorBound) passes refl) in
+      length-decimal-le 3 line.error (omega arith) (omega (arith, few)) (omega (arith, few))
+
   line-short : length (table_text (plan_of geometry line)) ≤ 240
   line-short =
       omega (
@@ -85,7 +95,7 @@ module _ (geometry : Geometry) (before : List Plan) (line : TableLine) (read : I
         lined
             (codes "table" ∷ line.name ∷ decimal line.key ∷ join_with_byte 44 (map column_name (unwrap_or (columns_in line.columns) []))
             ∷ decimal line.data_blocks ∷ decimal line.index_blocks ∷ decimal line.var_blocks ∷ decimal line.bits ∷ signed_decimal line.base
-            ∷ decimal line.width ∷ decimal line.error ∷ decimal line.blob_limit ∷ []),
+            ∷ decimal line.width ∷ decimal line.error ∷ decimal line.blob_limit ∷ (if line.full_index then codes "index2" ∷ [] else [])),
         name-short line.name read.name,
         columns-short (columns_in line.columns) line.columns refl few-columns,
         decimal-short line.key read.key,
@@ -95,8 +105,9 @@ module _ (geometry : Geometry) (before : List Plan) (line : TableLine) (read : I
         decimal-short line.bits read.bits,
         signed-short line.base read.base,
         decimal-short line.width read.width,
-        decimal-short line.error read.error,
+        error-short,
         decimal-short line.blob_limit read.blob_limit,
+        format-short line.full_index,
       )
 
 taken-short : (geometry : Geometry) (before : List Plan) (plan : Plan) → IsTaken geometry before plan → length (table_text plan) ≤ 240

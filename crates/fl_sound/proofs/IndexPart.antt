@@ -1,5 +1,5 @@
 -- The rules of the index ring hold where a flash stands for a table.
-use Rattle.std.proofs.Common.{◌≡◌, ℕ, ◌+◌, ◌-◌, ◌*◌, ◌/◌, ◌^◌, ◌<◌, ◌≤◌, true, false, nat_lt, IsTrue, Option, Some, None, IfSome, List, [], ◌∷◌, length, take, refl, sym, ◌∙◌, ap, subst, arith}
+use Rattle.std.proofs.Common.{◌≡◌, ℕ, ◌+◌, ◌-◌, ◌*◌, ◌^◌, ◌<◌, ◌≤◌, true, false, nat_lt, IsTrue, Option, Some, None, IfSome, List, [], ◌∷◌, length, take, refl, sym, ◌∙◌, ap, subst, arith}
 use Rattle.std.specs.List.{slice_get, last_or}
 use Rattle.std.specs.Option.{option_map, unwrap_or}
 use Rattle.std.proofs.lemmas.Bool.{lt-ltb}
@@ -8,7 +8,6 @@ use Rattle.fl_base.specs.declared.types.RingPlace.{RingPlace}
 use Rattle.fl_bitmap.specs.Widths.{is_bits}
 use Rattle.fl_flash.specs.Flash.{FlashState, page_at}
 use Rattle.fl_index.specs.Standing.{HasIndex, HoldsIndex}
-use Rattle.fl_index.proofs.Gathering.{bitmap-small}
 use Rattle.fl_index.proofs.Lists.{below-end, first-at, firsts-length}
 use Rattle.fl_index.proofs.Mountings.{good-ring, state-len}
 use Rattle.fl_index.proofs.Showing.{index-page}
@@ -17,7 +16,7 @@ use Rattle.fl_model.specs.Facts.{is_some_ring, counts_in}
 use Rattle.fl_model.specs.Image.{IsRingImage, HoldsEntries}
 use Rattle.fl_model.specs.Layout.{IndexEntry, IndexPage}
 use Rattle.fl_model.specs.Mount.{index_end}
-use Rattle.fl_model.specs.Record.{Plan, entries_per_page}
+use Rattle.fl_model.specs.Record.{Plan, entry_len, entries_per_page}
 use Rattle.fl_model.specs.Ring as model
 use Rattle.fl_model.specs.Table.{Table, IndexRing, shape_of, firsts, full_pages}
 use Rattle.fl_model.proofs.Lists.{slice_get-short, each-at}
@@ -32,13 +31,12 @@ use Rattle.fl_check.specs.Entries.{entries_in, HaveEntries}
 use Rattle.fl_check.specs.Marks.{kept_page}
 use Rattle.fl_check.specs.RingRules.{IsRingSound}
 use Rattle.fl_check.specs.Tally.{listed_to}
-use Rattle.fl_check.specs.Whole.{OfRing, shape_in as ring_shape, rows_shape, width_in, end_in, indexing, IsIndexForm, IsIndexSound}
+use Rattle.fl_check.specs.Whole.{OfRing, shape_in as ring_shape, rows_shape, form_in, layout_in, end_in, indexing, IsIndexForm, IsIndexSound}
 use Rattle.fl_check.specs.Whole as whole
 use Rattle.fl_check.specs.declared.numbering.Numbering.{Numbering}
-use Rattle.fl_check.proofs.IndexPages.{len-bare}
 use Rattle.fl_check.proofs.Wholes.{of_ring, of_none}
 use Rattle.fl_sound.proofs.ConfigFacts.{some-bits, some-room}
-use Rattle.fl_sound.proofs.DataPart.{StandsOn, plain, idle, headers}
+use Rattle.fl_sound.proofs.DataPart.{StandsOn, plain, idle, told, untold}
 use Rattle.fl_sound.proofs.DataPart as parts
 use Rattle.fl_sound.proofs.IndexRule.{ListsPages, end-is, have-entries}
 use Rattle.fl_sound.proofs.RingReads.{IsOf, Reads}
@@ -48,7 +46,7 @@ use Rattle.fl_sound.proofs.RingSound.{SoundRing, AreFormed, sizes, counts-some, 
 pub record IndexAt (label : Label) (config : TableConfig) (f : FlashState) (table : Table) (x : Shape) : Type 0 where
   pub n : Numbering
   pub sound : IsRingSound (IsIndexForm config) None (page_at f) x 0 n
-  pub end : listed_to (entries_in config.geometry.page (width_in config)) (page_at f) x n.marks n.marks.kept ≡ index_end (plan_of_table label config) table
+  pub end : listed_to (entries_in config.geometry.page (form_in config)) (page_at f) x n.marks n.marks.kept ≡ index_end (plan_of_table label config) table
   pub entries : (rows : Numbering) → Reads (page_at f) (rows_shape config) (index_end (plan_of_table label config) table) table.rows rows → HaveEntries (page_at f) x (rows_shape config) (indexing config n rows)
 
 -- .. which a table may not have
@@ -82,11 +80,11 @@ module _ (label : Label) (config : TableConfig) (f : FlashState) (table : Table)
     bits : IsTrue (is_bits (bits_in config.buckets))
     bits = some-bits label config at at_is is.fits.limits
 
-    per : entries_in config.geometry.page (width_in config) ≡ entries_per_page (plan_of_table label config)
-    per = ap (λ (k : ℕ). (config.geometry.page - 24) / k) (sym (len-bare plan refl))
+    per : entries_in config.geometry.page (form_in config) ≡ entries_per_page (plan_of_table label config)
+    per = refl
 
     some : 0 < entries_per_page (plan_of_table label config)
-    some = subst (λ (k : ℕ). 0 < k) per (some-room config.geometry.page (bits_in config.buckets) bits large)
+    some = some-room config.geometry.page (form_in config) (bits_in config.buckets) bits refl large
 
     size : HaveSize (config.rows.first_block + config.rows.blocks) (plan_of_table label config) (page_at f)
     size = sizes f config.geometry first (blocks_in config.index) is.reaches is.fits.geometry (omega (arith, blocks_is, reach, begins)) (omega (arith, blocks_is, limit.0)) (omega (arith, is.fits.limits.geometry.block_low))
@@ -142,14 +140,14 @@ module _ (label : Label) (config : TableConfig) (f : FlashState) (table : Table)
     sound = sound-ring (IsIndexForm config) None f (shape_in first plan) 0 found.s shape good ring is-of forms (λ n reads. tt)
 
     listings : (i c : ℕ) → slice_get found.is.ring.counts i ≡ Some c → 0 < c
-        → ListsPages (plan_of_table label config) table found.is.ring (width_in config) i (page_at f (kept_page (shape_in (config.rows.first_block + config.rows.blocks) (plan_of_table label config)) sound.n.marks i))
+        → ListsPages (plan_of_table label config) table found.is.ring i (page_at f (kept_page (shape_in (config.rows.first_block + config.rows.blocks) (plan_of_table label config)) sound.n.marks i))
     listings i c e some_count =
         let h = image.kept i c e some_count in
         let lt = slice_get-short ring.counts i c e in
         let k = facts in
         let small : model.oldest ring + i < 2 ^ 32 = omega (arith, lt, k.is_ring.not_negative, k.number) in
         let short = is.fits.limits.geometry.page_high in
-        let few : entries_per_page plan < 2 ^ 16 = omega (arith, div-le_self (config.geometry.page - 24) (bits_in config.buckets / 8), short, per) in
+        let few : entries_per_page plan < 2 ^ 16 = omega (arith, div-le_self (config.geometry.page - 24) (entry_len plan), short) in
         let p = page_at f (kept_page (shape_in first plan) sound.n.marks i) in
         let listed = first-listed i h.holds h.is in
         let shows = index-page plan (model.oldest ring + i) h.holds.first h.holds.entries p small (low-first i h.holds.first listed) (many i h.holds h.is) few (sound.reads.at i lt ∙ h.bytes) in
@@ -159,7 +157,7 @@ module _ (label : Label) (config : TableConfig) (f : FlashState) (table : Table)
           first_is = shows.first_is;
           listed = listed;
           full = many i h.holds h.is;
-          at = λ j entry e. (shows.at j entry e).bitmap;
+          at = shows.at;
           tell = k.tell (full_pages (take i ring.counts)) h.holds h.is;
         }
 
@@ -167,10 +165,10 @@ module _ (label : Label) (config : TableConfig) (f : FlashState) (table : Table)
     index-here = record {
       n = sound.n;
       sound = sound.sound;
-      end = end-is plan (page_at f) (shape_in first plan) (rows_shape config) (index_end plan table) (width_in config) table ring sound.n sound.n facts sound.reads per listings;
+      end = end-is plan (page_at f) (shape_in first plan) (rows_shape config) (index_end plan table) table ring sound.n sound.n facts sound.reads per listings;
       entries = λ rows reads.
-          have-entries plan (page_at f) (shape_in first plan) (rows_shape config) (index_end plan table) (width_in config) table ring sound.n rows facts sound.reads per listings
-          reads (let h = plain label config f table is in h.rows.not_negative) refl (λ entries. bitmap-small plan entries bits) (headers label config f table is rows reads bits);
+          have-entries plan (page_at f) (shape_in first plan) (rows_shape config) (index_end plan table) table ring sound.n rows facts sound.reads per listings
+          reads (let h = plain label config f table is in h.rows.not_negative) refl (layout_in config) (told label config f table is rows reads bits) (untold label config f table is rows reads);
     }
 
     shape-is : shape_in (config.rows.first_block + config.rows.blocks) (plan_of_table label config) ≡ ring_shape config at

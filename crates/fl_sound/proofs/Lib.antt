@@ -5,6 +5,7 @@ pub mod IndexRule
 pub mod ReferenceRule
 pub mod RingSound
 pub mod ConfigFacts
+pub mod Told
 pub mod DataPart
 pub mod IndexPart
 pub mod VarPart

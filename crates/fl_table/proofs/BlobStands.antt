@@ -107,7 +107,7 @@ fault_ends (FailedIn before) fault new a = a
 
 module _ {KNOTS SLOTS : ℕ} (t : code.Table KNOTS SLOTS) (f new : FlashState) (first : ℕ) (plan : Plan) (table : Table) (rose : Bool) (device : Device) (stands : Stands t f first plan table) (watched : IsWatched f new rose device) where
   facts : IsPlainTable plan table
-  facts = table-parts plan table (stands.planned.full, stands.planned.log) stands.facts
+  facts = table-parts plan table stands.planned.log stands.facts
 
   pub standing-in : (v : VarData) → t.blobs ≡ Some v → IsStanding v f (first + plan.data_blocks + plan.index_blocks) plan table
   standing-in v is = subst (λ (o : Option VarData). Stand o f (first + plan.data_blocks + plan.index_blocks) plan table) is stands.blobs

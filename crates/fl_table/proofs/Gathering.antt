@@ -1,14 +1,16 @@
--- The bitmaps that a mount notes as it reads the pages.
+-- The entries that a mount notes as it reads the pages.
 use Rattle.std.proofs.Common.{◌≡◌, ℕ, ◌+◌, ◌-◌, ◌/◌, ◌%◌, ◌^◌, ◌<◌, ◌≤◌, ◌==◌, Bool, true, false, cond, IsTrue, List, [], length, Option, Some, None, IfSome, refl, sym, ◌∙◌, ap, subst, arith, ◌⊎◌, inl, inr}
 use Rattle.std.proofs.lemmas.Bool.{cases_lt, eqb-true}
 use Rattle.std.proofs.Math.Nat.{mod-lt, mod-eq_of_lt}
 use Rattle.fl_base.specs.declared.types.Geometry.{Geometry}
 use Rattle.fl_index.specs.declared.index.Index.{Index}
+use Rattle.fl_index.specs.declared.page.Full.{Full}
 use Rattle.fl_index.specs.Memory.{waiting_in, first_waiting, per_page, IsSamePlan}
+use Rattle.fl_index.specs.Page.{full_view}
 use Rattle.fl_index.specs.Standing.{Waits}
 use Rattle.fl_model.specs.Layout.{IndexEntry, bitmap_of, index_entry}
 use Rattle.fl_model.specs.Limits.{rows_of_page}
-use Rattle.fl_model.specs.Record.{Plan}
+use Rattle.fl_model.specs.Record.{Plan, RowLayout}
 use Rattle.fl_model.specs.Ring.{oldest}
 use Rattle.fl_model.specs.Table.{Table, Entry}
 use Rattle.fl_bitmap.specs.Widths.{is_bits}
@@ -23,7 +25,7 @@ use Rattle.fl_model.specs.Row.{le, number_of}
 use Rattle.fl_ring.proofs.Found.{committed_state}
 use Rattle.fl_table.specs.Bitmaps.{AreSamePlan, AreIdle, EndAt, HaveRoom, AreNoted, first_to_wait}
 use Rattle.fl_table.proofs.PageRows.{entries-push}
-use Rattle.fl_table.specs.Reading.{WaitFor, entries_from, HaveBitmaps, GatherUpTo, AreGathered, bitmap_on, bitmap_where, page_bitmap}
+use Rattle.fl_table.specs.Reading.{WaitFor, entries_from, IsEntryOf, HaveEntries, GatherUpTo, AreGathered, bitmap_on, full_on, bitmap_where, page_bitmap}
 use Rattle.fl_table.proofs.States.{committed-end}
 
 -- at first none waits
@@ -31,9 +33,9 @@ pub gathers-none : (bitmaps : Option Index) (low high number : ℕ) → number �
 gathers-none None low high number e h = refl
 gathers-none (Some index) low high number e h = (refl, omega (arith, h.0, h.1, e))
 
-pub gather-first : (bitmaps : Option Index) (low high number : ℕ) (page : ℕ → List ℕ) → number ≡ low → WaitFor bitmaps low high → GatherUpTo bitmaps page number bitmaps
-gather-first None low high number page e h = refl
-gather-first (Some index) low high number page e h = λ plan table plain waits bitmaps low' high'. subst (λ k. Waits index (first_waiting index) (entries_from plan table (first_waiting index) k)) (let z : 0 ≡ number - first_waiting index = omega (arith, h.1, e) in z) waits
+pub gather-first : (layout : RowLayout) (bitmaps : Option Index) (low high number : ℕ) (page : ℕ → List ℕ) → number ≡ low → WaitFor bitmaps low high → GatherUpTo layout bitmaps page number bitmaps
+gather-first layout None low high number page e h = refl
+gather-first layout (Some index) low high number page e h = λ plan table waits entries low' high'. subst (λ k. Waits index (first_waiting index) (entries_from plan table (first_waiting index) k)) (let z : 0 ≡ number - first_waiting index = omega (arith, h.1, e) in z) waits
 
 per_same : (old new : Index) → IsSamePlan old new → per_page new ≡ per_page old
 per_same old new same =
@@ -53,11 +55,11 @@ gather-room (Some old) (Some now) low high number h lt same g end = λ index e.
     subst (λ (o : Option Index). IfSome o (λ x. waiting_in x < per_page x)) e room
 
 -- one page more
-pub gathers-more : (old now later : Option Index) (low high number bitmap : ℕ) → WaitFor old low high → AreGathered old number now → AreNoted now number bitmap later → AreGathered old (number + 1) later
-gathers-more None now later low high number bitmap h g noted = subst (λ (o : Option Index). AreNoted o number bitmap later → later ≡ None) (sym g) (λ n. n) noted
-gathers-more (Some old) None later low high number bitmap h g noted = absurd g
-gathers-more (Some old) (Some now) None low high number bitmap h g noted = absurd noted
-gathers-more (Some old) (Some now) (Some later) low high number bitmap h g noted = by_order (cases_lt number (first_waiting old))
+pub gathers-more : (old now later : Option Index) (low high number bitmap : ℕ) (full : Full) → WaitFor old low high → AreGathered old number now → AreNoted now number bitmap full later → AreGathered old (number + 1) later
+gathers-more None now later low high number bitmap full h g noted = subst (λ (o : Option Index). AreNoted o number bitmap full later → later ≡ None) (sym g) (λ n. n) noted
+gathers-more (Some old) None later low high number bitmap full h g noted = absurd g
+gathers-more (Some old) (Some now) None low high number bitmap full h g noted = absurd noted
+gathers-more (Some old) (Some now) (Some later) low high number bitmap full h g noted = by_order (cases_lt number (first_waiting old))
   where
     by_order : (number < first_waiting old) ⊎ (first_waiting old ≤ number) → (first_waiting later ≡ first_waiting old) × (waiting_in later ≡ number + 1 - first_waiting old)
     by_order (inl before) =
@@ -67,29 +69,29 @@ gathers-more (Some old) (Some now) (Some later) low high number bitmap h g noted
         let n = noted.0 (omega (arith, g.0, g.1, from)) in
         (n.first ∙ g.0, omega (arith, n.one, g.1, from))
 
-pub gather-more : (old now later : Option Index) (low high number bitmap : ℕ) (page : ℕ → List ℕ) → WaitFor old low high → AreGathered old number now → AreNoted now number bitmap later → bitmap ≡ bitmap_on (page number) → AreSamePlan old now →
-    GatherUpTo old page number now → GatherUpTo old page (number + 1) later
-gather-more None now later low high number bitmap page h g noted is same k = subst (λ (o : Option Index). AreNoted o number bitmap later → later ≡ None) (sym g) (λ n. n) noted
-gather-more (Some old) None later low high number bitmap page h g noted is same k = absurd g
-gather-more (Some old) (Some now) None low high number bitmap page h g noted is same k = absurd noted
-gather-more (Some old) (Some now) (Some later) low high number bitmap page h g noted is same k = λ plan table plain waits bitmaps oldest_low next_high.
-    by_order plan table (k plan table plain waits bitmaps oldest_low (omega (arith, next_high))) bitmaps oldest_low next_high (same.full ∙ plain) (cases_lt number (first_waiting old))
+pub gather-more : (layout : RowLayout) (old now later : Option Index) (low high number bitmap : ℕ) (full : Full) (page : ℕ → List ℕ) → WaitFor old low high → AreGathered old number now → AreNoted now number bitmap full later →
+    bitmap ≡ bitmap_on (page number) → full ≡ full_on layout (page number) → GatherUpTo layout old page number now → GatherUpTo layout old page (number + 1) later
+gather-more layout None now later low high number bitmap full page h g noted bitmap_is full_is k = subst (λ (o : Option Index). AreNoted o number bitmap full later → later ≡ None) (sym g) (λ n. n) noted
+gather-more layout (Some old) None later low high number bitmap full page h g noted bitmap_is full_is k = absurd g
+gather-more layout (Some old) (Some now) None low high number bitmap full page h g noted bitmap_is full_is k = absurd noted
+gather-more layout (Some old) (Some now) (Some later) low high number bitmap full page h g noted bitmap_is full_is k = λ plan table waits entries oldest_low next_high.
+    by_order plan table (k plan table waits entries oldest_low (omega (arith, next_high))) entries oldest_low next_high (cases_lt number (first_waiting old))
   where
-    by_order : (plan : Plan) (table : Table) → Waits now (first_waiting old) (entries_from plan table (first_waiting old) (number - first_waiting old)) → HaveBitmaps plan table page → oldest table.rows ≤ first_waiting old → number + 1 ≤ table.rows.next →
-        now.full ≡ false → (number < first_waiting old) ⊎ (first_waiting old ≤ number) → Waits later (first_waiting old) (entries_from plan table (first_waiting old) (number + 1 - first_waiting old))
-    by_order plan table w bitmaps oldest_low next_high plain (inl before) =
+    by_order : (plan : Plan) (table : Table) → Waits now (first_waiting old) (entries_from plan table (first_waiting old) (number - first_waiting old)) → HaveEntries layout plan table page → oldest table.rows ≤ first_waiting old → number + 1 ≤ table.rows.next →
+        (number < first_waiting old) ⊎ (first_waiting old ≤ number) → Waits later (first_waiting old) (entries_from plan table (first_waiting old) (number + 1 - first_waiting old))
+    by_order plan table w entries oldest_low next_high (inl before) =
         let unchanged = noted.1 (λ e. omega (arith, e, g.0, g.1, before)) in
         subst (λ n. Waits later (first_waiting old) (entries_from plan table (first_waiting old) n)) (let z : number - first_waiting old ≡ number + 1 - first_waiting old = omega (arith, before) in z)
         (subst (λ (x : Index). Waits x (first_waiting old) (entries_from plan table (first_waiting old) (number - first_waiting old))) (sym unchanged) w)
-    by_order plan table w bitmaps oldest_low next_high plain (inr from) =
+    by_order plan table w entries oldest_low next_high (inr from) =
         let n = noted.0 (omega (arith, g.0, g.1, from)) in
         let at : first_waiting old + (number - first_waiting old) ≡ number = omega (arith, from) in
         let entry = index_entry plan (rows_of_page table (first_waiting old + (number - first_waiting old))) in
-        let bits : bitmap ≡ bitmap_of plan (rows_of_page table (first_waiting old + (number - first_waiting old))) =
-        is ∙ (bitmaps number (omega (arith, from, oldest_low)) (omega (arith, next_high)) ∙ ap (λ m. bitmap_of plan (rows_of_page table m)) (sym at)) in
+        let tells : IsEntryOf layout (page number) (index_entry plan (rows_of_page table (first_waiting old + (number - first_waiting old)))) =
+        subst (λ m. IsEntryOf layout (page number) (index_entry plan (rows_of_page table m))) (sym at) (entries number (omega (arith, from, oldest_low)) (omega (arith, next_high))) in
         subst (λ m. Waits later (first_waiting old) (entries_from plan table (first_waiting old) m)) (let z : number - first_waiting old + 1 ≡ number + 1 - first_waiting old = omega (arith, from) in z)
         (subst (λ (es : List IndexEntry). Waits later (first_waiting old) es) (sym (entries-push plan table (first_waiting old) (number - first_waiting old)))
-        (n.waits (first_waiting old) (entries_from plan table (first_waiting old) (number - first_waiting old)) entry plain w bits))
+        (n.waits (first_waiting old) (entries_from plan table (first_waiting old) (number - first_waiting old)) entry w (sym (bitmap_is ∙ tells.bitmap)) (λ t. sym (ap full_view full_is ∙ tells.full))))
 
 -- they end where the pages do
 pub gathers-end : (old now : Option Index) (low high : ℕ) → WaitFor old low high → AreGathered old high now → EndAt now high
@@ -111,11 +113,11 @@ wait-for (Some was) (Some now) end low high first is below le same idle at =
     let here = at now refl in
     (idle, omega (arith, is, here, idle, below, le), omega (arith, is, here, idle), omega (arith, is, here, idle, per))
 
-pub gather-waits : (old now : Index) (page : ℕ → List ℕ) (high first : ℕ) (plan : Plan) (table : Table) → waiting_in old ≡ 0 → first_waiting old + waiting_in old ≡ first → old.full ≡ false → Waits old first [] → HaveBitmaps plan table page → oldest table.rows ≤ first → high ≤ table.rows.next →
-    GatherUpTo (Some old) page high (Some now) → Waits now first (entries_from plan table first (high - first))
-gather-waits old now page high first plan table idle at plain waits bitmaps low within h =
+pub gather-waits : (layout : RowLayout) (old now : Index) (page : ℕ → List ℕ) (high first : ℕ) (plan : Plan) (table : Table) → waiting_in old ≡ 0 → first_waiting old + waiting_in old ≡ first → Waits old first [] → HaveEntries layout plan table page → oldest table.rows ≤ first → high ≤ table.rows.next →
+    GatherUpTo layout (Some old) page high (Some now) → Waits now first (entries_from plan table first (high - first))
+gather-waits layout old now page high first plan table idle at waits entries low within h =
     let here : first_waiting old ≡ first = omega (arith, at, idle) in
-    subst (λ k. Waits now k (entries_from plan table k (high - k))) here (h plan table plain (subst (λ k. Waits old k []) (sym here) waits) bitmaps (omega (arith, low, here)) within)
+    subst (λ k. Waits now k (entries_from plan table k (high - k))) here (h plan table (subst (λ k. Waits old k []) (sym here) waits) entries (omega (arith, low, here)) within)
 
 -- the bitmap in the header of a data page is that of its rows
 bits_small : (bits b : ℕ) → IsTrue (is_bits bits) → b % 256 ^ (bits / 8) ≡ b → b % 256 ^ 8 ≡ b

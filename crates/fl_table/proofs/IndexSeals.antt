@@ -240,7 +240,7 @@ module _ {KNOTS SLOTS : ℕ} (t : code.Table KNOTS SLOTS) (f new : FlashState) (
   planned = subst (λ (o : Option Index). ArePlanned o (first + plan.data_blocks) plan) some stands.planned.index
 
   facts : IsPlainTable plan table
-  facts = table-parts plan table (stands.planned.full, stands.planned.log) stands.facts
+  facts = table-parts plan table stands.planned.log stands.facts
 
   has : has_index plan ≡ true
   has = planned-some index (first + plan.data_blocks) plan planned

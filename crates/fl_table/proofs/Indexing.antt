@@ -5,12 +5,14 @@ use Rattle.std.specs.Option.{ForSome}
 use Rattle.fl_base.specs.declared.types.RingPlace.{RingPlace}
 use Rattle.fl_flash.specs.Flash.{FlashState, Goes, page_at, pages}
 use Rattle.fl_index.specs.declared.index.Index.{Index}
+use Rattle.fl_index.specs.declared.page.Full.{Full}
 use Rattle.fl_index.specs.Memory as memory
 use Rattle.fl_index.specs.Memory.{waiting_in, first_waiting, per_page}
+use Rattle.fl_index.specs.Page.{full_view}
 use Rattle.fl_index.specs.Standing.{Stands, Waits}
 use Rattle.fl_index.proofs.Memories as memories
 use Rattle.fl_index.proofs.Sealings.{planned-page}
-use Rattle.fl_model.specs.Layout.{IndexEntry, bitmap_of, index_entry}
+use Rattle.fl_model.specs.Layout.{IndexEntry, bitmap_of, full_of, index_entry}
 use Rattle.fl_model.specs.Record.{Plan, has_index, entries_per_page}
 use Rattle.fl_model.specs.Ring as model
 use Rattle.fl_model.specs.Table.{Table, DataRing, IndexRing, shape_of, pending_entries, after_seal, spent_from}
@@ -201,14 +203,14 @@ broken-after (Some index) h =
     by_full true e = omega (arith, e)
     by_full false e = omega (arith, e)
 
--- the next page's bitmap was noted
-pub noted-end : (old new : Option Index) (number bitmap : ℕ) → AreNoted old number bitmap new → EndAt old number → EndAt new (number + 1)
-noted-end None new number bitmap noted h = λ index e. absurd (none index (sym noted ∙ e))
+-- the next page's entry was noted
+pub noted-end : (old new : Option Index) (number bitmap : ℕ) (full : Full) → AreNoted old number bitmap full new → EndAt old number → EndAt new (number + 1)
+noted-end None new number bitmap full noted h = λ index e. absurd (none index (sym noted ∙ e))
   where
     none : (index : Index) → ◌≡◌ {A = Option Index} None (Some index) → ⊥
     none index e = cc
-noted-end (Some old) None number bitmap noted h = absurd noted
-noted-end (Some old) (Some new) number bitmap noted h = λ index e.
+noted-end (Some old) None number bitmap full noted h = absurd noted
+noted-end (Some old) (Some new) number bitmap full noted h = λ index e.
     let n = noted.0 (h old refl) in
     let now : first_waiting new + waiting_in new ≡ number + 1 = omega (arith, n.first, n.one, h old refl) in
     subst (λ (o : Option Index). IfSome o (λ x. first_waiting x + waiting_in x ≡ number + 1)) e now
@@ -247,14 +249,14 @@ pub few-waiting : (index : Index) (f : FlashState) (first : ℕ) (plan : Plan) (
 few-waiting index f first plan table s = omega (arith, s.waits.count_is, index.few, planned-page index first plan s.in_ring.planned)
 
 -- the entry of the page that was sealed waits
-pub stand-sealed : (old new : Option Index) (f g : FlashState) (first : ℕ) (plan : Plan) (table : Table) (number bitmap : ℕ) → ArePlanned old (first + plan.data_blocks) plan → IsPlainTable plan table →
+pub stand-sealed : (old new : Option Index) (f g : FlashState) (first : ℕ) (plan : Plan) (table : Table) (number bitmap : ℕ) (full : Full) → ArePlanned old (first + plan.data_blocks) plan → IsPlainTable plan table →
     IsPlainTable plan (after_seal plan DataRing table) → ((n : ℕ) → bytes_in (page_at g) first plan IndexRing n ≡ bytes_in (page_at f) first plan IndexRing n) →
-    number ≡ table.rows.next → bitmap ≡ bitmap_of plan (pending_entries table) → AreNoted old number bitmap new → Stand old f (first + plan.data_blocks) plan table → Stand new g (first + plan.data_blocks) plan (after_seal plan DataRing table)
-stand-sealed None new f g first plan table number bitmap planned facts after same at bits noted s =
+    number ≡ table.rows.next → bitmap ≡ bitmap_of plan (pending_entries table) → full_view full ≡ full_of (pending_entries table) → AreNoted old number bitmap full new → Stand old f (first + plan.data_blocks) plan table → Stand new g (first + plan.data_blocks) plan (after_seal plan DataRing table)
+stand-sealed None new f g first plan table number bitmap full planned facts after same at bits rest noted s =
     subst (λ (o : Option Index). Stand o g (first + plan.data_blocks) plan (after_seal plan DataRing table)) (sym noted)
     (ap (λ b. cond b (table.waiting ++ index_entry plan (pending_entries table) ∷ []) []) (planned-none (first + plan.data_blocks) plan planned))
-stand-sealed (Some old) None f g first plan table number bitmap planned facts after same at bits noted s = absurd noted
-stand-sealed (Some old) (Some new) f g first plan table number bitmap planned facts after same at bits noted s =
+stand-sealed (Some old) None f g first plan table number bitmap full planned facts after same at bits rest noted s = absurd noted
+stand-sealed (Some old) (Some new) f g first plan table number bitmap full planned facts after same at bits rest noted s =
     let some = planned-some old (first + plan.data_blocks) plan planned in
     let later = after_seal plan DataRing table in
     let all = table.waiting ++ index_entry plan (pending_entries table) ∷ [] in
@@ -264,7 +266,7 @@ stand-sealed (Some old) (Some new) f g first plan table number bitmap planned fa
     let n = noted.0 (omega (arith, s.waits.first_is, s.waits.count_is, at, within)) in
     let ring = memories.ring-same old new f (first + plan.data_blocks) plan table n.same n.still s.in_ring in
     let waits : Waits new (table.rows.next - length table.waiting) (table.waiting ++ index_entry plan (pending_entries table) ∷ []) =
-    n.waits (table.rows.next - length table.waiting) table.waiting (index_entry plan (pending_entries table)) (sym planned.full ∙ facts.plain.0) s.waits bits in
+    n.waits (table.rows.next - length table.waiting) table.waiting (index_entry plan (pending_entries table)) s.waits (sym bits) (λ t. sym rest) in
     let long : length later.waiting ≡ length table.waiting + 1 = ap length one ∙ length-append table.waiting (index_entry plan (pending_entries table) ∷ []) in
     let first_is : table.rows.next - length table.waiting ≡ later.rows.next - length later.waiting = omega (arith, long, next, within) in
     record {

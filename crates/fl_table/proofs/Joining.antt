@@ -150,7 +150,7 @@ pub record IsJoined {KNOTS SLOTS : ℕ} (t : code.Table KNOTS SLOTS) (f new : Fl
 module _ {KNOTS SLOTS : ℕ} (t : code.Table KNOTS SLOTS) (f new : FlashState) (first : ℕ) (plan : Plan) (table : Table) (rose : Bool) (device : Device) (item : Record) (stands : Stands t f first plan table) (watched : IsWatched f new rose device) (ok : IsAcceptedBy plan table item.key item.values item.blob)
     (index_left : bitmaps.next_of t.bitmaps ≤ spent_from) where
   facts : IsPlainTable plan table
-  facts = table-parts plan table (stands.planned.full, stands.planned.log) stands.facts
+  facts = table-parts plan table stands.planned.log stands.facts
 
   content : 0 < content_per_page plan
   content = omega (arith, ap (λ g. g.page) stands.planned.geometry, t.served.page_least)

@@ -4,7 +4,8 @@ use Rattle.std.proofs.Math.Nat.{le-div_iff_mul-le, mul-le-mul_left}
 use Rattle.std.proofs.lemmas.Bool.{cases_lt}
 use Rattle.std.proofs.Math.Seq.{take-add}
 use Rattle.fl_table.specs.BlobEnds.{blobs_end}
-use Rattle.fl_table.proofs.BlobEnds.{ends-append}
+use Rattle.fl_table.proofs.BlobEnds.{AreNumbered, ends-append}
+use Rattle.fl_table.proofs.FullEntries.{full-on}
 use Rattle.std.proofs.lemmas.List.{map-append, length-map, length-take-le, length-drop, take_all}
 use Rattle.std.proofs.lemmas.List.Sums.{sum_by-cons, sum_by-take-le}
 use Rattle.std.specs.List.{slice_get, sum, sum_by, count_by, AllByRecursion}
@@ -16,7 +17,8 @@ use Rattle.fl_model.specs.Ring as model
 use Rattle.fl_model.specs.Row.{Row, IsStorable, stored_row}
 use Rattle.fl_model.specs.Table.{Table, Entry, DataRing, shape_of, written}
 use Rattle.fl_model.specs.Facts.{FitsPlan, BlobFits, is_some_ring}
-use Rattle.fl_model.specs.Layout.{data_body, committed}
+use Rattle.fl_model.specs.Layout.{data_body, committed, full_of}
+use Rattle.fl_index.specs.Page.{full_view}
 use Rattle.fl_model.specs.Image.{IsRingImage, HoldsRows, rows_at}
 use Rattle.fl_model.proofs.Lists.{slice_get-some, slice_get-short, slice_get-drop, slice_get-front, each-drop, each-take}
 use Rattle.fl_table.proofs.BlobRows.{stored-row, written-numbered}
@@ -29,7 +31,7 @@ use Rattle.fl_schema.specs.Form.{layout_with}
 use Rattle.fl_schema.specs.declared.column.ColumnType.{ColumnType}
 use Rattle.fl_schema.specs.declared.schema.KeyWidth.{KeyWidth}
 use Rattle.fl_table.specs.Pages.{bytes_in}
-use Rattle.fl_table.specs.Reading.{keys_fault, last_in, AreRead, last_after, rows_after, voids_after, ends_after}
+use Rattle.fl_table.specs.Reading.{keys_fault, last_in, AreRead, last_after, rows_after, voids_after, ends_after, full_on}
 use Rattle.fl_table.proofs.KeyOrder.{key_before, rising}
 use Rattle.fl_table.proofs.States.{shape_in, state_of, HaveSize, to-image, committed-end}
 use Rattle.fl_find.specs.Pages.{rows_on, rows_where}
@@ -42,11 +44,7 @@ each-at {X} P [] i x h e = absurd (none e)
 each-at P (y ∷ ys) zero x h e = let same : y ≡ x = cc in subst P same h.0
 each-at P (y ∷ ys) (suc i) x h e = each-at P ys i x h.1 e
 
--- the blobs of these records begin on pages whose numbers fit
-abbrev pub AreNumbered : List Entry → Type 0
-AreNumbered entries = (i : ℕ) (entry : Entry) (blob : List ℕ) → slice_get entries i ≡ Some entry → entry.kept.blob ≡ Some blob → 0 < length blob → entry.page + 1 < 2 ^ 32
-
--- so do those of a table without pending records
+-- the blobs of a table without pending records begin on pages whose numbers fit
 pub table-numbered : (plan : Plan) (table : Table) → IsPlainTable plan table → table.pending ≡ 0 → AreNumbered table.entries
 table-numbered plan table facts none = λ i entry blob e is some.
     let there : slice_get (written table) i ≡ Some entry = ap (λ (es : List Entry). slice_get es i) (take_all (length table.entries - table.pending) table.entries (omega (arith, none))) ∙ e in
@@ -108,6 +106,10 @@ module _ (page : ℕ → List ℕ) (first : ℕ) (plan : Plan) (table : Table) (
       let fits : c * row_len plan ≤ plan.geometry.page - 24 = (le-div_iff_mul-le {x = c} {y = plan.geometry.page - 24} some_row).0 le in
       omega (arith, fits, room)
 
+  numbered : (i c : ℕ) → AreNumbered (rows_at table i c)
+  numbered i c = λ j entry blob e is some. table-numbered plan table facts none (sum (take i table.rows.counts) + j) entry blob
+      (sym (slice_get-drop (sum (take i table.rows.counts)) table.entries j) ∙ slice_get-front c (drop (sum (take i table.rows.counts)) table.entries) j entry e) is some
+
   at : ℕ → List ℕ
   at i = page (place (shape_in first plan) (model.oldest table.rows + i))
 
@@ -127,8 +129,7 @@ module _ (page : ℕ → List ℕ) (first : ℕ) (plan : Plan) (table : Table) (
           let lt = slice_get-short table.rows.counts i c e in
           let sized = few i c e in
           let d = data_page key types blobs plan (model.oldest table.rows + i) (rows_at table i c) same
-          (all-stored plan (rows_at table i c) (λ j entry blob e is some. table-numbered plan table facts none (sum (take i table.rows.counts) + j) entry blob
-          (sym (slice_get-drop (sum (take i table.rows.counts)) table.entries j) ∙ slice_get-front c (drop (sum (take i table.rows.counts)) table.entries) j entry e) is some) (each-take (FitsPlan plan) c (drop (sum (take i table.rows.counts)) table.entries) (each-drop (FitsPlan plan) (sum (take i table.rows.counts)) table.entries facts.kept.fit)))
+          (all-stored plan (rows_at table i c) (numbered i c) (each-take (FitsPlan plan) c (drop (sum (take i table.rows.counts)) table.entries) (each-drop (FitsPlan plan) (sum (take i table.rows.counts)) table.entries facts.kept.fit)))
           (omega (arith, lt, facts.rows.not_negative, facts.number)) (omega (arith, many, some)) (omega (arith, many, small c sized)) (omega (arith, ap (λ n. n * row_len plan) many, sized)) in
           let state : state_of_page (page (place (shape_in first plan) (model.oldest table.rows + i))) ≡ Committed =
           ap state_of_page (is ∙ committed-end (data_body plan (model.oldest table.rows + i) (rows_at table i c))) ∙ committed_state (data_body plan (model.oldest table.rows + i) (rows_at table i c)) in
@@ -155,6 +156,10 @@ module _ (page : ℕ → List ℕ) (first : ℕ) (plan : Plan) (table : Table) (
           take_none : (zs : List Entry) → take 0 zs ≡ []
           take_none [] = refl
           take_none (z ∷ zs) = refl
+
+  -- what its full entry tells beside the bitmap
+  pub full-kept : (i c : ℕ) → slice_get table.rows.counts i ≡ Some c → full_view (full_on (row_layout plan) (page (place (shape_in first plan) (model.oldest table.rows + i)))) ≡ full_of (rows_at table i c)
+  full-kept i c e = full-on (row_layout plan) (page (place (shape_in first plan) (model.oldest table.rows + i))) (rows_at table i c) (kept i c e).rows (numbered i c)
 
   -- the first n of them
   pub record AreKeptRead (n : ℕ) : Type 0 where

@@ -68,7 +68,7 @@ module _ {KNOTS SLOTS : ℕ} (t : Table KNOTS SLOTS) (f : FlashState) (first : �
   limit = omega (arith, stands.planned.limit, t.blobs_fit)
 
   facts : IsPlainTable plan table
-  facts = table-parts plan table (stands.planned.full, stands.planned.log) stands.facts
+  facts = table-parts plan table stands.planned.log stands.facts
 
   layout-is : layout_of t.schema ≡ row_layout plan
   layout-is = sym stands.planned.layout

@@ -8,7 +8,6 @@ pub mod BlobTables
 pub mod BlobEnds
 pub mod Bare
 pub mod Plain
-pub mod Planning
 pub mod Moved
 pub mod Indexing
 pub mod IndexSeals
@@ -19,6 +18,7 @@ pub mod BlobStands
 pub mod Following
 pub mod PowerOff
 pub mod Outsides
+pub mod FullEntries
 pub mod Gathering
 pub mod MountIndexed
 pub mod MountJoined
@@ -66,3 +66,4 @@ pub mod VoidPages
 pub mod Slots
 pub mod Sizes
 pub mod Skips
+pub mod Entries

@@ -12,8 +12,8 @@ use Rattle.fl_flash.specs.declared.flash.FlashFault.TheVariants.{PowerLost, Medi
 use Rattle.fl_model.specs.Record.{Plan, RowLayout, row_layout, row_len, layout_len, has_index, entries_per_page}
 use Rattle.fl_model.specs.Ring as model
 use Rattle.fl_model.specs.Row.{stored_row}
-use Rattle.fl_model.specs.Table.{Table, Entry, DataRing, IndexRing, VarRing, shape_of, pending_entries, lose}
-use Rattle.fl_model.specs.Layout.{IndexPage, bitmap_of}
+use Rattle.fl_model.specs.Table.{Table, Entry, DataRing, IndexRing, VarRing, shape_of, pending_entries, lose, end_of_blobs}
+use Rattle.fl_model.specs.Layout.{IndexPage, bitmap_of, full_of}
 use Rattle.fl_model.specs.Limits.{rows_of_page}
 use Rattle.fl_model.specs.Mount.{Of, renumber, ready, index_end, blob_end, waiting_after}
 use Rattle.fl_model.specs.Facts.{IsTable}
@@ -48,6 +48,7 @@ use Rattle.fl_model.specs.Spline.{points_of}
 use Rattle.fl_bitmap.specs.Widths.{is_bits}
 use Rattle.fl_index.specs.declared.index.Index.{Index}
 use Rattle.fl_index.specs.Memory as memory
+use Rattle.fl_index.specs.Page.{full_view}
 use Rattle.fl_index.specs.Standing.{Waits}
 use Rattle.fl_index.proofs.Lists.{end_after}
 use Rattle.fl_index.proofs.Memories as memories
@@ -58,7 +59,7 @@ use Rattle.fl_table.proofs.Gathering.{gather-waits, page-bitmap, void-bitmap}
 use Rattle.fl_table.proofs.Indexing.{planned-none, planned-some}
 use Rattle.fl_table.specs.Pages.{Rests, bytes_in}
 use Rattle.fl_find.specs.Index.{IndexOf}
-use Rattle.fl_table.specs.Reading.{AreRefused, AreNoted, last_after, rows_after, voids_after, ends_after, pages_of, points_after, HaveBitmaps, GatherUpTo, entries_from, bitmap_on}
+use Rattle.fl_table.specs.Reading.{AreRefused, AreNoted, last_after, rows_after, voids_after, ends_after, pages_of, points_after, HaveEntries, GatherUpTo, entries_from, bitmap_on, full_on}
 use Rattle.fl_table.specs.declared.counts.Mounted.{Mounted}
 use Rattle.fl_table.specs.declared.faults.MountFault.{MountFault}
 use Rattle.fl_table.specs.declared.faults.MountFault.TheVariants as mount
@@ -89,7 +90,7 @@ pub record IsMounting (first : ℕ) (plan : Plan) (table : Table) (old : FlashSt
 pub mounting-of : {KNOTS SLOTS : ℕ} (t : code.Table KNOTS SLOTS) (f : FlashState) (first : ℕ) (plan : Plan) (table : Table) → IsPlanned t first plan → f.geometry ≡ t.geometry → t.place.first_block + t.place.blocks ≤ f.blocks → f.start + extent f.geometry f.blocks ≤ length f.media.content → Rests f first plan table →
     IsMounting first plan table f
 mounting-of t f first plan table planned geometry within reaches rests =
-    let facts = table-parts plan table (planned.full, planned.log) rests.settled.facts in
+    let facts = table-parts plan table planned.log rests.settled.facts in
     let large = planned-large t first plan planned in
     record {
       limit = omega (arith, planned.limit, t.blobs_fit);
@@ -297,12 +298,12 @@ module _ (first : ℕ) (plan : Plan) (table : Table) (rose : Bool) (device : Dev
     ready_facts = table-facts plan (ready plan l.now.state) ready_plain
 
     -- what the table holds in memory then
-    pub started-memory : {KNOTS SLOTS : ℕ} (t : code.Table KNOTS SLOTS) → IsPlanned t first plan → place.shape_of ring ≡ shape_in first plan → ((layout : RowLayout) → Gathers layout [] t.writer) → t.bitmap ≡ 0 →
+    pub started-memory : {KNOTS SLOTS : ℕ} (t : code.Table KNOTS SLOTS) → IsPlanned t first plan → place.shape_of ring ≡ shape_in first plan → ((layout : RowLayout) → Gathers layout [] t.writer) → t.bitmap ≡ 0 → t.blob_end ≡ 0 →
         t.last_key ≡ last_after (layout_of t.schema) (pages_of ring mid) (oldest_of ring) (next_of ring - oldest_of ring) →
         (next_of ring - oldest_of ring ≤ length t.counts.items → AreNoted (layout_of t.schema) (pages_of ring mid) (oldest_of ring) (next_of ring - oldest_of ring) t.counts.items) →
         IndexOf plan.error (points_after (layout_of t.schema) (pages_of ring mid) (oldest_of ring) (next_of ring - oldest_of ring)) t.index →
         t.voids ≡ voids_after (layout_of t.schema) (pages_of ring mid) (oldest_of ring) (next_of ring - oldest_of ring) → HoldsInMemory t ring plan (ready plan l.now.state)
-    started-memory t planned is empty bitmap last noted index voids =
+    started-memory t planned is empty bitmap ends last noted index voids =
         let st = l.now.state in
         let h = reads-hold t planned is in
         let old : oldest_of ring ≡ model.oldest st.rows = l.stands.oldest ∙ state-oldest plan (lose l.now.state) in
@@ -315,6 +316,7 @@ module _ (first : ℕ) (plan : Plan) (table : Table) (rose : Bool) (device : Dev
           oldest = old;
           gathers = subst (λ (es : List Entry). Gathers (layout_of t.schema) (map stored_row es) t.writer) (sym nothing_pending) (empty (layout_of t.schema));
           bitmap = bitmap ∙ sym (ap (bitmap_of plan) nothing_pending ∙ no_values (plan.bits == 0));
+          blob_end = ends ∙ sym (ap end_of_blobs nothing_pending);
           last = last ∙ h.last;
           counts = λ i c e.
               ap (λ (k : ℕ). get_or t.counts.items (k % (plan.data_blocks * plan.geometry.block)) 0) (let s : model.oldest st.rows + i ≡ oldest_of ring + i = omega (arith, old) in s)
@@ -341,17 +343,29 @@ module _ (first : ℕ) (plan : Plan) (table : Table) (rose : Bool) (device : Dev
         let many : next_of ring - oldest_of ring ≡ length st.rows.counts = omega (arith, l.stands.next, old, l.facts.rows.not_negative) in
         e ∙ rw (h.rows, h.voids, many) refl
 
-    -- the bitmaps of the pages that the ring reads
-    reads-bitmaps : place.shape_of ring ≡ shape_in first plan → IsTrue (is_bits plan.bits) → HaveBitmaps plan (ready plan l.now.state) (pages_of ring mid)
-    reads-bitmaps is bits =
+    -- the entries of the pages that the ring reads
+    reads-entries : {KNOTS SLOTS : ℕ} (t : code.Table KNOTS SLOTS) → IsPlanned t first plan → place.shape_of ring ≡ shape_in first plan → IsTrue (is_bits plan.bits) → HaveEntries (layout_of t.schema) plan (ready plan l.now.state) (pages_of ring mid)
+    reads-entries t planned is bits =
         let on : OnRing (shape_in first plan) (page_at mid) (state_of plan l.now.state) = subst (λ (x : Table). OnRing (shape_in first plan) (page_at mid) (state_of plan x)) (sym (idle-lost l.now.state l.repaired.idle)) l.on in
         let mid_sizes : HaveSize first plan (page_at mid) = subst (λ (page : ℕ → List ℕ). HaveSize first plan page) (same_pages mid new n reads) sizes in
         let image = to-image (page_at mid) first plan l.now.state mid_sizes large l.facts.rows on in
-        subst (λ (r : Shape). HaveBitmaps plan (ready plan l.now.state) (λ number. page_at mid (place_at r number))) (sym is) (λ number low high. one_page image mid_sizes number low high)
+        let bitmap : (number : ℕ) → model.oldest l.now.state.rows ≤ number → number < l.now.state.rows.next → bitmap_on (pages_of ring mid number) ≡ bitmap_of plan (rows_of_page l.now.state number) =
+        subst (λ (r : Shape). (number : ℕ) → model.oldest l.now.state.rows ≤ number → number < l.now.state.rows.next → bitmap_on (page_at mid (place_at r number)) ≡ bitmap_of plan (rows_of_page l.now.state number)) (sym is) (λ number low high. one_page image mid_sizes number low high) in
+        λ number low high. record { bitmap = bitmap number low high; full = full_page number low high }
       where
         bare_rows : (xs : List Entry) → take 0 xs ≡ []
         bare_rows [] = refl
         bare_rows (x ∷ xs) = refl
+
+        full_page : (number : ℕ) → model.oldest l.now.state.rows ≤ number → number < l.now.state.rows.next → full_view (full_on (layout_of t.schema) (pages_of ring mid number)) ≡ full_of (rows_of_page l.now.state number)
+        full_page number low high =
+            let i = number - model.oldest l.now.state.rows in
+            let there : model.oldest l.now.state.rows + i ≡ number = omega (arith, low) in
+            let old : oldest_of ring ≡ model.oldest l.now.state.rows = l.stands.oldest ∙ state-oldest plan (lose l.now.state) in
+            let c = slice_get-some l.now.state.rows.counts i (omega (arith, low, high, l.facts.rows.not_negative)) in
+            subst (λ n. full_view (full_on (layout_of t.schema) (pages_of ring mid n)) ≡ full_of (rows_of_page l.now.state n)) there
+            (subst (λ n. full_view (full_on (layout_of t.schema) (pages_of ring mid (n + i))) ≡ full_of (rows_of_page l.now.state (model.oldest l.now.state.rows + i))) old
+            ((reads-hold t planned is).full i c.0 c.1 ∙ ap full_of (sym (page-rows l.now.state i c.0 c.1))))
 
         one_page : IsRingImage (shape_of plan DataRing) l.now.state.rows (bytes_in (page_at mid) first plan DataRing) (HoldsRows plan l.now.state) → HaveSize first plan (page_at mid) → (number : ℕ) → model.oldest l.now.state.rows ≤ number → number < l.now.state.rows.next →
             bitmap_on (page_at mid (place_at (shape_in first plan) number)) ≡ bitmap_of plan (rows_of_page l.now.state number)
@@ -371,18 +385,18 @@ module _ (first : ℕ) (plan : Plan) (table : Table) (rose : Bool) (device : Dev
                 ∙ sym (ap (bitmap_of plan) nothing ∙ no_values (plan.bits == 0))
 
     -- the index stands for that of the table that was started
-    pub started-stand : (was begun now : Option Index) (least wait : ℕ) → place.shape_of ring ≡ shape_in first plan → ArePlanned was (first + plan.data_blocks) plan → StandForRing was old (first + plan.data_blocks) plan table → least ≡ index_end plan table →
+    pub started-stand : {KNOTS SLOTS : ℕ} (t : code.Table KNOTS SLOTS) → IsPlanned t first plan → (was begun now : Option Index) (least wait : ℕ) → place.shape_of ring ≡ shape_in first plan → ArePlanned was (first + plan.data_blocks) plan → StandForRing was old (first + plan.data_blocks) plan table → least ≡ index_end plan table →
         wait ≡ first_to_wait was least (oldest_of ring) (next_of ring) → AreSamePlan was begun → AreSameRing was begun → AreIdle begun → EndAt begun wait → AreWaiting begun wait [] →
-        AreSamePlan begun now → AreSameRing begun now → GatherUpTo begun (pages_of ring mid) (next_of ring) now → Stand now new (first + plan.data_blocks) plan (ready plan l.now.state)
-    started-stand None None None least wait is planned stands end wait_is same kept unused at waits same' still' gathers =
+        AreSamePlan begun now → AreSameRing begun now → GatherUpTo (layout_of t.schema) begun (pages_of ring mid) (next_of ring) now → Stand now new (first + plan.data_blocks) plan (ready plan l.now.state)
+    started-stand t all_planned None None None least wait is planned stands end wait_is same kept unused at waits same' still' gathers =
         let count : waiting_after plan l.now.state ≡ 0 =
         ap (λ b. cond b (min (entries_per_page plan) (l.now.state.rows.next - max (index_end plan l.now.state) (model.oldest l.now.state.rows))) 0) (planned-none (first + plan.data_blocks) plan planned) in
         ap (λ k. entries_from plan l.now.state (l.now.state.rows.next - k) k) count
-    started-stand None None (Some now) least wait is planned stands end wait_is same kept unused at waits same' still' gathers = absurd same'
-    started-stand None (Some begun) now least wait is planned stands end wait_is same kept unused at waits same' still' gathers = absurd same
-    started-stand (Some was) None now least wait is planned stands end wait_is same kept unused at waits same' still' gathers = absurd same
-    started-stand (Some was) (Some begun) None least wait is planned stands end wait_is same kept unused at waits same' still' gathers = absurd same'
-    started-stand (Some was) (Some begun) (Some now) least wait is planned stands end wait_is same kept unused at waits same' still' gathers =
+    started-stand t all_planned None None (Some now) least wait is planned stands end wait_is same kept unused at waits same' still' gathers = absurd same'
+    started-stand t all_planned None (Some begun) now least wait is planned stands end wait_is same kept unused at waits same' still' gathers = absurd same
+    started-stand t all_planned (Some was) None now least wait is planned stands end wait_is same kept unused at waits same' still' gathers = absurd same
+    started-stand t all_planned (Some was) (Some begun) None least wait is planned stands end wait_is same kept unused at waits same' still' gathers = absurd same'
+    started-stand t all_planned (Some was) (Some begun) (Some now) least wait is planned stands end wait_is same kept unused at waits same' still' gathers =
         let D = first + plan.data_blocks in
         let st = l.now.state in
         let has = planned-some was D plan planned in
@@ -398,10 +412,9 @@ module _ (first : ℕ) (plan : Plan) (table : Table) (rose : Bool) (device : Dev
         let s1 = ring-moved now old old D plan table (renumber plan DataRing table) s0 refl (has-index plan (renumber plan DataRing table) s0.ring s0.facts.ring_is known (omega (arith, ap length idle.waiting))) (λ k. refl) in
         let s2 = ring-moved now old new D plan (renumber plan DataRing table) st s1 l.repaired.index_pages (has-index plan st s1.ring (l.repaired.index ∙ s1.facts.ring_is) l.facts (omega (arith, ap length l.repaired.idle.waiting))) (λ n. (still n).0) in
         let s3 = ring-moved now new new D plan st (ready plan st) s2 refl (has-index plan (ready plan st) s2.ring s2.facts.ring_is ready_plain few_wait) (λ k. refl) in
-        let plain : begun.full ≡ false = same.full ∙ (sym planned.full ∙ facts.plain.0) in
         let low : model.oldest st.rows ≤ wait = omega (arith, first_is, old_is, end, ended, next_is, l.facts.rows.not_negative) in
         let w : Waits now wait (entries_from plan st wait (next_of ring - wait)) =
-        gather-waits begun now (pages_of ring mid) (next_of ring) wait plan (ready plan st) unused (at begun refl) plain waits (reads-bitmaps is (planned-bits was D plan planned)) low (omega (arith, next_is)) gathers in
+        gather-waits (layout_of t.schema) begun now (pages_of ring mid) (next_of ring) wait plan (ready plan st) unused (at begun refl) waits (reads-entries t all_planned is (planned-bits was D plan planned)) low (omega (arith, next_is)) gathers in
         let from : wait ≡ st.rows.next - waiting_after plan st = omega (arith, first_is, waiting) in
         let count : next_of ring - wait ≡ waiting_after plan st = omega (arith, first_is, waiting, next_is) in
         record {

@@ -69,7 +69,7 @@ none_listed plan table none facts = by_pages table.index_pages (by_ring table.in
 
 module _ {KNOTS SLOTS : ℕ} (t : code.Table KNOTS SLOTS) (old new : FlashState) (first : ℕ) (plan : Plan) (table : Table) (rose : Bool) (device : Device) (planned : IsPlanned t first plan) (rests : Rests old first plan table) (watched : IsWatched old new rose device) where
   facts : IsPlainTable plan table
-  facts = table-parts plan table (planned.full, planned.log) rests.settled.facts
+  facts = table-parts plan table planned.log rests.settled.facts
 
   some_blocks : 0 < plan.data_blocks * plan.geometry.block
   some_blocks =

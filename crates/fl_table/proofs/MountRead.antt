@@ -12,14 +12,17 @@ use Rattle.fl_ring.specs.Ring.{OnRing, place}
 use Rattle.fl_schema.specs.Form.{layout_with}
 use Rattle.fl_schema.specs.declared.column.ColumnType.{ColumnType}
 use Rattle.fl_schema.specs.declared.schema.KeyWidth.{KeyWidth}
-use Rattle.fl_table.specs.Reading.{keys_fault, IsRead, IsRefused, AreRead, AreRefused, last_after, rows_after, voids_after, points_after, ends_after}
+use Rattle.fl_table.specs.Reading.{keys_fault, IsRead, IsRefused, AreRead, AreRefused, last_after, rows_after, voids_after, points_after, ends_after, full_on}
+use Rattle.fl_index.specs.Page.{full_view}
+use Rattle.fl_model.specs.Image.{rows_at}
+use Rattle.fl_model.specs.Layout.{full_of}
 use Rattle.fl_model.specs.Mount.{blob_end}
 use Rattle.fl_model.specs.Row.{stored_row}
 use Rattle.fl_table.specs.BlobEnds.{blobs_end}
 use Rattle.fl_table.proofs.BlobEnds.{ends-model}
 use Rattle.fl_table.specs.declared.faults.MountFault.{MountFault}
 use Rattle.fl_find.proofs.Firsts.{points_from}
-use Rattle.fl_table.proofs.KeptPages.{kept, kept-read, length-kept}
+use Rattle.fl_table.proofs.KeptPages.{kept, kept-read, length-kept, full-kept}
 use Rattle.fl_table.proofs.PointsHeld.{points-held}
 use Rattle.fl_table.proofs.KeyOrder.{key_before, key-last}
 use Rattle.fl_table.proofs.States.{shape_in, state_of, HaveSize}
@@ -34,6 +37,7 @@ pub record HoldRows (table : Table) (layout : RowLayout) (page : ℕ → List �
   pub points : points_after layout page number n ≡ points_of table
   pub ends : ends_after layout page number n ≡ blob_end table
   pub each : (i c : ℕ) → slice_get table.rows.counts i ≡ Some c → length (rows_on layout (page (number + i))) ≡ c
+  pub full : (i c : ℕ) → slice_get table.rows.counts i ≡ Some c → full_view (full_on layout (page (number + i))) ≡ full_of (rows_at table i c)
 
 pub hold-rows : (page : ℕ → List ℕ) (first : ℕ) (plan : Plan) (table : Table) (key : KeyWidth) (types : List ColumnType) (blobs : Bool) → layout_with key types blobs ≡ row_layout plan →
     plan.blob_limit ≤ 1500 → IsPlainTable plan table → table.pending ≡ 0 → 64 ≤ plan.geometry.page → row_len plan + 24 ≤ plan.geometry.page → 1 ≤ row_len plan → plan.geometry.page ≤ 4096 →
@@ -55,6 +59,7 @@ hold-rows page first plan table key types blobs same limit facts none large room
       ends = k.ends ∙ (ap (λ m. blobs_end 0 (map stored_row (take m table.entries))) total
           ∙ (ap (λ (es : List Entry). blobs_end 0 (map stored_row es)) (take_all (length table.entries) table.entries (omega arith)) ∙ ends-model table));
       each = λ i c e. length-kept page first plan table key types blobs same limit facts none large room some short sizes on i c e;
+      full = λ i c e. full-kept page first plan table key types blobs same limit facts none large room some short sizes on i c e;
     }
 
 -- none of them is refused

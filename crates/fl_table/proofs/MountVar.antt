@@ -134,10 +134,10 @@ module _ {KNOTS SLOTS : ℕ} (t : code.Table KNOTS SLOTS) (mid new : FlashState)
   st = w.now.state
 
   facts : IsPlainTable plan w.now.state
-  facts = table-parts plan w.now.state (w.planned.full, w.planned.log) w.rests.settled.facts
+  facts = table-parts plan w.now.state w.planned.log w.rests.settled.facts
 
   ready_parts : IsPlainTable plan (ready plan w.now.state)
-  ready_parts = table-parts plan (ready plan w.now.state) (w.planned.full, w.planned.log) w.facts
+  ready_parts = table-parts plan (ready plan w.now.state) w.planned.log w.facts
 
   idle : IsIdle w.now.state
   idle = lost-idle w.now.state w.rests.settled.lost

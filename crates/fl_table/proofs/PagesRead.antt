@@ -1,11 +1,12 @@
 -- One page more of those that a mount reads.
-use Rattle.std.proofs.Common.{◌≡◌, ◌≢◌, ℕ, suc, ◌+◌, ◌%◌, ◌<◌, ◌≤◌, ◌⊎◌, Bool, true, false, cond, ◌==◌, Option, List, length, get_or, set, refl, sym, ◌∙◌, ap, subst, arith, inl, inr, length-set, get_or-set_other, get_or-set_same}
+use Rattle.std.proofs.Common.{◌≡◌, ◌≢◌, ℕ, suc, ◌+◌, ◌%◌, ◌<◌, ◌≤◌, ◌⊎◌, Bool, true, false, cond, ◌==◌, max, Option, List, length, get_or, set, refl, sym, ◌∙◌, ap, subst, arith, inl, inr, length-set, get_or-set_other, get_or-set_same}
 use Rattle.std.proofs.Math.Nat.{mod-lt}
 use Rattle.std.proofs.lemmas.Bool.{cases_lt, eqb-true}
 use Rattle.fl_model.specs.Record.{RowLayout}
 use Rattle.fl_ring.proofs.Modulo.{apart}
 use Rattle.fl_table.specs.Causes.{IfPage}
 use Rattle.fl_table.specs.BlobEnds.{blobs_end}
+use Rattle.fl_table.proofs.BlobEnds.{ends-max}
 use Rattle.fl_table.specs.Reading.{last_in, IsRead, IsRefused, AreRead, AreRefused, last_after, rows_after, voids_after, point_of, points_after, ends_after, AreNoted}
 use Rattle.fl_table.proofs.PointsRead.{further-read}
 use Rattle.fl_find.specs.Index.{IndexOf}
@@ -59,9 +60,9 @@ module _ (layout : RowLayout) (page : ℕ → List ℕ) (number n at m : ℕ) (h
   last-more last after e is =
       is ∙ (ap (λ (l : Option ℕ). last_in l (rows_on layout bytes)) e ∙ (ap (λ (b : List ℕ). last_in (last_after layout page number n) (rows_on layout b)) at_here ∙ ap (last_after layout page number) (sym more)))
 
-  pub ends-more : (so_far after : ℕ) → so_far ≡ ends_after layout page number n → after ≡ blobs_end so_far (rows_on layout bytes) → after ≡ ends_after layout page number m
-  ends-more so_far after e is =
-      is ∙ (ap (λ k. blobs_end k (rows_on layout bytes)) e ∙ (ap (λ (b : List ℕ). blobs_end (ends_after layout page number n) (rows_on layout b)) at_here ∙ ap (ends_after layout page number) (sym more)))
+  pub ends-more : (so_far end after : ℕ) → so_far ≡ ends_after layout page number n → end ≡ blobs_end 0 (rows_on layout bytes) → after ≡ max so_far end → after ≡ ends_after layout page number m
+  ends-more so_far end after e one is =
+      is ∙ (ap (max so_far) one ∙ sym (ends-max so_far (rows_on layout bytes))) ∙ (ap (λ k. blobs_end k (rows_on layout bytes)) e ∙ (ap (λ (b : List ℕ). blobs_end (ends_after layout page number n) (rows_on layout b)) at_here ∙ ap (ends_after layout page number) (sym more)))
 
   pub points-more : {KNOTS SLOTS : ℕ} (last first : Option ℕ) (error : ℕ) (index new : LearnedIndex KNOTS SLOTS) → last ≡ last_after layout page number n → AreRead layout page number n → IsRead layout at bytes last → first ≡ first_key (rows_on layout bytes) →
       IndexOf error (points_after layout page number n) index →

@@ -45,9 +45,9 @@ pub record IsIndexed (plan : Plan) (table : Table) : Type 0 where
   pub number_pending : (table.pending ≡ 0 → ⊥) → IfSome table.index (λ ring. ring.next ≤ spent_from + 64)
   pub number_listed : oldest table.rows < index_end plan table → 0 < length table.rows.counts → table.rows.next + (cond table.rows.torn 1 0) ≤ spent_from + 1
 
--- .. of all of it, where index entries are bitmaps alone and it has no log
+-- .. of all of it, where it has no log
 pub record IsPlainTable (plan : Plan) (table : Table) : Type 0 where
-  pub plain : (plan.full_index ≡ false) × (plan.log_blocks ≡ 0)
+  pub plain : plan.log_blocks ≡ 0
   pub bare : IsBare table
   pub rows : IsRing (shape_of plan DataRing) table.rows
   pub kept : AreKept plan table.entries table.rows.counts table.pending
@@ -58,10 +58,10 @@ pub record IsPlainTable (plan : Plan) (table : Table) : Type 0 where
   pub number_pending : (table.pending ≡ 0 → ⊥) → table.rows.next ≤ spent_from
 
 -- they are the facts of a table
-pub table-parts : (plan : Plan) (table : Table) → (plan.full_index ≡ false) × (plan.log_blocks ≡ 0) → IsTable plan table → IsPlainTable plan table
+pub table-parts : (plan : Plan) (table : Table) → plan.log_blocks ≡ 0 → IsTable plan table → IsPlainTable plan table
 table-parts plan table plain h = record {
   plain = plain;
-  bare = bare-table plan table plain.1 h;
+  bare = bare-table plan table plain h;
   rows = h.rows;
   kept = record { fit = h.fit; counted = h.counted; few_rows = h.few_rows; ascending = h.ascending };
   few_pending = h.few_pending;
@@ -91,7 +91,7 @@ table-facts plan table h = record {
   index = h.index.ring;
   var = h.blobs.ring;
   log = subst (λ (o : Option Ring). IfSome o (IsRing (shape_of plan LogRing))) (sym h.bare.0) tt;
-  has_rings = (h.index.has, h.blobs.has, ap is_some_ring h.bare.0 ∙ sym (ap (nat_lt 0) h.plain.1));
+  has_rings = (h.index.has, h.blobs.has, ap is_some_ring h.bare.0 ∙ sym (ap (nat_lt 0) h.plain));
   index_counts = h.index.counts;
   var_counts = h.blobs.counts;
   log_counts = subst (λ (o : Option Ring). AllByRecursion (λ count. count ≤ rows_per_page plan) (counts_in o)) (sym h.bare.0) tt;

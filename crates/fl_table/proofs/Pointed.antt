@@ -14,7 +14,7 @@ use Rattle.fl_model.specs.Record.{Record, Plan}
 use Rattle.fl_model.specs.Ring.{IsShape, oldest}
 use Rattle.fl_model.specs.Row.{Row, stored_row}
 use Rattle.fl_model.specs.Spline.{pages_from, page_key, points_of}
-use Rattle.fl_model.specs.Table.{Table, Entry, DataRing, shape_of, first_pending, pending_entries, with_record, after_seal}
+use Rattle.fl_model.specs.Table.{Table, Entry, first_key, DataRing, shape_of, first_pending, pending_entries, with_record, after_seal}
 use Rattle.fl_spline.specs.Points.{IsFurther, last_of}
 
 -- more entries behind the pages change nothing in them
@@ -60,6 +60,10 @@ first-key table row = of (pending_entries table)
         none : ◌≡◌ {A = Option Row} None (Some row) → ⊥
         none h = cc
     of (e ∷ es) h = let same : stored_row e ≡ row = cc in ap (λ (r : Row). Some r.key) same
+
+pub first-some : (entries : List Entry) → 0 < length entries → option_map (λ (e : Entry). e.kept.key) (slice_get entries 0) ≡ Some (first_key entries)
+first-some [] some = absurd (omega (arith, some))
+first-some (e ∷ es) some = refl
 
 -- the point of a page that is sealed joins the others
 pub index-sealed : {KNOTS SLOTS : ℕ} (plan : Plan) (table : Table) (index new : LearnedIndex KNOTS SLOTS) (key number : ℕ) → IsTable plan table → HasPoints table → IndexOf plan.error table.points index →

@@ -70,7 +70,7 @@ module _ {KNOTS SLOTS : ℕ} (t : code.Table KNOTS SLOTS) (f : FlashState) (firs
   pub accepts : room.writer.end + layout_len (layout_of room.schema) ≤ length room.writer.body → IsAcceptedBy plan (after_seals plan (make_room_seals plan table) table) key values blob
   accepts left =
       let ok = accepted plan table item (not-refused t f first plan table key values blob s e) in
-      room-accepts plan table item (planned-shape t first plan s.planned) (table-parts plan table (s.planned.full, s.planned.log) s.facts) (some-rows t f first plan table s) ok (has-room room mid first plan (after_seals plan (make_room_seals plan table) table) h.stands left)
+      room-accepts plan table item (planned-shape t first plan s.planned) (table-parts plan table s.planned.log s.facts) (some-rows t f first plan table s) ok (has-room room mid first plan (after_seals plan (make_room_seals plan table) table) h.stands left)
 
   pub join-fails : (fault : FlashFault) (after : code.Table KNOTS SLOTS) (new : FlashState) → JoinEnds first plan item (after_seals plan (make_room_seals plan table) table) rose h.now.device (Err fault) after mid new →
       PutEnds first plan (record { key = key; values = values; blob = blob }) table rose device (Err (put.Flash fault)) after f new

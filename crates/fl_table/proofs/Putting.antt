@@ -112,7 +112,7 @@ module _ {KNOTS SLOTS : ℕ} (t : code.Table KNOTS SLOTS) (f : FlashState) (firs
 
   pub is-full : length t.writer.body < t.writer.end + layout_len (layout_of t.schema) → table.pending ≡ rows_per_page plan
   is-full lt =
-      let facts = table-parts plan table (s.planned.full, s.planned.log) s.facts in
+      let facts = table-parts plan table s.planned.log s.facts in
       elim (cases_lt table.pending (rows_per_page plan)) [
         | inl less ↦
             let fits : (table.pending + 1) * layout_len (layout_of t.schema) ≤ t.geometry.page - 24 = (le-div_iff_mul-le {x = table.pending + 1} {y = t.geometry.page - 24} t.some_row).0 (omega (arith, less, per_page)) in

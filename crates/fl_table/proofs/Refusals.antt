@@ -100,7 +100,7 @@ module _ {KNOTS SLOTS : ℕ} (t : code.Table KNOTS SLOTS) (f : FlashState) (firs
 
   spent_same : spent_refused t ≡ answer (refuse_if (is_spent table) model.Spent)
   spent_same =
-      let facts = table-parts plan table (s.planned.full, s.planned.log) s.facts in
+      let facts = table-parts plan table s.planned.log s.facts in
       let index = nat_le spent_from (bitmaps.next_of t.bitmaps) in
       let var = nat_le spent_from (variable.next_of t.blobs) in
       ap (λ (o : Option Ring). refused_if (unwrap_or (option_map (λ ring. nat_le spent_from (next_of ring)) o) false || nat_le spent_from (bitmaps.next_of t.bitmaps) || nat_le spent_from (variable.next_of t.blobs)) Spent) s.memory.ring_is

@@ -38,9 +38,9 @@ planned-shape t first plan h = record {
   pages = omega (arith, ap (λ g. g.block) h.geometry, t.served.block_least);
 }
 
--- its index entries are bitmaps alone, and it has no log
-pub planned-plain : {KNOTS SLOTS : ℕ} (t : code.Table KNOTS SLOTS) (first : ℕ) (plan : Plan) → IsPlanned t first plan → (plan.full_index ≡ false) × (plan.log_blocks ≡ 0)
-planned-plain t first plan h = (h.full, h.log)
+-- it has no log
+pub planned-plain : {KNOTS SLOTS : ℕ} (t : code.Table KNOTS SLOTS) (first : ℕ) (plan : Plan) → IsPlanned t first plan → plan.log_blocks ≡ 0
+planned-plain t first plan h = h.log
 
 pub planned-few : {KNOTS SLOTS : ℕ} (t : code.Table KNOTS SLOTS) (first : ℕ) (plan : Plan) → IsPlanned t first plan → IsTrue (has_index plan) → plan.data_blocks * plan.geometry.block + 6 ≤ 65536
 planned-few t first plan h some = by_index t.bitmaps refl h.index
@@ -69,7 +69,6 @@ planned-same old new first plan h same = record {
   limit = h.limit ∙ sym same.limit;
   buckets = subst (HasBuckets plan) (sym same.buckets) h.buckets;
   error = h.error ∙ sym same.error;
-  full = h.full;
   log = h.log;
 }
 
@@ -110,19 +109,19 @@ lies-size t f first plan h geometry within reaches =
     have-size f first plan reaches (geometry ∙ sym h.geometry) (omega (arith, h.begins, h.blocks, within)) (omega (arith, h.blocks, t.some_blocks)) (omega (arith, ap (λ g. g.block) h.geometry, t.served.block_least))
 
 -- the rows in the writer are the pending ones
-pending-length : (plan : Plan) (table : Table) → sum table.rows.counts + table.pending ≡ length table.entries → length (pending_entries table) ≡ table.pending
+pub pending-length : (plan : Plan) (table : Table) → sum table.rows.counts + table.pending ≡ length table.entries → length (pending_entries table) ≡ table.pending
 pending-length plan table counted = omega (arith, length-drop (length table.entries - table.pending) table.entries, counted)
 
 pub writer-count : {KNOTS SLOTS : ℕ} (t : code.Table KNOTS SLOTS) (f : FlashState) (first : ℕ) (plan : Plan) (table : Table) → Stands t f first plan table → t.writer.count ≡ table.pending
 writer-count t f first plan table s =
-    let facts = table-parts plan table (s.planned.full, s.planned.log) s.facts in
+    let facts = table-parts plan table s.planned.log s.facts in
     s.memory.gathers.count ∙ (length-map (pending_entries table) stored_row ∙ pending-length plan table facts.kept.counted)
 
 -- the body that they make
 pub sealing-of : {KNOTS SLOTS : ℕ} (t : code.Table KNOTS SLOTS) (f : FlashState) (first : ℕ) (plan : Plan) (table : Table) (w : WriterState) → Stands t f first plan table → 1 ≤ t.writer.count → HaveRoom t.bitmaps → AreEmpty t.blobs →
     ((layout : RowLayout) (rows : List Row) → Gathers layout rows t.writer → w.body ≡ rows_body (length t.writer.body) layout table.rows.next t.bitmap rows) → IsSealing (page_at f) first plan table w.body
 sealing-of t f first plan table w s some room empty body =
-    let facts = table-parts plan table (s.planned.full, s.planned.log) s.facts in
+    let facts = table-parts plan table s.planned.log s.facts in
     let count = writer-count t f first plan table s in
     record {
       shape = planned-shape t first plan s.planned;
@@ -155,7 +154,7 @@ ring-next t f first plan table ring s is = subst (λ (r : Ring). r.next ≡ tabl
 pub seal-ready : {KNOTS SLOTS : ℕ} (t : code.Table KNOTS SLOTS) (f : FlashState) (first : ℕ) (plan : Plan) (table : Table) (ring : Ring) → Stands t f first plan table → t.ring ≡ Some ring → place.shape_of ring ≡ shape_in first plan → HaveSize first plan (page_at f) →
     IsReady ring f (state_of plan (lose table))
 seal-ready t f first plan table ring s is shape sizes =
-    let facts = table-parts plan table (s.planned.full, s.planned.log) s.facts in
+    let facts = table-parts plan table s.planned.log s.facts in
     let same : s.memory.ring ≡ ring = one_ring (sym s.memory.ring_is ∙ is) in
     let on = plain-on (page_at f) first plan (lose table) sizes (planned-large t first plan s.planned) (plain-lose plan table facts) s.pages in
     record {

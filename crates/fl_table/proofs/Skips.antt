@@ -1,35 +1,43 @@
--- Whether a page may be skipped, and what was read to know it.
-use Rattle.std.proofs.Common.{◌≡◌, inl, inr, ℕ, ◌+◌, ◌-◌, ◌^◌, ◌<◌, ◌≤◌, Bool, true, false, not, ◌||◌, ◌==◌, nat_lt, cond, Option, Some, None, Ok, Err, IsTrue, List, [], ◌∷◌, bit_and, sym, ◌∙◌, ap, subst, arith, Result, refl}
+-- What is known of a page before it is read, and what was read to know it.
+use Rattle.std.proofs.Common.{◌≡◌, inl, inr, ℕ, ◌+◌, ◌-◌, ◌^◌, ◌<◌, ◌≤◌, Bool, true, false, not, ◌&&◌, ◌||◌, ◌==◌, nat_lt, cond, Option, Some, None, Ok, Err, IsTrue, List, [], ◌∷◌, bit_and, sym, ◌∙◌, ap, subst, arith, refl}
 use Rattle.std.proofs.lemmas.Bool.{cases_lt, eqb-true, lt-ltb, false_from_ne_true}
+use Rattle.std.proofs.Math.Nat.{mod-eq_of_lt}
 use Rattle.std.specs.List.{list_any, AllByRecursion}
 use Rattle.fl_base.specs.declared.types.Span.{Span}
 use Rattle.fl_bitmap.specs.Widths.{is_bits}
 use Rattle.fl_flash.specs.Buffer.{BufferState}
 use Rattle.fl_flash.specs.Flash.{FlashState}
 use Rattle.fl_index.specs.Looking as looking
-use Rattle.fl_index.specs.Looking.{IfBad, HoldsGood, IsFresh, IsScanning, ScansOn, is_looked_at, next_to_read, unread, due, ShowsBitmap}
+use Rattle.fl_index.specs.Looking.{IfBad, HoldsGood, IsFresh, IsScanning, ScansOn, TellsRows, is_looked_at, next_to_read, unread, due, ShowsEntry}
 use Rattle.fl_index.specs.Memory.{next_in, oldest_in}
+use Rattle.fl_index.specs.Page.{fields_of}
 use Rattle.fl_index.specs.declared.index.Index.{Index}
+use Rattle.fl_index.specs.declared.page.Found.{Found}
+use Rattle.fl_index.specs.declared.page.Full.{Full}
 use Rattle.fl_index.proofs.Counts.{count-none}
 use Rattle.fl_index.proofs.Scans.{scanning-from}
-use Rattle.fl_model.specs.Layout.{bitmap_of}
-use Rattle.fl_model.specs.Limits.{asks_values, is_indexed, mask_of}
+use Rattle.fl_model.specs.Layout.{bitmap_of, full_of}
+use Rattle.fl_model.specs.Limits.{asks_values, waits, is_listed, is_indexed, mask_of}
 use Rattle.fl_model.specs.Record.{Plan}
+use Rattle.fl_model.specs.Query.{is_up_to}
 use Rattle.fl_model.specs.Table as model
+use Rattle.fl_model.specs.Table.{first_key}
 use Rattle.fl_page.specs.declared.fault.ReadFault.{ReadFault}
 use Rattle.fl_page.specs.declared.fault.ReadFault.TheVariants.{Flash, BadPage}
 use Rattle.fl_index.specs.Standing as standing
 use Rattle.fl_table.specs.Bitmaps.{ArePlanned, Stand}
-use Rattle.fl_table.specs.Skipping.{AreFresh, AreScanning, HoldGood, IsBadIndex, LooksOn, ShowsPage, due_of}
+use Rattle.fl_table.specs.Skipping.{AreFresh, AreScanning, HoldGood, IsBadIndex, LooksOn, ShowsPage, ahead_by, ahead_of, begins_above, due_of}
+use Rattle.fl_table.specs.declared.skip.Ahead.{Ahead}
+use Rattle.fl_table.specs.declared.skip.Ahead.TheVariants.{Wanted, Missed, Beyond}
 use Rattle.fl_table.specs.Standing.{Stands}
 use Rattle.fl_table.specs.declared.table.Table.{Table}
 
 -- without a span, or without an index, nothing is read
-pub looks-none : (bitmaps : Option Index) (number reads : ℕ) (buf : BufferState) → AreScanning bitmaps number buf → LooksOn bitmaps None number buf reads (Ok true) reads buf
-looks-none bitmaps number reads buf scanning = record { scanning = scanning; once = omega arith; most = omega arith; fewer = omega arith; least = λ numbers later lt. omega arith }
+pub looks-none : {X : Type 0} (x : X) (bitmaps : Option Index) (number reads : ℕ) (buf : BufferState) → AreScanning bitmaps number buf → LooksOn bitmaps None number buf reads (Ok x) reads buf
+looks-none x bitmaps number reads buf scanning = record { scanning = scanning; once = omega arith; most = omega arith; fewer = omega arith; least = λ numbers later lt. omega arith }
 
-pub looks-plain : (bitmaps : Option Index) (is : bitmaps ≡ None) (span : Option Span) (number reads : ℕ) (buf : BufferState) → LooksOn bitmaps span number buf reads (Ok true) reads buf
-looks-plain None is span number reads buf = record {
+pub looks-plain : {X : Type 0} (x : X) (bitmaps : Option Index) (is : bitmaps ≡ None) (span : Option Span) (number reads : ℕ) (buf : BufferState) → LooksOn bitmaps span number buf reads (Ok x) reads buf
+looks-plain x None is span number reads buf = record {
   scanning = tt;
   once = omega arith;
   most = omega arith;
@@ -40,7 +48,7 @@ looks-plain None is span number reads buf = record {
     by_span : (span : Option Span) (numbers : List ℕ) → reads + due_of span None (number ∷ numbers) buf ≤ reads + due_of span None numbers buf
     by_span None numbers = omega arith
     by_span (Some span) numbers = omega arith
-looks-plain (Some index) is span number reads buf = cc
+looks-plain x (Some index) is span number reads buf = cc
 
 -- index pages are due where the span has a value
 due-asked : (b : Bool) (reads reads_now before after : ℕ) → reads + before ≤ reads_now + after → reads ≤ reads_now → reads + cond b before 0 ≤ reads_now + cond b after 0
@@ -49,12 +57,12 @@ due-asked false reads reads_now before after due later = omega (arith, later)
 
 module _ (bitmaps : Option Index) (index : Index) (is : bitmaps ≡ Some index) (span : Span) (number : ℕ) (before : BufferState) where
   -- the index page was read, or held
-  pub looks-found : (old new : FlashState) (after : BufferState) (may : Bool) → ScansOn index number (next_to_read index before) old new after → new.work.reads ≤ old.work.reads + unread index number (next_to_read index before) →
+  pub looks-found : {X : Type 0} (old new : FlashState) (after : BufferState) (x : X) → ScansOn index number (next_to_read index before) old new after → new.work.reads ≤ old.work.reads + unread index number (next_to_read index before) →
       ((numbers : List ℕ) → AllByRecursion (λ n. number ≤ n) numbers → new.work.reads < 2 ^ 64 - 1 → old.work.reads + due index (number ∷ numbers) (next_to_read index before) ≤ new.work.reads + due index numbers (next_to_read index after)) →
-      LooksOn bitmaps (Some span) number before old.work.reads (Ok may) new.work.reads after
-  looks-found old new after may scans most least =
+      LooksOn bitmaps (Some span) number before old.work.reads (Ok x) new.work.reads after
+  looks-found {X} old new after x scans most least =
       let next = scanning-from index number scans.next after scans.scanning in
-      subst (λ (o : Option Index). LooksOn o (Some span) number before old.work.reads (Ok may) new.work.reads after) (sym is) (record {
+      subst (λ (o : Option Index). LooksOn {X = X} o (Some span) number before old.work.reads (Ok x) new.work.reads after) (sym is) (record {
         scanning = subst (λ n. IsScanning index number n after) next scans.scanning;
         once = let same = ap (unread index number) next in omega (arith, scans.once, same);
         most = most;
@@ -68,11 +76,11 @@ module _ (bitmaps : Option Index) (index : Index) (is : bitmaps ≡ Some index) 
       })
 
   -- the read failed
-  pub looks-failed : (old new : FlashState) (after : BufferState) (fault : ReadFault) → new.work.reads ≤ old.work.reads + unread index number (next_to_read index before) →
+  pub looks-failed : {X : Type 0} (old new : FlashState) (after : BufferState) (fault : ReadFault) → new.work.reads ≤ old.work.reads + unread index number (next_to_read index before) →
       unread index number (oldest_in index) ≤ unread index number (next_to_read index before) → after.holds ≡ None →
-      LooksOn bitmaps (Some span) number before old.work.reads (Err fault) new.work.reads after
-  looks-failed old new after fault most again none =
-      subst (λ (o : Option Index). LooksOn o (Some span) number before old.work.reads (Err fault) new.work.reads after) (sym is) (record {
+      LooksOn {X = X} bitmaps (Some span) number before old.work.reads (Err fault) new.work.reads after
+  looks-failed {X} old new after fault most again none =
+      subst (λ (o : Option Index). LooksOn {X = X} o (Some span) number before old.work.reads (Err fault) new.work.reads after) (sym is) (record {
         scanning = inl (none, ap (looking.after_held _ _) none);
         once = tt;
         most = most;
@@ -80,7 +88,7 @@ module _ (bitmaps : Option Index) (index : Index) (is : bitmaps ≡ Some index) 
         least = λ numbers later lt. tt;
       })
 
--- ---- what the bitmap tells
+-- ---- what an entry tells
 
 pub mask-meets : (n : ℕ) → not (n == 0) ≡ nat_lt 0 n
 mask-meets n = elim (cases_lt 0 n) [
@@ -91,34 +99,43 @@ mask-meets n = elim (cases_lt 0 n) [
     not_zero : (n : ℕ) → 0 < n → (n == 0) ≡ false
     not_zero n some = false_from_ne_true (n == 0) (λ e. let z = eqb-true n 0 e in omega (arith, z, some))
 
--- an answer that isn't true
-pub misses-none : (n : ℕ) → ◌≡◌ {A = Result Bool ReadFault} (Ok (not (n == 0))) (Ok false) → n ≡ 0
-misses-none n e = by_zero (n == 0) refl (ok-same (not (n == 0)) e)
+-- a page that isn't indexed is wanted
+pub shows-none : (plan : Plan) (table : model.Table) (span : Span) (top : Option ℕ) (number : ℕ) (entries : List model.Entry) → false ≡ is_indexed plan table number → ShowsPage plan table (Some span) top number entries (Ok Wanted)
+shows-none plan table span top number entries e =
+    sym (ap (λ b. cond (b && not (is_up_to top (first_key entries))) Beyond (cond (not (is_indexed plan table number) || nat_lt 0 (bit_and (bitmap_of plan entries) (mask_of plan span))) Wanted Missed)) (and-none plan.full_index (is_indexed plan table number) e)
+    ∙ ap (λ b. cond (not b || nat_lt 0 (bit_and (bitmap_of plan entries) (mask_of plan span))) Wanted Missed) (sym e))
   where
-    ok-same : (b : Bool) → ◌≡◌ {A = Result Bool ReadFault} (Ok b) (Ok false) → b ≡ false
-    ok-same b e = cc
+    and-none : (a b : Bool) → false ≡ b → (a && b) ≡ false
+    and-none true b e = sym e
+    and-none false b e = refl
 
-    no : true ≡ false → ⊥
-    no e = cc
+-- .. and without an index none is
+pub shows-unindexed : (bitmaps : Option Index) (start : ℕ) (plan : Plan) (table : model.Table) (span : Span) (top : Option ℕ) (number : ℕ) (entries : List model.Entry) → ((index : Index) → bitmaps ≡ Some index → ⊥) → ArePlanned bitmaps start plan → ShowsPage plan table (Some span) top number entries (Ok Wanted)
+shows-unindexed None start plan table span top number entries none planned =
+    shows-none plan table span top number entries (sym (ap (λ n. nat_lt 0 n && (waits table number || is_listed plan table number)) planned))
+shows-unindexed (Some index) start plan table span top number entries none planned = absurd (none index refl)
 
-    by_zero : (b : Bool) → (n == 0) ≡ b → not (n == 0) ≡ false → n ≡ 0
-    by_zero true e missed = eqb-true n 0 e
-    by_zero false e missed = absurd (no (ap not (sym e) ∙ missed))
+-- what is told of an indexed page is what its entry tells
+pub shows-some : (plan : Plan) (table : model.Table) (span : Span) (top : Option ℕ) (number : ℕ) (found : Found) (entries : List model.Entry) → true ≡ is_indexed plan table number → TellsRows plan entries found → first_key entries < 2 ^ 64 →
+    ahead_by (mask_of plan span) top found ≡ ahead_of plan table (Some span) top number entries
+shows-some plan table span top number found entries indexed tells few =
+    ap (λ (o : Option Full). cond (begins_above top o) Beyond (cond (bit_and found.bitmap (mask_of plan span) == 0) Missed Wanted)) tells.full
+    ∙ (ap (λ b. cond b Beyond (cond (bit_and found.bitmap (mask_of plan span) == 0) Missed Wanted)) (by_form plan.full_index)
+    ∙ (ap (λ bits. cond ((plan.full_index && true) && not (is_up_to top (first_key entries))) Beyond (cond (bit_and bits (mask_of plan span) == 0) Missed Wanted)) tells.bitmap
+    ∙ (ap (λ (ahead : Ahead). cond ((plan.full_index && true) && not (is_up_to top (first_key entries))) Beyond ahead) (swapped (bit_and (bitmap_of plan entries) (mask_of plan span) == 0) (nat_lt 0 (bit_and (bitmap_of plan entries) (mask_of plan span))) (mask-meets (bit_and (bitmap_of plan entries) (mask_of plan span))))
+    ∙ ap (λ b. cond ((plan.full_index && b) && not (is_up_to top (first_key entries))) Beyond (cond (not b || nat_lt 0 (bit_and (bitmap_of plan entries) (mask_of plan span))) Wanted Missed)) indexed)))
+  where
+    by_form : (full : Bool) → begins_above top (cond full (Some (fields_of (full_of entries))) None) ≡ ((full && true) && not (is_up_to top (first_key entries)))
+    by_form true = ap (λ k. not (is_up_to top k)) (mod-eq_of_lt few)
+    by_form false = refl
 
-pub shows-none : (plan : Plan) (table : model.Table) (span : Span) (number : ℕ) (entries : List model.Entry) → false ≡ is_indexed plan table number → ShowsPage plan table (Some span) number entries (Ok true)
-shows-none plan table span number entries e = ap (λ b. not b || nat_lt 0 (bit_and (bitmap_of plan entries) (mask_of plan span))) e
+    swapped : (none some : Bool) → not none ≡ some → cond none Missed Wanted ≡ cond some Wanted Missed
+    swapped true some e = ap (λ b. cond b Wanted Missed) e
+    swapped false some e = ap (λ b. cond b Wanted Missed) e
 
-pub shows-some : (plan : Plan) (table : model.Table) (span : Span) (number bitmap mask : ℕ) (entries : List model.Entry) → true ≡ is_indexed plan table number → bitmap ≡ bitmap_of plan entries → mask ≡ mask_of plan span →
-    ShowsPage plan table (Some span) number entries (Ok (not (bit_and bitmap mask == 0)))
-shows-some plan table span number bitmap mask entries indexed bits mask_is =
-    mask-meets (bit_and bitmap mask)
-    ∙ (ap (λ b. nat_lt 0 (bit_and b mask)) bits
-    ∙ (ap (λ m. nat_lt 0 (bit_and (bitmap_of plan entries) m)) mask_is
-    ∙ ap (λ b. not b || nat_lt 0 (bit_and (bitmap_of plan entries) (mask_of plan span))) indexed))
-
-pub shows-fault : (plan : Plan) (table : model.Table) (span : Option Span) (number n : ℕ) (entries : List model.Entry) (fault : ReadFault) → ShowsBitmap plan table number (Err fault) → ShowsPage plan table span number entries (Err fault)
-shows-fault plan table span number n entries (Flash fault) h = tt
-shows-fault plan table span number n entries (BadPage bad) h = absurd h
+pub shows-fault : (plan : Plan) (table : model.Table) (span : Option Span) (top : Option ℕ) (number : ℕ) (entries : List model.Entry) (fault : ReadFault) → ShowsEntry plan table number (Err fault) → ShowsPage plan table span top number entries (Err fault)
+shows-fault plan table span top number entries (Flash fault) h = tt
+shows-fault plan table span top number entries (BadPage bad) h = absurd h
 
 -- ---- the index of a table that stands
 

@@ -36,7 +36,7 @@ stands-still t f g n first plan table reads stands = record {
 }
   where
     facts : IsPlainTable plan table
-    facts = table-parts plan table (stands.planned.full, stands.planned.log) stands.facts
+    facts = table-parts plan table stands.planned.log stands.facts
 
 -- where it lies on a flash, it does on one of that size
 pub lies-moved : {KNOTS SLOTS : ℕ} (t : Table KNOTS SLOTS) (f g : FlashState) → Goes f g → LiesOn t f → LiesOn t g

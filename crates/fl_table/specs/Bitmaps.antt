@@ -1,10 +1,12 @@
--- The index of a table, where it has one: the bitmaps of its sealed pages.
+-- The index of a table, where it has one: the entries of its sealed pages.
 use Rattle.std.specs.Prelude.{◌≡◌, ◌⊎◌, ℕ, ◌+◌, ◌-◌, ◌^◌, ◌<◌, ◌≤◌, min, max, Bool, true, false, ◌&&◌, ◌==◌, Result, Ok, Option, Some, None, is_some, option_map, unwrap_or, List, [], ◌∷◌, ◌++◌, length, if◌then◌else◌}
 use Rattle.std.specs.Option.{ForSome}
 use Rattle.fl_flash.specs.Flash.{FlashState}
 use Rattle.fl_index.specs.declared.index.Index.{Index}
+use Rattle.fl_index.specs.declared.page.Full.{Full}
 use Rattle.fl_index.specs.Memory as memory
 use Rattle.fl_index.specs.Memory.{ring_shape, next_in, waiting_in, first_waiting, form_in, per_page, IsSameRing}
+use Rattle.fl_index.specs.Page.{full_view}
 use Rattle.fl_index.specs.Standing as standing
 use Rattle.fl_index.specs.Standing.{Waits}
 use Rattle.fl_model.specs.Layout.{IndexEntry}
@@ -106,21 +108,21 @@ rings_of bitmaps = if is_some bitmaps then 1 else 0
 abbrev pub bitmap_seals : Plan → Table → List RingName
 bitmap_seals plan table = if has_index plan && (length table.waiting == entries_per_page plan) then IndexRing ∷ [] else []
 
--- One entry more waits, that of the data page behind the others: an entry with this bitmap, where entries are bitmaps alone.
-pub record IsNoted (old : Index) (bitmap : ℕ) (new : Index) : Type 0 where
+-- One entry more waits, that of the data page behind the others: an entry with this bitmap, and where entries are full with the rest.
+pub record IsNoted (old : Index) (bitmap : ℕ) (full : Full) (new : Index) : Type 0 where
   pub same : memory.IsSamePlan old new
   pub still : IsSameRing old new
   pub first : first_waiting new ≡ first_waiting old
   pub one : waiting_in new ≡ waiting_in old + 1
-  pub waits : (first : ℕ) (entries : List IndexEntry) (entry : IndexEntry) → (form_in old).full ≡ false → Waits old first entries → bitmap ≡ entry.bitmap →
+  pub waits : (first : ℕ) (entries : List IndexEntry) (entry : IndexEntry) → Waits old first entries → entry.bitmap ≡ bitmap → ((form_in old).full ≡ true → entry.full ≡ full_view full) →
       Waits new first (entries ++ entry ∷ [])
 
 -- .. where it is the next one to wait
-abbrev pub AreNoted : Option Index → ℕ → ℕ → Option Index → Type 0
-AreNoted None number bitmap new = new ≡ None
-AreNoted (Some old) number bitmap None = ⊥
-AreNoted (Some old) number bitmap (Some new) =
-    (first_waiting old + waiting_in old ≡ number → IsNoted old bitmap new) × ((first_waiting old + waiting_in old ≡ number → ⊥) → new ≡ old)
+abbrev pub AreNoted : Option Index → ℕ → ℕ → Full → Option Index → Type 0
+AreNoted None number bitmap full new = new ≡ None
+AreNoted (Some old) number bitmap full None = ⊥
+AreNoted (Some old) number bitmap full (Some new) =
+    (first_waiting old + waiting_in old ≡ number → IsNoted old bitmap full new) × ((first_waiting old + waiting_in old ≡ number → ⊥) → new ≡ old)
 
 -- Room was made for one entry more.
 pub record IsRoomMade (old new : Index) : Type 0 where

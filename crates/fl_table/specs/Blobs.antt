@@ -156,7 +156,7 @@ room_of blobs = unwrap_or (option_map (λ var. room (var_shape var)) blobs) 0
 abbrev pub rings_of : Option VarData → ℕ
 rings_of blobs = if is_some blobs then 1 else 0
 
--- a reference that a row can have: it isn't the one that stands for none
+-- a reference that a row can have: it isn't the one that stands for none, and its page has a number behind it
 abbrev pub FitsRow : Option BlobRef → Type 0
 FitsRow None = Unit {0}
-FitsRow (Some at) = at.offset < 4096
+FitsRow (Some at) = (at.offset < 4096) × (at.page + 1 < 2 ^ 32)

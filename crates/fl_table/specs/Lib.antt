@@ -6,6 +6,7 @@ pub mod Bitmaps
 pub mod Memory
 pub mod Refusal
 pub mod Standing
+pub mod Entries
 pub mod Skipping
 pub mod Accepting
 pub mod Outcomes

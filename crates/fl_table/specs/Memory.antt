@@ -11,7 +11,7 @@ use Rattle.fl_model.specs.Row.{stored_row}
 use Rattle.fl_model.specs.Spline.{voids_of}
 use Rattle.fl_model.specs.Layout.{bitmap_of}
 use Rattle.fl_model.specs.Table as model
-use Rattle.fl_model.specs.Table.{pending_entries, last_entry}
+use Rattle.fl_model.specs.Table.{pending_entries, last_entry, end_of_blobs}
 use Rattle.fl_page.specs.Writer.{Gathers}
 use Rattle.fl_ring.specs.declared.ring.Ring.{Ring}
 use Rattle.fl_ring.specs.Mounting.{shape_at}
@@ -72,8 +72,7 @@ pub record IsPlanned {KNOTS SLOTS : ℕ} (t : Table KNOTS SLOTS) (first : ℕ) (
   pub limit : plan.blob_limit ≡ t.blob_limit
   pub buckets : HasBuckets plan t.buckets
   pub error : plan.error ≡ error_in t.index
-  -- its index entries are bitmaps alone, and it has no log
-  pub full : plan.full_index ≡ false
+  -- it has no log
   pub log : plan.log_blocks ≡ 0
 
 -- what no call changes
@@ -94,6 +93,7 @@ pub record IsForgotten {KNOTS SLOTS : ℕ} (t : Table KNOTS SLOTS) : Type 0 wher
   pub none : t.writer.count ≡ 0
   pub empty : (layout : RowLayout) → Gathers layout [] t.writer
   pub bits : t.bitmap ≡ 0
+  pub ends : t.blob_end ≡ 0
   pub index : IndexOf (error_in t.index) [] t.index
 
 -- a flash on which the table lies
@@ -116,6 +116,7 @@ pub record HoldsInMemory {KNOTS SLOTS : ℕ} (t : Table KNOTS SLOTS) (ring : Rin
   pub oldest : oldest_of ring ≡ rings.oldest table.rows
   pub gathers : Gathers (layout_of t.schema) (map stored_row (pending_entries table)) t.writer
   pub bitmap : t.bitmap ≡ bitmap_of plan (pending_entries table)
+  pub blob_end : t.blob_end ≡ end_of_blobs (pending_entries table)
   pub last : t.last_key ≡ option_map (λ entry. entry.kept.key) (last_entry table)
   pub counts : (i count : ℕ) → slice_get table.rows.counts i ≡ Some count →
       slice_index t.counts.items ((rings.oldest table.rows + i) % (plan.data_blocks * plan.geometry.block)) ≡ count
@@ -130,6 +131,7 @@ pub record InMemory {KNOTS SLOTS : ℕ} (t : Table KNOTS SLOTS) (plan : Plan) (t
   pub oldest : oldest_of ring ≡ rings.oldest table.rows
   pub gathers : Gathers (layout_of t.schema) (map stored_row (pending_entries table)) t.writer
   pub bitmap : t.bitmap ≡ bitmap_of plan (pending_entries table)
+  pub blob_end : t.blob_end ≡ end_of_blobs (pending_entries table)
   pub last : t.last_key ≡ option_map (λ entry. entry.kept.key) (last_entry table)
   pub counts : (i count : ℕ) → slice_get table.rows.counts i ≡ Some count →
       slice_index t.counts.items ((rings.oldest table.rows + i) % (plan.data_blocks * plan.geometry.block)) ≡ count

@@ -6,9 +6,11 @@ use Rattle.fl_mark.specs.Mark.{state_of_page}
 use Rattle.fl_mark.specs.declared.page_state.PageState.{PageState}
 use Rattle.fl_mark.specs.declared.page_state.PageState.TheVariants.{Blank, Torn, Committed, Void}
 use Rattle.fl_index.specs.declared.index.Index.{Index}
-use Rattle.fl_index.specs.Memory.{first_waiting, waiting_in, form_in, per_page}
+use Rattle.fl_index.specs.declared.page.Full.{Full}
+use Rattle.fl_index.specs.Memory.{first_waiting, waiting_in, per_page}
+use Rattle.fl_index.specs.Page.{full_view}
 use Rattle.fl_index.specs.Standing.{Waits}
-use Rattle.fl_model.specs.Layout.{IndexEntry, bitmap_of, index_entry}
+use Rattle.fl_model.specs.Layout.{IndexEntry, index_entry}
 use Rattle.fl_model.specs.Limits.{numbers_from, rows_of_page}
 use Rattle.fl_model.specs.Record.{Plan, RowLayout}
 use Rattle.fl_model.specs.Ring.{oldest as model_oldest}
@@ -18,7 +20,7 @@ use Rattle.fl_page.specs.Page.{IsGoodPage, bad_page, rows_in}
 use Rattle.fl_ring.specs.Place.{shape_of}
 use Rattle.fl_ring.specs.Ring.{place}
 use Rattle.fl_ring.specs.declared.ring.Ring.{Ring}
-use Rattle.fl_table.specs.BlobEnds.{blobs_end}
+use Rattle.fl_table.specs.BlobEnds.{least_of, blobs_end}
 use Rattle.fl_table.specs.declared.faults.MountFault.{MountFault}
 use Rattle.fl_table.specs.declared.faults.MountFault.TheVariants.{BadPage, BadKeys}
 
@@ -119,21 +121,32 @@ WaitFor None oldest next = Unit {0}
 WaitFor (Some index) oldest next =
     (waiting_in index ≡ 0) × (oldest ≤ first_waiting index) × (first_waiting index ≤ next) × (next ≤ first_waiting index + per_page index)
 
--- the kept pages of a ring have the bitmaps of a table's rows
-abbrev pub HaveBitmaps : Plan → model.Table → (ℕ → List ℕ) → Type 0
-HaveBitmaps plan table page =
-    (number : ℕ) → model_oldest table.rows ≤ number → number < table.rows.next → bitmap_on (page number) ≡ bitmap_of plan (rows_of_page table number)
+-- what a full entry tells of a data page beside its bitmap, by the page's bytes; it is all zero where the page isn't committed
+abbrev pub full_on : RowLayout → List ℕ → Full
+full_on layout page =
+    let rows = rows_on layout page in
+    record { first_key = unwrap_or (first_key rows) 0; count = length rows; blob_end = least_of (blobs_end 0 rows) }
+
+-- the bytes of a data page tell what its entry tells
+pub record IsEntryOf (layout : RowLayout) (page : List ℕ) (entry : IndexEntry) : Type 0 where
+  pub bitmap : bitmap_on page ≡ entry.bitmap
+  pub full : full_view (full_on layout page) ≡ entry.full
+
+-- the kept pages of a ring tell what the entries of a table's pages tell
+abbrev pub HaveEntries : RowLayout → Plan → model.Table → (ℕ → List ℕ) → Type 0
+HaveEntries layout plan table page =
+    (number : ℕ) → model_oldest table.rows ≤ number → number < table.rows.next → IsEntryOf layout (page number) (index_entry plan (rows_of_page table number))
 
 -- the entries of so many pages from one on
 abbrev pub entries_from : Plan → model.Table → ℕ → ℕ → List IndexEntry
 entries_from plan table first count = map (λ number. index_entry plan (rows_of_page table number)) (numbers_from first count)
 
--- the entries of the pages before a number wait then, where entries are bitmaps alone
-abbrev pub GatherUpTo : Option Index → (ℕ → List ℕ) → ℕ → Option Index → Type 0
-GatherUpTo None page next new = new ≡ None
-GatherUpTo (Some old) page next None = ⊥
-GatherUpTo (Some old) page next (Some new) =
-    (plan : Plan) (table : model.Table) → (form_in old).full ≡ false → Waits old (first_waiting old) [] → HaveBitmaps plan table page →
+-- the entries of the pages before a number wait then
+abbrev pub GatherUpTo : RowLayout → Option Index → (ℕ → List ℕ) → ℕ → Option Index → Type 0
+GatherUpTo layout None page next new = new ≡ None
+GatherUpTo layout (Some old) page next None = ⊥
+GatherUpTo layout (Some old) page next (Some new) =
+    (plan : Plan) (table : model.Table) → Waits old (first_waiting old) [] → HaveEntries layout plan table page →
     model_oldest table.rows ≤ first_waiting old → next ≤ table.rows.next → Waits new (first_waiting old) (entries_from plan table (first_waiting old) (next - first_waiting old))
 
 -- .. as many as there are from the first that waits on

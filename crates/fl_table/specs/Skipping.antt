@@ -1,5 +1,5 @@
--- Whether a data page may have rows of a span, as far as its bitmap tells, and what index pages are read for it.
-use Rattle.std.specs.Prelude.{◌≡◌, ℕ, ◌+◌, ◌-◌, ◌^◌, ◌<◌, ◌≤◌, Bool, true, not, ◌||◌, nat_lt, Option, Some, None, Result, Ok, Err, OnOk, List, ◌∷◌, bit_and, if◌then◌else◌}
+-- What is known of a data page before it is read, as far as its index entry tells, and what index pages are read for it.
+use Rattle.std.specs.Prelude.{◌≡◌, ℕ, ◌+◌, ◌-◌, ◌^◌, ◌<◌, ◌≤◌, Bool, true, false, not, ◌&&◌, ◌||◌, nat_lt, ◌==◌, Option, Some, None, Result, Ok, Err, OnOk, List, ◌∷◌, bit_and, if◌then◌else◌}
 use Rattle.std.specs.List.{AllByRecursion}
 use Rattle.fl_base.specs.declared.types.Span.{Span}
 use Rattle.fl_flash.specs.Buffer.{BufferState}
@@ -7,13 +7,18 @@ use Rattle.fl_flash.specs.Flash.{FlashState}
 use Rattle.fl_index.specs.Looking as looking
 use Rattle.fl_index.specs.Looking.{IsFresh, IsScanning, HoldsGood, next_to_read, unread, due}
 use Rattle.fl_index.specs.declared.index.Index.{Index}
+use Rattle.fl_index.specs.declared.page.Found.{Found}
+use Rattle.fl_index.specs.declared.page.Full.{Full}
 use Rattle.fl_model.specs.Layout.{bitmap_of}
 use Rattle.fl_model.specs.Limits.{asks_values, is_indexed, mask_of}
+use Rattle.fl_model.specs.Query.{is_up_to}
 use Rattle.fl_model.specs.Record.{Plan}
-use Rattle.fl_model.specs.Table.{Table, Entry}
+use Rattle.fl_model.specs.Table.{Table, Entry, first_key}
 use Rattle.fl_page.specs.declared.fault.BadPage.{BadPage as Refusal}
 use Rattle.fl_page.specs.declared.fault.ReadFault.{ReadFault}
 use Rattle.fl_page.specs.declared.fault.ReadFault.TheVariants.{Flash, BadPage}
+use Rattle.fl_table.specs.declared.skip.Ahead.{Ahead}
+use Rattle.fl_table.specs.declared.skip.Ahead.TheVariants.{Wanted, Missed, Beyond}
 use Rattle.fl_table.specs.declared.table.Table as code
 
 -- the index of a table, where it has one
@@ -57,15 +62,36 @@ abbrev pub wants_page : Plan → Table → Option Span → ℕ → List Entry �
 wants_page plan table None number entries = true
 wants_page plan table (Some span) number entries = not (is_indexed plan table number) || nat_lt 0 (bit_and (bitmap_of plan entries) (mask_of plan span))
 
--- For a table of the model: whether a page with these rows has to be read. No index page is bad.
-abbrev pub ShowsPage : Plan → Table → Option Span → ℕ → List Entry → Result Bool ReadFault → Type 0
-ShowsPage plan table span number entries (Ok may) = may ≡ wants_page plan table span number entries
-ShowsPage plan table span number entries (Err (Flash fault)) = Unit {0}
-ShowsPage plan table span number entries (Err (BadPage bad)) = ⊥
+-- the index tells that a page with these rows begins above the greatest key wanted, where its entries are full
+abbrev pub is_beyond : Plan → Table → Option Span → Option ℕ → ℕ → List Entry → Bool
+is_beyond plan table None top number entries = false
+is_beyond plan table (Some span) top number entries = plan.full_index && is_indexed plan table number && not (is_up_to top (first_key entries))
+
+-- what is known of a page with these rows
+abbrev pub ahead_of : Plan → Table → Option Span → Option ℕ → ℕ → List Entry → Ahead
+ahead_of plan table span top number entries =
+    if is_beyond plan table span top number entries then Beyond
+    else if wants_page plan table span number entries then Wanted else Missed
+
+-- For a table of the model: what is known of a page with these rows. No index page is bad.
+abbrev pub ShowsPage : Plan → Table → Option Span → Option ℕ → ℕ → List Entry → Result Ahead ReadFault → Type 0
+ShowsPage plan table span top number entries (Ok ahead) = ahead ≡ ahead_of plan table span top number entries
+ShowsPage plan table span top number entries (Err (Flash fault)) = Unit {0}
+ShowsPage plan table span top number entries (Err (BadPage bad)) = ⊥
+
+-- a full entry tells a first key above the greatest one wanted
+abbrev pub begins_above : Option ℕ → Option Full → Bool
+begins_above top None = false
+begins_above top (Some full) = not (is_up_to top full.first_key)
+
+-- what an entry tells of its page, for the bits of a span
+abbrev pub ahead_by : ℕ → Option ℕ → Found → Ahead
+ahead_by mask top found =
+    if begins_above top found.full then Beyond else if bit_and found.bitmap mask == 0 then Missed else Wanted
 
 -- Over a flash that stands for a table: the scan goes on, what was read isn't read again, and what had to be read was. After a
 -- fault too no more is left to be read than before.
-pub record LooksOn (bitmaps : Option Index) (span : Option Span) (number : ℕ) (before : BufferState) (reads : ℕ) (result : Result Bool ReadFault) (reads_now : ℕ) (after : BufferState) : Type 0 where
+pub record LooksOn {X : Type 0} (bitmaps : Option Index) (span : Option Span) (number : ℕ) (before : BufferState) (reads : ℕ) (result : Result X ReadFault) (reads_now : ℕ) (after : BufferState) : Type 0 where
   pub scanning : AreScanning bitmaps number after
   pub once : OnOk result (reads_now + unread_of span bitmaps number after ≤ reads + unread_of span bitmaps number before)
   pub most : reads_now ≤ reads + unread_of span bitmaps number before

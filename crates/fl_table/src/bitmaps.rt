@@ -13,13 +13,6 @@ use fl_flash::{Flash, FlashFault, PageBuf};
 use fl_index::{Full, Index};
 use fl_ring::RingFault;
 
-/// What an entry tells beside its bitmap, where entries are bitmaps alone.
-const NOTHING: Full = Full {
-    first_key: 0,
-    count: 0,
-    blob_end: 0,
-};
-
 /// Mounts the index. It answers the number after the data pages that it lists, where it lists any.
 pub(crate) fn mount_bitmaps<F: Flash>(
     bitmaps: &mut Option<Index>,
@@ -80,16 +73,17 @@ pub(crate) fn restart(bitmaps: &mut Option<Index>, first: u32)
     }
 }
 
-/// The entry of this data page, a bitmap alone, waits behind the others, where it is the next one to wait.
-pub(crate) fn note_bitmap(bitmaps: &mut Option<Index>, number: u32, bitmap: u64)
+/// The entry of this data page waits behind the others, where it is the next one to wait. Only full entries tell more
+/// than the bitmap.
+pub(crate) fn note_entry(bitmaps: &mut Option<Index>, number: u32, bitmap: u64, full: Full)
     requires room { EndAt bitmaps.old number → HaveRoom bitmaps.old }
     requires left { number + 1 < 2 ^ 32 }
     ensures same { AreSamePlan bitmaps.old bitmaps.new }
     ensures still { AreSameRing bitmaps.old bitmaps.new }
-    ensures noted { AreNoted bitmaps.old number bitmap bitmaps.new }
+    ensures noted { AreNoted bitmaps.old number bitmap full bitmaps.new }
 {
     match bitmaps {
-        Some(index) if index.next_page() == number => index.note(bitmap, NOTHING),
+        Some(index) if index.next_page() == number => index.note(bitmap, full),
         _ => {}
     }
 }

@@ -1,13 +1,13 @@
-// Where the blobs of rows end that a mount reads: the numbers of variable data begin behind them.
+// Where the blobs of rows end: the numbers of variable data begin behind them.
 ghost use Rattle.std.specs.Prelude.{◌≡◌, ◌<◌};
 ghost use Rattle.fl_page.specs.View.{count_of, rows_of};
-ghost use Rattle.fl_table.specs.BlobEnds.{reference_end, blobs_end};
+ghost use Rattle.fl_table.specs.BlobEnds.{reference_end, least_of, blobs_end};
 
 use fl_base::BlobRef;
 use fl_page::PageView;
 
 /// One more than the page at which a blob begins, and 0 where it has none.
-fn reference_end(blob: Option<BlobRef>) -> u64
+pub(crate) fn reference_end(blob: Option<BlobRef>) -> u64
     ensures { result ≡ reference_end blob }
 {
     let Some(at) = blob else {
@@ -19,12 +19,19 @@ fn reference_end(blob: Option<BlobRef>) -> u64
     u64::from(at.page) + 1
 }
 
-/// One more than the greatest page at which a blob of these rows begins, or `so_far` where that is more.
-pub(crate) fn blobs_end(view: &PageView<'_, 8>, so_far: u64) -> u64
-    requires { count_of view.now < 65536 }
-    ensures { result ≡ blobs_end so_far (rows_of view.now) }
+/// The end of blobs as a page number, the greatest one where it is beyond them all.
+pub(crate) fn least_of(end: u64) -> u32
+    ensures { result ≡ least_of end }
 {
-    let mut end = so_far;
+    end.min(u64::from(u32::MAX)) as u32
+}
+
+/// One more than the greatest page at which a blob of these rows begins, and 0 where none has a page.
+pub(crate) fn blobs_end(view: &PageView<'_, 8>) -> u64
+    requires { count_of view.now < 65536 }
+    ensures { result ≡ blobs_end 0 (rows_of view.now) }
+{
+    let mut end: u64 = 0;
     for i in 0..view.rows() {
         end = end.max(reference_end(view.row(i).blob()));
     }

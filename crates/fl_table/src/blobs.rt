@@ -13,6 +13,7 @@ ghost use Rattle.fl_table.specs.Mounting.{FewReads, FewRepairs};
 ghost use Rattle.fl_table.specs.Blobs.{AreSamePlan, LieOn, AreRunning, AreEmpty, NumbersLeft, RestEndsOf, PlaceEndsOf, StandOutside, next_of, next_after, rings_of, room_of, HasFew, pages_for, FitsRow};
 
 use crate::MountFault;
+use crate::blob_end::least_of;
 use fl_base::BlobRef;
 use fl_flash::{Flash, FlashFault, PageBuf};
 use fl_ring::RingFault;
@@ -49,13 +50,6 @@ pub(crate) fn mount<F: Flash>(
         Some(var) => var.mount(flash, at_least, buf),
         None => Ok(()),
     }
-}
-
-/// The number at which those of a ring begin whose pages tell none, where blobs end there.
-fn least_of(end: u64) -> u32
-    ensures { result ≡ least_of end }
-{
-    end.min(u64::from(u32::MAX)) as u32
 }
 
 /// Mounts the variable data, whose blobs end before page `end`. The numbers of a ring whose pages tell none begin there.

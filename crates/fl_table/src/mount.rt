@@ -51,6 +51,7 @@ impl<const KNOTS: usize, const SLOTS: usize> Table<KNOTS, SLOTS> {
         self.stopped = false;
         self.writer.clear();
         self.bitmap = 0;
+        self.blob_end = 0;
         self.last_key = None;
         self.voids = 0;
         self.index.clear();

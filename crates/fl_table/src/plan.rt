@@ -51,7 +51,13 @@ fn bitmaps_of(alloc: Global, config: &TableConfig) -> Result<Option<Index>, fl_b
     let (Some(place), Some(buckets)) = (config.index, config.buckets) else {
         return Ok(None);
     };
-    let index = Index::plan(alloc, config.geometry, place, buckets.bits, false)?;
+    let index = Index::plan(
+        alloc,
+        config.geometry,
+        place,
+        buckets.bits,
+        config.full_index,
+    )?;
     Ok(Some(index))
 }
 
@@ -106,6 +112,7 @@ impl<const KNOTS: usize, const SLOTS: usize> Table<KNOTS, SLOTS> {
             last_key: None,
             counts,
             voids: 0,
+            blob_end: 0,
             index: LearnedIndex::new(config.error),
             bitmaps,
             blobs,

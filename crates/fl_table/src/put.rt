@@ -1,8 +1,10 @@
 // Puts and flushes.
-ghost use Rattle.std.specs.Prelude.{◌≡◌, ◌≤◌, ◌+◌, ◌<◌, ◌++◌, ◌∷◌, [], true, false, length, IsTrue, OnOk, OnErr, IfErr, option_map};
+ghost use Rattle.std.specs.Prelude.{◌≡◌, ◌≤◌, ◌+◌, ◌^◌, ◌<◌, ◌++◌, ◌∷◌, [], true, false, length, IsTrue, OnOk, OnErr, IfErr, option_map};
 ghost use Rattle.fl_flash.specs.Flash.{Goes, OffChangesNothing, page_at};
+ghost use Rattle.fl_table.specs.BlobEnds.{reference_end};
 ghost use Rattle.fl_table.specs.Memory.{bitmap_with};
 
+use crate::blob_end::{least_of, reference_end};
 use crate::blobs::place;
 use crate::table::Table;
 use crate::{FlushFault, PutRefusal};
@@ -86,6 +88,7 @@ impl<const KNOTS: usize, const SLOTS: usize> Table<KNOTS, SLOTS> {
         requires left { next_in self.old ≤ spent_from }
         requires index_left { index_next self.old.bitmaps ≤ spent_from }
         requires blobs_left { variable.next_after self.old.blobs ≤ spent_from + 64 }
+        requires blob_page { reference_end blob < 2 ^ 32 }
         ensures same { IsSamePlan self.old self.new }
         ensures ring { self.new.ring ≡ self.old.ring }
         ensures bitmaps { self.new.bitmaps ≡ self.old.bitmaps }
@@ -97,6 +100,7 @@ impl<const KNOTS: usize, const SLOTS: usize> Table<KNOTS, SLOTS> {
     {
         self.writer.push_row(&self.schema, key, values, blob);
         self.bitmap = with_value(self.buckets, self.bitmap, values[0]);
+        self.blob_end = self.blob_end.max(least_of(reference_end(blob)));
         self.last_key = Some(key);
     }
 

@@ -13,22 +13,22 @@ ghost use Rattle.fl_spline.specs.Points.{IsFurther};
 ghost use Rattle.fl_table.specs.Causes.{IfFlash, IfPage, is_of_pages};
 ghost use Rattle.fl_table.specs.Reading.{last_in, keys_fault, IsRead, IsRefused, AreRead, AreRefused, last_after, rows_after, voids_after, ends_after, points_after, AreNoted, pages_of, page_bitmap, bitmap_on, WaitFor, GatherUpTo, AreGathered};
 ghost use Rattle.fl_table.specs.Bitmaps.{AreSamePlan, AreSameRing};
-ghost use Rattle.fl_table.specs.BlobEnds.{blobs_end};
+ghost use Rattle.fl_table.specs.BlobEnds.{blobs_end, least_of};
 
-use crate::bitmaps::note_bitmap;
-use crate::blob_end::blobs_end;
+use crate::bitmaps::note_entry;
+use crate::blob_end::{blobs_end, least_of};
 use crate::seal::note;
 use crate::{MountFault, Mounted};
 use fl_base::get_u64;
 use fl_find::LearnedIndex;
 use fl_flash::{Flash, PageBuf};
-use fl_index::Index;
+use fl_index::{Full, Index};
 use fl_mark::{PageState, state_of};
 use fl_page::PageView;
 use fl_ring::Ring;
 use fl_schema::Schema;
 
-/// How many rows a page has, their bitmap, the first key of them, and the last key and the end of the blobs up to them.
+/// How many rows a page has, their bitmap, the first key of them and the last key up to them, and where their blobs end.
 #[derive(Clone, Copy)]
 pub(crate) struct PageRows {
     rows: u32,
@@ -38,19 +38,32 @@ pub(crate) struct PageRows {
     blob_end: u64,
 }
 
+impl PageRows {
+    /// What a full index entry tells of the page, beside its bitmap.
+    fn full(&self) -> Full
+        requires few { self.now.rows < 65536 }
+        ensures { result ≡ record { first_key = unwrap_or self.now.first 0; count = self.now.rows; blob_end = least_of self.now.blob_end } }
+    {
+        Full {
+            first_key: self.first.unwrap_or(0),
+            count: self.rows as u16,
+            blob_end: least_of(self.blob_end),
+        }
+    }
+}
+
 /// The rows of a page, whose keys rise from the last one on.
 fn rows_of_view(
     view: PageView<'_, 8>,
     bitmap: u64,
     number: u32,
     last: Option<u64>,
-    blob_end: u64,
 ) -> Result<PageRows, MountFault>
     requires { count_of view < 65536 }
     ensures rows { IfOk result (λ page. (keys_fault number last (rows_of view.entry) ≡ None) × (page.rows ≡ count_of view.entry) × (page.last ≡ last_in last (rows_of view.entry))) }
     ensures first { IfOk result (λ page. page.first ≡ first_key (rows_of view.entry)) }
     ensures bitmap { IfOk result (λ page. page.bitmap ≡ bitmap) }
-    ensures blob_end { IfOk result (λ page. page.blob_end ≡ blobs_end blob_end (rows_of view.entry)) }
+    ensures blob_end { IfOk result (λ page. page.blob_end ≡ blobs_end 0 (rows_of view.entry)) }
     ensures fault { IfErr result (λ e. keys_fault number last (rows_of view.entry) ≡ Some e) }
 {
     let mut so_far = last;
@@ -72,7 +85,7 @@ fn rows_of_view(
         bitmap,
         first: Some(view.row(0).key()),
         last: so_far,
-        blob_end: blobs_end(&view, blob_end),
+        blob_end: blobs_end(&view),
     })
 }
 
@@ -90,7 +103,6 @@ fn rows_in(
     bytes: &[u8],
     number: u32,
     last: Option<u64>,
-    blob_end: u64,
 ) -> Result<PageRows, MountFault>
     requires least { 24 ≤ length bytes.now }
     requires most { length bytes.now ≤ 4096 }
@@ -100,7 +112,7 @@ fn rows_in(
     ensures last { IfOk result (λ page. page.last ≡ last_in last (rows_on (layout_of schema.now) bytes.now)) }
     ensures first { IfOk result (λ page. page.first ≡ first_key (rows_on (layout_of schema.now) bytes.now)) }
     ensures bitmap { IfOk result (λ page. page.bitmap ≡ bitmap_on bytes.now) }
-    ensures blob_end { IfOk result (λ page. page.blob_end ≡ blobs_end blob_end (rows_on (layout_of schema.now) bytes.now)) }
+    ensures blob_end { IfOk result (λ page. page.blob_end ≡ blobs_end 0 (rows_on (layout_of schema.now) bytes.now)) }
     ensures fault { IfErr result (λ e. IsRefused (layout_of schema.now) number bytes.now last e) }
 {
     let PageState::Committed = state_of(bytes) else {
@@ -109,11 +121,11 @@ fn rows_in(
             bitmap: 0,
             first: None,
             last,
-            blob_end,
+            blob_end: 0,
         });
     };
     match PageView::of(bytes, number, schema) {
-        Ok(view) => rows_of_view(view, bitmap_in(bytes), number, last, blob_end),
+        Ok(view) => rows_of_view(view, bitmap_in(bytes), number, last),
         Err(bad) => Err(MountFault::BadPage(bad)),
     }
 }
@@ -125,7 +137,6 @@ fn read_page<F: Flash>(
     at: u32,
     number: u32,
     last: Option<u64>,
-    blob_end: u64,
     buf: &mut PageBuf,
 ) -> Result<PageRows, MountFault>
     requires row { 1 ≤ layout_len (layout_of schema.now) }
@@ -139,7 +150,7 @@ fn read_page<F: Flash>(
     ensures last { IfOk result (λ page. IsTrue (F.state flash.old).media.tells → page.last ≡ last_in last (rows_on (layout_of schema.now) (page_at (F.state flash.old) at))) }
     ensures first { IfOk result (λ page. IsTrue (F.state flash.old).media.tells → page.first ≡ first_key (rows_on (layout_of schema.now) (page_at (F.state flash.old) at))) }
     ensures bitmap { IfOk result (λ page. IsTrue (F.state flash.old).media.tells → page.bitmap ≡ bitmap_on (page_at (F.state flash.old) at)) }
-    ensures blob_end { IfOk result (λ page. IsTrue (F.state flash.old).media.tells → page.blob_end ≡ blobs_end blob_end (rows_on (layout_of schema.now) (page_at (F.state flash.old) at))) }
+    ensures blob_end { IfOk result (λ page. IsTrue (F.state flash.old).media.tells → page.blob_end ≡ blobs_end 0 (rows_on (layout_of schema.now) (page_at (F.state flash.old) at))) }
     ensures few { IfOk result (λ page. page.rows < 65536) }
     ensures fault { IfErr result (IfPage (λ e. IsTrue (F.state flash.old).media.tells → IsRefused (layout_of schema.now) number (page_at (F.state flash.old) at) last e)) }
     ensures fails { IfErr result (IfFlash (λ e. ReadFails (F.state flash.old) e (F.state flash.new))) }
@@ -147,7 +158,7 @@ fn read_page<F: Flash>(
     ensures power { OnOk result ((F.state flash.new).is_on ≡ true) }
 {
     flash.read(at, buf)?;
-    let page = rows_in(schema, buf.bytes(), number, last, blob_end);
+    let page = rows_in(schema, buf.bytes(), number, last);
     buf.forget();
     page
 }
@@ -169,7 +180,7 @@ fn add_page<const KNOTS: usize, const SLOTS: usize>(
 }
 
 /// Reads the kept pages of a ring, from the oldest on, notes how many rows each has, adds those with rows to an index of
-/// no pages, and notes the bitmaps that wait, from that of the page on that is to wait first. It answers what it found, the
+/// no pages, and notes the entries that wait, from that of the page on that is to wait first. It answers what it found, the
 /// last key, and one more than the greatest page that a blob names.
 pub(crate) fn read_pages<F: Flash, const KNOTS: usize, const SLOTS: usize>(
     schema: &Schema<8>,
@@ -196,7 +207,7 @@ pub(crate) fn read_pages<F: Flash, const KNOTS: usize, const SLOTS: usize>(
     ensures same { AreSamePlan bitmaps.old bitmaps.new }
     ensures still { AreSameRing bitmaps.old bitmaps.new }
     ensures gathered { OnOk result (AreGathered bitmaps.old (next_of ring.now) bitmaps.new) }
-    ensures waits { OnOk result (IsTrue (F.state flash.old).media.tells → GatherUpTo bitmaps.old (pages_of ring.now (F.state flash.old)) (next_of ring.now) bitmaps.new) }
+    ensures waits { OnOk result (IsTrue (F.state flash.old).media.tells → GatherUpTo (layout_of schema.now) bitmaps.old (pages_of ring.now (F.state flash.old)) (next_of ring.now) bitmaps.new) }
     ensures read { OnOk result (IsTrue (F.state flash.old).media.tells →
         AreRead (layout_of schema.now) (pages_of ring.now (F.state flash.old)) (oldest_of ring.now) (next_of ring.now - oldest_of ring.now)) }
     ensures noted { OnOk result (next_of ring.now - oldest_of ring.now ≤ length counts.old → IsTrue (F.state flash.old).media.tells →
@@ -224,22 +235,14 @@ pub(crate) fn read_pages<F: Flash, const KNOTS: usize, const SLOTS: usize>(
         voids: 0,
     };
     let mut last = None;
-    let mut blob_end = 0;
+    let mut blob_end: u64 = 0;
     for number in oldest..next {
-        let page = read_page(
-            schema,
-            flash,
-            ring.place_of(number),
-            number,
-            last,
-            blob_end,
-            buf,
-        )?;
+        let page = read_page(schema, flash, ring.place_of(number), number, last, buf)?;
         note(counts, number, page.rows);
         add_page(index, page.first, number);
-        note_bitmap(bitmaps, number, page.bitmap);
+        note_entry(bitmaps, number, page.bitmap, page.full());
         last = page.last;
-        blob_end = page.blob_end;
+        blob_end = blob_end.max(page.blob_end);
         mounted.rows += u64::from(page.rows);
         if page.rows == 0 {
             mounted.voids += 1;

@@ -4,15 +4,19 @@ ghost use Rattle.std.specs.List.{range_with_len};
 ghost use Rattle.fl_flash.specs.Flash.{Goes, OffChangesNothing, page_at};
 ghost use Rattle.fl_ring.specs.Causes.{CausedBy};
 
-use crate::bitmaps::{make_room, note_bitmap};
+use crate::bitmaps::{make_room, note_entry};
 use crate::blobs::seal_rest;
 use crate::table::Table;
 use fl_flash::{Flash, FlashFault};
+use fl_index::Full;
 
 impl<const KNOTS: usize, const SLOTS: usize> Table<KNOTS, SLOTS> {
     ghost use Rattle.std.specs.Prelude.{ℕ, Bool};
     ghost use Rattle.fl_model.specs.Record.{Plan};
-    ghost use Rattle.fl_model.specs.Table.{DataRing, table_seals};
+    ghost use Rattle.fl_flash.specs.Flash.{FlashState};
+    ghost use Rattle.fl_index.specs.Page.{full_view};
+    ghost use Rattle.fl_model.specs.Layout.{full_of};
+    ghost use Rattle.fl_model.specs.Table.{DataRing, pending_entries, table_seals};
     ghost use Rattle.fl_model.specs.Table as model;
     ghost use Rattle.fl_model.specs.Work.{Device};
     ghost use Rattle.fl_ring.specs.Step.{IsWatched};
@@ -25,7 +29,7 @@ impl<const KNOTS: usize, const SLOTS: usize> Table<KNOTS, SLOTS> {
     ghost use Rattle.fl_table.specs.Mounting.{OutsideStands, rings_in};
     ghost use Rattle.fl_table.specs.Outcomes.{SealsEnd};
 
-    /// Seals the table: the waiting bitmaps, where they fill an index page, the blob bytes that wait, and then the pending
+    /// Seals the table: the waiting entries, where they fill an index page, the blob bytes that wait, and then the pending
     /// rows, so that each row's blob stands before it. After an error the table is stopped.
     pub(crate) fn seal<F: Flash>(&mut self, flash: &mut F) -> Result<(), FlashFault>
         requires running { is_running self.old ≡ true }
@@ -55,7 +59,7 @@ impl<const KNOTS: usize, const SLOTS: usize> Table<KNOTS, SLOTS> {
         self.seal_rows(flash)
     }
 
-    /// Seals the waiting bitmaps where they fill an index page, so that one more has room.
+    /// Seals the waiting entries where they fill an index page, so that one more has room.
     fn seal_bitmaps<F: Flash>(&mut self, flash: &mut F) -> Result<(), FlashFault>
         requires running { is_running self.old ≡ true }
         requires some { 1 ≤ self.old.writer.count }
@@ -121,7 +125,19 @@ impl<const KNOTS: usize, const SLOTS: usize> Table<KNOTS, SLOTS> {
         Ok(())
     }
 
-    /// Seals the pending rows as the next page, whose bitmap waits for the index then.
+    /// What a full index entry tells of the page of the pending rows, beside its bitmap.
+    fn pending_entry(&self) -> Full
+        requires some { 1 ≤ self.now.writer.count }
+        ensures stands { (f : FlashState) → (first : ℕ) → (plan : Plan) → (table : model.Table) → Stands self.now f first plan table → full_view result ≡ full_of (pending_entries table) }
+    {
+        Full {
+            first_key: self.writer.row(&self.schema, 0).key(),
+            count: self.writer.count() as u16,
+            blob_end: self.blob_end,
+        }
+    }
+
+    /// Seals the pending rows as the next page, whose entry waits for the index then.
     fn seal_rows<F: Flash>(&mut self, flash: &mut F) -> Result<(), FlashFault>
         requires running { is_running self.old ≡ true }
         requires some { 1 ≤ self.old.writer.count }
@@ -147,12 +163,12 @@ impl<const KNOTS: usize, const SLOTS: usize> Table<KNOTS, SLOTS> {
         ensures off { OffChangesNothing (F.state flash.old) result (F.state flash.new) }
         ensures cause { IfErr result (λ e. CausedBy (F.state flash.old) e (F.state flash.new)) }
     {
+        let full = self.pending_entry();
         let Some(mut ring) = self.ring.take() else {
             unreachable!()
         };
         let number = ring.next_number();
         let oldest = ring.oldest();
-        let first_key = self.writer.row(&self.schema, 0).key();
         self.writer.finish(number, self.bitmap);
         if let Err(fault) = ring.seal(flash, self.writer.body()) {
             self.stopped = true;
@@ -161,10 +177,11 @@ impl<const KNOTS: usize, const SLOTS: usize> Table<KNOTS, SLOTS> {
         let gone = voids_among(&self.counts, oldest, ring.oldest());
         self.voids = self.voids.saturating_sub(gone);
         note(&mut self.counts, number, self.writer.count());
-        self.index.add_further(first_key, number);
+        self.index.add_further(full.first_key, number);
         self.writer.clear();
-        note_bitmap(&mut self.bitmaps, number, self.bitmap);
+        note_entry(&mut self.bitmaps, number, self.bitmap, full);
         self.bitmap = 0;
+        self.blob_end = 0;
         self.ring = Some(ring);
         Ok(())
     }

@@ -42,9 +42,11 @@ pub struct Table<const KNOTS: usize, const SLOTS: usize> {
     pub(crate) counts: Vec<u16>,
     /// How many of the kept pages are void.
     pub(crate) voids: u32,
+    /// One more than the greatest page at which a blob of the pending rows begins, and 0 where none has a page.
+    pub(crate) blob_end: u32,
     /// Where the pages of keys are.
     pub(crate) index: LearnedIndex<KNOTS, SLOTS>,
-    /// The bitmaps of sealed pages, where there is an index of them.
+    /// The entries of sealed pages, where there is an index of them.
     pub(crate) bitmaps: Option<Index>,
     /// The blobs of its records, where it keeps any, and the greatest length of one.
     pub(crate) blobs: Option<VarData>,

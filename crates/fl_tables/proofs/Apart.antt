@@ -125,7 +125,7 @@ module _ (f g : FlashState) (first : ℕ) (plan : Plan) (same-rows : (n : ℕ) �
 
   stands-apart : (t : Table 64 64) (table : model.Table) → Stands t f first plan table → Stands t g first plan table
   stands-apart t table h =
-      let facts = table-parts plan table (h.planned.full, h.planned.log) h.facts in
+      let facts = table-parts plan table h.planned.log h.facts in
       record {
         planned = h.planned;
         facts = h.facts;

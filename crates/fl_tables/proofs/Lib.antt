@@ -7,6 +7,5 @@ pub mod Naming
 pub mod TablesMade
 pub mod MountedSoFar
 pub mod TablesReads
-pub mod TornPages
 pub mod RingRepairs
 pub mod TableRepairs

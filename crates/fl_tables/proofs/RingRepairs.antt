@@ -16,8 +16,8 @@ use Rattle.fl_ring.specs.Ring.{Shape, place, room}
 use Rattle.fl_ring.specs.declared.ring.Ring.{Ring}
 use Rattle.fl_ring.proofs.Founds.{same_pages}
 use Rattle.fl_ring.proofs.Readings.{goes_more, goes_same}
+use Rattle.fl_ring.proofs.TornPages.{torn_there}
 use Rattle.fl_tables.specs.Repaired.{IsRepaired}
-use Rattle.fl_tables.proofs.TornPages.{torn_there}
 
 -- each page is repaired, and the pages before `begin` and from `end` on stand
 pub record Repairs (size begin end : ℕ) (old new : ℕ → List ℕ) : Type 0 where
@@ -131,7 +131,7 @@ module _ (r : Shape) (some : 0 < r.blocks) (some-pages : 0 < r.per_block) where
   ring-repairs least ring old new told block page h =
       let found = h.found in
       let told' = subst IsTrue (sym h.looks.goes.tells) told in
-      let is_torn = torn_there old new r least ring some told h in
+      let is_torn = torn_there old r least some h.numbers (h.is_found told) in
       let voided = voids-next h.numbers.next h.numbers.torn found h.repairs.voided told' (λ e. ap (λ (pages : ℕ → List ℕ). state_of_page (pages (place r h.numbers.next))) (same_pages old found _ h.looks) ∙ is_torn e) h.repairs.voids in
       let all = cleans-ahead (h.numbers.next + one h.numbers.torn) found h.repairs.voided new told' (ap (λ (g : Geometry). g.block) h.looks.goes.geometry ∙ block) (ap (λ (g : Geometry). g.page) h.looks.goes.geometry ∙ page) voided h.repairs.cleans in (
         goes_more old found new h.looks.goes all.0,

@@ -150,7 +150,7 @@ tables-become f g mounted now plans entries tables k h become = record {
 stands-rests : (t : Table 64 64) (f : FlashState) (first : ℕ) (plan : Plan) (table : model.Table) → Stands t f first plan table → Rests f first plan (lose table)
 stands-rests t f first plan table h =
     record {
-      settled = record { facts = table-facts plan (lose table) (plain-lose plan table (table-parts plan table (h.planned.full, h.planned.log) h.facts)); lost = lost-twice table };
+      settled = record { facts = table-facts plan (lose table) (plain-lose plan table (table-parts plan table h.planned.log h.facts)); lost = lost-twice table };
       pages = h.pages;
     }
 

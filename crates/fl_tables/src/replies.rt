@@ -8,7 +8,7 @@ use fl_flash::FlashFault;
 use fl_script::Reply;
 use fl_table::{FlushFault, PutRefusal};
 
-/// The reply to an operation that failed.
+/// The reply to a command in which an operation of the flash failed: `power lost` or `device fault`.
 pub fn fault_reply(fault: FlashFault) -> Reply
     ensures { reply_text result ≡ text (said.fault_reply fault) }
 {
@@ -18,7 +18,8 @@ pub fn fault_reply(fault: FlashFault) -> Reply
     }
 }
 
-/// .. to a put.
+/// The reply to a put: `ok`; `refused` with its reason, where nothing changed; `not mounted` where an earlier operation of this
+/// table failed; or the reply of the operation that failed in this put.
 pub fn put_reply(outcome: Result<(), PutRefusal>) -> Reply
     ensures { reply_text result ≡ text (said.put_reply outcome) }
 {
@@ -34,7 +35,8 @@ pub fn put_reply(outcome: Result<(), PutRefusal>) -> Reply
     }
 }
 
-/// .. to a flush.
+/// The reply to a flush: `ok`, `not mounted` where an earlier operation of this table failed, or the reply of the operation that
+/// failed in this flush.
 pub fn flush_reply(outcome: Result<(), FlushFault>) -> Reply
     ensures { reply_text result ≡ text (said.flush_reply outcome) }
 {

@@ -3,8 +3,8 @@ use fl_config::Config;
 use fl_plan::ConfigRefusal;
 use fl_plan::ConfigRefusal::{
     Bits, BlobLimit, BlockSize, ColumnCount, ColumnType, DataBlocks, DeviceTooLarge, DeviceTwice,
-    ErrorBound, IndexBlocks, KeyWidth, NameTaken, PageSize, RowTooLong, TableFirst, TooManyTables,
-    VarBlocks, Width,
+    ErrorBound, Format, IndexBlocks, KeyWidth, NameTaken, PageSize, RowTooLong, TableFirst,
+    TooManyTables, VarBlocks, Width,
 };
 use fl_script::{LineRoom, read_line};
 use std::test::Fail;
@@ -79,6 +79,9 @@ fn table_lines(rt: HostRuntime) -> Result<(), Fail> {
         ("table u 8 i64,i64,i64 16384 3 3 8 0 1 255 289", BlobLimit),
         ("table u 8 i64,i64,i64 16384 3 3 8 0 1 255 288", RowTooLong),
         ("table u 8 i64 16384 3 3 8 0 1 255 288", DeviceTooLarge),
+        ("table u 8 i64 16384 0 3 8 0 1 1 288 index2", DeviceTooLarge),
+        ("table u 8 i64 3 0 3 0 0 1 1 288 index2", Format),
+        ("table u 8 i64 3 0 3 7 0 1 1 288 index2", Bits),
     ];
     assert_eq!(rt; add(&mut config, &mut room, "device 64 4"), Some(Ok(())));
     let first = "table t 8 i32 3 0 0 8 0 10 1 0";

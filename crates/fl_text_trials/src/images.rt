@@ -56,6 +56,17 @@ fn is_image(bytes: &[u8]) -> bool {
 }
 
 #[test]
+fn the_word_for_full_entries_stands_in_the_header(rt: HostRuntime) -> Result<(), Fail> {
+    let mut media = MemMedia::new(rt.alloc(), Vec::new(rt.alloc()), 8000)?;
+    let table = "table t 8 i32 6 3 0 8 0 10 1 00  index2";
+    let text = b"device 128 4\ntable t 8 i32 6 3 0 8 0 10 1 0 index2\n ";
+    assert_eq!(rt; open(rt.alloc(), table, &mut media)?, Some(Ok(())));
+    assert!(rt; media.bytes().starts_with(text), "its header");
+    assert_eq!(rt; media.bytes().len(), 5632);
+    Ok(())
+}
+
+#[test]
 fn an_image_is_made_and_found(rt: HostRuntime) -> Result<(), Fail> {
     let mut media = MemMedia::new(rt.alloc(), Vec::new(rt.alloc()), 4000)?;
     assert_eq!(rt; open(rt.alloc(), TABLE, &mut media)?, Some(Ok(())));

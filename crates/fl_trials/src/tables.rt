@@ -39,6 +39,7 @@ fn table(alloc: Global) -> Result<Table, ConfigRefusal>
         buckets: None,
         error: 1,
         blob_limit: 0,
+        full_index: false,
     };
     Table::plan(alloc, &config)
 }

@@ -1,5 +1,5 @@
 -- The commands of a script.
-use Rattle.std.specs.Prelude.{ℕ, ℤ, Option, List}
+use Rattle.std.specs.Prelude.{ℕ, Bool, ℤ, Option, List}
 use Rattle.fl_base.specs.declared.types.CutKind.{CutKind}
 use Rattle.fl_base.specs.declared.types.KeyRange.{KeyRange}
 use Rattle.fl_base.specs.declared.types.Span.{Span}
@@ -18,6 +18,8 @@ pub record TableLine : Type 0 where
   pub width : ℕ
   pub error : ℕ
   pub blob_limit : ℕ
+  -- whether the line ends with the word for full index entries
+  pub full_index : Bool
 
 pub data Command : Type 0 where
   -- an empty line or a comment

@@ -9,7 +9,7 @@ use Rattle.fl_words.specs.Command.{Command, TableLine}
 -- why a configuration line is refused
 pub data ConfigFault : Type 0 where
   DeviceTwice TableFirst PageSize BlockSize TooManyTables NameTaken KeyWidth ColumnType ColumnCount : ConfigFault
-  DataBlocks IndexBlocks VarBlocks Bits Width ErrorBound BlobLimit RowTooLong DeviceTooLarge : ConfigFault
+  DataBlocks IndexBlocks VarBlocks Bits Width ErrorBound BlobLimit RowTooLong DeviceTooLarge Format : ConfigFault
 
 -- the configuration so far
 pub record Lines : Type 0 where
@@ -43,7 +43,7 @@ columns_named (name ∷ names) = cons_column (column_named name) (columns_named 
 abbrev pub columns_in : List ℕ → Option (List Column)
 columns_in word = columns_named (slice_split (λ byte. byte == 44) word)
 
--- a table line as a plan; no line asks for full index entries or a log
+-- a table line as a plan; no line asks for a log
 abbrev pub plan_of : Geometry → TableLine → Plan
 plan_of geometry line = record {
   geometry = geometry;
@@ -58,7 +58,7 @@ plan_of geometry line = record {
   width = line.width;
   error = line.error;
   blob_limit = line.blob_limit;
-  full_index = false;
+  full_index = line.full_index;
   log_blocks = 0;
 }
 
@@ -97,7 +97,8 @@ table_faults geometry plans line =
     ∷ (nat_lt 255 line.error, ErrorBound)
     ∷ (bad_blob_limit plan, BlobLimit)
     ∷ (nat_lt (geometry.page - 24) (row_len plan), RowTooLong)
-    ∷ (too_large geometry (plans ++ plan ∷ []), DeviceTooLarge) ∷ []
+    ∷ (too_large geometry (plans ++ plan ∷ []), DeviceTooLarge)
+    ∷ (line.full_index && (line.index_blocks == 0), Format) ∷ []
 
 abbrev pub device_faults : Geometry → List (Bool × ConfigFault)
 device_faults geometry =

@@ -24,7 +24,8 @@ abbrev pub table_text : Plan → List ℕ
 table_text plan =
     line_text (codes "table" ∷ plan.name ∷ decimal plan.key_bytes ∷ join_with_byte 44 (map column_name plan.columns)
     ∷ decimal plan.data_blocks ∷ decimal plan.index_blocks ∷ decimal plan.var_blocks ∷ decimal plan.bits ∷ signed_decimal plan.base
-    ∷ decimal plan.width ∷ decimal plan.error ∷ decimal plan.blob_limit ∷ [])
+    ∷ decimal plan.width ∷ decimal plan.error ∷ decimal plan.blob_limit
+    ∷ (if plan.full_index then codes "index2" ∷ [] else []))
 
 -- the first 1,024 bytes of a medium
 abbrev pub header : Config → List ℕ

@@ -7,8 +7,8 @@ use super::*;
 use fl_bitmap::Buckets;
 
 // Three rows a page, in a ring of eight blocks, and behind it three blocks of index pages, each with room for the bitmaps
-// of five pages. Each value has a bucket of its own.
-fn indexed_table(alloc: Global) -> Result<Table, ConfigRefusal>
+// of five pages, or for the full entry of one. Each value has a bucket of its own.
+fn indexed_table(alloc: Global, full_index: bool) -> Result<Table, ConfigRefusal>
     ensures { IfOk result (λ t. (f : FlashState) → f.geometry ≡ record { page = 64; block = 2 } → f.blocks ≡ 11 → LiesOn t f) }
 {
     let mut columns = ArrayVec::new();
@@ -33,6 +33,7 @@ fn indexed_table(alloc: Global) -> Result<Table, ConfigRefusal>
         }),
         error: 1,
         blob_limit: 0,
+        full_index,
     };
     Table::plan(alloc, &config)
 }
@@ -56,8 +57,13 @@ fn fill<F: Flash>(store: &mut Store, flash: &mut F)
     }
 }
 
-// What three steps of a scan of all keys from 11 on answer, and how often they read the flash.
-fn scan<F: Flash>(store: &mut Store, flash: &mut F, low: i64, high: i64) -> ([Answer; 3], u64)
+// What three steps of a scan answer, and how often they read the flash.
+fn scan<F: Flash>(
+    store: &mut Store,
+    flash: &mut F,
+    range: KeyRange,
+    span: Span,
+) -> ([Answer; 3], u64)
     requires lies { LiesOn store.old.table (F.state flash.old) }
     requires rows { length store.old.rows.bytes ≡ (F.state flash.old).geometry.page }
     requires index { length store.old.index.bytes ≡ (F.state flash.old).geometry.page }
@@ -66,12 +72,13 @@ fn scan<F: Flash>(store: &mut Store, flash: &mut F, low: i64, high: i64) -> ([An
     if !store.table.is_mounted() || store.table.is_stopped() {
         return ([Answer::Refused; 3], 0);
     }
-    let range = KeyRange {
-        low: 11,
-        high: u64::MAX,
-    };
-    let span = Some(Span { low, high });
-    let mut cursor = Cursor::begin(&store.table, range, span, &mut store.rows, &mut store.index);
+    let mut cursor = Cursor::begin(
+        &store.table,
+        range,
+        Some(span),
+        &mut store.rows,
+        &mut store.index,
+    );
     let first = advance(&mut cursor, flash);
     let second = advance(&mut cursor, flash);
     let third = advance(&mut cursor, flash);
@@ -86,20 +93,34 @@ fn blank_flash(alloc: Global) -> Result<Vec<u8>, NoMemory>
     Ok(vec![in alloc; 255; 1408]?)
 }
 
-fn see(alloc: Global, low: i64, high: i64) -> Result<([Answer; 3], u64), ConfigRefusal> {
+fn scan_store(
+    alloc: Global,
+    full_index: bool,
+    range: KeyRange,
+    span: Span,
+) -> Result<([Answer; 3], u64), ConfigRefusal> {
     let bytes = blank_flash(alloc)?;
     let mut media = MemMedia::new(alloc, bytes, 1408)?;
     let mut store = Store {
-        table: indexed_table(alloc)?,
+        table: indexed_table(alloc, full_index)?,
         rows: PageBuf::new(alloc, 64)?,
         index: PageBuf::new(alloc, 64)?,
         mark: None,
     };
     let mut flash = SimFlash::new(alloc, &mut media, GEOMETRY, 11, 0)?;
     fill(&mut store, &mut flash);
-    let seen = scan(&mut store, &mut flash, low, high);
+    let seen = scan(&mut store, &mut flash, range, span);
     let _media = flash.into_media();
     Ok(seen)
+}
+
+// A scan of all keys, over bitmaps alone.
+fn see(alloc: Global, low: i64, high: i64) -> Result<([Answer; 3], u64), ConfigRefusal> {
+    let range = KeyRange {
+        low: 11,
+        high: u64::MAX,
+    };
+    scan_store(alloc, false, range, Span { low, high })
 }
 
 // The lookup of key 11 reads pages 1 and 0. Both index pages are read, the bitmaps of pages 10 and 11 wait.
@@ -120,5 +141,26 @@ fn a_scan_reads_the_pages_that_may_match(rt: HostRuntime) -> Result<(), Fail> {
 #[test]
 fn a_scan_reads_an_index_page_once(rt: HostRuntime) -> Result<(), Fail> {
     assert_eq!(rt; see(rt.alloc(), 1, 1)?, ([Row(11), Row(21), Row(31)], 5));
+    Ok(())
+}
+
+// The lookup of key 81 reads pages 8 and 7. The index lists page 8, which has the value 7 and begins at key 97.
+#[test]
+fn a_scan_ends_at_an_entry_that_tells_a_key_above_its_range(rt: HostRuntime) -> Result<(), Fail> {
+    let sevens = Span { low: 7, high: 7 };
+    let before = KeyRange { low: 81, high: 96 };
+    let with = KeyRange { low: 81, high: 97 };
+    assert_eq!(rt;
+        scan_store(rt.alloc(), true, before, sevens)?,
+        ([End; 3], 3)
+    );
+    assert_eq!(rt;
+        scan_store(rt.alloc(), false, before, sevens)?,
+        ([End; 3], 4)
+    );
+    assert_eq!(rt;
+        scan_store(rt.alloc(), true, with, sevens)?,
+        ([Row(97), End, End], 4)
+    );
     Ok(())
 }

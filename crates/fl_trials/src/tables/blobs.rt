@@ -42,6 +42,7 @@ fn table(alloc: Global) -> Result<Table, ConfigRefusal>
         buckets: None,
         error: 1,
         blob_limit: 200,
+        full_index: false,
     };
     Table::plan(alloc, &config)
 }

@@ -5,7 +5,7 @@ use Rattle.fl_ring.specs.Place.{shape_of}
 use Rattle.fl_ring.proofs.Founds.{same_pages}
 use Rattle.fl_ring.proofs.Readings.{no_reads, more_reads, told_still}
 use Rattle.fl_check.specs.Claims.{FailsFirst}
-use Rattle.fl_check.specs.Entries.{kept_below, AreSeen, HasEntries}
+use Rattle.fl_check.specs.Entries.{over, kept_below, AreSeen, HasEntries}
 use Rattle.fl_check.specs.declared.entries.Seen.{Seen}
 use Rattle.fl_check.proofs.Listings.{none_seen, all_entered, overrun}
 use Rattle.fl_check.proofs.Looks.{few_reads}
@@ -20,7 +20,7 @@ loop-i-init g c =
       room = c.requires.room;
       few = omega arith;
       last = λ some. absurd (omega (arith, some));
-      seen = λ told. none_seen (page_at f) (shape_of c.args.index.now) (shape_of c.args.rows.now) c.args.l (record { last = 0; end = 0 }) refl;
+      seen = λ told. none_seen (page_at f) (shape_of c.args.index.now) (shape_of c.args.rows.now) (over c.args.l) (record { last = 0; end = 0 }) refl;
     }
 
 pub loop-i-preserved : goal.loop-i-preserved
@@ -30,7 +30,7 @@ loop-i-preserved g c =
     let after = g.F.Flash.state c.see_listing.new.flash in
     let index = shape_of c.args.index.now in
     let rows = shape_of c.args.rows.now in
-    let l = c.args.l in
+    let l = over c.args.l in
     let reads = c.loop-i.invariant.reads in
     let same = same_pages f before _ reads in
     let few = subst (λ (o : Option Seen). IfSome o (λ s. (OnlyReads before (1 + (kept_below l.rows s.end - kept_below l.rows c.loop-i.seen.end)) after) × (c.loop-i.seen.end ≤ s.end))) c.in-Some.is c.in_ok-step.ensures.few_reads in
@@ -57,7 +57,7 @@ returns-in-None-clause-some g c =
     let before = g.F.Flash.state c.loop-i.flash in
     let index = shape_of c.args.index.now in
     let rows = shape_of c.args.rows.now in
-    let l = c.args.l in
+    let l = over c.args.l in
     let reads = c.loop-i.invariant.reads in
     let same = same_pages f before _ reads in
     λ told. subst (λ (page : ℕ → List ℕ). FailsFirst (HasEntries page index rows l) l.index.kept c.loop-i.i) same
@@ -73,7 +73,7 @@ returns-then-next-seen-clause-some g c =
     let page = page_at (g.F.Flash.state c.args.flash.now) in
     let index = shape_of c.args.index.now in
     let rows = shape_of c.args.rows.now in
-    let l = c.args.l in
+    let l = over c.args.l in
     let all : c.loop-i.i ≡ l.index.kept = omega (arith, c.loop-i.invariant.few, c.loop-i-test.false) in
     λ told. overrun page index rows l c.loop-i.seen (subst (λ (n : ℕ). AreSeen page index rows l n c.loop-i.seen) all (c.loop-i.invariant.seen told)) (omega (arith, c.if-next-seen.true, c.from-next.ensures))
 
@@ -91,6 +91,6 @@ returns-clause-none g c =
     let page = page_at (g.F.Flash.state c.args.flash.now) in
     let index = shape_of c.args.index.now in
     let rows = shape_of c.args.rows.now in
-    let l = c.args.l in
+    let l = over c.args.l in
     let all : c.loop-i.i ≡ l.index.kept = omega (arith, c.loop-i.invariant.few, c.loop-i-test.false) in
     λ told. all_entered page index rows l c.loop-i.seen (subst (λ (n : ℕ). AreSeen page index rows l n c.loop-i.seen) all (c.loop-i.invariant.seen told)) (omega (arith, c.if-next-seen.false, c.from-next.ensures))

@@ -1,11 +1,20 @@
-use Rattle.std.proofs.Common.{map, refl, ◌∙◌, ap}
+use Rattle.std.proofs.Common.{◌++◌, map, refl, ◌∙◌, ap}
 use Rattle.fl_words.specs.Config.{plan_of, bad_blob_limit}
 use Rattle.fl_plan.specs.Plan.{Label}
 use Rattle.fl_config.specs.Entry.{plan_in}
+use Rattle.fl_config.specs.Lines.{place_faults, line_faults}
 use Rattle.fl_config.specs.Words.{line_of}
+use Rattle.fl_plan.proofs.Faults.{some-first}
 use Rattle.fl_config.proofs.Told.{tells-err}
-use Rattle.fl_config.proofs.Takes.{some-size, none-size, told-next, told-last, told-none, large-none, passes-alone}
+use Rattle.fl_config.proofs.Takes.{last_part, some-size, none-size, told-next, told-last, told-none, large-none, passes-alone}
 use Rattle.fl_config.proofs.taking.table_of.Goals as goal
+
+pub returns-in_err-check_place-clause-refusal : goal.returns-in_err-check_place-clause-refusal
+returns-in_err-check_place-clause-refusal c =
+    let plans = map plan_in c.args.tables.now.items in
+    let line = line_of c.args.words.now in
+    tells-err _ _ _ c.from_residual.ensures.1
+    (some-first _ (place_faults plans line) (line_faults c.args.geometry line ++ last_part c.args.geometry plans line) c.in_err-check_place.ensures)
 
 pub returns-in_err-config-clause-refusal : goal.returns-in_err-config-clause-refusal
 returns-in_err-config-clause-refusal c =

@@ -1,9 +1,7 @@
 use Rattle.std.proofs.Common.{◌≡◌, ◌≤◌, ◌-◌, None, length, IsTrue}
 use Rattle.fl_ring.specs.Looking.{OnlyReads}
-use Rattle.fl_ring.specs.Place.{shape_of, oldest_of}
-use Rattle.fl_ring.specs.Ring.{place}
-use Rattle.fl_index.specs.Headers.{IsNewest, AreRemembered, kept_page}
-use Rattle.fl_index.specs.Page.{newest_of}
+use Rattle.fl_ring.specs.Place.{oldest_of}
+use Rattle.fl_index.specs.Headers.{AreRemembered, kept_page}
 use Rattle.fl_index.proofs.mount.read_firsts.Given as goal
 
 abbrev pub invariant-loop-number : goal.invariant-loop-number
@@ -14,5 +12,4 @@ invariant-loop-number g l = record {
   none : l.buf.holds ≡ None;
   size : length l.firsts ≡ length l.initial.firsts;
   firsts : l.number - oldest_of l.ring ≤ length l.initial.firsts → IsTrue (g.F.Flash.state l.initial.flash).media.tells → AreRemembered (kept_page l.ring (g.F.Flash.state l.initial.flash)) (oldest_of l.ring) (l.number - oldest_of l.ring) l.firsts;
-  newest : IsTrue (g.F.Flash.state l.initial.flash).media.tells → IsNewest (place (shape_of l.ring)) (kept_page l.ring (g.F.Flash.state l.initial.flash)) (newest_of (kept_page l.ring (g.F.Flash.state l.initial.flash)) (oldest_of l.ring) (l.number - oldest_of l.ring)) l.newest;
 }

@@ -2,7 +2,7 @@ use Rattle.std.proofs.Common.{◌≡◌, ◌+◌, ◌≤◌, Option, IfSome, sym
 use Rattle.fl_base.specs.declared.types.RingPlace.{RingPlace}
 use Rattle.fl_model.specs.Record.{Plan}
 use Rattle.fl_plan.specs.Plan.{blocks_in, bits_in}
-use Rattle.fl_table.proofs.Planning.{few-pages}
+use Rattle.fl_plan.proofs.Fits.{few-pages}
 use Rattle.fl_table.proofs.plan.bitmaps_of.Goals as goal
 
 pub returns-clause-planned : goal.returns-clause-planned

@@ -35,7 +35,7 @@ pub returns-clause-bitmap : goal.returns-clause-bitmap
 returns-clause-bitmap g c = IfOk-weaker c.rows_in-page.result _ _ (λ page h told. h ∙ ap (λ (xs : List ℕ). bitmap_on xs) (c.bytes.ensures ∙ c.in_ok-read.ensures.bytes told)) c.rows_in-page.ensures.bitmap
 
 pub returns-clause-blob_end : goal.returns-clause-blob_end
-returns-clause-blob_end g c = IfOk-weaker c.rows_in-page.result _ _ (λ page h told. h ∙ ap (λ (xs : List ℕ). blobs_end c.args.blob_end (rows_on (layout_of c.args.schema.now) xs)) (c.bytes.ensures ∙ c.in_ok-read.ensures.bytes told)) c.rows_in-page.ensures.blob_end
+returns-clause-blob_end g c = IfOk-weaker c.rows_in-page.result _ _ (λ page h told. h ∙ ap (λ (xs : List ℕ). blobs_end 0 (rows_on (layout_of c.args.schema.now) xs)) (c.bytes.ensures ∙ c.in_ok-read.ensures.bytes told)) c.rows_in-page.ensures.blob_end
 
 pub returns-clause-few : goal.returns-clause-few
 returns-clause-few g c = IfOk-weaker c.rows_in-page.result _ _ (λ page h. h.1) c.rows_in-page.ensures.rows

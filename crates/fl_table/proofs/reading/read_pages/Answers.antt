@@ -5,8 +5,9 @@ use Rattle.fl_ring.specs.Looking.{OnlyReads}
 use Rattle.fl_ring.specs.Place.{next_of, oldest_of}
 use Rattle.fl_schema.specs.Schema.{layout_of}
 use Rattle.fl_find.specs.Index.{IndexOf}
-use Rattle.fl_table.specs.Reading.{pages_of, points_after, rows_after, voids_after, last_after, ends_after, IsRefused, AreRead, AreRefused, AreNoted, GatherUpTo, bitmap_on}
+use Rattle.fl_table.specs.Reading.{pages_of, points_after, rows_after, voids_after, last_after, ends_after, IsRefused, AreRead, AreRefused, AreNoted, GatherUpTo, bitmap_on, full_on}
 use Rattle.fl_table.proofs.Gathering.{gathers-none, gather-first, gather-room, gathers-more, gather-more}
+use Rattle.fl_table.proofs.FullEntries.{full-read}
 use Rattle.fl_table.proofs.Indexing.{plan-same, plan-then, ring-same, ring-then}
 use Rattle.fl_ring.proofs.Exists.{page_exists}
 use Rattle.fl_ring.proofs.Readings.{no_reads, more_reads, told_still, same_page}
@@ -80,11 +81,14 @@ loop-number-preserved g c =
       room = c.in_ok-page.ensures.room ∙ inv.room;
       none = c.in_ok-page.ensures.none;
       counts = counts_len;
-      same = plan-then c.args.bitmaps.now c.loop-number.bitmaps c.note_bitmap.new.bitmaps inv.same c.note_bitmap.ensures.same;
-      still = ring-then c.args.bitmaps.now c.loop-number.bitmaps c.note_bitmap.new.bitmaps inv.still c.note_bitmap.ensures.still;
-      gathered = gathers-more c.args.bitmaps.now c.loop-number.bitmaps c.note_bitmap.new.bitmaps (oldest_of ring) (next_of ring) number page.bitmap c.requires.bitmaps inv.gathered c.note_bitmap.ensures.noted;
-      waits = λ told. gather-more c.args.bitmaps.now c.loop-number.bitmaps c.note_bitmap.new.bitmaps (oldest_of ring) (next_of ring) number page.bitmap pages c.requires.bitmaps inv.gathered c.note_bitmap.ensures.noted
-          (c.in_ok-page.ensures.bitmap (told_still old flash n inv.reads told) ∙ ap bitmap_on same) c.loop-number.invariant.same (inv.waits told);
+      same = plan-then c.args.bitmaps.now c.loop-number.bitmaps c.note_entry.new.bitmaps inv.same c.note_entry.ensures.same;
+      still = ring-then c.args.bitmaps.now c.loop-number.bitmaps c.note_entry.new.bitmaps inv.still c.note_entry.ensures.still;
+      gathered = gathers-more c.args.bitmaps.now c.loop-number.bitmaps c.note_entry.new.bitmaps (oldest_of ring) (next_of ring) number page.bitmap c.full.result c.requires.bitmaps inv.gathered c.note_entry.ensures.noted;
+      waits = λ told.
+          let still = told_still old flash n inv.reads told in
+          gather-more layout c.args.bitmaps.now c.loop-number.bitmaps c.note_entry.new.bitmaps (oldest_of ring) (next_of ring) number page.bitmap c.full.result pages c.requires.bitmaps inv.gathered c.note_entry.ensures.noted
+          (c.in_ok-page.ensures.bitmap still ∙ ap bitmap_on same)
+          (c.full.ensures ∙ (full-read layout bytes page.first page.rows page.blob_end (c.in_ok-page.ensures.first still) (c.in_ok-page.ensures.rows still) (c.in_ok-page.ensures.blob_end still) ∙ ap (full_on layout) same)) (inv.waits told);
       error = c.add_page.ensures.error ∙ inv.error;
       index = λ told error empty. points-more layout pages first n number m here more bytes same c.loop-number.last page.first error c.loop-number.index c.add_page.new.index (inv.last told) (inv.read told)
           (c.in_ok-page.ensures.read (told_still old flash n inv.reads told)) (c.in_ok-page.ensures.first (told_still old flash n inv.reads told)) (inv.index told error empty) c.add_page.ensures.points;
@@ -93,7 +97,7 @@ loop-number-preserved g c =
           (noted-more layout pages first n number m here more bytes same c.loop-number.counts page.rows (omega (arith, fits, inv.counts))
           (c.in_ok-page.ensures.rows (told_still old flash n inv.reads told)) (inv.noted (omega (arith, fits)) told));
       last = λ told. last-more layout pages first n number m here more bytes same c.loop-number.last page.last (inv.last told) (c.in_ok-page.ensures.last (told_still old flash n inv.reads told));
-      blob_end = λ told. ends-more layout pages first n number m here more bytes same c.loop-number.blob_end page.blob_end (inv.blob_end told) (c.in_ok-page.ensures.blob_end (told_still old flash n inv.reads told));
+      blob_end = λ told. ends-more layout pages first n number m here more bytes same c.loop-number.blob_end page.blob_end c.max-blob_end.result (inv.blob_end told) (c.in_ok-page.ensures.blob_end (told_still old flash n inv.reads told)) c.max-blob_end.ensures;
       pages = pages_is ∙ inv.pages;
       rows = λ told. rows_is ∙ rows-more layout pages first n number m here more bytes same page.rows c.loop-number.mounted.rows (inv.rows told) (c.in_ok-page.ensures.rows (told_still old flash n inv.reads told));
       voids = λ told. voids_is ∙ voids-more layout pages first n number m here more bytes same page.rows c.loop-number.mounted.voids (inv.voids told) (c.in_ok-page.ensures.rows (told_still old flash n inv.reads told));
@@ -101,8 +105,8 @@ loop-number-preserved g c =
       voids_few = omega (arith, voids_few page.rows c.loop-number.mounted.voids c.if-page-eq0.mounted.voids voids_is, inv.voids_few, more);
     }
 
-pub note_bitmap-requires-clause-room : goal.note_bitmap-requires-clause-room
-note_bitmap-requires-clause-room g c = λ end.
+pub note_entry-requires-clause-room : goal.note_entry-requires-clause-room
+note_entry-requires-clause-room g c = λ end.
     gather-room c.args.bitmaps.now c.loop-number.bitmaps (oldest_of c.args.ring.now) (next_of c.args.ring.now) c.loop-number.number c.requires.bitmaps (search (rules, arith)) c.loop-number.invariant.same c.loop-number.invariant.gathered end
 
 pub loop-number-init : goal.loop-number-init
@@ -122,7 +126,7 @@ loop-number-init g c =
       same = plan-same c.args.bitmaps.now;
       still = ring-same c.args.bitmaps.now;
       gathered = gathers-none c.args.bitmaps.now first (next_of ring) c.oldest-oldest.result c.oldest-oldest.ensures c.requires.bitmaps;
-      waits = λ told. gather-first c.args.bitmaps.now first (next_of ring) c.oldest-oldest.result pages c.oldest-oldest.ensures c.requires.bitmaps;
+      waits = λ told. gather-first layout c.args.bitmaps.now first (next_of ring) c.oldest-oldest.result pages c.oldest-oldest.ensures c.requires.bitmaps;
       error = refl;
       index = λ told error empty. subst (λ k. IndexOf error (points_after layout pages first k) c.args.index.now) (sym none) empty;
       read = λ told. subst (λ k. AreRead layout pages first k) (sym none) tt;
@@ -141,7 +145,7 @@ returns-clause-waits g c = λ told.
     let old = g.F.Flash.state c.args.flash.now in
     let ring = c.args.ring.now in
     let last : c.loop-number.number ≡ next_of ring = search (rules, arith) in
-    subst (λ n. GatherUpTo c.args.bitmaps.now (pages_of ring old) n c.loop-number.bitmaps) last (c.loop-number.invariant.waits told)
+    subst (λ n. GatherUpTo (layout_of c.args.schema.now) c.args.bitmaps.now (pages_of ring old) n c.loop-number.bitmaps) last (c.loop-number.invariant.waits told)
 
 pub returns-clause-noted : goal.returns-clause-noted
 returns-clause-noted g c = λ fits told.

@@ -17,7 +17,7 @@ invariant-loop-number g l = record {
   same : AreSamePlan l.initial.bitmaps l.bitmaps;
   still : AreSameRing l.initial.bitmaps l.bitmaps;
   gathered : AreGathered l.initial.bitmaps l.number l.bitmaps;
-  waits : IsTrue (g.F.Flash.state l.initial.flash).media.tells → GatherUpTo l.initial.bitmaps (pages_of l.ring (g.F.Flash.state l.initial.flash)) l.number l.bitmaps;
+  waits : IsTrue (g.F.Flash.state l.initial.flash).media.tells → GatherUpTo (layout_of l.schema) l.initial.bitmaps (pages_of l.ring (g.F.Flash.state l.initial.flash)) l.number l.bitmaps;
   error : error_in l.index ≡ error_in l.initial.index;
   index : IsTrue (g.F.Flash.state l.initial.flash).media.tells → (error : ℕ) → IndexOf error [] l.initial.index → IndexOf error (points_after (layout_of l.schema) (pages_of l.ring (g.F.Flash.state l.initial.flash)) (oldest_of l.ring) (l.number - oldest_of l.ring)) l.index;
   read : IsTrue (g.F.Flash.state l.initial.flash).media.tells → AreRead (layout_of l.schema) (pages_of l.ring (g.F.Flash.state l.initial.flash)) (oldest_of l.ring) (l.number - oldest_of l.ring);

@@ -1,13 +1,14 @@
-use Rattle.std.proofs.Common.{◌≡◌, ℕ, ◌/◌, Option, sym, ◌∙◌, ap, subst}
+use Rattle.std.proofs.Common.{◌≡◌, sym, ◌∙◌, ap, subst}
 use Rattle.fl_base.specs.declared.types.Geometry.{Geometry}
-use Rattle.fl_bitmap.specs.declared.buckets.Buckets.{Buckets}
 use Rattle.fl_flash.specs.Flash.{page_at}
-use Rattle.fl_plan.specs.Plan.{bits_in}
+use Rattle.fl_index.specs.declared.page.EntryForm.{EntryForm}
+use Rattle.fl_model.specs.Record.{RowLayout}
 use Rattle.fl_ring.specs.Mounting.{shape_at}
 use Rattle.fl_ring.specs.Place.{shape_of}
 use Rattle.fl_ring.specs.Ring.{Shape}
-use Rattle.fl_check.specs.Entries.{HaveEntries, EntriesBreak}
-use Rattle.fl_check.specs.Whole.{shape_in, rows_shape, width_in, indexing}
+use Rattle.fl_schema.specs.Schema.{layout_of}
+use Rattle.fl_check.specs.Entries.{IndexOver, HaveEntries, EntriesBreak}
+use Rattle.fl_check.specs.Whole.{shape_in, rows_shape, layout_in, indexing}
 use Rattle.fl_check.proofs.Halts.{if_found, on_ok, none_of, some_of}
 use Rattle.fl_check.proofs.Wholes.{of_ring, entries_fault}
 use Rattle.fl_check.proofs.whole.Checked.check_index_entries.Goals as goal
@@ -20,13 +21,14 @@ returns-clause-sound g c =
     let n = c.in-Some-index.n in
     let listings : shape_of c.unnumbered-index.result ≡ shape_in config place = c.unnumbered-index.ensures.shape ∙ ap (λ (x : Geometry). shape_at place x) (sym c.requires.fits.geometry) in
     let before : shape_of c.unnumbered-rows.result ≡ rows_shape config = c.unnumbered-rows.ensures.shape ∙ ap (λ (x : Geometry). shape_at config.rows x) (sym c.requires.fits.geometry) in
-    let width : c.in-Some-buckets.buckets.bits / 8 ≡ width_in config = ap (λ (o : Option Buckets). bits_in o / 8) (sym c.in-Some-buckets.is) in
+    let of : EntryForm → RowLayout → IndexOver = λ form layout. record { form = form; layout = layout; index = n.marks; rows = c.args.t.rows } in
     on_ok _ _ c.found.result
     (λ is told. of_ring (λ place n. HaveEntries page (shape_in config place) (rows_shape config) (indexing config n c.args.t.rows)) config.index c.args.t.index place n c.in-Some.is c.in-Some-index.is
-    (subst (λ (w : ℕ). HaveEntries page (shape_in config place) (rows_shape config) (record { width = w; index = n.marks; rows = c.args.t.rows })) width
-    (subst (λ (r : Shape). HaveEntries page (shape_in config place) r (record { width = c.in-Some-buckets.buckets.bits / 8; index = n.marks; rows = c.args.t.rows })) before
-    (subst (λ (r : Shape). HaveEntries page r (shape_of c.unnumbered-rows.result) (record { width = c.in-Some-buckets.buckets.bits / 8; index = n.marks; rows = c.args.t.rows })) listings
-    (none_of _ c.in_ok-broken.broken is (c.in_ok-broken.ensures.none told))))))
+    (subst (λ (form : EntryForm). HaveEntries page (shape_in config place) (rows_shape config) (of form (layout_in config))) c.entry_form.ensures.exact
+    (subst (λ (layout : RowLayout). HaveEntries page (shape_in config place) (rows_shape config) (of c.entry_form.result layout)) c.args.self.now.layout
+    (subst (λ (r : Shape). HaveEntries page (shape_in config place) r (of c.entry_form.result (layout_of c.args.self.now.schema))) before
+    (subst (λ (r : Shape). HaveEntries page r (shape_of c.unnumbered-rows.result) (of c.entry_form.result (layout_of c.args.self.now.schema))) listings
+    (none_of _ c.in_ok-broken.broken is (c.in_ok-broken.ensures.none told)))))))
     c.found.ensures.ok
 
 pub returns-clause-broken : goal.returns-clause-broken
@@ -37,11 +39,12 @@ returns-clause-broken g c =
     let n = c.in-Some-index.n in
     let listings : shape_of c.unnumbered-index.result ≡ shape_in config place = c.unnumbered-index.ensures.shape ∙ ap (λ (x : Geometry). shape_at place x) (sym c.requires.fits.geometry) in
     let before : shape_of c.unnumbered-rows.result ≡ rows_shape config = c.unnumbered-rows.ensures.shape ∙ ap (λ (x : Geometry). shape_at config.rows x) (sym c.requires.fits.geometry) in
-    let width : c.in-Some-buckets.buckets.bits / 8 ≡ width_in config = ap (λ (o : Option Buckets). bits_in o / 8) (sym c.in-Some-buckets.is) in
+    let of : EntryForm → RowLayout → IndexOver = λ form layout. record { form = form; layout = layout; index = n.marks; rows = c.args.t.rows } in
     if_found _ _ c.found.result
     (λ fault is told rings. entries_fault config page c.args.t rings place n fault c.in-Some.is c.in-Some-index.is is.1 is.2
-    (subst (λ (w : ℕ). EntriesBreak page (shape_in config place) (rows_shape config) (record { width = w; index = n.marks; rows = c.args.t.rows }) fault.page) width
-    (subst (λ (r : Shape). EntriesBreak page (shape_in config place) r (record { width = c.in-Some-buckets.buckets.bits / 8; index = n.marks; rows = c.args.t.rows }) fault.page) before
-    (subst (λ (r : Shape). EntriesBreak page r (shape_of c.unnumbered-rows.result) (record { width = c.in-Some-buckets.buckets.bits / 8; index = n.marks; rows = c.args.t.rows }) fault.page) listings
-    (some_of _ c.in_ok-broken.broken fault.page is.0 (c.in_ok-broken.ensures.some told))))))
+    (subst (λ (form : EntryForm). EntriesBreak page (shape_in config place) (rows_shape config) (of form (layout_in config)) fault.page) c.entry_form.ensures.exact
+    (subst (λ (layout : RowLayout). EntriesBreak page (shape_in config place) (rows_shape config) (of c.entry_form.result layout) fault.page) c.args.self.now.layout
+    (subst (λ (r : Shape). EntriesBreak page (shape_in config place) r (of c.entry_form.result (layout_of c.args.self.now.schema)) fault.page) before
+    (subst (λ (r : Shape). EntriesBreak page r (shape_of c.unnumbered-rows.result) (of c.entry_form.result (layout_of c.args.self.now.schema)) fault.page) listings
+    (some_of _ c.in_ok-broken.broken fault.page is.0 (c.in_ok-broken.ensures.some told)))))))
     c.found.ensures.found

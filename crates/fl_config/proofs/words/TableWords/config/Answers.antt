@@ -20,9 +20,10 @@ returns c =
       buckets = c.buckets.result;
       error = c.args.self.now.error;
       blob_limit = c.args.self.now.blob;
+      full_index = c.args.self.now.full;
     } in
     record {
-      plan = same-plan c.args.geometry (line_of c.args.self.now) made _ _ refl c.requires.key c.requires.columns refl c.ring_at.ensures c.ring_at-2.ensures c.buckets.ensures refl refl;
+      plan = same-plan c.args.geometry (line_of c.args.self.now) made _ _ refl c.requires.key c.requires.columns refl c.ring_at.ensures c.ring_at-2.ensures c.buckets.ensures refl refl refl;
       stands = record {
         rows = refl;
         index = ring-first c.ring_at.result _ _ c.ring_at.ensures;

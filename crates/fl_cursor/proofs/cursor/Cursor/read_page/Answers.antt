@@ -1,4 +1,4 @@
-use Rattle.std.proofs.Common.{rules, ◌≡◌, ◌<◌, refl, ◌∙◌, subst, arith, Ok, true, false}
+use Rattle.std.proofs.Common.{rules, ◌≡◌, ◌<◌, refl, ◌∙◌, subst, arith, Ok}
 use Rattle.std.proofs.lemmas.Result.{err_from_is_err_and}
 use Rattle.fl_mark.specs.Mark.{state_of_page}
 use Rattle.fl_mark.specs.declared.page_state.PageState.TheVariants.{Committed}
@@ -9,7 +9,7 @@ use Rattle.fl_table.specs.Memory.{next_in}
 use Rattle.fl_cursor.specs.Cursor.{IsPlaced}
 use Rattle.fl_cursor.proofs.Ending.{pages-end, within-end}
 use Rattle.fl_cursor.proofs.Indexed.{looked, looked-as, page-bytes}
-use Rattle.fl_cursor.proofs.Turning.{page-skipped, page-missed, page-entered, page-void, page-fails, look-fails}
+use Rattle.fl_cursor.proofs.Turning.{page-skipped, page-beyond, page-missed, page-entered, page-void, page-fails, look-fails}
 use Rattle.fl_page.proofs.Reading.{OnlyReads-then, IsCaused-later}
 use Rattle.std.proofs.lemmas.Result.{err_from_is_err_and}
 use Rattle.fl_mark.specs.Mark.{state_of_page}
@@ -28,85 +28,92 @@ returns-then-rows_of-eq0-clause-goes g c =
     let none : rows_noted c.args.self.now.table.now c.args.next ≡ 0 = search rules in
     page-skipped c.args.self.now c.args.next c.requires.next placed.0 before (contents_of (g.F.Flash.state c.args.flash.now)) (g.F.Flash.state c.args.flash.now).work.reads none
 
-pub returns-in_err-may_have-clause-fails : goal.returns-in_err-may_have-clause-fails
-returns-in_err-may_have-clause-fails g c =
+pub returns-in_err-look_ahead-clause-fails : goal.returns-in_err-look_ahead-clause-fails
+returns-in_err-look_ahead-clause-fails g c =
     let placed = subst (IsPlaced c.args.self.now.table.now c.args.self.now.rows_buf.now.bytes) c.requires.next c.requires.ready.placed in
     let before : c.args.next < next_in c.args.self.now.table.now = within-end c.args.self.now c.args.end c.args.next c.requires.end c.if-end-next.false in
     let some : rows_noted c.args.self.now.table.now c.args.next ≡ 0 → ⊥ = λ none. c.if-rows_of-eq0.false (c.rows_of.ensures.exact ∙ none) in
     let p = err_from_is_err_and c.from_residual.result c.from_residual.ensures.1 in
-    let e = c.in_err-may_have.ensures in
-    let l = looked c.args.self.now c.args.next c.requires.next placed.0 before (g.F.Flash.state c.args.flash.now) (g.F.Flash.state c.may_have.new.flash) _ _ refl
+    let e = c.in_err-look_ahead.ensures in
+    let l = looked c.args.self.now c.args.next c.requires.next placed.0 before (g.F.Flash.state c.args.flash.now) (g.F.Flash.state c.look_ahead.new.flash) _ _ refl
     e.room e.counts e.good e.fresh e.looks e.shows e.misses in
-    rw p.1 (look-fails c.args.self.now c.args.next c.requires.next placed.0 before (contents_of (g.F.Flash.state c.args.flash.now)) (g.F.Flash.state c.args.flash.now).work.reads _ some (g.F.Flash.state c.may_have.new.flash).work.reads _ l)
+    rw p.1 (look-fails c.args.self.now c.args.next c.requires.next placed.0 before (contents_of (g.F.Flash.state c.args.flash.now)) (g.F.Flash.state c.args.flash.now).work.reads _ some (g.F.Flash.state c.look_ahead.new.flash).work.reads _ l)
 
-pub returns-then-not-branch-clause-goes : goal.returns-then-not-branch-clause-goes
-returns-then-not-branch-clause-goes g c =
+pub returns-in-Missed-clause-goes : goal.returns-in-Missed-clause-goes
+returns-in-Missed-clause-goes g c =
     let placed = subst (IsPlaced c.args.self.now.table.now c.args.self.now.rows_buf.now.bytes) c.requires.next c.requires.ready.placed in
     let before : c.args.next < next_in c.args.self.now.table.now = within-end c.args.self.now c.args.end c.args.next c.requires.end c.if-end-next.false in
     let some : rows_noted c.args.self.now.table.now c.args.next ≡ 0 → ⊥ = λ none. c.if-rows_of-eq0.false (c.rows_of.ensures.exact ∙ none) in
-    let missed : c.in_ok-may_have.field-0 ≡ false = search rules in
-    let e = c.in_ok-may_have.ensures in
-    let l = looked c.args.self.now c.args.next c.requires.next placed.0 before (g.F.Flash.state c.args.flash.now) (g.F.Flash.state c.may_have.new.flash) (Ok c.in_ok-may_have.field-0) _ refl
+    let e = c.in_ok-look_ahead.ensures in
+    let l = looked c.args.self.now c.args.next c.requires.next placed.0 before (g.F.Flash.state c.args.flash.now) (g.F.Flash.state c.look_ahead.new.flash) (Ok c.in_ok-look_ahead.field-0) _ refl
     e.room e.counts e.good e.fresh e.looks e.shows e.misses in
-    page-missed c.args.self.now c.args.next c.requires.next placed.0 before (contents_of (g.F.Flash.state c.args.flash.now)) (g.F.Flash.state c.args.flash.now).work.reads _ some (g.F.Flash.state c.may_have.new.flash).work.reads
-    (looked-as missed l)
+    page-missed c.args.self.now c.args.next c.requires.next placed.0 before (contents_of (g.F.Flash.state c.args.flash.now)) (g.F.Flash.state c.args.flash.now).work.reads _ some (g.F.Flash.state c.look_ahead.new.flash).work.reads
+    (looked-as c.in-Missed.is l)
+
+pub returns-in-Beyond-clause-goes : goal.returns-in-Beyond-clause-goes
+returns-in-Beyond-clause-goes g c =
+    let placed = subst (IsPlaced c.args.self.now.table.now c.args.self.now.rows_buf.now.bytes) c.requires.next c.requires.ready.placed in
+    let before : c.args.next < next_in c.args.self.now.table.now = within-end c.args.self.now c.args.end c.args.next c.requires.end c.if-end-next.false in
+    let some : rows_noted c.args.self.now.table.now c.args.next ≡ 0 → ⊥ = λ none. c.if-rows_of-eq0.false (c.rows_of.ensures.exact ∙ none) in
+    let e = c.in_ok-look_ahead.ensures in
+    let l = looked c.args.self.now c.args.next c.requires.next placed.0 before (g.F.Flash.state c.args.flash.now) (g.F.Flash.state c.look_ahead.new.flash) (Ok c.in_ok-look_ahead.field-0) _ refl
+    e.room e.counts e.good e.fresh e.looks e.shows e.misses in
+    page-beyond c.args.self.now c.args.next c.requires.next placed.0 before (contents_of (g.F.Flash.state c.args.flash.now)) (g.F.Flash.state c.args.flash.now).work.reads _ some (g.F.Flash.state c.look_ahead.new.flash).work.reads
+    (looked-as c.in-Beyond.is l)
 
 pub returns-in_err-read_page-clause-reads_only : goal.returns-in_err-read_page-clause-reads_only
-returns-in_err-read_page-clause-reads_only g c = OnlyReads-then _ _ _ c.may_have.ensures.counts c.read_page.ensures.counts
+returns-in_err-read_page-clause-reads_only g c = OnlyReads-then _ _ _ c.look_ahead.ensures.counts c.read_page.ensures.counts
 
-pub returns-then-not-branch-2-clause-reads_only : goal.returns-then-not-branch-2-clause-reads_only
-returns-then-not-branch-2-clause-reads_only g c = OnlyReads-then _ _ _ c.may_have.ensures.counts c.read_page.ensures.counts
+pub returns-then-not-branch-clause-reads_only : goal.returns-then-not-branch-clause-reads_only
+returns-then-not-branch-clause-reads_only g c = OnlyReads-then _ _ _ c.look_ahead.ensures.counts c.read_page.ensures.counts
 
 pub returns-clause-reads_only : goal.returns-clause-reads_only
-returns-clause-reads_only g c = OnlyReads-then _ _ _ c.may_have.ensures.counts c.read_page.ensures.counts
+returns-clause-reads_only g c = OnlyReads-then _ _ _ c.look_ahead.ensures.counts c.read_page.ensures.counts
 
 pub returns-in_err-read_page-clause-cause : goal.returns-in_err-read_page-clause-cause
 returns-in_err-read_page-clause-cause g c =
     let p = err_from_is_err_and c.from_residual-in_err-read_page.result c.from_residual-in_err-read_page.ensures.1 in
-    rw (p.1, p.2) (IsCaused-later (g.F.Flash.state c.args.flash.now) (g.F.Flash.state c.may_have.new.flash) (g.F.Flash.state c.read_page.new.flash) c.in_err-read_page.field-0.0 c.may_have.ensures.counts c.in_err-read_page.ensures.cause)
+    rw (p.1, p.2) (IsCaused-later (g.F.Flash.state c.args.flash.now) (g.F.Flash.state c.look_ahead.new.flash) (g.F.Flash.state c.read_page.new.flash) c.in_err-read_page.field-0.0 c.look_ahead.ensures.counts c.in_err-read_page.ensures.cause)
 
 pub returns-in_err-read_page-clause-fails : goal.returns-in_err-read_page-clause-fails
 returns-in_err-read_page-clause-fails g c =
     let placed = subst (IsPlaced c.args.self.now.table.now c.args.self.now.rows_buf.now.bytes) c.requires.next c.requires.ready.placed in
     let before : c.args.next < next_in c.args.self.now.table.now = within-end c.args.self.now c.args.end c.args.next c.requires.end c.if-end-next.false in
     let some : rows_noted c.args.self.now.table.now c.args.next ≡ 0 → ⊥ = λ none. c.if-rows_of-eq0.false (c.rows_of.ensures.exact ∙ none) in
-    let wanted : c.in_ok-may_have.field-0 ≡ true = search rules in
     let p = err_from_is_err_and c.from_residual-in_err-read_page.result c.from_residual-in_err-read_page.ensures.1 in
-    let e = c.in_ok-may_have.ensures in
-    let l = looked c.args.self.now c.args.next c.requires.next placed.0 before (g.F.Flash.state c.args.flash.now) (g.F.Flash.state c.may_have.new.flash) (Ok c.in_ok-may_have.field-0) _ refl
+    let e = c.in_ok-look_ahead.ensures in
+    let l = looked c.args.self.now c.args.next c.requires.next placed.0 before (g.F.Flash.state c.args.flash.now) (g.F.Flash.state c.look_ahead.new.flash) (Ok c.in_ok-look_ahead.field-0) _ refl
     e.room e.counts e.good e.fresh e.looks e.shows e.misses in
-    rw p.1 (page-fails c.args.self.now c.args.next c.requires.next placed.0 before (contents_of (g.F.Flash.state c.args.flash.now)) (g.F.Flash.state c.args.flash.now).work.reads _ some (g.F.Flash.state c.may_have.new.flash).work.reads
-    (looked-as wanted l)
+    rw p.1 (page-fails c.args.self.now c.args.next c.requires.next placed.0 before (contents_of (g.F.Flash.state c.args.flash.now)) (g.F.Flash.state c.args.flash.now).work.reads _ some (g.F.Flash.state c.look_ahead.new.flash).work.reads
+    (looked-as c.in-Wanted.is l)
     _ (g.F.Flash.state c.read_page.new.flash).work.reads refl c.read_page.ensures.room c.read_page.ensures.reads.reads)
 
-pub returns-then-not-branch-2-clause-goes : goal.returns-then-not-branch-2-clause-goes
-returns-then-not-branch-2-clause-goes g c =
+pub returns-then-not-branch-clause-goes : goal.returns-then-not-branch-clause-goes
+returns-then-not-branch-clause-goes g c =
     let placed = subst (IsPlaced c.args.self.now.table.now c.args.self.now.rows_buf.now.bytes) c.requires.next c.requires.ready.placed in
     let before : c.args.next < next_in c.args.self.now.table.now = within-end c.args.self.now c.args.end c.args.next c.requires.end c.if-end-next.false in
     let some : rows_noted c.args.self.now.table.now c.args.next ≡ 0 → ⊥ = λ none. c.if-rows_of-eq0.false (c.rows_of.ensures.exact ∙ none) in
-    let wanted : c.in_ok-may_have.field-0 ≡ true = search rules in
     let one = c.in_ok-read_page.ensures.one in
     let other : state_of_page c.read_page.new.buf.bytes ≡ Committed → ⊥ = search rules in
-    let e = c.in_ok-may_have.ensures in
-    let l = looked c.args.self.now c.args.next c.requires.next placed.0 before (g.F.Flash.state c.args.flash.now) (g.F.Flash.state c.may_have.new.flash) (Ok c.in_ok-may_have.field-0) _ refl
+    let e = c.in_ok-look_ahead.ensures in
+    let l = looked c.args.self.now c.args.next c.requires.next placed.0 before (g.F.Flash.state c.args.flash.now) (g.F.Flash.state c.look_ahead.new.flash) (Ok c.in_ok-look_ahead.field-0) _ refl
     e.room e.counts e.good e.fresh e.looks e.shows e.misses in
-    page-void c.args.self.now c.args.next c.requires.next placed.0 before (contents_of (g.F.Flash.state c.args.flash.now)) (g.F.Flash.state c.args.flash.now).work.reads _ some (g.F.Flash.state c.may_have.new.flash).work.reads
-    (looked-as wanted l)
+    page-void c.args.self.now c.args.next c.requires.next placed.0 before (contents_of (g.F.Flash.state c.args.flash.now)) (g.F.Flash.state c.args.flash.now).work.reads _ some (g.F.Flash.state c.look_ahead.new.flash).work.reads
+    (looked-as c.in-Wanted.is l)
     _ (g.F.Flash.state c.read_page.new.flash).work.reads refl c.read_page.ensures.room c.read_page.ensures.reads.reads (λ lt. omega (arith, one, lt))
-    (λ told. page-bytes c.args.self.now.table.now c.args.next (g.F.Flash.state c.args.flash.now) (g.F.Flash.state c.may_have.new.flash) c.read_page.new.buf.bytes told.standing c.may_have.ensures.counts c.in_ok-read_page.ensures.page) other
+    (λ told. page-bytes c.args.self.now.table.now c.args.next (g.F.Flash.state c.args.flash.now) (g.F.Flash.state c.look_ahead.new.flash) c.read_page.new.buf.bytes told.standing c.look_ahead.ensures.counts c.in_ok-read_page.ensures.page) other
 
 pub returns-clause-goes : goal.returns-clause-goes
 returns-clause-goes g c =
     let placed = subst (IsPlaced c.args.self.now.table.now c.args.self.now.rows_buf.now.bytes) c.requires.next c.requires.ready.placed in
     let before : c.args.next < next_in c.args.self.now.table.now = within-end c.args.self.now c.args.end c.args.next c.requires.end c.if-end-next.false in
     let some : rows_noted c.args.self.now.table.now c.args.next ≡ 0 → ⊥ = λ none. c.if-rows_of-eq0.false (c.rows_of.ensures.exact ∙ none) in
-    let wanted : c.in_ok-may_have.field-0 ≡ true = search rules in
     let one = c.in_ok-read_page.ensures.one in
     let good : IsGoodPage (layout_in c.args.self.now.table.now) c.args.next c.read_page.new.buf.bytes = search rules in
-    let e = c.in_ok-may_have.ensures in
-    let l = looked c.args.self.now c.args.next c.requires.next placed.0 before (g.F.Flash.state c.args.flash.now) (g.F.Flash.state c.may_have.new.flash) (Ok c.in_ok-may_have.field-0) _ refl
+    let e = c.in_ok-look_ahead.ensures in
+    let l = looked c.args.self.now c.args.next c.requires.next placed.0 before (g.F.Flash.state c.args.flash.now) (g.F.Flash.state c.look_ahead.new.flash) (Ok c.in_ok-look_ahead.field-0) _ refl
     e.room e.counts e.good e.fresh e.looks e.shows e.misses in
-    page-entered c.args.self.now c.args.next c.requires.next placed.0 before (contents_of (g.F.Flash.state c.args.flash.now)) (g.F.Flash.state c.args.flash.now).work.reads _ some (g.F.Flash.state c.may_have.new.flash).work.reads
-    (looked-as wanted l)
+    page-entered c.args.self.now c.args.next c.requires.next placed.0 before (contents_of (g.F.Flash.state c.args.flash.now)) (g.F.Flash.state c.args.flash.now).work.reads _ some (g.F.Flash.state c.look_ahead.new.flash).work.reads
+    (looked-as c.in-Wanted.is l)
     _ (g.F.Flash.state c.read_page.new.flash).work.reads refl c.read_page.ensures.room c.read_page.ensures.reads.reads (λ lt. omega (arith, one, lt))
-    (λ told. page-bytes c.args.self.now.table.now c.args.next (g.F.Flash.state c.args.flash.now) (g.F.Flash.state c.may_have.new.flash) c.read_page.new.buf.bytes told.standing c.may_have.ensures.counts c.in_ok-read_page.ensures.page) good
+    (λ told. page-bytes c.args.self.now.table.now c.args.next (g.F.Flash.state c.args.flash.now) (g.F.Flash.state c.look_ahead.new.flash) c.read_page.new.buf.bytes told.standing c.look_ahead.ensures.counts c.in_ok-read_page.ensures.page) good

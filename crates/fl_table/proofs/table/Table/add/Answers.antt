@@ -1,4 +1,4 @@
-use Rattle.std.proofs.Common.{rules, arith, cond, refl, Bool, true, false, Option, None, ◌≤◌, ◌≡◌, ◌+◌, ◌*◌, ◌%◌, ◌==◌, ℕ, Some, List, [], ◌∷◌, ◌++◌, map, option_map, get_or, count_by, slice_get, sym, ◌∙◌, ap, subst, pos}
+use Rattle.std.proofs.Common.{rules, arith, cond, max, refl, Bool, true, false, Option, None, ◌≤◌, ◌≡◌, ◌+◌, ◌*◌, ◌%◌, ◌==◌, ℕ, Some, List, [], ◌∷◌, ◌++◌, map, option_map, get_or, count_by, slice_get, sym, ◌∙◌, ap, subst, pos}
 use Rattle.std.proofs.lemmas.Int.{to_z-of_z}
 use Rattle.std.proofs.lemmas.List.{map-append}
 use Rattle.std.proofs.Math.IntN.{ℤ}
@@ -11,7 +11,9 @@ use Rattle.fl_model.specs.Table as model
 use Rattle.fl_page.specs.Writer.{Gathers}
 use Rattle.fl_schema.specs.Schema.{layout_of, types_of}
 use Rattle.fl_schema.proofs.RoundTrip.{length-bytes_of_row}
+use Rattle.fl_table.specs.BlobEnds.{reference_end, least_of}
 use Rattle.fl_table.specs.Memory.{bitmap_with}
+use Rattle.fl_table.proofs.BlobEnds.{ends-push, least-few}
 use Rattle.fl_table.proofs.Writers.{rest-push}
 use Rattle.fl_table.proofs.Putting.{bits-more, last-more, pending-more}
 use Rattle.fl_index.specs.Memory as memory
@@ -68,6 +70,10 @@ returns-clause-memory g c = λ plan table after entry memory same entries one fe
       bitmap = bits ∙ (ap (λ (vs : List ℤ). bitmap_with t.buckets t.bitmap (get_or vs 0 (pos 0))) (sym values)
           ∙ (ap (λ n. bitmap_with t.buckets n (get_or entry.kept.values 0 (pos 0))) memory.bitmap
           ∙ (bits-more plan t.buckets (model.pending_entries table) entry buckets ∙ ap (bitmap_of plan) (sym pending))));
+      blob_end = c.max-self.ensures ∙ (ap (λ n. max t.blob_end n) (c.least_of.ensures ∙ (ap least_of c.reference_end.ensures ∙ least-few (reference_end c.args.blob) c.requires.blob_page))
+          ∙ (ap (λ n. max n (reference_end c.args.blob)) memory.blob_end
+          ∙ (ap (λ (r : Row). max (model.end_of_blobs (model.pending_entries table)) (reference_end r.blob)) (sym row)
+          ∙ (sym (ends-push (model.pending_entries table) entry) ∙ ap model.end_of_blobs (sym pending)))));
       last = sym (ap (option_map (λ (e : model.Entry). e.kept.key)) (last-more table after entry entries) ∙ ap (λ n. Some n) key);
       counts = λ i count e.
           subst (λ (r : rings.Ring). get_or t.counts.items ((rings.oldest r + i) % (plan.data_blocks * plan.geometry.block)) 0 ≡ count) (sym same.rows) (memory.counts i count (ap (λ (r : rings.Ring). slice_get r.counts i) (sym same.rows) ∙ e));

@@ -18,6 +18,7 @@ returns-clause-forgotten g c =
       empty = λ layout. gathers-none layout c.clear.new.self (ap (λ w. w.count) c.clear.ensures.exact) (ap (λ w. w.end) c.clear.ensures.exact)
           (rest-clear t.writer c.clear.new.self c.clear.ensures.exact (omega (arith, t.rows_end)) t.rows_room t.blank_rest);
       bits = refl;
+      ends = refl;
       index = subst (λ (n : ℕ). IndexOf n [] c.clear-2.new.self) (sym c.clear-2.ensures.error) c.clear-2.ensures.none;
     }
 

@@ -1,10 +1,11 @@
-use Rattle.std.proofs.Common.{true, false, Bool, None, is_some, ◌&&◌, IfSome, ◌≡◌, ℕ, ◌+◌, ◌≤◌, Bor, List, Some, option_map, arith, refl, sym, ◌∙◌, ap, subst, Option}
+use Rattle.std.proofs.Common.{true, false, Bool, None, is_some, ◌&&◌, ◌==◌, cond, IfSome, ◌≡◌, ℕ, ◌+◌, ◌^◌, ◌<◌, ◌≤◌, Bor, List, Some, option_map, arith, refl, sym, ◌∙◌, ap, subst, Option}
 use Rattle.fl_base.specs.declared.types.BlobRef.{BlobRef}
 use Rattle.fl_model.specs.Record.{Record}
 use Rattle.fl_model.specs.Row.{stored_row}
 use Rattle.fl_model.specs.Table as model
 use Rattle.fl_index.specs.declared.index.Index.{Index}
 use Rattle.fl_table.specs.Bitmaps as bitmaps
+use Rattle.fl_table.specs.BlobEnds.{reference_end}
 use Rattle.fl_table.specs.Blobs as variable
 use Rattle.fl_table.specs.Standing.{Stands}
 use Rattle.fl_flash.specs.Flash.{page_at}
@@ -65,7 +66,6 @@ returns-clause-ends g c = λ first plan table rose device watched stands ok.
           limit = stands.planned.limit;
           buckets = stands.planned.buckets;
           error = stands.planned.error;
-          full = stands.planned.full;
           log = stands.planned.log;
         }) c.add.ensures.same;
         facts = table-facts plan (joined_to table entry h.ring h.content h.bytes) h.facts;
@@ -79,6 +79,7 @@ returns-clause-ends g c = λ first plan table rose device watched stands ok.
           oldest = memory.oldest;
           gathers = memory.gathers;
           bitmap = memory.bitmap;
+          blob_end = memory.blob_end;
           last = memory.last;
           counts = memory.counts;
           voids = memory.voids;
@@ -157,8 +158,17 @@ returns-in-Err-clause-off g c = λ some. off-err (g.F.Flash.state c.args.flash.n
 -- a place that was given stands in a row of a table that has blobs
 fits-at : (layout : RowLayout) (has given : Bool) (at : Option BlobRef) → layout.blobs ≡ has → is_some at ≡ (has && given) → variable.FitsRow at → IfSome at (FitsReference layout)
 fits-at layout has given None blobs is fits = tt
-fits-at layout true given (Some at) blobs is fits = (blobs, λ page offset len. absurd (omega (arith, offset, fits)))
+fits-at layout true given (Some at) blobs is fits = (blobs, λ page offset len. absurd (omega (arith, offset, fits.0)))
 fits-at layout false given (Some at) blobs is fits = cc
+
+-- .. and a number follows its page
+end-fits : (at : Option BlobRef) → variable.FitsRow at → reference_end at < 2 ^ 32
+end-fits None fits = omega arith
+end-fits (Some at) fits = by_len (at.length == 0)
+  where
+    by_len : (b : Bool) → cond b 0 (at.page + 1) < 2 ^ 32
+    by_len true = omega arith
+    by_len false = fits.1
 
 pub add-requires : goal.add-requires
 add-requires g c =
@@ -172,7 +182,7 @@ add-requires g c =
           values = c.requires.fits.values;
           blob = fits-at (layout_of t.schema) (is_some t.blobs) (is_some c.args.blob) c.in-Ok.at t.has_blobs c.in-Ok.ensures.given c.in-Ok.ensures.fits;
         },
-        (c.requires.room, (c.requires.left, (c.requires.index_left, omega (arith, after-most c.place.new.blobs, c.in-Ok.ensures.next, few, c.requires.blobs_left)))),
+        (c.requires.room, (c.requires.left, (c.requires.index_left, (omega (arith, after-most c.place.new.blobs, c.in-Ok.ensures.next, few, c.requires.blobs_left), end-fits c.in-Ok.at c.in-Ok.ensures.fits)))),
       ),
     )
 

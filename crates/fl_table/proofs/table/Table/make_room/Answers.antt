@@ -37,7 +37,6 @@ returns-then-not-is_full-clause-ends g c = λ first plan table rose device watch
           limit = stands.planned.limit;
           buckets = stands.planned.buckets;
           error = stands.planned.error;
-          full = stands.planned.full;
           log = stands.planned.log;
         };
         facts = stands.facts;
@@ -51,6 +50,7 @@ returns-then-not-is_full-clause-ends g c = λ first plan table rose device watch
           oldest = memory.oldest;
           gathers = memory.gathers;
           bitmap = memory.bitmap;
+          blob_end = memory.blob_end;
           last = memory.last;
           counts = memory.counts;
           voids = memory.voids;

@@ -164,6 +164,7 @@ mount_rows-requires g c =
           none = fresh.none;
           empty = fresh.empty;
           bits = fresh.bits;
+          ends = fresh.ends;
           index = fresh.index;
         },
         (

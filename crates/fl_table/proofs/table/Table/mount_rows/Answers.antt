@@ -69,7 +69,6 @@ returns-clause-ends g c = λ first plan table rose device watched planned rests 
         limit = w.planned.limit;
         buckets = w.planned.buckets;
         error = w.planned.error;
-        full = w.planned.full;
         log = w.planned.log;
       };
       facts = table-facts plan (with_var (ready plan w.now.state) h.ring h.content h.bytes) h.facts;
@@ -83,6 +82,7 @@ returns-clause-ends g c = λ first plan table rose device watched planned rests 
         oldest = memory.oldest;
         gathers = memory.gathers;
         bitmap = memory.bitmap;
+        blob_end = memory.blob_end;
         last = memory.last;
         counts = memory.counts;
         voids = memory.voids;

@@ -1,7 +1,7 @@
 use Rattle.std.proofs.Common.{rules, [], sym, ap, None, refl}
 use Rattle.fl_model.specs.Record.{Plan}
 use Rattle.fl_schema.specs.Schema.{layout_of}
-use Rattle.fl_table.proofs.Planning.{few-blobs}
+use Rattle.fl_plan.proofs.Fits.{few-blobs}
 use Rattle.fl_table.proofs.Writers.{gathers-end, gathers-blank}
 use Rattle.fl_ring.specs.declared.ring.Ring.{Ring}
 use Rattle.fl_table.proofs.Indexing.{none-is, none-there}
@@ -26,7 +26,6 @@ returns-clause-planned g c = λ plan is. record {
   limit = sym (ap (λ (p : Plan). p.blob_limit) is.is);
   buckets = search rules;
   error = search rules;
-  full = sym (ap (λ (p : Plan). p.full_index) is.is);
   log = sym (ap (λ (p : Plan). p.log_blocks) is.is);
 }
 

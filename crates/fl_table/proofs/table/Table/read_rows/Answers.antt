@@ -133,7 +133,6 @@ returns-clause-ends g c = λ first plan table rose device watched planned rests 
         limit = planned.limit;
         buckets = planned.buckets;
         error = planned.error ∙ sym ensures.error;
-        full = planned.full;
         log = planned.log;
       };
       facts = ready_facts first plan table rose device old is ring mid new n l reads sizes still;
@@ -148,15 +147,14 @@ returns-clause-ends g c = λ first plan table rose device watched planned rests 
             limit = planned.limit;
             buckets = planned.buckets;
             error = planned.error ∙ sym ensures.error;
-            full = planned.full;
             log = planned.log;
           }) here
-          forgotten.empty forgotten.bits (ensures.last told)
+          forgotten.empty forgotten.bits forgotten.ends (ensures.last told)
           (λ fits. subst (λ (cs : List ℕ). AreNoted (layout_of t.schema) (pages_of ring mid) (oldest_of ring) (next_of ring - oldest_of ring) cs) (sym back)
           (ensures.noted (subst (λ k. next_of ring - oldest_of ring ≤ k) (ap length back ∙ ensures.counts) fits) told))
           (ensures.index told plan.error (subst (λ e. IndexOf e [] t.index) (sym planned.error) forgotten.index))
           (ap (λ (m : Mounted). m.voids) (ensures.mounted told));
-      bitmaps = started-stand first plan table rose device old is ring mid new n l reads sizes still t.bitmaps c.restart.new.bitmaps c.read_pages.new.bitmaps c.args.end c.first_to_wait-first.result here planned.index stands end
+      bitmaps = started-stand first plan table rose device old is ring mid new n l reads sizes still t planned t.bitmaps c.restart.new.bitmaps c.read_pages.new.bitmaps c.args.end c.first_to_wait-first.result here planned.index stands end
           (c.first_to_wait-first.ensures ∙ rw (c.oldest.ensures, c.next_number-next.ensures) refl) c.restart.ensures.same c.restart.ensures.still
           c.restart.ensures.idle c.restart.ensures.next c.restart.ensures.waits ensures.same ensures.still (ensures.waits told);
       answer = mount-answer first plan table rose device old is ring mid new n l reads sizes still t c.in_ok-mounted.mounted planned here (ensures.mounted told);

@@ -41,7 +41,6 @@ returns-clause-ends g c = λ first plan table rose device watched stands.
         limit = stands.planned.limit;
         buckets = stands.planned.buckets;
         error = stands.planned.error;
-        full = stands.planned.full;
         log = stands.planned.log;
       };
       facts = table-facts plan _ facts;
@@ -55,6 +54,7 @@ returns-clause-ends g c = λ first plan table rose device watched stands.
         oldest = memory.oldest;
         gathers = memory.gathers;
         bitmap = memory.bitmap;
+        blob_end = memory.blob_end;
         last = memory.last;
         counts = memory.counts;
         voids = memory.voids;

@@ -1,6 +1,7 @@
-use Rattle.std.proofs.Common.{rules, ◌≤◌, Option, IfSome, ◌≡◌, ◌+◌, ◌*◌, ◌%◌, length, ℕ, List, Some, Ok, Err, arith, sym, ◌∙◌, ap, subst, refl, set, get_or, map, option_map, length-set, is_some, mul-le-mul_right}
+use Rattle.std.proofs.Common.{rules, ◌≤◌, Option, IfSome, ◌≡◌, ◌+◌, ◌*◌, ◌%◌, length, ℕ, List, Some, Ok, Err, arith, sym, ◌∙◌, ap, subst, refl, set, get_or, map, option_map, length-set, is_some}
 use Rattle.fl_flash.specs.Flash.{page_at}
-use Rattle.fl_model.specs.Layout.{rows_body}
+use Rattle.fl_index.specs.Page.{full_view}
+use Rattle.fl_model.specs.Layout.{Full, full_of, rows_body}
 use Rattle.fl_model.specs.Ring as rings
 use Rattle.fl_model.specs.Row.{stored_row}
 use Rattle.fl_model.specs.Table as model
@@ -12,15 +13,15 @@ use Rattle.fl_ring.specs.declared.ring.Ring.{Ring}
 use Rattle.fl_table.specs.Bitmaps.{EndAt}
 use Rattle.fl_ring.specs.Ring.{Shape, OutsideStands}
 use Rattle.fl_ring.specs.Sealing.{Performed, Seals}
-use Rattle.fl_schema.specs.Schema.{layout_of, row_of}
+use Rattle.fl_schema.specs.Schema.{layout_of}
 use Rattle.fl_table.proofs.States.{shape_in, state_of, HaveSize}
 use Rattle.fl_table.proofs.Writers.{rest-finish, rest-clear, gathers-none, few-rows, some-room, end-same, end-none}
-use Rattle.fl_table.proofs.Pointed.{first-key, index-sealed, points-sealed}
+use Rattle.fl_table.proofs.Pointed.{first-some, index-sealed, points-sealed}
 use Rattle.std.specs.List.{sum}
 use Rattle.fl_table.proofs.Blobbing as blobbing
 use Rattle.fl_table.proofs.Blobbing.{var-stands}
 use Rattle.fl_index.proofs.SealAnswers.{seal-on}
-use Rattle.fl_table.proofs.SealAnswers.{planned-ring, planned-shape, lies-size, sealing-of, seal-ready, writer-count, ring-next, counts-room, note-same, written-back}
+use Rattle.fl_table.proofs.SealAnswers.{planned-ring, planned-shape, lies-size, sealing-of, seal-ready, writer-count, pending-length, ring-next, counts-room, note-same, written-back}
 use Rattle.fl_table.proofs.VarFacts.{rest-of}
 use Rattle.fl_table.proofs.VoidPages.{voids-told}
 use Rattle.fl_table.proofs.Sealings.{IsSealing, KeepsAll, seal-breaks, seal-finishes}
@@ -114,9 +115,10 @@ returns-clause-ends g c = λ first plan table rose device watched stands.
     let back = written-back t.counts.items c.note.new.counts t.counts.len size t.counts.ok.0 in
     let sealed = seal-finishes first plan table body rose device new (page_at old) is sizes_now outside u after t.counts.items both.0 both.1 room stands.memory.counts keeps in
     let memory = stands.memory in
-    let first_key : model.first_pending table ≡ Some c.key-first_key.result =
-    first-key table (row_of c.row.result) (c.row.ensures.row (map stored_row (model.pending_entries table)) memory.gathers) ∙ ap (λ k. Some k) (sym c.key-first_key.ensures) in
-    let facts = table-parts plan table (stands.planned.full, stands.planned.log) stands.facts in
+    let entry : full_view c.pending_entry-full.result ≡ full_of (model.pending_entries table) = c.pending_entry-full.ensures.stands old first plan table stands in
+    let first_key : model.first_pending table ≡ Some c.pending_entry-full.result.first_key =
+    first-some (model.pending_entries table) (omega (arith, c.requires.some, writer-count t old first plan table stands, pending-length plan table stands.facts.counted)) ∙ ap (λ k. Some k) (sym (ap (λ (f : Full). f.first_key) entry)) in
+    let facts = table-parts plan table stands.planned.log stands.facts in
     ends-alone first plan table rose device (Ok u) _ old new (record {
       now = sealed.now;
       did = sealed.did;
@@ -129,12 +131,11 @@ returns-clause-ends g c = λ first plan table rose device watched stands.
           layout = stands.planned.layout;
           begins = stands.planned.begins;
           blocks = stands.planned.blocks;
-          index = still-planned t.bitmaps c.note_bitmap.new.bitmaps (first + plan.data_blocks) plan stands.planned.index c.note_bitmap.ensures.same;
+          index = still-planned t.bitmaps c.note_entry.new.bitmaps (first + plan.data_blocks) plan stands.planned.index c.note_entry.ensures.same;
           var = stands.planned.var;
           limit = stands.planned.limit;
           buckets = stands.planned.buckets;
           error = stands.planned.error ∙ sym c.add_further.ensures.error;
-          full = stands.planned.full;
           log = stands.planned.log;
         };
         facts = table-facts plan (after_seal plan DataRing table) sealed.facts;
@@ -149,14 +150,15 @@ returns-clause-ends g c = λ first plan table rose device watched stands.
           gathers = subst (λ (es : List model.Entry). Gathers (layout_of t.schema) (map stored_row es) c.clear.new.self) (sym sealed.none)
               (gathers-none (layout_of t.schema) c.clear.new.self (ap (λ w. w.count) c.clear.ensures.exact) (ap (λ w. w.end) c.clear.ensures.exact) rest);
           bitmap = sealed.no_bits;
+          blob_end = sym (ap model.end_of_blobs sealed.none);
           last = memory.last ∙ ap (option_map (λ (entry : model.Entry). entry.kept.key)) sealed.last;
           counts = λ i count e. ap (λ (cs : List ℕ). get_or cs ((rings.oldest (after_seal plan DataRing table).rows + i) % (plan.data_blocks * plan.geometry.block)) 0) (back ∙ noted) ∙ sealed.counts_are i count e;
           voids = voids-told t old first plan table stands ring c.deref.result.now c.oldest-oldest.result c.oldest.result c.voids_among-gone.result c.saturating_sub-self.result has c.oldest-oldest.ensures
               (c.oldest.ensures ∙ sealed.oldest_is) (planned-shape t first plan stands.planned) (omega (arith, c.requires.some, writer-count t old first plan table stands)) c.deref.ensures.value c.voids_among-gone.ensures c.saturating_sub-self.ensures;
-          index = index-sealed plan table t.index c.add_further.new.self c.key-first_key.result c.next_number-number.result stands.facts stands.points memory.index first_key number c.add_further.ensures.points;
+          index = index-sealed plan table t.index c.add_further.new.self c.pending_entry-full.result.first_key c.next_number-number.result stands.facts stands.points memory.index first_key number c.add_further.ensures.points;
         };
-        bitmaps = stand-sealed t.bitmaps c.note_bitmap.new.bitmaps old new first plan table c.next_number-number.result t.bitmap stands.planned.index facts sealed.facts
-            (index-stands (page_at old) (page_at new) first plan outside) number stands.memory.bitmap c.note_bitmap.ensures.noted stands.bitmaps;
+        bitmaps = stand-sealed t.bitmaps c.note_entry.new.bitmaps old new first plan table c.next_number-number.result t.bitmap c.pending_entry-full.result stands.planned.index facts sealed.facts
+            (index-stands (page_at old) (page_at new) first plan outside) number stands.memory.bitmap entry c.note_entry.ensures.noted stands.bitmaps;
         blobs = blobbing.stand-moved t.blobs old new first plan table (after_seal plan DataRing table) (var-stands (page_at old) (page_at new) first plan outside) refl refl refl
             (rest-of (sum (rings.given_up (shape_of_ring plan DataRing) table.pending table.rows)) table.entries) stands.blobs;
         points = points-sealed plan table stands.facts (planned-shape t first plan stands.planned) stands.points (omega (arith, c.requires.some, writer-count t old first plan table stands));
@@ -202,12 +204,12 @@ returns-clause-lies g c =
       within = omega (arith, goes.blocks, lies.within);
       few = few-goes old new goes lies.few;
       ring = λ ring is. subst (λ (o : Option Ring). IfSome o (λ r. place.LiesOn r new)) is c.in_default-seal.ensures.lies;
-      bitmaps = still-lies c.args.self.now.bitmaps c.note_bitmap.new.bitmaps new c.note_bitmap.ensures.same c.note_bitmap.ensures.still (lies-goes c.args.self.now.bitmaps old new goes lies.bitmaps);
+      bitmaps = still-lies c.args.self.now.bitmaps c.note_entry.new.bitmaps new c.note_entry.ensures.same c.note_entry.ensures.still (lies-goes c.args.self.now.bitmaps old new goes lies.bitmaps);
       blobs = blobbing.lies-goes c.args.self.now.blobs old new goes lies.blobs;
     }
 
 pub returns-clause-index_next : goal.returns-clause-index_next
-returns-clause-index_next g c = still-next c.args.self.now.bitmaps c.note_bitmap.new.bitmaps c.note_bitmap.ensures.still
+returns-clause-index_next g c = still-next c.args.self.now.bitmaps c.note_entry.new.bitmaps c.note_entry.ensures.still
 
 pub returns-clause-power : goal.returns-clause-power
 returns-clause-power g c = λ on. seal-on _ _ _ _ _ _ _ c.in_default-seal.ensures.calls
@@ -219,7 +221,7 @@ returns-clause-same g c = record {
   place = refl;
   buckets = refl;
   error = c.add_further.ensures.error;
-  bitmaps = c.note_bitmap.ensures.same;
+  bitmaps = c.note_entry.ensures.same;
   blobs = blobbing.plan-same c.args.self.now.blobs;
   limit = refl;
 }
@@ -236,17 +238,12 @@ returns-in-Err-clause-same g c = record {
   limit = refl;
 }
 
-pub note_bitmap-requires-clause-left : goal.note_bitmap-requires-clause-left
-note_bitmap-requires-clause-left g c =
+pub note_entry-requires-clause-left : goal.note_entry-requires-clause-left
+note_entry-requires-clause-left g c =
     let t = c.args.self.now in
     let has : t.ring ≡ Some c.in-Some.ring = sym c.take.ensures.value ∙ c.in-Some.is in
     let left : next_of c.in-Some.ring ≤ model.spent_from = t.left c.in-Some.ring has c.requires.some in
     omega (arith, left, c.next_number-number.ensures)
-
-pub row-requires : goal.row-requires
-row-requires g c =
-    let t = c.args.self.now in
-    (omega arith, omega (arith, t.rows_end, mul-le-mul_right (layout_len (layout_of t.schema)) c.requires.some))
 
 pub finish-requires : goal.finish-requires
 finish-requires g c = tt
@@ -269,8 +266,8 @@ seal-requires-clause-left g c =
     let has : t.ring ≡ Some c.in-Some.ring = sym c.take.ensures.value ∙ c.in-Some.is in
     omega (arith, t.left c.in-Some.ring has c.requires.some)
 
-pub note_bitmap-requires-clause-room : goal.note_bitmap-requires-clause-room
-note_bitmap-requires-clause-room g c = λ end. c.requires.bitmaps
+pub note_entry-requires-clause-room : goal.note_entry-requires-clause-room
+note_entry-requires-clause-room g c = λ end. c.requires.bitmaps
 
 pub invariant_of-self : goal.invariant_of-self
 invariant_of-self g c =
@@ -330,13 +327,13 @@ invariant_of-self-2 g c =
       counted = search rules;
       lies = λ ring is. subst (λ (o : Option Ring). IfSome o (λ r. shape_of r ≡ shape_at t.place t.geometry)) is (c.in_default-seal.ensures.same ∙ t.lies c.in-Some.ring has);
       left = λ ring is some. absurd (omega (arith, some, none));
-      few_pages = still-few (t.place.blocks * t.geometry.block + 6) t.bitmaps c.note_bitmap.new.bitmaps c.note_bitmap.ensures.same t.few_pages;
-      running = λ is. still-running t.bitmaps c.note_bitmap.new.bitmaps c.note_bitmap.ensures.still (t.running c.requires.running);
+      few_pages = still-few (t.place.blocks * t.geometry.block + 6) t.bitmaps c.note_entry.new.bitmaps c.note_entry.ensures.same t.few_pages;
+      running = λ is. still-running t.bitmaps c.note_entry.new.bitmaps c.note_entry.ensures.still (t.running c.requires.running);
       follow = λ ring is.
-          let end = noted-end t.bitmaps c.note_bitmap.new.bitmaps c.next_number-number.result t.bitmap c.note_bitmap.ensures.noted
+          let end = noted-end t.bitmaps c.note_entry.new.bitmaps c.next_number-number.result t.bitmap c.pending_entry-full.result c.note_entry.ensures.noted
           (subst (λ (n : ℕ). EndAt t.bitmaps n) (sym c.next_number-number.ensures) (t.follow c.in-Some.ring has)) in
           let next : c.next_number-number.result + 1 ≡ next_of c.seal.new.self = omega (arith, c.next_number-number.ensures, c.in_default-seal.ensures.next) in
-          subst (λ (o : Option Ring). IfSome o (λ r. EndAt c.note_bitmap.new.bitmaps (next_of r))) is (subst (λ (n : ℕ). EndAt c.note_bitmap.new.bitmaps n) next end);
+          subst (λ (o : Option Ring). IfSome o (λ r. EndAt c.note_entry.new.bitmaps (next_of r))) is (subst (λ (n : ℕ). EndAt c.note_entry.new.bitmaps n) next end);
       pages_left = λ some. absurd (omega (arith, some, none));
       blobs_running = λ is. t.blobs_running c.requires.running;
       blobs_left = λ is some. absurd (omega (arith, some, none));

@@ -1,6 +1,6 @@
 use Rattle.std.proofs.Common.{ap}
 use Rattle.fl_flash.specs.Flash.{FlashState}
-use Rattle.fl_trials.proofs.cursors.indexed.see.Goals as goal
+use Rattle.fl_trials.proofs.cursors.indexed.scan_store.Goals as goal
 
 pub fill-requires-clause-lies : goal.fill-requires-clause-lies
 fill-requires-clause-lies c =

@@ -1,14 +1,23 @@
-use Rattle.std.proofs.Common.{ℕ, true, ◌+◌, Option, Ok, Err, not, ◌==◌, bit_and, sym, ap, subst, ◌≡◌, [], ◌∙◌}
+use Rattle.std.proofs.Common.{◌+◌, Option, Result, Ok, Err, sym, ap, subst, ◌≡◌, [], ◌∙◌}
 use Rattle.fl_base.specs.declared.types.Span.{Span}
 use Rattle.fl_flash.specs.Buffer.{BufferState}
 use Rattle.fl_index.specs.declared.index.Index.{Index}
-use Rattle.fl_index.specs.Looking.{ShowsBitmap, next_to_read}
+use Rattle.fl_index.specs.declared.page.Found.{Found}
+use Rattle.fl_index.specs.Looking.{ShowsEntry, next_to_read}
 use Rattle.fl_model.specs.Image.{rows_at}
 use Rattle.fl_model.specs.Query.{selected}
+use Rattle.fl_page.specs.declared.fault.ReadFault.{ReadFault}
+use Rattle.fl_table.specs.declared.skip.Ahead.{Ahead}
+use Rattle.fl_table.specs.declared.skip.Ahead.TheVariants.{Wanted, Missed}
 use Rattle.fl_table.specs.Skipping.{AreFresh, AreScanning, LooksOn, ShowsPage}
-use Rattle.fl_table.proofs.Skips.{fresh-still, looks-none, looks-plain, looks-found, looks-failed, shows-none, shows-some, shows-fault, index-stands, some-bits, bad-index, misses-none}
-use Rattle.fl_table.proofs.Sizes.{table-fits}
-use Rattle.fl_table.proofs.table.Table.may_have.Goals as goal
+use Rattle.fl_table.proofs.Skips.{fresh-still, looks-none, looks-plain, looks-found, looks-failed, shows-none, shows-unindexed, shows-some, shows-fault, index-stands, some-bits, bad-index}
+use Rattle.fl_table.proofs.Entries.{first-few, told-some}
+use Rattle.fl_table.proofs.table.Table.look_ahead.Goals as goal
+
+pub returns-in_default-bitmaps-clause-shows : goal.returns-in_default-bitmaps-clause-shows
+returns-in_default-bitmaps-clause-shows g c = λ first plan table n rows told stands fresh at here some.
+    subst (λ (s : Option Span). ShowsPage plan table s c.args.top c.args.number (rows_at table n rows) (Ok Wanted)) (sym c.in-Some.is)
+    (shows-unindexed c.args.self.now.bitmaps (first + plan.data_blocks) plan table c.in-Some.span c.args.top c.args.number (rows_at table n rows) c.in_default-bitmaps.not-Some stands.planned.index)
 
 pub returns-in-Ok-None-clause-shows : goal.returns-in-Ok-None-clause-shows
 returns-in-Ok-None-clause-shows g c = λ first plan table n rows told stands fresh at here some.
@@ -18,9 +27,9 @@ returns-in-Ok-None-clause-shows g c = λ first plan table n rows told stands fre
     let index = c.in-Some-bitmaps.index in
     let shown = c.in-Ok-None.ensures.stands (first + plan.data_blocks) plan table told (index-stands t f first plan table stands index is)
     (subst (λ (o : Option Index). AreFresh o (g.F.Flash.state c.args.flash.now) c.args.buf.now) is fresh) in
-    let none = subst (λ (o : Option ℕ). ShowsBitmap plan table c.args.number (Ok o)) c.in-Ok-None.field-0-is shown in
-    subst (λ (s : Option Span). ShowsPage plan table s c.args.number (rows_at table n rows) (Ok true)) (sym c.in-Some.is)
-    (shows-none plan table c.in-Some.span c.args.number (rows_at table n rows) none.0)
+    let none = subst (λ (o : Option Found). ShowsEntry plan table c.args.number (Ok o)) c.in-Ok-None.field-0-is shown in
+    subst (λ (s : Option Span). ShowsPage plan table s c.args.top c.args.number (rows_at table n rows) (Ok Wanted)) (sym c.in-Some.is)
+    (shows-none plan table c.in-Some.span c.args.top c.args.number (rows_at table n rows) none.0)
 
 pub returns-in-Ok-Some-clause-shows : goal.returns-in-Ok-Some-clause-shows
 returns-in-Ok-Some-clause-shows g c = λ first plan table n rows told stands fresh at here some.
@@ -30,10 +39,11 @@ returns-in-Ok-Some-clause-shows g c = λ first plan table n rows told stands fre
     let index = c.in-Some-bitmaps.index in
     let shown = c.in-Ok-Some.ensures.stands (first + plan.data_blocks) plan table told (index-stands t f first plan table stands index is)
     (subst (λ (o : Option Index). AreFresh o (g.F.Flash.state c.args.flash.now) c.args.buf.now) is fresh) in
-    let found = subst (λ (o : Option ℕ). ShowsBitmap plan table c.args.number (Ok o)) c.in-Ok-Some.field-0-is shown in
-    subst (λ (s : Option Span). ShowsPage plan table s c.args.number (rows_at table n rows) (Ok (not (bit_and c.in-Ok-Some.bitmap c.mask.result == 0)))) (sym c.in-Some.is)
-    (shows-some plan table c.in-Some.span c.args.number c.in-Ok-Some.bitmap c.mask.result (rows_at table n rows) found.0 (found.1 n rows at here some)
-    (c.mask.ensures.exact plan stands.planned.buckets (some-bits t f first plan table stands index is)))
+    let found = subst (λ (o : Option Found). ShowsEntry plan table c.args.number (Ok o)) c.in-Ok-Some.field-0-is shown in
+    let tells = found.1 n rows at here (told-some plan rows some) in
+    subst (λ (s : Option Span). ShowsPage plan table s c.args.top c.args.number (rows_at table n rows) (Ok c.ahead_by.result)) (sym c.in-Some.is)
+    (c.ahead_by.ensures.exact plan stands.planned.buckets (some-bits t f first plan table stands index is)
+    ∙ shows-some plan table c.in-Some.span c.args.top c.args.number c.in-Ok-Some.found (rows_at table n rows) found.0 tells (first-few t f first plan table stands n rows))
 
 pub returns-in-Err-clause-shows : goal.returns-in-Err-clause-shows
 returns-in-Err-clause-shows g c = λ first plan table n rows told stands fresh at here some.
@@ -43,7 +53,7 @@ returns-in-Err-clause-shows g c = λ first plan table n rows told stands fresh a
     let index = c.in-Some-bitmaps.index in
     let shown = c.in-Err.ensures.stands (first + plan.data_blocks) plan table told (index-stands t f first plan table stands index is)
     (subst (λ (o : Option Index). AreFresh o (g.F.Flash.state c.args.flash.now) c.args.buf.now) is fresh) in
-    shows-fault plan table c.args.span c.args.number n (rows_at table n rows) c.in-Err.fault shown
+    shows-fault plan table c.args.span c.args.top c.args.number (rows_at table n rows) c.in-Err.fault shown
 
 pub returns-in-Ok-None-clause-looks : goal.returns-in-Ok-None-clause-looks
 returns-in-Ok-None-clause-looks g c = λ first plan table told stands fresh scanning.
@@ -54,8 +64,8 @@ returns-in-Ok-None-clause-looks g c = λ first plan table told stands fresh scan
     let indexed = index-stands t f first plan table stands index is in
     let known = subst (λ (o : Option Index). AreFresh o (g.F.Flash.state c.args.flash.now) c.args.buf.now) is fresh in
     let scans = subst (λ (o : Option Index). AreScanning o c.args.number c.args.buf.now) is scanning in
-    subst (λ (s : Option Span). LooksOn c.args.self.now.bitmaps s c.args.number c.args.buf.now (g.F.Flash.state c.args.flash.now).work.reads (Ok true) (g.F.Flash.state c.bitmap_of.new.flash).work.reads c.bitmap_of.new.buf) (sym c.in-Some.is)
-    (looks-found t.bitmaps index is c.in-Some.span c.args.number c.args.buf.now f (g.F.Flash.state c.bitmap_of.new.flash) c.bitmap_of.new.buf true
+    subst (λ (s : Option Span). LooksOn c.args.self.now.bitmaps s c.args.number c.args.buf.now (g.F.Flash.state c.args.flash.now).work.reads (Ok Wanted) (g.F.Flash.state c.entry_of.new.flash).work.reads c.entry_of.new.buf) (sym c.in-Some.is)
+    (looks-found t.bitmaps index is c.in-Some.span c.args.number c.args.buf.now f (g.F.Flash.state c.entry_of.new.flash) c.entry_of.new.buf Wanted
     (c.in-Ok-None.ensures.scans (first + plan.data_blocks) plan table (next_to_read index c.args.buf.now) told indexed known scans)
     (c.in-Ok-None.ensures.most (first + plan.data_blocks) plan table (next_to_read index c.args.buf.now) told indexed known scans)
     (λ numbers later lt. c.in-Ok-None.ensures.least (first + plan.data_blocks) plan table (next_to_read index c.args.buf.now) numbers told indexed known scans later lt))
@@ -69,9 +79,8 @@ returns-in-Ok-Some-clause-looks g c = λ first plan table told stands fresh scan
     let indexed = index-stands t f first plan table stands index is in
     let known = subst (λ (o : Option Index). AreFresh o (g.F.Flash.state c.args.flash.now) c.args.buf.now) is fresh in
     let scans = subst (λ (o : Option Index). AreScanning o c.args.number c.args.buf.now) is scanning in
-    let may = not (bit_and c.in-Ok-Some.bitmap c.mask.result == 0) in
-    subst (λ (s : Option Span). LooksOn c.args.self.now.bitmaps s c.args.number c.args.buf.now (g.F.Flash.state c.args.flash.now).work.reads (Ok (not (bit_and c.in-Ok-Some.bitmap c.mask.result == 0))) (g.F.Flash.state c.bitmap_of.new.flash).work.reads c.bitmap_of.new.buf) (sym c.in-Some.is)
-    (looks-found t.bitmaps index is c.in-Some.span c.args.number c.args.buf.now f (g.F.Flash.state c.bitmap_of.new.flash) c.bitmap_of.new.buf may
+    subst (λ (s : Option Span). LooksOn c.args.self.now.bitmaps s c.args.number c.args.buf.now (g.F.Flash.state c.args.flash.now).work.reads (Ok c.ahead_by.result) (g.F.Flash.state c.entry_of.new.flash).work.reads c.entry_of.new.buf) (sym c.in-Some.is)
+    (looks-found t.bitmaps index is c.in-Some.span c.args.number c.args.buf.now f (g.F.Flash.state c.entry_of.new.flash) c.entry_of.new.buf c.ahead_by.result
     (c.in-Ok-Some.ensures.scans (first + plan.data_blocks) plan table (next_to_read index c.args.buf.now) told indexed known scans)
     (c.in-Ok-Some.ensures.most (first + plan.data_blocks) plan table (next_to_read index c.args.buf.now) told indexed known scans)
     (λ numbers later lt. c.in-Ok-Some.ensures.least (first + plan.data_blocks) plan table (next_to_read index c.args.buf.now) numbers told indexed known scans later lt))
@@ -85,8 +94,8 @@ returns-in-Err-clause-looks g c = λ first plan table told stands fresh scanning
     let indexed = index-stands t f first plan table stands index is in
     let known = subst (λ (o : Option Index). AreFresh o (g.F.Flash.state c.args.flash.now) c.args.buf.now) is fresh in
     let scans = subst (λ (o : Option Index). AreScanning o c.args.number c.args.buf.now) is scanning in
-    subst (λ (s : Option Span). LooksOn c.args.self.now.bitmaps s c.args.number c.args.buf.now (g.F.Flash.state c.args.flash.now).work.reads (Err c.in-Err.fault) (g.F.Flash.state c.bitmap_of.new.flash).work.reads c.forget.new.self) (sym c.in-Some.is)
-    (looks-failed t.bitmaps index is c.in-Some.span c.args.number c.args.buf.now f (g.F.Flash.state c.bitmap_of.new.flash) c.forget.new.self c.in-Err.fault
+    subst (λ (s : Option Span). LooksOn {X = Ahead} c.args.self.now.bitmaps s c.args.number c.args.buf.now (g.F.Flash.state c.args.flash.now).work.reads (Err c.in-Err.fault) (g.F.Flash.state c.entry_of.new.flash).work.reads c.forget.new.self) (sym c.in-Some.is)
+    (looks-failed t.bitmaps index is c.in-Some.span c.args.number c.args.buf.now f (g.F.Flash.state c.entry_of.new.flash) c.forget.new.self c.in-Err.fault
     (c.in-Err.ensures.most (first + plan.data_blocks) plan table (next_to_read index c.args.buf.now) told indexed known scans)
     (c.in-Err.ensures.again (first + plan.data_blocks) plan table (next_to_read index c.args.buf.now) told indexed known scans)
     (ap (λ (b : BufferState). b.holds) c.forget.ensures))
@@ -102,30 +111,29 @@ returns-in-Ok-Some-clause-misses g c = λ first plan table n rows range told sta
     let index = c.in-Some-bitmaps.index in
     let shown = c.in-Ok-Some.ensures.stands (first + plan.data_blocks) plan table told (index-stands t f first plan table stands index is)
     (subst (λ (o : Option Index). AreFresh o (g.F.Flash.state c.args.flash.now) c.args.buf.now) is fresh) in
-    let found = subst (λ (o : Option ℕ). ShowsBitmap plan table c.args.number (Ok o)) c.in-Ok-Some.field-0-is shown in
-    let none = misses-none (bit_and c.in-Ok-Some.bitmap c.mask.result) missed in
+    let found = subst (λ (o : Option Found). ShowsEntry plan table c.args.number (Ok o)) c.in-Ok-Some.field-0-is shown in
     subst (λ (s : Option Span). selected range s (rows_at table n rows) ≡ []) (sym c.in-Some.is)
-    (c.mask.ensures.misses plan (rows_at table n rows) range stands.planned.buckets (some-bits t f first plan table stands index is)
-    (ap (λ b. bit_and b c.mask.result) (sym (found.1 n rows at here some)) ∙ none))
+    (c.ahead_by.ensures.misses plan (rows_at table n rows) range stands.planned.buckets (some-bits t f first plan table stands index is)
+    (found.1 n rows at here (told-some plan rows some)).bitmap (ok-same c.ahead_by.result missed))
+  where
+    ok-same : (a : Ahead) → ◌≡◌ {A = Result Ahead ReadFault} (Ok a) (Ok Missed) → a ≡ Missed
+    ok-same a e = cc
 
 pub returns-in_default-clause-looks : goal.returns-in_default-clause-looks
 returns-in_default-clause-looks g c = λ first plan table told stands fresh scanning.
     let t = c.args.self.now in
     let reads = (g.F.Flash.state c.args.flash.now).work.reads in
-    subst (λ (s : Option Span). LooksOn c.args.self.now.bitmaps s c.args.number c.args.buf.now (g.F.Flash.state c.args.flash.now).work.reads (Ok true) (g.F.Flash.state c.args.flash.now).work.reads c.args.buf.now) (sym c.in_default.is)
-    (looks-none t.bitmaps c.args.number reads c.args.buf.now scanning)
+    subst (λ (s : Option Span). LooksOn c.args.self.now.bitmaps s c.args.number c.args.buf.now (g.F.Flash.state c.args.flash.now).work.reads (Ok Wanted) (g.F.Flash.state c.args.flash.now).work.reads c.args.buf.now) (sym c.in_default.is)
+    (looks-none Wanted t.bitmaps c.args.number reads c.args.buf.now scanning)
 
 pub returns-in_default-bitmaps-clause-looks : goal.returns-in_default-bitmaps-clause-looks
 returns-in_default-bitmaps-clause-looks g c = λ first plan table told stands fresh scanning.
-    looks-plain c.args.self.now.bitmaps c.in_default-bitmaps.is c.args.span c.args.number (g.F.Flash.state c.args.flash.now).work.reads c.args.buf.now
+    looks-plain Wanted c.args.self.now.bitmaps c.in_default-bitmaps.is c.args.span c.args.number (g.F.Flash.state c.args.flash.now).work.reads c.args.buf.now
 
 pub returns-in-Ok-None-clause-fresh : goal.returns-in-Ok-None-clause-fresh
 returns-in-Ok-None-clause-fresh g c = λ told.
-    fresh-still c.args.self.now.bitmaps c.in-Some-bitmaps.index c.in-Some-bitmaps.is (g.F.Flash.state c.args.flash.now) (g.F.Flash.state c.bitmap_of.new.flash) c.args.buf.now c.bitmap_of.new.buf (c.in-Ok-None.ensures.fresh told)
+    fresh-still c.args.self.now.bitmaps c.in-Some-bitmaps.index c.in-Some-bitmaps.is (g.F.Flash.state c.args.flash.now) (g.F.Flash.state c.entry_of.new.flash) c.args.buf.now c.entry_of.new.buf (c.in-Ok-None.ensures.fresh told)
 
 pub returns-in-Ok-Some-clause-fresh : goal.returns-in-Ok-Some-clause-fresh
 returns-in-Ok-Some-clause-fresh g c = λ told.
-    fresh-still c.args.self.now.bitmaps c.in-Some-bitmaps.index c.in-Some-bitmaps.is (g.F.Flash.state c.args.flash.now) (g.F.Flash.state c.bitmap_of.new.flash) c.args.buf.now c.bitmap_of.new.buf (c.in-Ok-Some.ensures.fresh told)
-
-pub mask-requires : goal.mask-requires
-mask-requires g c = table-fits g.row.KNOTS g.row.SLOTS c.args.self.now.few_knots c.args.self.now.few_slots
+    fresh-still c.args.self.now.bitmaps c.in-Some-bitmaps.index c.in-Some-bitmaps.is (g.F.Flash.state c.args.flash.now) (g.F.Flash.state c.entry_of.new.flash) c.args.buf.now c.entry_of.new.buf (c.in-Ok-Some.ensures.fresh told)

@@ -1,20 +1,20 @@
 -- The page after the kept ones of a ring is torn where a search for its numbers says so.
-use Rattle.std.proofs.Common.{◌≡◌, ℕ, zero, suc, ◌+◌, ◌-◌, ◌*◌, ◌/◌, ◌%◌, ◌<◌, ◌≤◌, min, Bool, true, false, not, ◌==◌, if◌then◌else◌, Option, Some, None, IsTrue, inl, inr, refl, sym, ◌∙◌, ap, arith}
+use Rattle.std.proofs.Common.{◌≡◌, ℕ, zero, suc, ◌+◌, ◌-◌, ◌*◌, ◌/◌, ◌%◌, ◌<◌, ◌≤◌, min, Bool, true, false, not, ◌==◌, if◌then◌else◌, Option, Some, None, inl, inr, refl, sym, ◌∙◌, ap, subst, arith}
 use Rattle.std.proofs.Math.Nat.{mul-le-mul_right, mod-eq_of_lt, add-mod_right, mul-add-mod_self_right, min-le_right}
-use Rattle.std.proofs.lemmas.Bool.{cases_lt, cases_eq, cases_Bool, and_parts, true≢false, cond-true, cond-false, ne_eqb}
+use Rattle.std.proofs.lemmas.Nat.{mod-mul-add}
+use Rattle.std.proofs.lemmas.Bool.{cases_lt, cases_eq, cases_Bool, and_parts, true≢false, cond-true, cond-false, eq-eqb, ne_eqb}
 use Rattle.fl_flash.specs.Flash.{FlashState}
 use Rattle.fl_mark.specs.declared.page_state.PageState.{PageState}
 use Rattle.fl_mark.specs.declared.page_state.PageState.TheVariants.{Blank, Torn, Committed, Void}
-use Rattle.fl_ring.specs.declared.ring.Ring.{Ring}
-use Rattle.fl_ring.specs.Finding.{full_of, head_at, next_place, kept_at, NewestIs, IsFound}
+use Rattle.fl_ring.specs.declared.numbers.Numbers.{Numbers}
+use Rattle.fl_ring.specs.Finding.{kept_pages, full_of, head_at, next_place, kept_at, NewestIs, IsFound}
 use Rattle.fl_ring.specs.Front.{blanks}
 use Rattle.fl_ring.specs.Head.{seals, page_in, one, fulls, before, is_head, ends, last_head, heads, head_of}
 use Rattle.fl_ring.specs.Looking.{state_at}
-use Rattle.fl_ring.specs.Mounting.{HasNumbers}
 use Rattle.fl_ring.specs.Numbers.{next_by, NumbersFit}
 use Rattle.fl_ring.specs.Ring.{Shape, place, room}
 use Rattle.fl_ring.proofs.Modulo.{parts, more, last_block}
-use Rattle.fl_ring.proofs.Moved.{least_is_alike}
+use Rattle.fl_ring.proofs.Moved.{in_block, least_is_alike}
 
 not_false : (b : Bool) → not b ≡ true → b ≡ false
 not_false true e = sym e
@@ -77,11 +77,31 @@ by_option : {A : Type 0} (P : Option A → Type 0) → P None → ((x : A) → P
 by_option P none some None = none
 by_option P none some (Some x) = some x
 
--- a ring's numbers after a mount that ended well, as the pages give them
-module _ (f new : FlashState) (r : Shape) (at_least : ℕ) (ring : Ring) (some : 0 < r.blocks) (told : IsTrue f.media.tells) (h : HasNumbers f r at_least ring new) where
-  abbrev found : IsFound f r at_least h.numbers
-  found = h.is_found told
+-- how many pages a ring is found to keep
+module _ (r : Shape) (full sealed : ℕ) where
+  kept_by : (b : Bool) → min full (if b then r.blocks - 2 else r.blocks - 1) * r.per_block ≤ (if b then r.blocks - 2 else r.blocks - 1) * r.per_block
+  kept_by b = mul-le-mul_right r.per_block (min-le_right full (if b then r.blocks - 2 else r.blocks - 1))
 
+  -- fewer than it has pages
+  pub kept_most : kept_pages r full sealed ≤ (r.blocks - 1) * r.per_block + sealed
+  kept_most = by_test (sealed == r.per_block - 1)
+    where
+      by_test : (b : Bool) → min full (if b then r.blocks - 2 else r.blocks - 1) * r.per_block + sealed ≤ (r.blocks - 1) * r.per_block + sealed
+      by_test true = let le : (r.blocks - 2) * r.per_block ≤ (r.blocks - 1) * r.per_block = mul-le-mul_right r.per_block (omega arith) in omega (arith, kept_by true, le)
+      by_test false = omega (arith, kept_by false)
+
+  -- and a block fewer where the next page is the last of its block
+  pub kept_ahead : 2 ≤ r.blocks → 1 ≤ r.per_block → sealed ≡ r.per_block - 1 → kept_pages r full sealed ≤ (r.blocks - 1) * r.per_block - 1
+  kept_ahead some pages last =
+      let cap : (if sealed == r.per_block - 1 then r.blocks - 2 else r.blocks - 1) ≡ r.blocks - 2 = cond-true (sealed == r.per_block - 1) (r.blocks - 2) (r.blocks - 1) (eq-eqb sealed (r.per_block - 1) last) in
+      let few : min full (if sealed == r.per_block - 1 then r.blocks - 2 else r.blocks - 1) * r.per_block ≤ (r.blocks - 2) * r.per_block =
+      subst (λ (n : ℕ). min full n * r.per_block ≤ (r.blocks - 2) * r.per_block) (sym cap) (kept_by true) in
+      let split : (r.blocks - 2 + 1) * r.per_block ≡ (r.blocks - 2) * r.per_block + r.per_block = more (r.blocks - 2) r.per_block in
+      let same : r.blocks - 2 + 1 ≡ r.blocks - 1 = omega (arith, some) in
+      omega (arith, few, split, ap (λ (n : ℕ). n * r.per_block) same, last, pages)
+
+-- a ring's numbers, as its pages give them
+module _ (f : FlashState) (r : Shape) (at_least : ℕ) (some : 0 < r.blocks) (numbers : Numbers) (found : IsFound f r at_least numbers) where
   abbrev at : ℕ
   at = next_place f r found.front
 
@@ -91,23 +111,15 @@ module _ (f new : FlashState) (r : Shape) (at_least : ℕ) (ring : Ring) (some :
       let le : (head + 1) * r.per_block ≤ r.blocks * r.per_block = mul-le-mul_right r.per_block (let le : head + 1 ≤ r.blocks = omega (arith, last_within (full_of f r) r.blocks r.blocks, some) in le) in
       omega (arith, le, more head r.per_block, found.head.front_is.below)
 
-  few : kept_at f r found.front ≤ room r
-  few =
-      let most = if found.front.sealed == r.per_block - 1 then r.blocks - 2 else r.blocks - 1 in
-      let blocks = min (fulls (full_of f r) r.blocks) most in
-      let le : blocks ≤ r.blocks - 1 = omega (arith, min-le_right (fulls (full_of f r) r.blocks) most, at_most (found.front.sealed == r.per_block - 1)) in
-      omega (arith, mul-le-mul_right r.per_block le, last_block r.blocks r.per_block (omega (arith, some)), found.head.front_is.below)
-    where
-      at_most : (b : Bool) → (if b then r.blocks - 2 else r.blocks - 1) ≤ r.blocks - 1
-      at_most true = omega arith
-      at_most false = omega arith
+  pub kept_few : kept_at f r found.front < room r
+  kept_few = omega (arith, kept_most r (fulls (full_of f r) r.blocks) found.front.sealed, last_block r.blocks r.per_block (omega (arith, some)), found.head.front_is.below)
 
-  next_rest : h.numbers.next % room r ≡ at
+  pub next_rest : numbers.next % room r ≡ at
   next_rest =
       ap (λ (n : ℕ). n % room r) found.next
       ∙ by_option (λ newest. NewestIs f r found.front newest → NumbersFit r at (kept_at f r found.front) at_least found.front.torn newest → next_by r at (kept_at f r found.front) at_least newest % room r ≡ at)
       (λ is fits. least_is_alike (room r) at (at_least + kept_at f r found.front) (omega (arith, at_within)) ∙ mod-eq_of_lt at_within)
-      (λ x is fits. by_newest x.number x.back (omega (arith, is.within, few)) fits.0)
+      (λ x is fits. by_newest x.number x.back (omega (arith, is.within, kept_few)) fits.0)
       found.newest found.newest_is found.fits
     where
       by_newest : (number back : ℕ) → back ≤ room r → number % room r ≡ (at + room r - back) % room r → (number + back) % room r ≡ at
@@ -120,8 +132,12 @@ module _ (f new : FlashState) (r : Shape) (at_least : ℕ) (ring : Ring) (some :
           ∙ add-mod_right at (room r)
           ∙ mod-eq_of_lt at_within
 
+  -- its place in its block
+  pub next_sealed : numbers.next % r.per_block ≡ found.front.sealed
+  next_sealed = in_block r.blocks r.per_block numbers.next at (next_rest ∙ sym (mod-eq_of_lt at_within)) ∙ mod-mul-add (head_at f r) r.per_block found.front.sealed found.head.front_is.below
+
   -- the page of the next number is the first of the head that isn't sealed
-  next_is : place r h.numbers.next ≡ page_in r (head_at f r) found.front.sealed
+  next_is : place r numbers.next ≡ page_in r (head_at f r) found.front.sealed
   next_is = ap (λ (n : ℕ). r.first + n) next_rest
 
   unsealed : seals (state_at f (page_in r (head_at f r) found.front.sealed)) ≡ false
@@ -132,7 +148,7 @@ module _ (f new : FlashState) (r : Shape) (at_least : ℕ) (ring : Ring) (some :
         ap (λ (i : ℕ). seals (state_at f (page_in r (head_at f r) i))) same ∙ head_open (full_of f r) r.blocks some found.head.one_head
   ]
 
-  pub torn_there : h.numbers.torn ≡ true → state_at f (place r h.numbers.next) ≡ Torn
+  pub torn_there : numbers.torn ≡ true → state_at f (place r numbers.next) ≡ Torn
   torn_there torn =
       let some : blanks (state_at f (page_in r (head_at f r) found.front.sealed)) ≡ false =
       not_false (blanks (state_at f (page_in r (head_at f r) found.front.sealed))) (sym (found.head.front_is.torn found.head.front_is.below) ∙ sym found.torn ∙ torn) in
