@@ -48,6 +48,10 @@ def bitmaps_a_page(page):
     return (page - 24) // 8
 
 
+def full_entries_a_page(page):
+    return (page - 24) // (8 + 14)
+
+
 def blocks_for(pages):
     """The blocks of a ring that always keeps so many pages (docs/SIZING.md)."""
     return max(3, 1 + -(-(pages + 1) // BLOCK))
@@ -62,6 +66,12 @@ def table(rows):
     """The configuration of such a table that keeps so many rows."""
     data = blocks_for(-(-rows // rows_a_page(PAGE)))
     return configuration(data, blocks_for(data * BLOCK // bitmaps_a_page(PAGE) + 1), PAGE)
+
+
+def full_table(rows):
+    """.. and whose index entries are full."""
+    data = blocks_for(-(-rows // rows_a_page(PAGE)))
+    return configuration(data, blocks_for(data * BLOCK // full_entries_a_page(PAGE) + 1), PAGE) + " index2"
 
 
 def loads(rows):
@@ -100,7 +110,8 @@ def all_works(rows):
                script(*begin, *in_batches((f"put t {k} {v}" for k, v in readings), 40, "flush t"), "flush t"),
                sql(FAST, CREATE, "BEGIN;",
                    *in_batches((f"INSERT INTO t VALUES({k},{v});" for k, v in readings), 40, "COMMIT; BEGIN;"), "COMMIT;"))
-    return [loaded, put, *queries(begin, loaded, put, rows, few), *blobs(min(few, 40_000)), *tools(begin, loaded, readings)]
+    return [loaded, put, *queries(begin, loaded, put, rows, few), *full_entries(rows, readings), *blobs(min(few, 40_000)),
+            *tools(begin, loaded, readings)]
 
 
 def queries(begin, loaded, put, rows, few):
@@ -132,6 +143,15 @@ def queries(begin, loaded, put, rows, few):
              script(*begin, *(f"agg t {low} {high} 1 1000" for low, high in ranges)),
              sql(*groups), loaded, has_answers=True),
     ]
+
+
+def full_entries(rows, readings):
+    """The load, the put and the mount of the same table with full index entries."""
+    begin = (full_table(rows), "mount")
+    loaded = Work("load with full index entries", script(*begin, *loads(rows), "flush t"), is_plain=False)
+    put = Work("put with full index entries",
+               script(*begin, *in_batches((f"put t {k} {v}" for k, v in readings), 40, "flush t"), "flush t"), is_plain=False)
+    return [loaded, put, Work("mount by full index entries", script(*begin), start=loaded, is_plain=False)]
 
 
 def blobs(rows):

@@ -38,9 +38,9 @@ mount'
 # what standard error has of the statuses that say their number
 status11="flashts: status 11"$'\n'"flashts: the file is no image, is missing, or can't be opened: look at its name and its rights"$'\n'
 status12="flashts: status 12"$'\n'"flashts: the image can't be read or written: look for room and for its rights, and call again"$'\n'
-status13="flashts: status 13"$'\n'"flashts: no run has left what the pages of table 0, counted from 0, have: flashts check IMAGE tells which"$'\n'
-status14="flashts: status 14"$'\n'"flashts: no table has this name: flashts check IMAGE tells the names"$'\n'
-status16="flashts: status 16"$'\n'"flashts: a table isn't sound: the last line says which, in which ring and page, and the rule (docs/CHECK.md)"$'\n'
+status13="flashts: status 13"$'\n'"flashts: no run has left what the pages of table 0, counted from 0, have: flashts check IMAGE all tells which"$'\n'
+status14="flashts: status 14"$'\n'"flashts: no table has this name: flashts check IMAGE all tells the names"$'\n'
+status16="flashts: status 16"$'\n'"flashts: a table isn't sound: each line that begins with fault says which, in which ring and page, and the rule (docs/CHECK.md)"$'\n'
 
 # status15 LINE: the same of 15
 status15() {

@@ -54,6 +54,10 @@ flashts salvage image t
 leaves "a salvage of it" 0 $'key,c1\n' $'flashts: pages passed over: missing 0, torn 0, void 0, misplaced 1, unformed 0\n'
 flashts map image
 leaves "a map of it" 0 $'t data first 5 last 5 rows 1 waiting 0\n>!... .... ....\nfault: t data page 0 rule 3\neach letter a page: . blank  # committed  v void  x torn  ! breaks a rule; > before the head\n' ''
+byte 2048 00
+cp image before
+flashts check image all
+leaves "a check of all its tables, where a page that isn't kept is begun too" 16 $'fault t data 0 3 number\nfault t data 8 8 rest\n' "$status16"
 image flushed
 byte 1032 02
 cp image before

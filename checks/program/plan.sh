@@ -64,7 +64,7 @@ ends "a plan of full index entries" 0 $'table s
   index blocks wanted 8
   bytes kept of full blob pages 0
   bytes of memory 844
-  reads of a mount without void pages 229
+  reads of a mount without void pages 188
   reads of a mount at most 688
 device
   blocks 43

@@ -8,7 +8,7 @@ ends "the same image again" 0 '' ''
 flashts help
 told=$(printf '%s' "$(cat err)$(grep -v '^flashts \|^    ' out)")
 [ $status = 0 ] || told="status $status"
-for words in 'run IMAGE' 'plan [SECONDS]' 'check IMAGE [all]' 'map IMAGE [svg]' 'export IMAGE NAME [LOW HIGH]' 'import IMAGE NAME [gone]' 'salvage IMAGE NAME' 'help'; do
+for words in 'run [sync] IMAGE' 'plan [SECONDS]' 'check IMAGE [all]' 'map IMAGE [svg]' 'export IMAGE NAME [LOW HIGH]' 'import IMAGE NAME [gone]' 'salvage IMAGE NAME' 'help'; do
     grep -qxF "flashts $words" out || told="no $words"
 done
 tell "the help has each job" "$told"
@@ -20,7 +20,7 @@ for words in '' 'help me' 'run' 'run a b' 'check' 'export image t 0' 'export ima
     cp image before
     # shellcheck disable=SC2086
     flashts $words < script
-    printf '%s' $'flashts: usage: flashts run IMAGE\n' > want
+    printf '%s' $'flashts: usage: flashts run [sync] IMAGE\n' > want
     head -n 1 err | cmp -s - want || status="$status, $(head -n 1 err)"
     cp err told
     leaves "other words: '$words'" 1 '' "$(cat told)"$'\n'

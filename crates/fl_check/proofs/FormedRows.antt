@@ -12,8 +12,10 @@ use Rattle.fl_ring.specs.Ring.{Shape}
 use Rattle.fl_schema.specs.Form.{layout_with}
 use Rattle.fl_schema.specs.declared.column.ColumnType.{ColumnType}
 use Rattle.fl_schema.specs.declared.schema.KeyWidth.{KeyWidth}
+use Rattle.fl_check.specs.Bodies.{HaveBodies}
 use Rattle.fl_check.specs.DataPage.{IsDataPage}
 use Rattle.fl_check.specs.Marks.{kept_page}
+use Rattle.fl_check.specs.Numbers.{HaveNumbers}
 use Rattle.fl_check.specs.Rising.{HaveRows}
 use Rattle.fl_check.specs.RingRules.{IsFormed}
 use Rattle.fl_check.specs.declared.numbering.Numbering.{Numbering}
@@ -43,13 +45,18 @@ module _ (key : KeyWidth) (types : List ColumnType) (blobs : Bool) (buckets : Op
       let each : 1 ≤ length is.rows * layout_len (layout_with key types blobs) = grind (arith, is.some, some) in
       omega (arith, fits, each)
 
-  pub have_rows : (page : ℕ → List ℕ) (r : Shape) (at_least : ℕ) (n : Numbering) → ((p : ℕ) → length (page p) < 65536)
-      → IsFormed (λ number bytes. IsDataPage (layout_with key types blobs) buckets number bytes) page r at_least n → HaveRows (layout_with key types blobs) page r n.marks
-  have_rows page r at_least n short formed = λ i lt committed.
+  -- where they have their numbers and bodies
+  pub rows_of : (page : ℕ → List ℕ) (r : Shape) (at_least : ℕ) (n : Numbering) → ((p : ℕ) → length (page p) < 65536) → HaveNumbers page r n.marks at_least n.next
+      → HaveBodies (λ number bytes. IsDataPage (layout_with key types blobs) buckets number bytes) page r n → HaveRows (layout_with key types blobs) page r n.marks
+  rows_of page r at_least n short numbers bodies = λ i lt committed.
       let bytes = page (kept_page r n.marks i) in
       let number = n.next - (n.marks.kept - i) in
-      let own = (formed.numbered.numbers.each i lt).not_negative in
-      let is = formed.bodies i lt number (omega (arith, own)) committed in
-      let left = formed.numbered.numbers.left in
+      let own = (numbers.each i lt).not_negative in
+      let is = bodies i lt number (omega (arith, own)) committed in
+      let left = numbers.left in
       let good = data_good key types blobs bytes number buckets (long number bytes is) is (omega (arith, left)) (short (kept_page r n.marks i)) in
       record { number_is = refl; some = good.some; room = good.room }
+
+  pub have_rows : (page : ℕ → List ℕ) (r : Shape) (at_least : ℕ) (n : Numbering) → ((p : ℕ) → length (page p) < 65536)
+      → IsFormed (λ number bytes. IsDataPage (layout_with key types blobs) buckets number bytes) page r at_least n → HaveRows (layout_with key types blobs) page r n.marks
+  have_rows page r at_least n short formed = rows_of page r at_least n short formed.numbered.numbers formed.bodies

@@ -6,6 +6,8 @@ pub mod BytesBack
 pub mod ContentPages
 pub mod DataPages
 pub mod Decisions
+pub mod FirstRules
+pub mod FirstTold
 pub mod FormedRows
 pub mod FoundBy
 pub mod FullEntries
@@ -32,7 +34,9 @@ pub mod RingRuling
 pub mod RingsKnown
 pub mod RowsBack
 pub mod RowsLead
+pub mod RulesTold
 pub mod Stops
 pub mod TablePages
+pub mod TableTold
 pub mod Tallies
 pub mod Wholes

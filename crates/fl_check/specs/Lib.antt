@@ -4,6 +4,7 @@ pub mod ContentPage
 pub mod DataPage
 pub mod Endings
 pub mod Entries
+pub mod Faults
 pub mod IndexPage
 pub mod KeptPages
 pub mod Laws
@@ -17,6 +18,8 @@ pub mod References
 pub mod Rest
 pub mod RingRules
 pub mod Rising
+pub mod Ruled
+pub mod Rules
 pub mod States
 pub mod Stop
 pub mod Tally

@@ -1,5 +1,5 @@
 -- Why a check ends before its end.
-use Rattle.std.specs.Prelude.{ℕ}
+use Rattle.std.specs.Prelude.{ℕ, Option, Some, None, Result, Ok, Err}
 use Rattle.fl_flash.specs.declared.flash.FlashFault.{FlashFault}
 use Rattle.fl_check.specs.declared.rule.Breach.{Breach}
 use Rattle.fl_check.specs.declared.rule.Rule.{Rule}
@@ -18,3 +18,9 @@ IfBroken P (Broken breach) = P breach
 
 abbrev pub breach : Rule → ℕ → Breach
 breach rule page = record { rule = rule; page = page }
+
+-- the page at which a check of one rule ended, unless the flash failed
+abbrev pub first_page : Result (Unit {0}) Stop → Result (Option ℕ) FlashFault
+first_page (Ok done) = Ok None
+first_page (Err (Broken breach)) = Ok (Some breach.page)
+first_page (Err (Flash fault)) = Err fault

@@ -81,6 +81,12 @@ OfRing Holds (Some place) None = ⊥
 abbrev pub LiesWithin : TableConfig → Option RingPlace → Option Numbering → Type 0
 LiesWithin config place n = OfRing (λ place n. AreWithin (shape_in config place) n.marks) place n
 
+-- .. if there is one, and its pages tell their marks
+abbrev pub IfWithin : TableConfig → Option RingPlace → Option Numbering → Type 0
+IfWithin config (Some place) (Some n) = AreWithin (shape_in config place) n.marks
+IfWithin config (Some place) None = Unit {0}
+IfWithin config None n = Unit {0}
+
 abbrev pub IsIndexSound : TableConfig → (ℕ → List ℕ) → Option Numbering → Type 0
 IsIndexSound config page index = OfRing (λ place n. IsRingSound (IsIndexForm config) None page (shape_in config place) 0 n) config.index index
 

@@ -8,7 +8,9 @@ ghost use Rattle.fl_check.specs.KeptPages.{KeptPagesAreGood};
 ghost use Rattle.fl_check.specs.Laws.{KeepsRules};
 ghost use Rattle.fl_check.specs.MountLaw.{FindsNumbers};
 ghost use Rattle.fl_check.specs.Numbering.{IsNumbered};
+ghost use Rattle.fl_check.specs.Rules.{AreRules, TellsFirst};
 ghost use Rattle.fl_check.specs.Whole.{IsFinding};
+ghost use Rattle.fl_check.specs.declared.faults.TableRules.{TableRules};
 ghost use Rattle.fl_check.specs.declared.finding.Finding.{Finding};
 ghost use Rattle.fl_check.specs.declared.marks.Marks.{Marks};
 
@@ -31,4 +33,10 @@ pub fn kept_pages_are_good()
 /// hold, and one page the first that breaks it.
 pub fn findings_are_one()
     ensures { (config : TableConfig) → (page : ℕ → List ℕ) → (a b : Finding) → IsFinding config page a → IsFinding config page b → a ≡ b }
+{}
+
+/// What a check finds of a table that ends at the first rule that doesn't hold comes first in what one of all rules tells. So one
+/// of all rules tells of a sound table that it is sound, and of no other.
+pub fn rules_tell_findings()
+    ensures { (config : TableConfig) → (page : ℕ → List ℕ) → (rules : TableRules) → (finding : Finding) → AreRules config page rules → IsFinding config page finding → TellsFirst rules finding }
 {}

@@ -6,6 +6,7 @@ mod bytes;
 mod content_page;
 mod data_page;
 mod entries;
+mod faults;
 mod finding;
 mod forms;
 mod halt;
@@ -22,6 +23,8 @@ mod rest;
 mod ringed;
 mod rising;
 mod rule;
+mod ruled;
+mod rules;
 mod states;
 mod tally;
 mod told;
@@ -31,14 +34,19 @@ pub use bodies::{Form, check_bodies};
 pub use content_page::content_page_is_good;
 pub use data_page::data_page_is_good;
 pub use entries::{Indexing, check_entries};
+pub use faults::{RingFaults, TableFaults, TableRules};
 pub use finding::{CheckFault, Finding, RingName};
 pub use forms::{ContentForm, DataForm};
 pub use index_page::index_page_is_good;
 pub use keys::keys_ascend;
-pub use laws::{findings_are_one, kept_pages_are_good, mounts_find_numbers, rings_keep_rules};
+pub use laws::{
+    findings_are_one, kept_pages_are_good, mounts_find_numbers, rings_keep_rules,
+    rules_tell_findings,
+};
 pub use marks::{HeadPages, Marks};
 pub use numbering::{Numbering, check_numbering};
 pub use rest::check_rest;
 pub use rising::check_keys;
 pub use rule::{Breach, Rule, Stop};
+pub use rules::check_rules;
 pub use whole::{TableNumbers, check_table, schema_of};

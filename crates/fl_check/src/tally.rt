@@ -1,11 +1,9 @@
 // What the kept pages of a table tell beside its rules: the rows, the void pages, and where its blobs and the entries of its
 // index end.
-ghost use Rattle.std.specs.Prelude.{◌≡◌, ◌<◌, ◌≤◌, ◌+◌, ◌*◌, Option, length, IsTrue, IfOk, IfErr};
+ghost use Rattle.std.specs.Prelude.{◌≡◌, ◌<◌, ◌≤◌, ◌+◌, Option, length, IsTrue, IfOk, IfErr};
 ghost use Rattle.fl_flash.specs.Flash.{page_at};
-ghost use Rattle.fl_mark.specs.Mark.{state_of_page};
 ghost use Rattle.fl_page.specs.View.{count_of, rows_of};
 ghost use Rattle.fl_ring.specs.Looking.{OnlyReads, ReadFails};
-ghost use Rattle.fl_ring.specs.Newest.{commits};
 ghost use Rattle.fl_ring.specs.Place.{shape_of, LiesOn};
 ghost use Rattle.fl_schema.specs.Schema.{layout_of};
 ghost use Rattle.fl_check.specs.Rising.{HasRows, HaveRows};
@@ -26,6 +24,22 @@ pub(crate) struct Tally {
     pub(crate) rows: u64,
     pub(crate) voids: u32,
     pub(crate) blob_end: u64,
+}
+
+impl Tally {
+    ghost use Rattle.std.specs.Prelude.{◌≡◌};
+    ghost use Rattle.fl_check.specs.Tally.{no_pages};
+
+    /// Of no pages.
+    pub(crate) fn of_no_pages() -> Tally
+        ensures { result ≡ no_pages }
+    {
+        Tally {
+            rows: 0,
+            voids: 0,
+            blob_end: 0,
+        }
+    }
 }
 
 /// The number after the data pages that the newest committed index page lists; 0 where no page is committed.
@@ -134,11 +148,7 @@ pub(crate) fn tally_pages<F: Flash>(
         → tally ≡ tally_of (layout_of schema.now) (page_at (F.state flash.old)) (shape_of ring.now) m m.kept) }
     ensures fails { IfErr result (λ e. ReadFails (F.state flash.old) e (F.state flash.new)) }
 {
-    let mut tally = Tally {
-        rows: 0,
-        voids: 0,
-        blob_end: 0,
-    };
+    let mut tally = Tally::of_no_pages();
     for i in 0..m.kept {
         let page = ring.page_back(m.at, m.kept - i);
         look(flash, page, buf)?;

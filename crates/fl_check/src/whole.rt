@@ -1,18 +1,21 @@
 // The check of a table: the rules of its rings, one ring after another, and then those on its index and its references.
-ghost use Rattle.std.specs.Prelude.{◌≡◌, ◌≤◌, ◌+◌, ◌*◌, ℕ, List, None, Some, is_some, length, vec_len, IsTrue, IfOk, IfErr, OnOk};
+ghost use Rattle.std.specs.Prelude.{◌≡◌, ◌≤◌, ◌*◌, MatchOption, None, Some, is_some, length, vec_len, IsTrue, IfOk, IfErr, OnOk};
 ghost use Rattle.fl_flash.specs.Flash.{page_at};
 ghost use Rattle.fl_flash.specs.declared.flash.FlashFault.{FlashFault};
-ghost use Rattle.fl_model.specs.Record.{layout_len};
 ghost use Rattle.fl_plan.specs.Limits.{IsWithinLimits};
 ghost use Rattle.fl_plan.specs.Plan.{blocks_in};
 ghost use Rattle.fl_plan.specs.Refusal.{config_fault};
 ghost use Rattle.fl_ring.specs.Looking.{ReadFails};
 ghost use Rattle.fl_schema.specs.Schema.{layout_of, types_of};
+ghost use Rattle.fl_check.specs.Claims.{AllBelow};
+ghost use Rattle.fl_check.specs.Entries.{HaveEntries, EntriesBreak};
 ghost use Rattle.fl_check.specs.Looks.{OnlyLooks, CheckFails, OffFails, OffChecksNothing, IfFailed, IfFound};
 ghost use Rattle.fl_check.specs.Marks.{AreWithin};
+ghost use Rattle.fl_check.specs.Reaches.{HasContent};
+ghost use Rattle.fl_check.specs.References.{PageLeads, ReferencesBreak};
 ghost use Rattle.fl_check.specs.Rising.{HaveRows};
 ghost use Rattle.fl_check.specs.RingRules.{IsRingSound, BreaksRing};
-ghost use Rattle.fl_check.specs.Whole.{Fits, LiesWithin, OfRing, shape_in, rows_shape, layout_in, form_in, IsRowsForm, IsVarForm, IsIndexSound, AreRowsSound, AreRingsSound, AreEntriesSound, AreReferencesSound, IsSound, BreaksIndex, BreaksVarBy, BreaksEntries, BreaksReferences, IsFirstFault, index_end, tally_in, IsFinding};
+ghost use Rattle.fl_check.specs.Whole.{Fits, IfWithin, LiesWithin, OfRing, indexing, shape_in, rows_shape, layout_in, form_in, IsRowsForm, IsVarForm, IsIndexSound, AreRingsSound, AreEntriesSound, AreReferencesSound, IsSound, BreaksIndex, BreaksVarBy, IsFirstFault, index_end, tally_in, IsFinding};
 ghost use Rattle.fl_check.specs.declared.finding.RingName.{RingName};
 ghost use Rattle.fl_check.specs.declared.halt.Halt.{Halt};
 ghost use Rattle.fl_check.specs.declared.rule.Rule.{Rule};
@@ -22,13 +25,14 @@ use crate::finding::{CheckFault, Finding, RingName};
 use crate::forms::{ContentForm, DataForm};
 use crate::halt::{Fault, Halt, in_ring};
 use crate::index_form::IndexForm;
+use crate::marks::Marks;
 use crate::numbering::Numbering;
 use crate::reaches::find_reaches;
 use crate::references::{BlobPages, find_misleading};
 use crate::ringed::{check_ring, check_rows};
 use crate::rule::Rule;
 use crate::tally::{Tally, find_end, tally_pages};
-use fl_base::NoMemory;
+use fl_base::{NoMemory, RingPlace};
 use fl_flash::{Flash, FlashFault, PageBuf};
 use fl_index::EntryForm;
 use fl_plan::TableConfig;
@@ -54,15 +58,15 @@ pub(crate) struct Rings {
 /// A table that is checked.
 #[derive(Drop)]
 pub(crate) struct Checked<'c> {
-    config: &'c TableConfig,
-    schema: Schema<8>,
+    pub(crate) config: &'c TableConfig,
+    pub(crate) schema: Schema<8>,
     ghost layout: { layout_of schema ≡ layout_in config.now },
     ghost columns: { 1 ≤ length (types_of schema) },
 }
 
 impl Checked<'_> {
     /// The form of the entries of the index, where there is one.
-    fn entry_form(&self) -> EntryForm
+    pub(crate) fn entry_form(&self) -> EntryForm
         requires limits { IsWithinLimits self.now.config.now }
         requires index { IsTrue (is_some self.now.config.now.index) }
         ensures exact { result ≡ form_in self.now.config.now }
@@ -107,8 +111,8 @@ impl Checked<'_> {
         Ok(Some(n))
     }
 
-    /// The number after the data pages that the index lists.
-    fn find_index_end<F: Flash>(
+    /// The number after the data pages that the index lists, where there is one whose pages tell their marks and numbers.
+    pub(crate) fn find_index_end<F: Flash>(
         &self,
         flash: &mut F,
         index: Option<Numbering>,
@@ -116,7 +120,7 @@ impl Checked<'_> {
     ) -> Result<u64, FlashFault>
         requires fits { Fits self.now.config.now (F.state flash.old) }
         requires room { length buf.old.bytes ≡ self.now.config.now.geometry.page }
-        requires within { LiesWithin self.now.config.now self.now.config.now.index index }
+        requires within { IfWithin self.now.config.now self.now.config.now.index index }
         ensures looks { OnlyLooks (F.state flash.old) (F.state flash.new) }
         ensures room { length buf.new.bytes ≡ self.now.config.now.geometry.page }
         ensures end { IfOk result (λ end. IsTrue (F.state flash.old).media.tells → end ≡ index_end self.now.config.now (page_at (F.state flash.old)) index) }
@@ -126,7 +130,9 @@ impl Checked<'_> {
         let Some(place) = self.config.index else {
             return Ok(0);
         };
-        let Some(n) = index else { unreachable!() };
+        let Some(n) = index else {
+            return Ok(0);
+        };
         let ring = Ring::unnumbered(flash, place);
         let per_page = entries_in(self.config.geometry.page as usize, self.entry_form());
         find_end(&ring, flash, n.marks, per_page, buf)
@@ -218,7 +224,7 @@ impl Checked<'_> {
     }
 
     /// What the data pages tell.
-    fn tally_rows<F: Flash>(
+    pub(crate) fn tally_rows<F: Flash>(
         &self,
         flash: &mut F,
         rows: Numbering,
@@ -235,6 +241,41 @@ impl Checked<'_> {
     {
         let ring = Ring::unnumbered(flash, self.config.rows);
         tally_pages(&ring, flash, rows.marks, &self.schema, buf)
+    }
+
+    /// Looks for the oldest kept index page that breaks the rule on its entries.
+    pub(crate) fn find_misentered<F: Flash>(
+        &self,
+        flash: &mut F,
+        place: RingPlace,
+        index: Numbering,
+        rows: Numbering,
+        listing: &mut PageBuf,
+        buf: &mut PageBuf,
+    ) -> Result<Option<u32>, FlashFault>
+        requires fits { Fits self.now.config.now (F.state flash.old) }
+        requires place { self.now.config.now.index ≡ Some place }
+        requires listing { length listing.old.bytes ≡ self.now.config.now.geometry.page }
+        requires room { length buf.old.bytes ≡ self.now.config.now.geometry.page }
+        requires index { AreWithin (shape_in self.now.config.now place) index.marks }
+        requires rows { AreWithin (rows_shape self.now.config.now) rows.marks }
+        ensures looks { OnlyLooks (F.state flash.old) (F.state flash.new) }
+        ensures listing { length listing.new.bytes ≡ self.now.config.now.geometry.page }
+        ensures room { length buf.new.bytes ≡ self.now.config.now.geometry.page }
+        ensures entries { IfOk result (λ broken. IsTrue (F.state flash.old).media.tells → MatchOption broken
+            (HaveEntries (page_at (F.state flash.old)) (shape_in self.now.config.now place) (rows_shape self.now.config.now) (indexing self.now.config.now index rows))
+            (λ p. EntriesBreak (page_at (F.state flash.old)) (shape_in self.now.config.now place) (rows_shape self.now.config.now) (indexing self.now.config.now index rows) p)) }
+        ensures fails { IfErr result (λ e. ReadFails (F.state flash.old) e (F.state flash.new)) }
+    {
+        let over = Indexing {
+            form: self.entry_form(),
+            schema: &self.schema,
+            index: index.marks,
+            rows,
+        };
+        let index = Ring::unnumbered(flash, place);
+        let rows = Ring::unnumbered(flash, self.config.rows);
+        check_entries(&index, &rows, flash, over, listing, buf)
     }
 
     /// Checks the rule on the entries of the index, where there is one.
@@ -262,16 +303,45 @@ impl Checked<'_> {
             return Ok(());
         };
         let Some(n) = t.index else { unreachable!() };
-        let index = Ring::unnumbered(flash, place);
-        let rows = Ring::unnumbered(flash, self.config.rows);
-        let l = Indexing {
-            form: self.entry_form(),
-            schema: &self.schema,
-            index: n.marks,
-            rows: t.rows,
-        };
-        let broken = check_entries(&index, &rows, flash, l, listing, buf)?;
+        let broken = self.find_misentered(flash, place, n, t.rows, listing, buf)?;
         found(RingName::Index, Rule::Entry, broken)
+    }
+
+    /// Looks for the oldest kept data page with a reference that doesn't lead to its blob. Each committed one has to have its
+    /// rows, and each committed page of variable data some content.
+    pub(crate) fn find_misled<F: Flash>(
+        &self,
+        flash: &mut F,
+        place: RingPlace,
+        var: Numbering,
+        rows: Marks,
+        reaches: &mut [u64],
+        buf: &mut PageBuf,
+    ) -> Result<Option<u32>, FlashFault>
+        requires fits { Fits self.now.config.now (F.state flash.old) }
+        requires place { self.now.config.now.var ≡ Some place }
+        requires listed { blocks_in self.now.config.now.var * self.now.config.now.geometry.block ≤ length reaches.old }
+        requires room { length buf.old.bytes ≡ self.now.config.now.geometry.page }
+        requires rows { AreWithin (rows_shape self.now.config.now) rows }
+        requires var { AreWithin (shape_in self.now.config.now place) var.marks }
+        ensures looks { OnlyLooks (F.state flash.old) (F.state flash.new) }
+        ensures room { length buf.new.bytes ≡ self.now.config.now.geometry.page }
+        ensures blobs { IfOk result (λ broken. IsTrue (F.state flash.old).media.tells → HaveRows (layout_in self.now.config.now) (page_at (F.state flash.old)) (rows_shape self.now.config.now) rows
+            → AllBelow (HasContent (page_at (F.state flash.old)) (shape_in self.now.config.now place) var.marks.at) var.marks.kept → MatchOption broken
+            (AllBelow (PageLeads (layout_in self.now.config.now) (page_at (F.state flash.old)) (rows_shape self.now.config.now) rows (shape_in self.now.config.now place) var) rows.kept)
+            (λ p. ReferencesBreak (layout_in self.now.config.now) (page_at (F.state flash.old)) (rows_shape self.now.config.now) rows (shape_in self.now.config.now place) var p)) }
+        ensures fails { IfErr result (λ e. ReadFails (F.state flash.old) e (F.state flash.new)) }
+    {
+        let ring = Ring::unnumbered(flash, place);
+        find_reaches(&ring, flash, var.marks, reaches, buf)?;
+        let blobs = BlobPages {
+            ring: &ring,
+            numbering: var,
+            content: self.config.geometry.page - 16,
+            reaches,
+        };
+        let data = Ring::unnumbered(flash, self.config.rows);
+        find_misleading(&data, flash, rows, &self.schema, &blobs, buf)
     }
 
     /// Checks the rule on the references of the rows, where the table has variable data.
@@ -297,20 +367,11 @@ impl Checked<'_> {
             return Ok(());
         };
         let Some(n) = t.var else { unreachable!() };
-        let var = Ring::unnumbered(flash, place);
-        find_reaches(&var, flash, n.marks, reaches, buf)?;
-        let blobs = BlobPages {
-            ring: &var,
-            numbering: n,
-            content: self.config.geometry.page - 16,
-            reaches,
-        };
-        let rows = Ring::unnumbered(flash, self.config.rows);
-        let broken = find_misleading(&rows, flash, t.rows.marks, &self.schema, &blobs, buf)?;
+        let broken = self.find_misled(flash, place, n, t.rows.marks, reaches, buf)?;
         found(RingName::Data, Rule::Blob, broken)
     }
 
-    /// Checks all rules.
+    /// Checks the rules, up to the first that doesn't hold.
     fn check<F: Flash>(
         &self,
         flash: &mut F,
@@ -364,7 +425,7 @@ pub fn schema_of(config: &TableConfig) -> Schema<8>
 }
 
 /// Room for how far the content of each page of variable data reaches.
-fn reaches_room(alloc: Global, config: &TableConfig) -> Result<Vec<u64>, NoMemory>
+pub(crate) fn reaches_room(alloc: Global, config: &TableConfig) -> Result<Vec<u64>, NoMemory>
     ensures { IfOk result (λ reaches. vec_len reaches ≡ blocks_in config.now.var * config.now.geometry.block) }
 {
     let pages = config.var_blocks() as usize * config.geometry.block as usize;

@@ -2,6 +2,7 @@
 use Rattle.std.specs.Prelude.{◌≡◌, ◌⊎◌, ℕ, ◌≤◌, IsTrue, true, Option, Some, IfSome, is_some, List}
 use Rattle.fl_base.specs.Causes.{Rose}
 use Rattle.fl_base.specs.declared.types.KeyRange.{KeyRange}
+use Rattle.fl_check.specs.Rules.{AreRules}
 use Rattle.fl_check.specs.Whole.{IsFinding}
 use Rattle.fl_command.specs.declared.exit.Exit.{Exit}
 use Rattle.fl_command.specs.declared.exit.Exit.TheVariants as ending
@@ -47,10 +48,11 @@ abbrev pub ends_of : {S K : Type 0} → MediaState → S → Option (List ℕ) �
 ends_of media input left input_faults out written out_faults =
     record { media = media; input = input; left = left; input_faults = input_faults; out = out; written = written; out_faults = out_faults }
 
--- A check: what is written of the tables, up to the first that isn't sound or of all, is what the rules of their rings find.
+-- A check: what is written of the tables is the first rule that doesn't hold, up to the first table that isn't sound, or each rule
+-- that doesn't hold of all tables.
 -- Nothing is changed, and the input isn't read.
 pub record Checks {S K : Type 0} (extent : Extent) (old new : Ends S K) (end : JobEnd) : Type 0 where
-  pub ends : IsTrue old.media.tells → CheckedTo extent (λ config f finding. IsFinding config (page_at f) finding) old.media.content old.written new.written end.status
+  pub ends : IsTrue old.media.tells → CheckedTo extent (λ config f finding. IsFinding config (page_at f) finding) (λ config f rules. AreRules config (page_at f) rules) old.media.content old.written new.written end.status
   pub looks : OnlyLooksAt old.media new.media
   pub device : end.status ≡ Device → Rose old.media.faults new.media.faults
   pub write : end.status ≡ OutWrite → Rose old.out_faults new.out_faults

@@ -22,7 +22,7 @@ line_of words = codes "flashts: " ++ words
 -- of a run: nothing where it is done
 abbrev pub run_text : Status → List ℕ
 run_text Done = []
-run_text Usage = line_of (codes "usage: flashts run IMAGE\n")
+run_text Usage = line_of (codes "usage: flashts run [sync] IMAGE\n")
 run_text (Line n) = line_of (codes "line " ++ decimal n ++ codes " is not a command\n")
 run_text ScriptRead = line_of (codes "the script cannot be read\n")
 run_text OutWrite = line_of (codes "the replies cannot be written\n")
@@ -54,11 +54,11 @@ abbrev pub meaning_text : ToolStatus → List ℕ
 meaning_text job.NotImage = line_of (codes "the file is no image, is missing, or can't be opened: look at its name and its rights\n")
 meaning_text job.Device = line_of (codes "the image can't be read or written: look for room and for its rights, and call again\n")
 meaning_text (job.BadImage table) =
-    line_of (codes "no run has left what the pages of table " ++ decimal table ++ codes ", counted from 0, have: flashts check IMAGE tells which\n")
-meaning_text job.NoTable = line_of (codes "no table has this name: flashts check IMAGE tells the names\n")
+    line_of (codes "no run has left what the pages of table " ++ decimal table ++ codes ", counted from 0, have: flashts check IMAGE all tells which\n")
+meaning_text job.NoTable = line_of (codes "no table has this name: flashts check IMAGE all tells the names\n")
 meaning_text (job.BadInput line) =
     line_of (codes "line " ++ decimal line ++ codes " of the input has more than 4096 bytes, or is the first and not the one that an export begins with\n")
-meaning_text job.Unsound = line_of (codes "a table isn't sound: the last line says which, in which ring and page, and the rule (docs/CHECK.md)\n")
+meaning_text job.Unsound = line_of (codes "a table isn't sound: each line that begins with fault says which, in which ring and page, and the rule (docs/CHECK.md)\n")
 meaning_text other = []
 
 -- of a job: the words of the same statuses of a run, and the number of the others

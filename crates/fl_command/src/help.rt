@@ -15,8 +15,8 @@ struct JobForm {
 /// The jobs, in the order in which they are told: one more is an entry more here, and one of the usage's forms.
 const JOBS: [JobForm; 8] = [
     JobForm {
-        form: "run IMAGE",
-        does: "runs the script on standard input, and makes an image that is missing",
+        form: "run [sync] IMAGE",
+        does: "runs the script on standard input, and makes an image that is missing; with sync each page is on the disk before it is answered",
         example: "flashts run sensor.img < first.script",
     },
     JobForm {
@@ -26,7 +26,7 @@ const JOBS: [JobForm; 8] = [
     },
     JobForm {
         form: "check IMAGE [all]",
-        does: "tells whether each table is sound, up to the first that isn't, or of all",
+        does: "tells whether each table is sound, up to the first that isn't, or with all each broken rule of every table",
         example: "flashts check sensor.img",
     },
     JobForm {

@@ -11,9 +11,10 @@ use fl_map::map_image;
 use fl_salvage::salvage_image;
 use std::alloc::Global;
 
-/// Does the job over its image. A check writes a line for each table, up to the first that isn't sound or for all; a map draws the
-/// pages of the image; an export writes the records of its table whose keys are in its range; an import reads records from the
-/// input, puts them into its table, and writes what it refuses; a salvage writes the records of its table that are still there.
+/// Does the job over its image. A check writes a line for each table, up to the first that isn't sound, or of all of them a line
+/// for each sound one and one for each rule that is looked at and doesn't hold of another; a map draws the pages of the image; an
+/// export writes the records of its table whose keys are in its range; an import reads records from the input, puts them into its
+/// table, and writes what it refuses; a salvage writes the records of its table that are still there.
 /// Statuses are those of the job's own call: `check_image` and `check_all`, by the rules of a table's rings, `map_image`,
 /// `export_image`, `import_image` and `salvage_image`.
 pub fn tool<M: Media, S: Source, K: Sink>(

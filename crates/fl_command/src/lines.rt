@@ -19,7 +19,7 @@ impl Display for RunLines {
     fn fmt<W: fmt::Write>(&self, f: &mut fmt::Formatter<W>) -> fmt::Result {
         match self.0 {
             Status::Done => Ok(()),
-            Status::Usage => f.write_str("flashts: usage: flashts run IMAGE\n"),
+            Status::Usage => f.write_str("flashts: usage: flashts run [sync] IMAGE\n"),
             Status::Line { line } => writeln!(f, "flashts: line {line} is not a command"),
             Status::ScriptRead => f.write_str("flashts: the script cannot be read\n"),
             Status::OutWrite => f.write_str("flashts: the replies cannot be written\n"),
@@ -149,17 +149,17 @@ impl Display for Meaning {
             ),
             ToolStatus::BadImage { table } => writeln!(
                 f,
-                "flashts: no run has left what the pages of table {table}, counted from 0, have: flashts check IMAGE tells which"
+                "flashts: no run has left what the pages of table {table}, counted from 0, have: flashts check IMAGE all tells which"
             ),
             ToolStatus::NoTable => f.write_str(
-                "flashts: no table has this name: flashts check IMAGE tells the names\n",
+                "flashts: no table has this name: flashts check IMAGE all tells the names\n",
             ),
             ToolStatus::BadInput { line } => writeln!(
                 f,
                 "flashts: line {line} of the input has more than 4096 bytes, or is the first and not the one that an export begins with"
             ),
             ToolStatus::Unsound => f.write_str(
-                "flashts: a table isn't sound: the last line says which, in which ring and page, and the rule (docs/CHECK.md)\n",
+                "flashts: a table isn't sound: each line that begins with fault says which, in which ring and page, and the rule (docs/CHECK.md)\n",
             ),
             ToolStatus::Done
             | ToolStatus::InputRead

@@ -18,7 +18,7 @@ use Rattle.fl_cursor.specs.Asked.{is_asked, lowest_of}
 use Rattle.fl_cursor.specs.Cursor.{table_of, asked_of, buffer_of, index_page, rows_behind, Passes, IsPlaced, IsTold, IsLooking}
 use Rattle.fl_cursor.specs.Going.{Goes, Fails}
 use Rattle.fl_cursor.specs.Listed.{bytes_at, rows_on, rows_over, rows_from, rows_of}
-use Rattle.fl_cursor.specs.Reads.{begins_by, has_last, start_of, most_to_find, is_beyond, is_skipped, pages_to_last, pages_asked, index_most, index_least, raised, most_from, least_from}
+use Rattle.fl_cursor.specs.Reads.{begins_by, has_last, start_of, most_to_find, is_beyond, is_missed, is_skipped, looks_to_last, pages_to_last, pages_asked, index_most, index_least, raised, most_from, least_from}
 use Rattle.fl_cursor.specs.declared.cursor.Cursor.{Cursor}
 use Rattle.fl_cursor.specs.declared.place.Place.{Place}
 use Rattle.fl_cursor.specs.declared.place.Place.TheVariants.{Start, Pages, InPage}
@@ -62,7 +62,7 @@ module _ {KNOTS SLOTS : ℕ} (old : Cursor KNOTS SLOTS) (here_is : old.place ≡
 
   -- the reads behind the search, where it ends at this page
   abbrev behind_most : ℕ → ℕ
-  behind_most n = pages_to_last old.table.now contents old.mark.span old.mark.top n (next_in old.table.now - n) + index_most old.table.now (asked_of old) (index_page old) n
+  behind_most n = pages_to_last old.table.now contents old.mark.span old.mark.top n (next_in old.table.now - n) + index_most old.table.now contents (asked_of old) (index_page old) n
 
   most-here : most_from (table_of old) contents (asked_of old) (index_page old) (buffer_of old) old.place ≡ most_to_find (table_of old) low + behind_most (start_of (table_of old) contents low)
   most-here = ap (most_from (table_of old) contents (asked_of old) (index_page old) (buffer_of old)) here_is
@@ -187,14 +187,22 @@ module _ {KNOTS SLOTS : ℕ} (old : Cursor KNOTS SLOTS) (here_is : old.place ≡
         let start = ap (λ n. index_least (table_of old) contents (asked_of old) (index_page old) (n + 1)) (start-is (table_of old) contents low (Some number) (is told)) in
         omega (arith, one, least-here, split, none, few_here, fewer, start))
       where
-        enter-most : (beyond skipped last : Bool) (rest most most_behind : ℕ) → (beyond ≡ true → last ≡ true) → most_behind ≤ most → cond last 0 (rest + most_behind) ≤ cond beyond 0 (cond skipped rest (1 + cond last 0 rest)) + most
+        no : {P : Type 0} → false ≡ true → P
+        no e = absurd (cc e)
+
+        enter-most : (beyond skipped last : Bool) (rest most most_behind : ℕ) → (beyond ≡ true → last ≡ true) → (last ≡ false → most_behind ≤ most) → cond last 0 (rest + most_behind) ≤ cond beyond 0 (cond skipped rest (1 + cond last 0 rest)) + most
         enter-most beyond skipped true rest most most_behind is le = omega arith
-        enter-most true skipped false rest most most_behind is le = absurd (no (is refl))
-          where
-            no : false ≡ true → ⊥
-            no e = cc
-        enter-most false true false rest most most_behind is le = omega (arith, le)
-        enter-most false false false rest most most_behind is le = omega (arith, le)
+        enter-most true skipped false rest most most_behind is le = no (is refl)
+        enter-most false true false rest most most_behind is le = let k = le refl in omega (arith, k)
+        enter-most false false false rest most most_behind is le = let k = le refl in omega (arith, k)
+
+        -- no fewer pages are looked at from this one on
+        more-looks : (void beyond missed last : Bool) (looks : ℕ) → (beyond ≡ true → last ≡ true) → last ≡ false → looks ≤ cond void looks (1 + cond beyond 0 (cond missed looks (cond last 0 looks)))
+        more-looks true beyond missed last looks is other = omega arith
+        more-looks false true missed last looks is other = no (sym other ∙ is refl)
+        more-looks false false true last looks is other = omega arith
+        more-looks false false false true looks is other = no (sym other)
+        more-looks false false false false looks is other = omega arith
 
         enters-here : IsTold old contents →
             most_to_find (table_of old) low + most_from (table_of old) contents (asked_of old) (index_page old) buf.now.bytes (InPage number 0) ≤ most_from (table_of old) contents (asked_of old) (index_page old) (buffer_of old) old.place
@@ -203,18 +211,28 @@ module _ {KNOTS SLOTS : ℕ} (old : Cursor KNOTS SLOTS) (here_is : old.place ≡
             let same : behind_most (start_of (table_of old) contents low)
             ≡ cond (is_beyond (table_of old) contents (asked_of old).span (asked_of old).top number) 0 (cond (is_skipped (table_of old) contents (asked_of old).span number) (pages_to_last (table_of old) contents (asked_of old).span (asked_of old).top (number + 1) (next_in (table_of old) - (number + 1)))
             (1 + cond (has_last (asked_of old).top (rows_in (layout_in (table_of old)) buf.now.bytes)) 0 (pages_to_last (table_of old) contents (asked_of old).span (asked_of old).top (number + 1) (next_in (table_of old) - (number + 1)))))
-            + index_most (table_of old) (asked_of old) (index_page old) number =
+            + index_most (table_of old) contents (asked_of old) (index_page old) number =
             ap behind_most (start-is (table_of old) contents low (Some number) (is told))
-            ∙ (ap (λ n. pages_to_last (table_of old) contents (asked_of old).span (asked_of old).top number n + index_most (table_of old) (asked_of old) (index_page old) number)
+            ∙ (ap (λ n. pages_to_last (table_of old) contents (asked_of old).span (asked_of old).top number n + index_most (table_of old) contents (asked_of old) (index_page old) number)
             (let one : next_in (table_of old) - number ≡ suc (next_in (table_of old) - (number + 1)) = omega (arith, before) in one)
             ∙ ap (λ (xs : List Row). cond (is_beyond (table_of old) contents (asked_of old).span (asked_of old).top number) 0 (cond (is_skipped (table_of old) contents (asked_of old).span number) (pages_to_last (table_of old) contents (asked_of old).span (asked_of old).top (number + 1) (next_in (table_of old) - (number + 1)))
             (1 + cond (has_last (asked_of old).top xs) 0 (pages_to_last (table_of old) contents (asked_of old).span (asked_of old).top (number + 1) (next_in (table_of old) - (number + 1)))))
-            + index_most (table_of old) (asked_of old) (index_page old) number) (rows-here told)) in
+            + index_most (table_of old) contents (asked_of old) (index_page old) number) (rows-here told)) in
             let less = unread-less (asked_of old).span (table_of old).bitmaps number (number + 1) (index_page old) (omega arith) in
+            let later = looks_to_last (table_of old) contents (asked_of old).span (asked_of old).top (number + 1) (next_in (table_of old) - (number + 1)) in
+            let looks : looks_to_last (table_of old) contents (asked_of old).span (asked_of old).top number (next_in (table_of old) - number)
+            ≡ cond (rows_noted (table_of old) number == 0) later
+            (1 + cond (is_beyond (table_of old) contents (asked_of old).span (asked_of old).top number) 0 (cond (is_missed (table_of old) (asked_of old).span number (rows_on (table_of old) contents number)) later
+            (cond (has_last (asked_of old).top (rows_in (layout_in (table_of old)) buf.now.bytes)) 0 later))) =
+            ap (looks_to_last (table_of old) contents (asked_of old).span (asked_of old).top number) (let one : next_in (table_of old) - number ≡ suc (next_in (table_of old) - (number + 1)) = omega (arith, before) in one)
+            ∙ ap (λ (xs : List Row). cond (rows_noted (table_of old) number == 0) later
+            (1 + cond (is_beyond (table_of old) contents (asked_of old).span (asked_of old).top number) 0 (cond (is_missed (table_of old) (asked_of old).span number (rows_on (table_of old) contents number)) later (cond (has_last (asked_of old).top xs) 0 later)))) (rows-here told) in
             let last : is_beyond (table_of old) contents (asked_of old).span (asked_of old).top number ≡ true → has_last (asked_of old).top (rows_in (layout_in (table_of old)) buf.now.bytes) ≡ true = λ e.
             sym (ap (has_last (asked_of old).top) (rows-here told)) ∙ beyond-last (asked_of old).top (rows_on (table_of old) contents number) (beyond-begins (table_of old) contents (asked_of old).span (asked_of old).top number e) in
             let enters = enter-most (is_beyond (table_of old) contents (asked_of old).span (asked_of old).top number) (is_skipped (table_of old) contents (asked_of old).span number) (has_last (asked_of old).top (rows_in (layout_in (table_of old)) buf.now.bytes)) rest
-            (index_most (table_of old) (asked_of old) (index_page old) number) (index_most (table_of old) (asked_of old) (index_page old) (number + 1)) last less in
+            (index_most (table_of old) contents (asked_of old) (index_page old) number) (index_most (table_of old) contents (asked_of old) (index_page old) (number + 1)) last
+            (λ other. let more = more-looks (rows_noted (table_of old) number == 0) (is_beyond (table_of old) contents (asked_of old).span (asked_of old).top number) (is_missed (table_of old) (asked_of old).span number (rows_on (table_of old) contents number))
+            (has_last (asked_of old).top (rows_in (layout_in (table_of old)) buf.now.bytes)) later last other in omega (arith, less, looks, more)) in
             omega (arith, most-here, same, enters)
 
         at-most-one : (b : Bool) → cond b 1 0 ≤ 1

@@ -61,7 +61,7 @@ module _ {KNOTS SLOTS : ℕ} (old : Cursor KNOTS SLOTS) (number row : ℕ) (here
 
   abbrev behind_most : ℕ
   behind_most =
-      pages_to_last old.table.now contents old.mark.span old.mark.top (number + 1) (next_in old.table.now - (number + 1)) + index_most old.table.now (asked_of old) (index_page old) (number + 1)
+      pages_to_last old.table.now contents old.mark.span old.mark.top (number + 1) (next_in old.table.now - (number + 1)) + index_most old.table.now contents (asked_of old) (index_page old) (number + 1)
 
   looking-here : IsTold old contents → AreScanning (table_of old).bitmaps (number + 1) (index_page old)
   looking-here told = subst (λ (p : Place). IsLooking (table_of old).bitmaps p (index_page old)) here_is told.looking

@@ -77,7 +77,7 @@ looking-none bitmaps (Pending row) buf none = tt
 looking-none bitmaps Ended buf none = tt
 
 module _ {KNOTS SLOTS : ℕ} (old : Cursor KNOTS SLOTS) (next : ℕ) (here_is : old.place ≡ Pages next) (from : oldest_in (table_of old) ≤ next) (before : next < next_in (table_of old)) (f new : FlashState) (result : Result Ahead ReadFault) (index : MutBor BufferState) where
-  pub looked : index.ghost_name ≡ old.index_buf.ghost_name → length index.now.bytes ≡ length old.index_buf.now.bytes → OnlyReads f new → (HoldGood (table_of old).bitmaps (index_page old) → HoldGood (table_of old).bitmaps index.now) →
+  pub looked : new.work.reads ≤ f.work.reads + 1 → index.ghost_name ≡ old.index_buf.ghost_name → length index.now.bytes ≡ length old.index_buf.now.bytes → OnlyReads f new → (HoldGood (table_of old).bitmaps (index_page old) → HoldGood (table_of old).bitmaps index.now) →
       (IsTrue f.media.tells → AreFresh (table_of old).bitmaps f (index_page old) → AreFresh (table_of old).bitmaps new index.now) →
       ((first : ℕ) (plan : Plan) (table : model.Table) → IsTrue f.media.tells → Stands (table_of old) f first plan table → AreFresh (table_of old).bitmaps f (index_page old) → AreScanning (table_of old).bitmaps next (index_page old) →
       LooksOn (table_of old).bitmaps (asked_of old).span next (index_page old) f.work.reads result new.work.reads index.now) →
@@ -86,11 +86,12 @@ module _ {KNOTS SLOTS : ℕ} (old : Cursor KNOTS SLOTS) (next : ℕ) (here_is : 
       ((first : ℕ) (plan : Plan) (table : model.Table) (n rows : ℕ) (range : KeyRange) → IsTrue f.media.tells → Stands (table_of old) f first plan table → AreFresh (table_of old).bitmaps f (index_page old) → next ≡ rings.oldest table.rows + n →
       slice_get table.rows.counts n ≡ Some rows → 0 < rows → result ≡ Ok Missed → selected range (asked_of old).span (rows_at table n rows) ≡ []) →
       Looked old next (contents_of f) f.work.reads result new.work.reads index
-  looked named room counts good fresh looks shows misses = record {
+  looked one named room counts good fresh looks shows misses = record {
     named = named;
     room = room;
     good = good;
     later = OnlyReads-reads f new counts;
+    one = one;
     fresh = λ told. subst (λ (k : Contents). AreFreshIn (table_of old).bitmaps k index.now) counts.contents (fresh-in (table_of old).bitmaps new index.now (fresh (tells told) (known told)));
     looks = λ told. looks told.standing.first told.standing.plan told.standing.table (tells told) (stands told) (known told) (scanning told);
     shows = λ told some. by_result told some result

@@ -230,7 +230,7 @@ module _ {KNOTS SLOTS : ℕ} (t : Table KNOTS SLOTS) (contents : Contents) (h : 
           pages_listed range (Some span) ≤ index_least t contents (begin range (Some span) h.table) index (start_of t contents range.low + 1)
       by_index None is =
           let plain = subst (λ (o : Option Index). ArePlanned o (h.first + h.plan.data_blocks) h.plan) is h.stands.planned.index in
-          let none = no-firsts (ap (λ n. nat_lt 0 n) plain) in
+          let none = no-firsts (ap (λ n. nat_lt 0 n) plain.0) in
           let nothing = by_values (asks_values (Some span)) (count_by (lists_later t contents h range (Some span)) (firsts h.table)) (ap (λ (xs : List ℕ). count_by (lists_later t contents h range (Some span)) xs) none) in
           omega (arith, nothing)
       by_index (Some b) is =

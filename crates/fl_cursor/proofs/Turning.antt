@@ -1,5 +1,5 @@
 -- A cursor that reads the next page, or goes past a page without rows.
-use Rattle.std.proofs.Common.{◌≡◌, ℕ, suc, ◌+◌, ◌-◌, ◌^◌, ◌<◌, ◌≤◌, Bool, true, false, ◌||◌, cond, ◌==◌, Result, Ok, Err, IfOk, List, [], ◌∷◌, ◌++◌, length, refl, sym, ◌∙◌, ap, subst, append_assoc, arith}
+use Rattle.std.proofs.Common.{◌≡◌, ℕ, suc, ◌+◌, ◌-◌, ◌^◌, ◌<◌, ◌≤◌, min, Bool, true, false, ◌||◌, cond, ◌==◌, Result, Ok, Err, IfOk, List, [], ◌∷◌, ◌++◌, length, refl, sym, ◌∙◌, ap, subst, append_assoc, arith}
 use Rattle.std.specs.Borrow.{MutBor}
 use Rattle.std.specs.List.{list_any, AllByRecursion}
 use Rattle.std.proofs.lemmas.Bool.{eq-eqb, eqb-true, false_from_ne_true}
@@ -20,7 +20,7 @@ use Rattle.fl_cursor.specs.Asked.{is_asked}
 use Rattle.fl_cursor.specs.Cursor.{table_of, asked_of, buffer_of, index_page, rows_behind, Passes, IsPlaced, IsTold, IsLooking, AreFreshIn}
 use Rattle.fl_cursor.specs.Going.{Goes, Fails}
 use Rattle.fl_cursor.specs.Listed.{bytes_at, rows_on, rows_over, rows_from, rows_of}
-use Rattle.fl_cursor.specs.Reads.{has_last, is_beyond, is_missed, is_skipped, pages_to_last, pages_asked, pages_looked_up, most_from, least_from}
+use Rattle.fl_cursor.specs.Reads.{has_last, is_beyond, is_missed, is_skipped, looks_to_last, pages_to_last, pages_asked, pages_looked_up, most_from, least_from}
 use Rattle.fl_cursor.specs.declared.cursor.Cursor.{Cursor}
 use Rattle.fl_cursor.specs.declared.place.Place.{Place}
 use Rattle.fl_cursor.specs.declared.place.Place.TheVariants.{Pages, InPage, Ended}
@@ -95,6 +95,7 @@ pub record Looked {KNOTS SLOTS : ℕ} (old : Cursor KNOTS SLOTS) (next : ℕ) (c
   pub room : length index.now.bytes ≡ length old.index_buf.now.bytes
   pub good : HoldGood (table_of old).bitmaps (index_page old) → HoldGood (table_of old).bitmaps index.now
   pub later : mid < 2 ^ 64 - 1 → reads ≤ mid
+  pub one : mid ≤ reads + 1
   pub fresh : IsTold old contents → AreFreshIn (table_of old).bitmaps contents index.now
   pub looks : IsTold old contents → LooksOn (table_of old).bitmaps (asked_of old).span next (index_page old) reads result mid index.now
   pub shows : IsTold old contents → (rows_noted (table_of old) next ≡ 0 → ⊥) → IfOk result (λ ahead. ahead ≡ ahead_at (is_beyond (table_of old) contents (asked_of old).span (asked_of old).top next) (is_missed (table_of old) (asked_of old).span next (rows_on (table_of old) contents next)))
@@ -107,6 +108,28 @@ module _ {KNOTS SLOTS : ℕ} (old : Cursor KNOTS SLOTS) (next : ℕ) (here_is : 
 
   abbrev pages_behind : ℕ
   pages_behind = pages_to_last old.table.now contents old.mark.span old.mark.top (next + 1) (next_in old.table.now - (next + 1))
+
+  abbrev looks_behind : ℕ
+  looks_behind = looks_to_last old.table.now contents old.mark.span old.mark.top (next + 1) (next_in old.table.now - (next + 1))
+
+  -- where this page has rows, lies beyond the last key, is missed, or has a row behind which none may be given
+  abbrev pages_by : (beyond missed last : Bool) → ℕ
+  pages_by beyond missed last = cond beyond 0 (cond missed pages_behind (1 + cond last 0 pages_behind))
+
+  abbrev looks_by : (beyond missed last : Bool) → ℕ
+  looks_by beyond missed last = 1 + cond beyond 0 (cond missed looks_behind (cond last 0 looks_behind))
+
+  abbrev beyond_here : Bool
+  beyond_here = is_beyond old.table.now contents old.mark.span old.mark.top next
+
+  abbrev missed_here : Bool
+  missed_here = is_missed old.table.now old.mark.span next (rows_on old.table.now contents next)
+
+  abbrev last_here : Bool
+  last_here = has_last old.mark.top (rows_on old.table.now contents next)
+
+  abbrev unread_here : ℕ
+  unread_here = unread_of old.mark.span old.table.now.bitmaps next old.index_buf.now
 
   abbrev asked_behind : ℕ
   asked_behind = pages_asked old.table.now contents (asked_of old) (next + 1) (next_in old.table.now - (next + 1))
@@ -127,22 +150,11 @@ module _ {KNOTS SLOTS : ℕ} (old : Cursor KNOTS SLOTS) (next : ℕ) (here_is : 
   passes-here told = passes-same (asked_of old) (rows_of (table_of old) contents) (rows_behind (table_of old) contents (buffer_of old) old.place) (rows_on (table_of old) contents next ++ behind) ahead-here told.passes
 
   most-here : most_from (table_of old) contents (asked_of old) (index_page old) (buffer_of old) old.place
-      ≡ cond (is_beyond (table_of old) contents (asked_of old).span (asked_of old).top next) 0
-      (cond (is_skipped (table_of old) contents (asked_of old).span next) pages_behind (1 + cond (has_last (asked_of old).top (rows_on (table_of old) contents next)) 0 pages_behind))
-      + unread_of (asked_of old).span (table_of old).bitmaps next (index_page old)
+      ≡ cond beyond_here 0 (cond ((rows_noted (table_of old) next == 0) || missed_here) pages_behind (1 + cond last_here 0 pages_behind))
+      + min unread_here (cond (rows_noted (table_of old) next == 0) looks_behind (looks_by beyond_here missed_here last_here))
   most-here =
       ap (most_from (table_of old) contents (asked_of old) (index_page old) (buffer_of old)) here_is
-      ∙ ap (λ n. pages_to_last (table_of old) contents (asked_of old).span (asked_of old).top next n + unread_of (asked_of old).span (table_of old).bitmaps next (index_page old)) one-page
-
-  -- where it doesn't lie beyond the last key
-  most-kept : is_beyond (table_of old) contents (asked_of old).span (asked_of old).top next ≡ false →
-      most_from (table_of old) contents (asked_of old) (index_page old) (buffer_of old) old.place
-      ≡ cond (is_skipped (table_of old) contents (asked_of old).span next) pages_behind (1 + cond (has_last (asked_of old).top (rows_on (table_of old) contents next)) 0 pages_behind)
-      + unread_of (asked_of old).span (table_of old).bitmaps next (index_page old)
-  most-kept kept =
-      most-here
-      ∙ ap (λ b. cond b 0 (cond (is_skipped (table_of old) contents (asked_of old).span next) pages_behind (1 + cond (has_last (asked_of old).top (rows_on (table_of old) contents next)) 0 pages_behind))
-      + unread_of (asked_of old).span (table_of old).bitmaps next (index_page old)) kept
+      ∙ ap (λ n. pages_to_last (table_of old) contents (asked_of old).span (asked_of old).top next n + min unread_here (looks_to_last (table_of old) contents (asked_of old).span (asked_of old).top next n)) one-page
 
   least-here : least_from (table_of old) contents (asked_of old) (index_page old) old.place
       ≡ cond (list_any (is_asked (asked_of old)) (rows_on (table_of old) contents next)) 1 0 + asked_behind
@@ -174,8 +186,8 @@ module _ {KNOTS SLOTS : ℕ} (old : Cursor KNOTS SLOTS) (next : ℕ) (here_is : 
       (λ told. passes-same (asked_of old) (rows_of (table_of old) contents) (rows_on (table_of old) contents next ++ behind) behind (ap (λ (xs : List Row). xs ++ behind) rows) (passes-here told))
       (λ told. looking-later (table_of old).bitmaps next (next + 1) (index_page old) (omega arith) (looking-here told))
       (λ told.
-      let most = most-kept (none-beyond (table_of old) contents (asked_of old).span (asked_of old).top next rows) ∙ ap (λ b. cond (b || is_missed (table_of old) (asked_of old).span next (rows_on (table_of old) contents next)) pages_behind (1 + cond (has_last (asked_of old).top (rows_on (table_of old) contents next)) 0 pages_behind)
-      + unread_of (asked_of old).span (table_of old).bitmaps next (index_page old)) is in
+      let most = most-here ∙ (ap (λ b. cond beyond_here 0 (cond (b || missed_here) pages_behind (1 + cond last_here 0 pages_behind)) + min unread_here (cond b looks_behind (looks_by beyond_here missed_here last_here))) is
+      ∙ ap (λ b. cond b 0 pages_behind + min unread_here looks_behind) (none-beyond (table_of old) contents (asked_of old).span (asked_of old).top next rows)) in
       let less = unread-less (asked_of old).span (table_of old).bitmaps next (next + 1) (index_page old) (omega arith) in
       omega (arith, most, less))
       (λ told.
@@ -186,13 +198,21 @@ module _ {KNOTS SLOTS : ℕ} (old : Cursor KNOTS SLOTS) (next : ℕ) (here_is : 
   not-none : (rows_noted (table_of old) next ≡ 0 → ⊥) → (rows_noted (table_of old) next == 0) ≡ false
   not-none some = false_from_ne_true (rows_noted (table_of old) next == 0) (λ b. some (eqb-true (rows_noted (table_of old) next) 0 b))
 
-  skipped-is : (rows_noted (table_of old) next ≡ 0 → ⊥) → (b : Bool) → is_missed (table_of old) (asked_of old).span next (rows_on (table_of old) contents next) ≡ b → is_skipped (table_of old) contents (asked_of old).span next ≡ b
-  skipped-is some b missed = ap (λ x. x || is_missed (table_of old) (asked_of old).span next (rows_on (table_of old) contents next)) (not-none some) ∙ missed
+  -- where it has rows
+  most-some : (rows_noted (table_of old) next ≡ 0 → ⊥) →
+      most_from (table_of old) contents (asked_of old) (index_page old) (buffer_of old) old.place ≡ pages_by beyond_here missed_here last_here + min unread_here (looks_by beyond_here missed_here last_here)
+  most-some some = most-here ∙ ap (λ b. cond beyond_here 0 (cond (b || missed_here) pages_behind (1 + cond last_here 0 pages_behind)) + min unread_here (cond b looks_behind (looks_by beyond_here missed_here last_here))) (not-none some)
 
-  most-by : (rows_noted (table_of old) next ≡ 0 → ⊥) → (b : Bool) → (is_beyond (table_of old) contents (asked_of old).span (asked_of old).top next ≡ false) × (is_missed (table_of old) (asked_of old).span next (rows_on (table_of old) contents next) ≡ b) →
-      most_from (table_of old) contents (asked_of old) (index_page old) (buffer_of old) old.place
-      ≡ cond b pages_behind (1 + cond (has_last (asked_of old).top (rows_on (table_of old) contents next)) 0 pages_behind) + unread_of (asked_of old).span (table_of old).bitmaps next (index_page old)
-  most-by some b known = most-kept known.0 ∙ ap (λ x. cond x pages_behind (1 + cond (has_last (asked_of old).top (rows_on (table_of old) contents next)) 0 pages_behind) + unread_of (asked_of old).span (table_of old).bitmaps next (index_page old)) (skipped-is some b known.1)
+  -- .. and lies beyond the last key
+  most-beyond : (rows_noted (table_of old) next ≡ 0 → ⊥) → beyond_here ≡ true → most_from (table_of old) contents (asked_of old) (index_page old) (buffer_of old) old.place ≡ 0 + min unread_here 1
+  most-beyond some beyond = most-some some ∙ ap (λ x. pages_by x missed_here last_here + min unread_here (looks_by x missed_here last_here)) beyond
+
+  -- .. or doesn't
+  most-by : (rows_noted (table_of old) next ≡ 0 → ⊥) → (b : Bool) → (beyond_here ≡ false) × (missed_here ≡ b) →
+      most_from (table_of old) contents (asked_of old) (index_page old) (buffer_of old) old.place ≡ pages_by false b last_here + min unread_here (looks_by false b last_here)
+  most-by some b known =
+      most-some some
+      ∙ (ap (λ x. pages_by x missed_here last_here + min unread_here (looks_by x missed_here last_here)) known.0 ∙ ap (λ x. pages_by false x last_here + min unread_here (looks_by false x last_here)) known.1)
 
   module _ (index : MutBor BufferState) (some : rows_noted (table_of old) next ≡ 0 → ⊥) where
     looks-at : (result : Result Ahead ReadFault) (mid : ℕ) → Looked old next contents reads result mid index → IsTold old contents → LooksOn (table_of old).bitmaps (asked_of old).span next (index_page old) reads result mid index.now
@@ -213,7 +233,7 @@ module _ {KNOTS SLOTS : ℕ} (old : Cursor KNOTS SLOTS) (next : ℕ) (here_is : 
         (λ told.
         let most = most-by some true (missed-at _ _ (l.shows told some)) in
         let once = (l.looks told).once in
-        omega (arith, most, once, less-then))
+        omega (arith, most, once, l.one, less-then))
         (λ told.
         let most = most-by some true (missed-at _ _ (l.shows told some)) in
         let fewer = (l.looks told).fewer in
@@ -231,7 +251,10 @@ module _ {KNOTS SLOTS : ℕ} (old : Cursor KNOTS SLOTS) (next : ℕ) (here_is : 
         turns old old.rows_buf index Ended contents reads mid refl refl l.named l.room l.good tt l.later
         (λ told. passes-end (asked_of old) (rows_of (table_of old) contents) (rows_on (table_of old) contents next ++ behind) (passes-here told) (past told).none)
         l.fresh (λ told. tt)
-        (λ told. let most = (l.looks told).most in omega (arith, most-here, most))
+        (λ told.
+        let most = (l.looks told).most in
+        let here = most-beyond some (beyond-at _ _ (l.shows told some)) in
+        omega (arith, here, most, l.one))
         (λ told. omega arith)
         (λ told lt.
         let p = past told in
@@ -278,7 +301,7 @@ module _ {KNOTS SLOTS : ℕ} (old : Cursor KNOTS SLOTS) (next : ℕ) (here_is : 
     }
 
     pub look-fails : (mid : ℕ) (fault : ReadFault) → Looked old next contents reads (Err fault) mid index → Fails contents reads old mid (record old { index_buf = index })
-    look-fails mid fault l = fails-on old.rows_buf (Err fault) mid mid l refl refl (λ told. let le = (l.looks told).most in omega (arith, le, most-here))
+    look-fails mid fault l = fails-on old.rows_buf (Err fault) mid mid l refl refl (λ told. let le = (l.looks told).most in let here = most-some some in omega (arith, le, l.one, here))
 
     module _ (mid : ℕ) (l : Looked old next contents reads (Ok Wanted) mid index) (buf : MutBor BufferState) (reads_now : ℕ) (named : buf.ghost_name ≡ old.rows_buf.ghost_name) (room : length buf.now.bytes ≡ length old.rows_buf.now.bytes) (one : reads_now ≤ mid + 1) where
       -- the read of the page failed
@@ -286,7 +309,7 @@ module _ {KNOTS SLOTS : ℕ} (old : Cursor KNOTS SLOTS) (next : ℕ) (here_is : 
       page-fails = fails-on buf (Ok Wanted) mid reads_now l named room (λ told.
           let most = most-by some false (wanted-at _ _ (l.shows told some)) in
           let le = (l.looks told).most in
-          omega (arith, most, le, one))
+          omega (arith, most, le, l.one, one))
 
       module _ (least_one : reads_now < 2 ^ 64 - 1 → mid + 1 ≤ reads_now) (bytes : IsTold old contents → buf.now.bytes ≡ bytes_at (table_of old) contents next) where
         rows-here : IsTold old contents → rows_on (table_of old) contents next ≡ rows_in (layout_in (table_of old)) buf.now.bytes
@@ -303,10 +326,10 @@ module _ {KNOTS SLOTS : ℕ} (old : Cursor KNOTS SLOTS) (next : ℕ) (here_is : 
             (ap (λ (xs : List Row). xs ++ behind) (rows-here told)) (passes-here told))
             l.fresh (looking-then (Ok Wanted) mid l)
             (λ told.
-            let most = most-by some false (wanted-at _ _ (l.shows told some)) ∙ ap (λ (xs : List Row). 1 + cond (has_last (asked_of old).top xs) 0 pages_behind + unread_of (asked_of old).span (table_of old).bitmaps next (index_page old)) (rows-here told) in
+            let most = most-by some false (wanted-at _ _ (l.shows told some)) ∙ ap (λ (xs : List Row). pages_by false false (has_last (asked_of old).top xs) + min unread_here (looks_by false false (has_last (asked_of old).top xs))) (rows-here told) in
             by_last (has_last (asked_of old).top (rows_in (layout_in (table_of old)) buf.now.bytes)) (l.looks told) most)
             (λ told.
-            let most = most-by some false (wanted-at _ _ (l.shows told some)) ∙ ap (λ (xs : List Row). 1 + cond (has_last (asked_of old).top xs) 0 pages_behind + unread_of (asked_of old).span (table_of old).bitmaps next (index_page old)) (rows-here told) in
+            let most = most-by some false (wanted-at _ _ (l.shows told some)) ∙ ap (λ (xs : List Row). pages_by false false (has_last (asked_of old).top xs) + min unread_here (looks_by false false (has_last (asked_of old).top xs))) (rows-here told) in
             fewer_by_last (has_last (asked_of old).top (rows_in (layout_in (table_of old)) buf.now.bytes)) (l.looks told) most)
             (λ told lt.
             let le = least_one lt in
@@ -320,14 +343,14 @@ module _ {KNOTS SLOTS : ℕ} (old : Cursor KNOTS SLOTS) (next : ℕ) (here_is : 
             at-most-one false = omega arith
 
             by_last : (b : Bool) → LooksOn (table_of old).bitmaps (asked_of old).span next (index_page old) reads (Ok Wanted) mid index.now →
-                most_from (table_of old) contents (asked_of old) (index_page old) (buffer_of old) old.place ≡ 1 + cond b 0 pages_behind + unread_of (asked_of old).span (table_of old).bitmaps next (index_page old) →
-                reads_now + cond b 0 (pages_behind + unread_of (asked_of old).span (table_of old).bitmaps (next + 1) index.now) ≤ reads + most_from (table_of old) contents (asked_of old) (index_page old) (buffer_of old) old.place
-            by_last true looks most = omega (arith, most, one, looks.most)
-            by_last false looks most = omega (arith, most, one, looks.once, less-then)
+                most_from (table_of old) contents (asked_of old) (index_page old) (buffer_of old) old.place ≡ pages_by false false b + min unread_here (looks_by false false b) →
+                reads_now + cond b 0 (pages_behind + min (unread_of (asked_of old).span (table_of old).bitmaps (next + 1) index.now) looks_behind) ≤ reads + most_from (table_of old) contents (asked_of old) (index_page old) (buffer_of old) old.place
+            by_last true looks most = omega (arith, most, one, l.one, looks.most)
+            by_last false looks most = omega (arith, most, one, l.one, looks.once, less-then)
 
             fewer_by_last : (b : Bool) → LooksOn (table_of old).bitmaps (asked_of old).span next (index_page old) reads (Ok Wanted) mid index.now →
-                most_from (table_of old) contents (asked_of old) (index_page old) (buffer_of old) old.place ≡ 1 + cond b 0 pages_behind + unread_of (asked_of old).span (table_of old).bitmaps next (index_page old) →
-                cond b 0 (pages_behind + unread_of (asked_of old).span (table_of old).bitmaps (next + 1) index.now) ≤ most_from (table_of old) contents (asked_of old) (index_page old) (buffer_of old) old.place
+                most_from (table_of old) contents (asked_of old) (index_page old) (buffer_of old) old.place ≡ pages_by false false b + min unread_here (looks_by false false b) →
+                cond b 0 (pages_behind + min (unread_of (asked_of old).span (table_of old).bitmaps (next + 1) index.now) looks_behind) ≤ most_from (table_of old) contents (asked_of old) (index_page old) (buffer_of old) old.place
             fewer_by_last true looks most = omega arith
             fewer_by_last false looks most = omega (arith, most, looks.fewer, less-then)
 

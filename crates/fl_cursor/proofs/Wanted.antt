@@ -139,7 +139,7 @@ module _ {KNOTS SLOTS : ℕ} (t : Table KNOTS SLOTS) (contents : Contents) (h : 
     plain : t.bitmaps ≡ None → is_indexed h.plan h.table number ≡ false
     plain is =
         let none = subst (λ (o : Option Index). ArePlanned o (h.first + h.plan.data_blocks) h.plan) is h.stands.planned.index in
-        ap (λ n. nat_lt 0 n && (waits h.table number || is_listed h.plan h.table number)) none
+        ap (λ n. nat_lt 0 n && (waits h.table number || is_listed h.plan h.table number)) none.0
 
     with_index : (span : Span) (index : Index) → t.bitmaps ≡ Some index → (buckets : Option Buckets) → t.buckets ≡ buckets →
         (is_indexed_in t.bitmaps number && (bit_and (bitmap_in buckets (rows_on t contents number)) (mask_for buckets span) == 0)) ≡ not (wants_page h.plan h.table (Some span) number entries)

@@ -1,5 +1,5 @@
 -- How many reads the steps to come make.
-use Rattle.std.specs.Prelude.{◌≡◌, ◌≤◌, ℕ, zero, suc, ◌+◌, ◌-◌, ◌==◌, pos, Bool, true, false, not, ◌&&◌, ◌||◌, nat_le, Option, Some, None, is_some, option_map, unwrap_or, List, [], ◌∷◌, drop, fold, bit_and, slice_get, if◌then◌else◌}
+use Rattle.std.specs.Prelude.{◌≡◌, ◌≤◌, ℕ, zero, suc, ◌+◌, ◌-◌, ◌==◌, pos, Bool, true, false, not, ◌&&◌, ◌||◌, nat_le, min, Option, Some, None, is_some, option_map, unwrap_or, List, [], ◌∷◌, drop, fold, bit_and, slice_get, if◌then◌else◌}
 use Rattle.std.specs.List.{list_any}
 use Rattle.fl_model.specs.Query as model
 use Rattle.fl_model.specs.Query.{is_up_to}
@@ -83,9 +83,19 @@ pages_looked_up t contents top number (suc n) =
     if list_any (λ row. is_up_to top row.key) (rows_on t contents number) then number ∷ pages_looked_up t contents top (number + 1) n
     else pages_looked_up t contents top (number + 1) n
 
--- so many index pages may still be read from this page on, and so many have to be
-abbrev pub index_most : {KNOTS SLOTS : ℕ} → Table KNOTS SLOTS → model.Cursor → BufferState → ℕ → ℕ
-index_most t asked index number = unread_of asked.span (index_in t) number index
+-- so many pages with rows are looked at from this one on before they are read, up to the first with a row behind which none may be
+-- given, or to one that begins above the last key
+abbrev pub looks_to_last : {KNOTS SLOTS : ℕ} → Table KNOTS SLOTS → Contents → Option Span → Option ℕ → ℕ → ℕ → ℕ
+looks_to_last t contents span top number zero = 0
+looks_to_last t contents span top number (suc n) =
+    if rows_noted t number == 0 then looks_to_last t contents span top (number + 1) n
+    else 1 + (if is_beyond t contents span top number then 0
+    else if is_missed t span number (rows_on t contents number) then looks_to_last t contents span top (number + 1) n
+    else if has_last top (rows_on t contents number) then 0 else looks_to_last t contents span top (number + 1) n)
+
+-- So many index pages may still be read from this page on, and so many have to be. No look at a page reads more than one.
+abbrev pub index_most : {KNOTS SLOTS : ℕ} → Table KNOTS SLOTS → Contents → model.Cursor → BufferState → ℕ → ℕ
+index_most t contents asked index number = min (unread_of asked.span (index_in t) number index) (looks_to_last t contents asked.span asked.top number (next_in t - number))
 
 abbrev pub index_least : {KNOTS SLOTS : ℕ} → Table KNOTS SLOTS → Contents → model.Cursor → BufferState → ℕ → ℕ
 index_least t contents asked index number = due_of asked.span (index_in t) (pages_looked_up t contents asked.top number (next_in t - number)) index
@@ -122,11 +132,11 @@ raised asked = record asked { range = record { low = lowest_of asked; high = ask
 abbrev pub most_from : {KNOTS SLOTS : ℕ} → Table KNOTS SLOTS → Contents → model.Cursor → BufferState → List ℕ → Place → ℕ
 most_from t contents asked index page Start =
     let start = start_of t contents (lowest_of asked) in
-    most_to_find t (lowest_of asked) + (pages_to_last t contents asked.span asked.top start (next_in t - start) + index_most t asked index start)
-most_from t contents asked index page (Pages next) = pages_to_last t contents asked.span asked.top next (next_in t - next) + index_most t asked index next
+    most_to_find t (lowest_of asked) + (pages_to_last t contents asked.span asked.top start (next_in t - start) + index_most t contents asked index start)
+most_from t contents asked index page (Pages next) = pages_to_last t contents asked.span asked.top next (next_in t - next) + index_most t contents asked index next
 most_from t contents asked index page (InPage number row) =
     if has_last asked.top (drop row (rows_in (layout_in t) page)) then 0
-    else pages_to_last t contents asked.span asked.top (number + 1) (next_in t - (number + 1)) + index_most t asked index (number + 1)
+    else pages_to_last t contents asked.span asked.top (number + 1) (next_in t - (number + 1)) + index_most t contents asked index (number + 1)
 most_from t contents asked index page (Pending row) = 0
 most_from t contents asked index page Ended = 0
 

@@ -71,6 +71,22 @@ impl<F: ImageFile + Drop> FileMedia<F> {
     }
 }
 
+impl<F: OpenFile> FileMedia<F> {
+    // Waits until the system has what was written on the disk.
+    pub(crate) fn sync(&mut self) -> Result<(), MediaFailed>
+        ensures cause { HasCause self.old.faults self.new.faults result }
+        ensures same { self.new ≡ record self.old { faults = self.new.faults } }
+    {
+        if let Some(file) = &self.file {
+            if file.sync_data().is_ok() {
+                return Ok(());
+            }
+        }
+        self.faults = self.faults.saturating_add(1);
+        Err(MediaFailed)
+    }
+}
+
 impl<F: FileExt> FileMedia<F> {
     // A medium over an empty file.
     #[cfg(test)]

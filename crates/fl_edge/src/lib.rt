@@ -11,6 +11,7 @@ mod reply_buffer;
 mod retried;
 mod standard;
 mod standard_descriptors;
+mod synced_media;
 #[cfg(test)]
 mod tests;
 
@@ -20,3 +21,4 @@ pub use new_file::{is_missing, remove_empty};
 pub use reply_buffer::ReplyBuffer;
 pub use standard::{StandardInput, StandardOutput};
 pub use standard_descriptors::StandardDescriptors;
+pub use synced_media::SyncedMedia;

@@ -3,23 +3,26 @@ ghost use Rattle.std.specs.Prelude.{◌≡◌, ◌≤◌, ◌+◌, ◌-◌, ◌�
 
 use std::os::unix::fs::FileExt;
 
-/// The bytes that one read ahead brings at most.
+/// The bytes that one read of the file brings at most, if fewer are asked for.
 const ROOM: usize = 8_192;
 
 /// The bytes of a file around the last read, as they stood there when they were read.
 ///
-/// More than is asked for is read only where a read borders on the one before it, or comes behind such a one: so those that
-/// are far from one another, as a mount's, stay small.
+/// Reads that border on one another are a run. One read of the file brings about as many bytes as runs had lately: those of a lookup
+/// come by one call and little beside them, those of a scan by ever longer ones, and reads that are far from one another, as
+/// the first ones of a mount, stay small.
 #[derive(Drop)]
 pub(crate) struct ReadAhead {
     bytes: [u8; ROOM],
     // Where the first of them stands, and how many there are.
     from: u64,
     count: usize,
-    // The last read: where it began and ended, and whether reads bordered on one another lately.
+    // Where the last read began and ended, and the bytes of its run up to it.
     begin: u64,
     end: u64,
-    borders: bool,
+    run: usize,
+    // The bytes that a read of the file is to bring.
+    wanted: usize,
 }
 
 impl ReadAhead {
@@ -33,7 +36,8 @@ impl ReadAhead {
             count: 0,
             begin: 0,
             end: 0,
-            borders: false,
+            run: 0,
+            wanted: 0,
         }
     }
 
@@ -50,29 +54,55 @@ impl ReadAhead {
 
     /// Reads the bytes from `at` on, as many as `into` has, and answers whether it could.
     pub(crate) fn read<F: FileExt>(&mut self, file: &F, at: u64, into: &mut [u8]) -> bool {
-        let end = at.saturating_add(into.len() as u64);
+        let len = into.len();
+        let end = at.saturating_add(len as u64);
         let goes_up = at == self.end;
-        let is_near = goes_up || end == self.begin;
-        let is_wanted = is_near || self.borders;
-        self.borders = is_near;
+        self.count_in(len, goes_up || end == self.begin);
         self.begin = at;
         self.end = end;
         if self.copy(at, into) {
             return true;
         }
-        if is_wanted && into.len() < ROOM / 2 {
+        let wanted = self.whole_reads(len);
+        if len < wanted {
             let from = if goes_up {
                 at
             } else {
-                end.saturating_sub(ROOM as u64)
+                end.saturating_sub(wanted as u64)
             };
-            self.count = file.read_at(&mut self.bytes, from).unwrap_or(0);
-            self.from = from;
+            self.bring(file, from, wanted);
             if self.copy(at, into) {
                 return true;
             }
         }
         file.read_exact_at(into, at).is_ok()
+    }
+
+    // Counts a read of so many bytes in, which goes on with the run or begins one. What is wanted grows at once to the run and one read
+    // more, and falls by a quarter of a read with each run.
+    fn count_in(&mut self, len: usize, goes_on: bool) {
+        if goes_on {
+            self.run = self.run.saturating_add(len);
+            self.wanted = self.wanted.max(self.run.saturating_add(len)).min(ROOM);
+        } else {
+            self.run = len;
+            self.wanted = self.wanted.saturating_sub(len / 4);
+        }
+    }
+
+    // How many bytes are wanted, in whole reads of so many.
+    fn whole_reads(&self, len: usize) -> usize {
+        if len == 0 {
+            return 0;
+        }
+        self.wanted - self.wanted % len
+    }
+
+    // Holds so many bytes of the file from this place on, in place of what was held.
+    fn bring<F: FileExt>(&mut self, file: &F, from: u64, wanted: usize) {
+        let room = &mut self.bytes[..wanted.min(ROOM)];
+        self.count = file.read_at(room, from).unwrap_or(0);
+        self.from = from;
     }
 
     // Copies the bytes from `at` on, if all of them are held.

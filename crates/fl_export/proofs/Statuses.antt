@@ -49,6 +49,7 @@ of-mount (mount.BadPage page) at = tt
 of-mount (mount.BadKeys page last key) at = tt
 of-mount (mount.BadIndex end next) at = tt
 of-mount (mount.BadBlob page next) at = tt
+of-mount (mount.BadEntry page count limit) at = tt
 
 -- which of the statuses tells a write that failed, the device, and a bad table
 flash-unwritten : {P : Type 0} (e : FlashFault) → flash_status e ≡ OutWrite → P
@@ -62,6 +63,7 @@ mount-unwritten (mount.BadPage page) at is = absurd (cc is)
 mount-unwritten (mount.BadKeys page last key) at is = absurd (cc is)
 mount-unwritten (mount.BadIndex end next) at is = absurd (cc is)
 mount-unwritten (mount.BadBlob page next) at is = absurd (cc is)
+mount-unwritten (mount.BadEntry page count limit) at is = absurd (cc is)
 
 pub fault-written : {P : Type 0} (e : ExportFault) (at : ℕ) → status_of e at ≡ OutWrite → IfSink P e → P
 fault-written fault.NoMemory at is cause = absurd (cc is)
@@ -77,6 +79,7 @@ mount-rose old new (mount.BadPage page) at is cause = absurd (cc is)
 mount-rose old new (mount.BadKeys page last key) at is cause = absurd (cc is)
 mount-rose old new (mount.BadIndex end next) at is cause = absurd (cc is)
 mount-rose old new (mount.BadBlob page next) at is cause = absurd (cc is)
+mount-rose old new (mount.BadEntry page count limit) at is cause = absurd (cc is)
 
 pub fault-rose : (old new : FlashState) (e : ExportFault) (at : ℕ) → status_of e at ≡ Device → IfUnread old new e → Rose old.media.faults new.media.faults
 fault-rose old new fault.NoMemory at is cause = absurd (cc is)
@@ -96,6 +99,7 @@ mount-place (mount.BadPage page) at table is = cc is
 mount-place (mount.BadKeys page last key) at table is = cc is
 mount-place (mount.BadIndex end next) at table is = cc is
 mount-place (mount.BadBlob page next) at table is = cc is
+mount-place (mount.BadEntry page count limit) at table is = cc is
 
 pub fault-place : (e : ExportFault) (at table : ℕ) → status_of e at ≡ BadImage table → at ≡ table
 fault-place fault.NoMemory at table is = absurd (cc is)

@@ -63,3 +63,4 @@ module _ (plans : List Plan) (tables : List model.Table) (name : List ℕ) (f g 
   unmounted (mount.BadKeys page last key) at ends = absurd ends
   unmounted (mount.BadIndex end next) at ends = absurd ends
   unmounted (mount.BadBlob page next) at ends = absurd ends
+  unmounted (mount.BadEntry page count limit) at ends = absurd ends

@@ -300,6 +300,7 @@ mount-ended columns blobs text rest (mount.BadPage page) at is = is
 mount-ended columns blobs text rest (mount.BadKeys page last key) at is = is
 mount-ended columns blobs text rest (mount.BadIndex end next) at is = is
 mount-ended columns blobs text rest (mount.BadBlob page next) at is = is
+mount-ended columns blobs text rest (mount.BadEntry page count limit) at is = is
 
 pub mount-causes : (f g : FlashState) (tables source sink : ℕ) (bad : MountFault) (at : ℕ) → at < tables → MountFailsFor f bad g → HasCauses tables f.media.faults g.media.faults source source sink sink None (mount_status bad at)
 mount-causes f g tables source sink bad at few cause = record {
@@ -320,6 +321,7 @@ mount-causes f g tables source sink bad at few cause = record {
     known (mount.BadKeys page last key) at = tt
     known (mount.BadIndex end next) at = tt
     known (mount.BadBlob page next) at = tt
+    known (mount.BadEntry page count limit) at = tt
 
     undone : (bad : MountFault) (at : ℕ) → false ≡ is_done (mount_status bad at)
     undone (mount.Flash Media) at = refl
@@ -329,6 +331,7 @@ mount-causes f g tables source sink bad at few cause = record {
     undone (mount.BadKeys page last key) at = refl
     undone (mount.BadIndex end next) at = refl
     undone (mount.BadBlob page next) at = refl
+    undone (mount.BadEntry page count limit) at = refl
 
 pub mount-unread : (bad : MountFault) (at line : ℕ) → mount_status bad at ≡ BadInput line → ⊥
 mount-unread bad at line is = subst export.IsOfTable is (of-mount bad at)

@@ -154,7 +154,7 @@ loaded-from a b number page (Listing first) now most form h = record {
   many = h.many ∙ ap (λ (k : ℕ). min k (2 ^ 32 - 1 - first)) most;
   each = λ j lt. h.each j lt ∙ ap (λ (f : EntryForm). found_at f page j) form;
 }
-loaded-from a b number page (Bad bad) now most form h = (h.0, (λ good. h.1 (subst (λ (k : ℕ). IsGoodPage k number page) (sym most) good)), h.2, h.3)
+loaded-from a b number page (Bad first bad) now most form h = (h.0, (λ good. h.1 (subst (λ (k : ℕ). IsGoodPage k number page) (sym most) good)), h.2, h.3, h.4)
 
 -- ---- the index of a table
 
@@ -254,7 +254,7 @@ module _ (old now : Index) (f g : FlashState) (first : ℕ) (plan : Plan) (table
 
   pub loads-well : (l : Loaded) → IsLoaded old number bytes l now → Loads first plan table number l now g
   loads-well Nothing h = known-then (h.1.remembered ∙ sym (no-first-on bytes h.0))
-  loads-well (Bad bad) h =
+  loads-well (Bad begin bad) h =
       let l = listed-here h.0 in
       absurd (h.1 (subst (λ (k : ℕ). IsGoodPage k number bytes) (sym per-page)
       (subst (λ (n : ℕ). IsGoodPage (entries_per_page plan) n bytes) at (subst (λ (page : List ℕ). IsGoodPage (entries_per_page plan) (model.oldest ring + i) page) (sym bytes-is) l.is.good))))

@@ -19,7 +19,7 @@ use Rattle.fl_ring.specs.declared.fault.RingFault.{RingFault}
 use Rattle.fl_ring.specs.declared.fault.RingFault.TheVariants.{Flash, BadHead, BadGap, BadPage, NoNumber}
 use Rattle.fl_ring.specs.declared.ring.Ring.{Ring}
 use Rattle.fl_ring.proofs.Founds.{same_pages}
-use Rattle.fl_ring.proofs.Readings.{no_reads, same_page}
+use Rattle.fl_ring.proofs.Readings.{same_page}
 use Rattle.fl_ring.proofs.TornPages.{kept_few}
 use Rattle.fl_index.specs.declared.index.Index.{Index}
 use Rattle.fl_index.specs.Finding.{FewReads, ReadsRing, FindsEnd, FindsIndex, RefusesEnd, RefusesIndex, HasEnd, IsEnd, pages_of}
@@ -63,10 +63,6 @@ refuses-ring old new f g e same geometry found fails =
     by_fault (BadPage page wanted there) found fails = inl (record { found = found; reads = fails })
     by_fault (NoNumber least) found fails = record { found = found; reads = fails }
 
--- no page is read
-none-read : (f : FlashState) (n : ℕ) → OnlyReads f n f
-none-read f n = let reads = no_reads f in record { goes = reads.goes; same = refl; armed = refl; power = refl; cuts = refl; reads = omega arith; media_reads = omega arith; programs = refl; erases = refl }
-
 -- the ring was found, and its newest page tells the end of the index
 module _ (old new : Index) (f g : FlashState) (same : IsSamePlan old new) (geometry : f.geometry ≡ old.geometry) (ring : Ring) (numbers : HasNumbers f (shape_at new.place f.geometry) 0 ring g) (shape : shape_of ring ≡ shape_at new.place f.geometry) where
   numbers-of : HasNumbers f (shape_at old.place old.geometry) 0 ring g
@@ -79,7 +75,7 @@ module _ (old new : Index) (f g : FlashState) (same : IsSamePlan old new) (geome
   pub refuses-end : (e : RingFault) → IsBadEnd (place (shape_of ring)) (kept_page ring g) (per_page new) (newest_of (kept_page ring g) (oldest_of ring) (next_of ring - oldest_of ring)) e → RefusesEnd old f e g
   refuses-end e bad = subst (λ (x : RingFault). RefusesEnd old f x g) (sym bad.fault_is) (inr (record {
     ring = ring;
-    ring_reads = record { repaired = g; numbers = numbers-of; reads = none-read g (next_of ring - oldest_of ring) };
+    numbers = numbers-of;
     number = bad.number;
     newest = ap (λ (page : ℕ → List ℕ). newest_of page (oldest_of ring) (next_of ring - oldest_of ring)) (sym pages_are) ∙ bad.newest;
     unfit = λ end. bad.unfit (subst (λ (page : ℕ → List ℕ). HasEnd (per_page new) (page bad.number)) (sym pages_are)

@@ -66,10 +66,10 @@ pub record HasBadRing (index : Index) (old : FlashState) (fault : RingFault) (ne
   pub found : FoundFault old (ring_shape index) 0 fault
   pub reads : OnlyReads old (search_reads (ring_shape index)) new
 
--- the newest committed page of a ring that was found and repaired can't be the index's
+-- the newest committed page of a ring that was found and repaired can't be the index's: no page was read after that
 pub record HasBadEnd (index : Index) (old : FlashState) (fault : RingFault) (new : FlashState) : Type 0 where
   pub ring : Ring
-  pub ring_reads : ReadsRing index old ring new
+  pub numbers : HasNumbers old (ring_shape index) 0 ring new
   pub number : ℕ
   pub newest : newest_in index ring new ≡ Some number
   pub unfit : HasEnd (per_page index) (pages_of index new number) → ⊥

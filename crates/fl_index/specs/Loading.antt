@@ -37,8 +37,8 @@ pub record HoldsNone (number : ℕ) (now : Index) : Type 0 where
 abbrev pub IsLoaded : Index → ℕ → List ℕ → Loaded → Index → Type 0
 IsLoaded index number page Nothing now = (state_of_page page ≡ Committed → ⊥) × HoldsNone number now
 IsLoaded index number page (Listing first) now = HoldsEntriesOf index number page first now
-IsLoaded index number page (Bad bad) now =
-    (state_of_page page ≡ Committed) × (IsGoodPage (per_page index) number page → ⊥) × (bad ≡ bad_page number page) × HoldsNone number now
+IsLoaded index number page (Bad first bad) now =
+    (state_of_page page ≡ Committed) × (IsGoodPage (per_page index) number page → ⊥) × (bad ≡ bad_page number page) × HoldsNone number now × (first ≡ page_first page)
 
 -- The loaded entries are those of so many data pages from one on, all before the end of the index: each kept one that has to be told
 -- is told by its entry.
@@ -54,4 +54,4 @@ pub record TellsListed (plan : Plan) (table : Table) (first : ℕ) (index : Inde
 abbrev pub Loads : ℕ → Plan → Table → ℕ → Loaded → Index → FlashState → Type 0
 Loads first plan table number Nothing now new = StandsBelow (number + 1) now new first plan table
 Loads first plan table number (Listing begin) now new = StandsBelow (number + 1) now new first plan table × TellsListed plan table begin now
-Loads first plan table number (Bad bad) now new = ⊥
+Loads first plan table number (Bad begin bad) now new = ⊥

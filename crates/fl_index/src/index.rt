@@ -134,6 +134,13 @@ impl Index {
         }
     }
 
+    /// Whether an entry tells more than a bitmap.
+    pub fn is_full(&self) -> bool
+        ensures { result ≡ (form_in self.now).full }
+    {
+        self.full
+    }
+
     /// How many entries an index page holds.
     pub fn capacity(&self) -> u32
         ensures exact { result ≡ per_page self.now }

@@ -16,8 +16,9 @@ pub enum Loaded {
     Nothing,
     /// It lists the data pages from this one on, whose entries are in memory now.
     Listing { first: u32 },
-    /// It is committed and has another number or count than it has to. It lists no data page.
-    Bad(BadPage),
+    /// It is committed and has another number or count than it has to. It lists no data page, though it says to list some from
+    /// `first` on.
+    Bad { first: u32, bad: BadPage },
 }
 
 impl Index {
@@ -32,11 +33,12 @@ impl Index {
 
     /// Loads the kept index page with this number, which is read once. Where it lists data pages, the first of them is
     /// remembered, and their entries are as if they waited, until the next load or `unload`: `waiting_entry` answers them. The
-    /// entries of the page before are dropped. The buffer holds no page afterwards.
+    /// entries of the page before are dropped. Loaded entries never wait for a seal: `unload` comes before the first `restart`,
+    /// `note` or `make_room` of a mount. The buffer holds no page afterwards.
     ///
     /// # Errors
     ///
-    /// Why the read failed. No entry is loaded then.
+    /// Why the read failed. No entry is loaded then, and the first data pages that are remembered stay.
     pub fn load<F: Flash>(
         &mut self,
         number: u32,
@@ -49,7 +51,7 @@ impl Index {
         ensures loaded { IfOk result (λ l. IsTrue (F.state flash.old).media.tells → IsLoaded self.old number (pages_of self.old (F.state flash.old) number) l self.new) }
         ensures stands { (first : ℕ) → (plan : Plan) → (table : model.Table) → IsTrue (F.state flash.old).media.tells → StandsBelow number self.old (F.state flash.old) first plan table
             → IfOk result (λ l. Loads first plan table number l self.new (F.state flash.new)) }
-        ensures dropped { OnErr result (waiting_in self.new ≡ 0) }
+        ensures dropped { OnErr result ((waiting_in self.new ≡ 0) × ((n : ℕ) → first_in self.new n ≡ first_in self.old n)) }
         ensures others { (n : ℕ) → (place_in self.old n ≡ place_in self.old number → ⊥) → first_in self.new n ≡ first_in self.old n }
         ensures ring { (is_running self.new ≡ is_running self.old) × (oldest_in self.new ≡ oldest_in self.old) × (next_in self.new ≡ next_in self.old) }
         ensures same { IsSamePlan self.old self.new }
@@ -84,12 +86,12 @@ impl Index {
     {
         let at = number as usize % self.firsts.len();
         self.firsts[at] = None;
+        let first = first_in(page);
         match self.is_listing(number, page) {
-            Err(bad) => return Loaded::Bad(bad),
+            Err(bad) => return Loaded::Bad { first, bad },
             Ok(false) => return Loaded::Nothing,
             Ok(true) => {}
         }
-        let first = first_in(page);
         let capacity = self.capacity();
         let bytes = capacity as usize * entry_len(self.form());
         copy_entries(&mut self.body, page, bytes);

@@ -36,7 +36,7 @@ impl Index {
     ghost use Rattle.fl_ring.specs.Ring.{OutsideStands};
     ghost use Rattle.fl_ring.specs.Step.{IsWatched};
     ghost use Rattle.fl_index.specs.Finding.{FewReads, FewRepairs, FindsEnd, FindsIndex, RefusesEnd, RefusesIndex};
-    ghost use Rattle.fl_index.specs.Memory.{is_running, waiting_in, per_page, ring_shape, IsPlanned, IsSamePlan, LiesOn};
+    ghost use Rattle.fl_index.specs.Memory.{first_in, is_running, waiting_in, per_page, ring_shape, IsPlanned, IsSamePlan, LiesOn};
     ghost use Rattle.fl_index.specs.Outcomes.{FindEnds, MountEnds};
     ghost use Rattle.fl_index.specs.Standing.{Rests};
 
@@ -45,8 +45,10 @@ impl Index {
         ensures same { IsSamePlan self.old self.new }
         ensures down { is_running self.new ≡ false }
         ensures none { waiting_in self.new ≡ 0 }
+        ensures unknown { (number : ℕ) → first_in self.new number ≡ None }
     {
         self.ring = None;
+        self.firsts.fill(None);
         self.first = 0;
         self.waiting = 0;
     }
@@ -108,6 +110,7 @@ impl Index {
             → IsPlanned self.old first plan → Rests (F.state flash.old) first plan table → FindEnds first plan table rose device result self.new (F.state flash.new) }
         ensures running { is_running self.new ≡ is_ok result }
         ensures idle { waiting_in self.new ≡ 0 }
+        ensures unknown { (number : ℕ) → first_in self.new number ≡ None }
         ensures found { IfOk result (λ end. IsTrue (F.state flash.old).media.tells → FindsEnd self.old (F.state flash.old) end self.new (F.state flash.new)) }
         ensures refused { IfErr result (λ e. IsTrue (F.state flash.old).media.tells → RefusesEnd self.old (F.state flash.old) e (F.state flash.new)) }
         ensures reads { (first : ℕ) → (plan : Plan) → (table : model.Table) → IsTrue (F.state flash.old).media.tells → IsPlanned self.old first plan → Rests (F.state flash.old) first plan table

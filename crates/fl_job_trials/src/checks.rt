@@ -387,7 +387,7 @@ const TWO: &str = "device 64 2\ntable t 8 i32 3 0 0 8 0 10 1 0\ntable s 8 i32 3 
 
 #[test]
 fn all_tables_are_told(rt: HostRuntime) -> Result<(), Fail> {
-    let cases: [(&[Piece<'_>], ToolStatus, &str); 4] = [
+    let cases: [(&[Piece<'_>], ToolStatus, &str); 7] = [
         (
             &[],
             ToolStatus::Done,
@@ -410,12 +410,30 @@ fn all_tables_are_told(rt: HostRuntime) -> Result<(), Fail> {
             ToolStatus::Unsound,
             "fault t data 4 8 rest\nfault s data 6 4 body\n",
         ),
+        // Two rules of one ring: a number of another place, and a page that isn't kept. Whether page 0 has its body isn't told.
+        (
+            &[(0, &ROW), (0, &[5]), (8, &[2]), (56, &SEAL), (256, &[0])],
+            ToolStatus::Unsound,
+            "fault t data 0 3 number\nfault t data 4 8 rest\nsound s rows 0 pages 0 voids 0\n",
+        ),
+        // A kept page is blank, and one that isn't kept is begun.
+        (
+            &[(124, &SEAL), (256, &[0])],
+            ToolStatus::Unsound,
+            "fault t data 0 2 state\nfault t data 4 8 rest\nsound s rows 0 pages 0 voids 0\n",
+        ),
+        // Without a head no page is kept, and no other rule is looked at.
+        (
+            &[(124, &SEAL), (252, &SEAL), (380, &SEAL), (256, &[0])],
+            ToolStatus::Unsound,
+            "fault t data 0 1 head\nsound s rows 0 pages 0 voids 0\n",
+        ),
     ];
     for (pieces, status, wanted) in cases {
         let bytes = image(rt.alloc(), TWO, 768, pieces)?;
         let len = bytes.len();
         let mut media = MemMedia::new(rt.alloc(), bytes, len)?;
-        let mut out = MemSink::new(rt.alloc(), 100, Vec::new(rt.alloc()))?;
+        let mut out = MemSink::new(rt.alloc(), 200, Vec::new(rt.alloc()))?;
         let found = check_all(rt.alloc(), &mut RingChecker, &mut media, &mut out);
         assert_eq!(rt; found, status, "{wanted}");
         assert_eq!(rt; out.bytes(), wanted.as_bytes(), "{wanted}");

@@ -18,6 +18,7 @@ use Rattle.fl_jobs.specs.Image.{IsImageOf}
 use Rattle.fl_jobs.specs.Checking.{IsOver, ChecksBy, ImageChecked, TablesEndBy}
 use Rattle.fl_jobs.specs.declared.extent.Extent.{Extent}
 use Rattle.fl_jobs.specs.declared.extent.Extent.TheVariants.{FirstFault, AllTables}
+use Rattle.fl_check.specs.declared.faults.TableRules.{TableRules}
 use Rattle.fl_check.specs.declared.finding.Finding.{Finding}
 use Rattle.fl_jobs.specs.declared.status.ToolStatus.{ToolStatus}
 use Rattle.fl_jobs.specs.declared.status.ToolStatus.TheVariants.{Done, InputRead, OutWrite, InputLong, NoMemory, NotImage, Device, BadImage, NoTable, BadInput, Unsound}
@@ -90,6 +91,7 @@ module _ (Ends : Lines → ToolStatus → Type 0) (bytes : List ℕ) where
   early-ends told status (inr is) none = subst (λ (s : ToolStatus). ChecksBy Ends bytes told told s) (sym is) (inl (told-none told))
 
 -- a status of the tables isn't that of no image
-pub ends-known : (extent : Extent) (Finds : TableConfig → FlashState → Finding → Type 0) (lines : Lines) (bytes : List ℕ) (told told_now : Option (List ℕ)) → TablesEndBy extent Finds lines bytes told told_now NotImage → ⊥
-ends-known FirstFault Finds lines bytes told told_now h = h
-ends-known AllTables Finds lines bytes told told_now h = h
+pub ends-known : (extent : Extent) (Finds : TableConfig → FlashState → Finding → Type 0) (Rules : TableConfig → FlashState → TableRules → Type 0) (lines : Lines) (bytes : List ℕ) (told told_now : Option (List ℕ))
+    → TablesEndBy extent Finds Rules lines bytes told told_now NotImage → ⊥
+ends-known FirstFault Finds Rules lines bytes told told_now h = h
+ends-known AllTables Finds Rules lines bytes told told_now h = h

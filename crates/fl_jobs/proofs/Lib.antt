@@ -8,6 +8,7 @@ pub mod AcceptedLines
 pub mod ReadBack
 pub mod Found
 pub mod Telling
+pub mod Writing
 pub mod Ending
 pub mod Ringed
 pub mod RowValues

@@ -1,5 +1,5 @@
 -- What a check tells, table by table.
-use Rattle.std.proofs.Common.{◌≡◌, ℕ, zero, suc, ◌+◌, ◌*◌, ◌^◌, ◌<◌, ◌≤◌, ◌&&◌, ◌⊎◌, inl, inr, Bool, true, false, if◌then◌else◌, Option, Some, None, IfSome, List, [], ◌∷◌, ◌++◌, length, take, drop, refl, sym, ◌∙◌, ap, subst, append_assoc, append-nil, length-append, arith}
+use Rattle.std.proofs.Common.{◌≡◌, ℕ, zero, suc, ◌+◌, ◌*◌, ◌^◌, ◌<◌, ◌≤◌, ◌&&◌, ◌⊎◌, inl, inr, Bool, true, false, if◌then◌else◌, Option, Some, None, IfSome, Err, List, [], ◌∷◌, ◌++◌, length, take, drop, refl, sym, ◌∙◌, ap, subst, append_assoc, append-nil, length-append, arith}
 use Rattle.std.specs.Prelude.{sum_by, slice_get}
 use Rattle.std.specs.List.{list_all}
 use Rattle.std.proofs.lemmas.List.Sums.{sum_by-cons}
@@ -14,12 +14,13 @@ use Rattle.fl_plan.specs.Limits.{IsWithinLimits}
 use Rattle.fl_plan.specs.Plan.{IsConfigOf, blocks_in}
 use Rattle.fl_plan.specs.Refusal.{config_fault}
 use Rattle.fl_script.proofs.Sending.{appends-append, sent-failed}
-use Rattle.fl_jobs.specs.Report.{is_sound, finding_line, report_lines}
-use Rattle.fl_jobs.specs.Checking.{LiesOn, OnlyLooks, IsOver, IsFound, AreFound, Tells, TellsFault, TellsNext, TablesEndBy}
+use Rattle.fl_jobs.specs.Report.{FoundBy, found_text, found_sound, report_lines}
+use Rattle.fl_jobs.specs.Checking.{LiesOn, OnlyLooks, IsOver, IsFound, AreFound, FindsBy, Tells, TellsNext, TellsOne, TableEnds, IsCheckStatus, TablesEndBy}
 use Rattle.fl_jobs.specs.declared.extent.Extent.{Extent}
 use Rattle.fl_jobs.specs.declared.extent.Extent.TheVariants.{FirstFault, AllTables}
 use Rattle.fl_jobs.specs.declared.status.ToolStatus.{ToolStatus}
 use Rattle.fl_jobs.specs.declared.status.ToolStatus.TheVariants.{Done, OutWrite, NoMemory, Device, Unsound}
+use Rattle.fl_check.specs.declared.faults.TableRules.{TableRules}
 use Rattle.fl_check.specs.declared.finding.Finding.{Finding}
 
 -- ---- a table and its place
@@ -109,22 +110,27 @@ over-on lines old new over looks = record {
   on = looks.power ∙ over.on;
 }
 
+-- what holds of its name
+pub named : (o : Option Plan) (name : List ℕ) (P : List ℕ → Type 0) → IfSome o (λ plan. name ≡ plan.name) → P name → IfSome o (λ plan. P plan.name)
+named None name P is p = tt
+named (Some plan) name P is p = subst P is p
+
 -- ---- the lines so far
 
 report-none : (extent : Extent) (plans : List Plan) → report_lines extent plans [] ≡ []
 report-none extent [] = refl
 report-none extent (plan ∷ plans) = refl
 
-report-push : (extent : Extent) (plans : List Plan) (findings : List Finding) (plan : Plan) (finding : Finding) → slice_get plans (length findings) ≡ Some plan →
-    report_lines extent plans (findings ++ finding ∷ []) ≡ report_lines extent plans findings ++ finding_line extent plan.name finding
-report-push extent [] findings plan finding h = let none : None ≡ Some plan = h in cc
-report-push extent (first ∷ plans) [] plan finding h =
+report-push : (extent : Extent) (plans : List Plan) (findings : List (FoundBy extent)) (plan : Plan) (found : FoundBy extent) → slice_get plans (length findings) ≡ Some plan →
+    report_lines extent plans (findings ++ found ∷ []) ≡ report_lines extent plans findings ++ found_text extent plan.name found
+report-push extent [] findings plan found h = let none : None ≡ Some plan = h in cc
+report-push extent (first ∷ plans) [] plan found h =
     let here : Some first ≡ Some plan = h in
     let same : first ≡ plan = cc in
-    ap (λ l. finding_line extent first.name finding ++ l) (report-none extent plans) ∙ append-nil (finding_line extent first.name finding) ∙ ap (λ (p : Plan). finding_line extent p.name finding) same
-report-push extent (first ∷ plans) (found ∷ findings) plan finding h =
-    ap (λ l. finding_line extent first.name found ++ l) (report-push extent plans findings plan finding h)
-    ∙ sym (append_assoc (finding_line extent first.name found) (report_lines extent plans findings) (finding_line extent plan.name finding))
+    ap (λ l. found_text extent first.name found ++ l) (report-none extent plans) ∙ append-nil (found_text extent first.name found) ∙ ap (λ (p : Plan). found_text extent p.name found) same
+report-push extent (first ∷ plans) (one ∷ findings) plan found h =
+    ap (λ l. found_text extent first.name one ++ l) (report-push extent plans findings plan found h)
+    ∙ sym (append_assoc (found_text extent first.name one) (report_lines extent plans findings) (found_text extent plan.name found))
 
 nothing-told : (told : Option (List ℕ)) → Appends told told []
 nothing-told None = tt
@@ -133,91 +139,83 @@ nothing-told (Some bytes) = ap (λ l. Some l) (sym (append-nil bytes))
 pub told-none : (told : Option (List ℕ)) → Appends told told []
 told-none told = nothing-told told
 
-found-push : (Finds : TableConfig → FlashState → Finding → Type 0) (lines : Lines) (bytes : List ℕ) (i : ℕ) (findings : List Finding) (finding : Finding) →
-    AreFound Finds lines bytes i findings → IsFound Finds lines bytes (i + length findings) finding → AreFound Finds lines bytes i (findings ++ finding ∷ [])
-found-push Finds lines bytes i [] finding h k = let same : i + length {A = Finding} [] ≡ i = omega arith in (subst (λ n. IsFound Finds lines bytes n finding) same k, tt)
-found-push Finds lines bytes i (first ∷ findings) finding h k =
+found-push : (Found : Type 0) (Finds : TableConfig → FlashState → Found → Type 0) (lines : Lines) (bytes : List ℕ) (i : ℕ) (findings : List Found) (found : Found) →
+    AreFound Finds lines bytes i findings → IsFound Finds lines bytes (i + length findings) found → AreFound Finds lines bytes i (findings ++ found ∷ [])
+found-push Found Finds lines bytes i [] found h k = let same : i + length {A = Found} [] ≡ i = omega arith in (subst (λ n. IsFound Finds lines bytes n found) same k, tt)
+found-push Found Finds lines bytes i (first ∷ findings) found h k =
     let same : i + length (first ∷ findings) ≡ (i + 1) + length findings = omega arith in
-    (h.0, found-push Finds lines bytes (i + 1) findings finding h.1 (subst (λ n. IsFound Finds lines bytes n finding) same k))
+    (h.0, found-push Found Finds lines bytes (i + 1) findings found h.1 (subst (λ n. IsFound Finds lines bytes n found) same k))
 
-sound-push : (findings : List Finding) (finding : Finding) (all : Bool) → list_all is_sound findings ≡ all → is_sound finding ≡ true → list_all is_sound (findings ++ finding ∷ []) ≡ all
-sound-push findings finding all h k =
-    let both : (list_all is_sound findings && list_all is_sound (finding ∷ [])) ≡ all = rw (h, k) (and-true all) in
-    list_all-append is_sound findings (finding ∷ []) ∙ both
+all-push : (Found : Type 0) (sound : Found → Bool) (findings : List Found) (found : Found) (all is : Bool) → list_all sound findings ≡ all → sound found ≡ is → list_all sound (findings ++ found ∷ []) ≡ (all && is)
+all-push Found sound findings found all is h k =
+    let both : (list_all sound findings && list_all sound (found ∷ [])) ≡ (all && is) = rw (h, k) (and-last all is) in
+    list_all-append sound findings (found ∷ []) ∙ both
   where
-    and-true : (b : Bool) → (b && true) ≡ b
-    and-true true = refl
-    and-true false = refl
+    and-last : (a b : Bool) → (a && (b && true)) ≡ (a && b)
+    and-last true true = refl
+    and-last true false = refl
+    and-last false b = refl
 
-fault-push : (findings : List Finding) (finding : Finding) → is_sound finding ≡ false → list_all is_sound (findings ++ finding ∷ []) ≡ false
-fault-push findings finding k =
-    let both : (list_all is_sound findings && list_all is_sound (finding ∷ [])) ≡ false = rw k (and-false (list_all is_sound findings)) in
-    list_all-append is_sound findings (finding ∷ []) ∙ both
-  where
-    and-false : (b : Bool) → (b && false) ≡ false
-    and-false true = refl
-    and-false false = refl
+and-true : (b : Bool) → (b && true) ≡ b
+and-true true = refl
+and-true false = refl
 
-pub sound-none : (extent : Extent) (Finds : TableConfig → FlashState → Finding → Type 0) (lines : Lines) (bytes : List ℕ) (told : Option (List ℕ)) → Tells extent Finds lines bytes told told 0 true
+and-false : (b : Bool) → (b && false) ≡ false
+and-false true = refl
+and-false false = refl
+
+pub sound-none : (extent : Extent) (Finds : TableConfig → FlashState → FoundBy extent → Type 0) (lines : Lines) (bytes : List ℕ) (told : Option (List ℕ)) → Tells extent Finds lines bytes told told 0 true
 sound-none extent Finds lines bytes told =
     record { findings = []; count = refl; are = tt; sound = refl; text = subst (λ (l : List ℕ). Appends told told l) (sym (report-none extent lines.plans)) (nothing-told told) }
 
--- one more finding, and its line
-module _ (extent : Extent) (Finds : TableConfig → FlashState → Finding → Type 0) (lines : Lines) (bytes : List ℕ) (before mid now : Option (List ℕ)) (n : ℕ) (all : Bool) (s : Tells extent Finds lines bytes before mid n all)
-    (finding : Finding) (found : IsFound Finds lines bytes n finding) (name : List ℕ) (named : IfSome (slice_get lines.plans n) (λ plan. name ≡ plan.name)) where
-  abbrev plan : Plan
-  plan = found.plan
+-- one more finding, and its lines
+module _ (extent : Extent) (Finds : TableConfig → FlashState → FoundBy extent → Type 0) (lines : Lines) (bytes : List ℕ) (before mid now : Option (List ℕ)) (n : ℕ) (all : Bool) (s : Tells extent Finds lines bytes before mid n all) where
+  module _ (found : FoundBy extent) (is : IsFound Finds lines bytes n found) where
+    pub are-next : AreFound Finds lines bytes 0 (s.findings ++ found ∷ [])
+    are-next =
+        let place : n ≡ 0 + length s.findings = omega (arith, s.count) in
+        found-push (FoundBy extent) Finds lines bytes 0 s.findings found s.are (subst (λ k. IsFound Finds lines bytes k found) place is)
 
-  same-name : name ≡ plan.name
-  same-name = subst (λ (o : Option Plan). IfSome o (λ p. name ≡ p.name)) found.plan_is named
+    text-next : report_lines extent lines.plans (s.findings ++ found ∷ []) ≡ report_lines extent lines.plans s.findings ++ found_text extent is.plan.name found
+    text-next = report-push extent lines.plans s.findings is.plan found (subst (λ k. slice_get lines.plans k ≡ Some is.plan) (sym s.count) is.plan_is)
 
-  are-next : AreFound Finds lines bytes 0 (s.findings ++ finding ∷ [])
-  are-next =
-      let place : n ≡ 0 + length s.findings = omega (arith, s.count) in
-      found-push Finds lines bytes 0 s.findings finding s.are (subst (λ k. IsFound Finds lines bytes k finding) place found)
+    pub all-next : IfSome (slice_get lines.plans n) (λ plan. Appends mid now (found_text extent plan.name found)) → Appends before now (report_lines extent lines.plans (s.findings ++ found ∷ []))
+    all-next wrote =
+        subst (λ (l : List ℕ). Appends before now l) (sym text-next)
+        (appends-append before mid now (report_lines extent lines.plans s.findings) (found_text extent is.plan.name found) s.text
+        (subst (λ (o : Option Plan). IfSome o (λ p. Appends mid now (found_text extent p.name found))) is.plan_is wrote))
 
-  text-next : report_lines extent lines.plans (s.findings ++ finding ∷ []) ≡ report_lines extent lines.plans s.findings ++ finding_line extent plan.name finding
-  text-next = report-push extent lines.plans s.findings plan finding (subst (λ k. slice_get lines.plans k ≡ Some plan) (sym s.count) found.plan_is)
-
-  all-next : Appends mid now (finding_line extent name finding) → Appends before now (report_lines extent lines.plans (s.findings ++ finding ∷ []))
-  all-next wrote =
-      subst (λ (l : List ℕ). Appends before now l) (sym text-next)
-      (appends-append before mid now (report_lines extent lines.plans s.findings) (finding_line extent plan.name finding) s.text (subst (λ (m : List ℕ). Appends mid now (finding_line extent m finding)) same-name wrote))
-
-  tells-next : (every : Bool) → list_all is_sound (s.findings ++ finding ∷ []) ≡ every → Appends mid now (finding_line extent name finding) → Tells extent Finds lines bytes before now (n + 1) every
-  tells-next every sound wrote = record {
-    findings = s.findings ++ finding ∷ [];
-    count = omega (arith, s.count, length-append s.findings (finding ∷ []));
-    are = are-next;
-    sound = sound;
-    text = all-next wrote;
+  -- where its lines were written whole
+  pub next-told : (sound : Bool) (one : TellsOne extent Finds lines bytes n sound (λ text. Appends mid now text)) → Tells extent Finds lines bytes before now (n + 1) (all && sound)
+  next-told sound one = record {
+    findings = s.findings ++ one.found ∷ [];
+    count = omega (arith, s.count, length-append s.findings (one.found ∷ []));
+    are = are-next one.found one.is;
+    sound = all-push (FoundBy extent) (found_sound extent) s.findings one.found all sound s.sound one.sound_is;
+    text = all-next one.found one.is one.text;
   }
 
-  pub sound-next : is_sound finding ≡ true → Appends mid now (finding_line extent name finding) → Tells extent Finds lines bytes before now (n + 1) all
-  sound-next sound wrote = tells-next all (sound-push s.findings finding all s.sound sound) wrote
-
-  -- one that isn't sound
-  pub unsound-next : is_sound finding ≡ false → Appends mid now (finding_line extent name finding) → Tells extent Finds lines bytes before now (n + 1) false
-  unsound-next unsound wrote = tells-next false (fault-push s.findings finding unsound) wrote
-
-  pub part-next : AppendsFront mid now (finding_line extent name finding) → TellsNext extent Finds lines bytes before now all
-  part-next wrote =
+  -- .. or a front of them
+  pub part-next : (sound : Bool) → TellsOne extent Finds lines bytes n sound (λ text. AppendsFront mid now text) → TellsNext extent Finds lines bytes before now all
+  part-next sound one =
       let so_far = report_lines extent lines.plans s.findings in
-      let line = finding_line extent plan.name finding in
-      let front : AppendsFront mid now line = subst (λ (m : List ℕ). AppendsFront mid now (finding_line extent m finding)) same-name wrote in
+      let line = found_text extent one.is.plan.name one.found in
+      let front : AppendsFront mid now line = subst (λ (o : Option Plan). IfSome o (λ p. AppendsFront mid now (found_text extent p.name one.found))) one.is.plan_is one.text in
       record {
         findings = s.findings;
-        next = finding;
-        are = are-next;
+        next = one.found;
+        are = are-next one.found one.is;
         sound = s.sound;
-        text = subst (λ (l : List ℕ). AppendsFront before now l) (sym text-next)
+        text = subst (λ (l : List ℕ). AppendsFront before now l) (sym (text-next one.found one.is))
             (sent-failed before mid now (so_far ++ line) line [] line (record { front = so_far; parts = refl; appended = s.text }) front (append-nil line));
       }
 
-  -- where the check ends at it
-  pub fault-next : extent ≡ FirstFault → all ≡ true → is_sound finding ≡ false → Appends mid now (finding_line extent name finding) → TellsFault Finds lines bytes before now
-  fault-next first so unsound wrote =
-      record { findings = s.findings; fault = finding; are = are-next; sound = s.sound ∙ so; unsound = unsound; text = subst (λ (e : Extent). Appends before now (report_lines e lines.plans (s.findings ++ finding ∷ []))) first (all-next wrote) }
+  pub sound-next : TellsOne extent Finds lines bytes n true (λ text. Appends mid now text) → Tells extent Finds lines bytes before now (n + 1) all
+  sound-next one = subst (λ (b : Bool). Tells extent Finds lines bytes before now (n + 1) b) (and-true all) (next-told true one)
+
+  -- one that isn't sound
+  pub unsound-next : TellsOne extent Finds lines bytes n false (λ text. Appends mid now text) → Tells extent Finds lines bytes before now (n + 1) false
+  unsound-next one = subst (λ (b : Bool). Tells extent Finds lines bytes before now (n + 1) b) (and-false all) (next-told false one)
 
 pub not-first : (extent : Extent) → extent ≡ AllTables → extent ≡ FirstFault → ⊥
 not-first extent all first = two (sym all ∙ first)
@@ -230,31 +228,59 @@ not-first extent all first = two (sym all ∙ first)
 not-all : false ≡ true → ⊥
 not-all e = cc
 
-module _ (Finds : TableConfig → FlashState → Finding → Type 0) (lines : Lines) (bytes : List ℕ) (told now : Option (List ℕ)) where
-  pub ends-all : (extent : Extent) (all : Bool) → (extent ≡ FirstFault → all ≡ true) → Tells extent Finds lines bytes told now (length lines.plans) all →
-      TablesEndBy extent Finds lines bytes told now (if all then Done else Unsound)
-  ends-all FirstFault true none h = h
-  ends-all FirstFault false none h = absurd (not-all (none refl))
-  ends-all AllTables true none h = h
-  ends-all AllTables false none h = h
+module _ (Finds : TableConfig → FlashState → Finding → Type 0) (Rules : TableConfig → FlashState → TableRules → Type 0) (lines : Lines) (bytes : List ℕ) where
+  pub ends-all : (told now : Option (List ℕ)) (extent : Extent) (all : Bool) → (extent ≡ FirstFault → all ≡ true) → Tells extent (FindsBy extent Finds Rules) lines bytes told now (length lines.plans) all →
+      TablesEndBy extent Finds Rules lines bytes told now (if all then Done else Unsound)
+  ends-all told now FirstFault true none h = h
+  ends-all told now FirstFault false none h = absurd (not-all (none refl))
+  ends-all told now AllTables true none h = h
+  ends-all told now AllTables false none h = h
 
-  pub ends-part : (extent : Extent) (all : Bool) → (extent ≡ FirstFault → all ≡ true) → TellsNext extent Finds lines bytes told now all → TablesEndBy extent Finds lines bytes told now OutWrite
-  ends-part FirstFault all none h = subst (λ (b : Bool). TellsNext FirstFault Finds lines bytes told now b) (none refl) h
-  ends-part AllTables all none h = (all, h)
+  module _ (told mid now : Option (List ℕ)) (n : ℕ) (all : Bool) where
+    ends-part : (extent : Extent) → (extent ≡ FirstFault → all ≡ true) → TellsNext extent (FindsBy extent Finds Rules) lines bytes told now all → TablesEndBy extent Finds Rules lines bytes told now OutWrite
+    ends-part FirstFault none h = subst (λ (b : Bool). TellsNext FirstFault Finds lines bytes told now b) (none refl) h
+    ends-part AllTables none h = (all, h)
 
-  -- nothing was found of the next one
-  pub ends-few : (extent : Extent) (all : Bool) (n : ℕ) (status : ToolStatus) → (extent ≡ FirstFault → all ≡ true) → n < length lines.plans → (status ≡ NoMemory) ⊎ (status ≡ Device) → Tells extent Finds lines bytes told now n all →
-      TablesEndBy extent Finds lines bytes told now status
-  ends-few extent all n status none lt (inl is) h = subst (λ (s : ToolStatus). TablesEndBy extent Finds lines bytes told now s) (sym is) (few extent none h)
-    where
-      few : (extent : Extent) → (extent ≡ FirstFault → all ≡ true) → Tells extent Finds lines bytes told now n all → TablesEndBy extent Finds lines bytes told now NoMemory
-      few FirstFault none h = (n, lt, subst (λ (b : Bool). Tells FirstFault Finds lines bytes told now n b) (none refl) h)
-      few AllTables none h = (n, lt, (all, h))
-  ends-few extent all n status none lt (inr is) h = subst (λ (s : ToolStatus). TablesEndBy extent Finds lines bytes told now s) (sym is) (few extent none h)
-    where
-      few : (extent : Extent) → (extent ≡ FirstFault → all ≡ true) → Tells extent Finds lines bytes told now n all → TablesEndBy extent Finds lines bytes told now Device
-      few FirstFault none h = (n, lt, subst (λ (b : Bool). Tells FirstFault Finds lines bytes told now n b) (none refl) h)
-      few AllTables none h = (n, lt, (all, h))
+    -- nothing was found of the next one
+    ends-few : (extent : Extent) (status : ToolStatus) → (extent ≡ FirstFault → all ≡ true) → n < length lines.plans → (status ≡ NoMemory) ⊎ (status ≡ Device)
+        → Tells extent (FindsBy extent Finds Rules) lines bytes told now n all → TablesEndBy extent Finds Rules lines bytes told now status
+    ends-few extent status none lt (inl is) h = subst (λ (s : ToolStatus). TablesEndBy extent Finds Rules lines bytes told now s) (sym is) (few extent none h)
+      where
+        few : (extent : Extent) → (extent ≡ FirstFault → all ≡ true) → Tells extent (FindsBy extent Finds Rules) lines bytes told now n all → TablesEndBy extent Finds Rules lines bytes told now NoMemory
+        few FirstFault none h = (n, lt, subst (λ (b : Bool). Tells FirstFault Finds lines bytes told now n b) (none refl) h)
+        few AllTables none h = (n, lt, (all, h))
+    ends-few extent status none lt (inr is) h = subst (λ (s : ToolStatus). TablesEndBy extent Finds Rules lines bytes told now s) (sym is) (few extent none h)
+      where
+        few : (extent : Extent) → (extent ≡ FirstFault → all ≡ true) → Tells extent (FindsBy extent Finds Rules) lines bytes told now n all → TablesEndBy extent Finds Rules lines bytes told now Device
+        few FirstFault none h = (n, lt, subst (λ (b : Bool). Tells FirstFault Finds lines bytes told now n b) (none refl) h)
+        few AllTables none h = (n, lt, (all, h))
 
-  pub ends-fault : (extent : Extent) → extent ≡ FirstFault → TellsFault Finds lines bytes told now → TablesEndBy extent Finds lines bytes told now Unsound
-  ends-fault extent first h = subst (λ (e : Extent). TablesEndBy e Finds lines bytes told now Unsound) (sym first) h
+    -- the check of the next one failed
+    pub ends-failed : (extent : Extent) (status : ToolStatus) → (extent ≡ FirstFault → all ≡ true) → n < length lines.plans → Tells extent (FindsBy extent Finds Rules) lines bytes told mid n all → IsCheckStatus status
+        → TableEnds extent (FindsBy extent Finds Rules) lines bytes n mid now (Err status) → TablesEndBy extent Finds Rules lines bytes told now status
+    ends-failed extent status none lt h (inl is) ends = subst (λ (s : ToolStatus). TablesEndBy extent Finds Rules lines bytes told now s) (sym is) (ends-part extent none part)
+      where
+        here : TableEnds extent (FindsBy extent Finds Rules) lines bytes n mid now (Err OutWrite)
+        here = subst (λ (s : ToolStatus). TableEnds extent (FindsBy extent Finds Rules) lines bytes n mid now (Err s)) is ends
+
+        part : TellsNext extent (FindsBy extent Finds Rules) lines bytes told now all
+        part = part-next extent (FindsBy extent Finds Rules) lines bytes told mid now n all h here.0 here.1
+    ends-failed extent status none lt h (inr (inl is)) ends =
+        ends-few extent status none lt (inl is) (subst (λ (o : Option (List ℕ)). Tells extent (FindsBy extent Finds Rules) lines bytes told o n all)
+        (sym (subst (λ (s : ToolStatus). TableEnds extent (FindsBy extent Finds Rules) lines bytes n mid now (Err s)) is ends)) h)
+    ends-failed extent status none lt h (inr (inr is)) ends =
+        ends-few extent status none lt (inr is) (subst (λ (o : Option (List ℕ)). Tells extent (FindsBy extent Finds Rules) lines bytes told o n all)
+        (sym (subst (λ (s : ToolStatus). TableEnds extent (FindsBy extent Finds Rules) lines bytes n mid now (Err s)) is ends)) h)
+
+    -- the next one isn't sound, and the check ends at it
+    pub ends-fault : (extent : Extent) → extent ≡ FirstFault → (extent ≡ FirstFault → all ≡ true) → Tells extent (FindsBy extent Finds Rules) lines bytes told mid n all
+        → TellsOne extent (FindsBy extent Finds Rules) lines bytes n false (λ text. Appends mid now text) → TablesEndBy extent Finds Rules lines bytes told now Unsound
+    ends-fault FirstFault first none h one = record {
+      findings = h.findings;
+      fault = one.found;
+      are = are-next FirstFault Finds lines bytes told mid now n all h one.found one.is;
+      sound = h.sound ∙ none refl;
+      unsound = one.sound_is;
+      text = all-next FirstFault Finds lines bytes told mid now n all h one.found one.is one.text;
+    }
+    ends-fault AllTables first none h one = absurd (not-first AllTables refl first)

@@ -1,5 +1,5 @@
 -- A check of the tables of an image.
-use Rattle.std.specs.Prelude.{◌≡◌, ◌⊎◌, ℕ, ◌+◌, ◌^◌, ◌<◌, ◌≤◌, Bool, true, false, Option, Some, None, IfSome, List, [], ◌∷◌, ◌++◌, length, take, sum_by, slice_get}
+use Rattle.std.specs.Prelude.{◌≡◌, ◌⊎◌, ℕ, ◌+◌, ◌^◌, ◌<◌, ◌≤◌, Bool, true, false, Option, Some, None, IfSome, Result, Ok, Err, List, [], ◌∷◌, ◌++◌, length, take, sum_by, slice_get}
 use Rattle.std.specs.List.{list_all}
 use Rattle.fl_base.specs.Causes.{Rose, Appends, AppendsFront}
 use Rattle.fl_flash.specs.Flash.{FlashState, Goes, pages}
@@ -12,9 +12,10 @@ use Rattle.fl_plan.specs.Plan.{IsConfigOf, blocks_in}
 use Rattle.fl_plan.specs.Refusal.{config_fault}
 use Rattle.fl_jobs.specs.Header.{IsAccepted}
 use Rattle.fl_jobs.specs.Image.{IsImageOf}
-use Rattle.fl_jobs.specs.Report.{is_sound, report_lines, report_text}
+use Rattle.fl_jobs.specs.Report.{is_sound, FoundBy, found_text, found_sound, report_lines, report_text}
 use Rattle.fl_jobs.specs.declared.extent.Extent.{Extent}
 use Rattle.fl_jobs.specs.declared.extent.Extent.TheVariants.{FirstFault, AllTables}
+use Rattle.fl_check.specs.declared.faults.TableRules.{TableRules}
 use Rattle.fl_check.specs.declared.finding.Finding.{Finding}
 use Rattle.fl_check.specs.declared.finding.CheckFault.{CheckFault}
 use Rattle.fl_check.specs.declared.finding.CheckFault.TheVariants.{Flash, NoMemory as NoRoom}
@@ -56,7 +57,7 @@ pub record IsOver (lines : Lines) (f : FlashState) : Type 0 where
   pub on : f.is_on ≡ true
 
 -- `Finds` says what is found rightly of a table over a flash. This was found of the i-th table in these bytes.
-pub record IsFound (Finds : TableConfig → FlashState → Finding → Type 0) (lines : Lines) (bytes : List ℕ) (i : ℕ) (finding : Finding) : Type 0 where
+pub record IsFound {Found : Type 0} (Finds : TableConfig → FlashState → Found → Type 0) (lines : Lines) (bytes : List ℕ) (i : ℕ) (found : Found) : Type 0 where
   pub plan : Plan
   pub plan_is : slice_get lines.plans i ≡ Some plan
   pub config : TableConfig
@@ -66,28 +67,55 @@ pub record IsFound (Finds : TableConfig → FlashState → Finding → Type 0) (
   pub over : IsOver lines flash
   pub lies : LiesOn config flash
   pub content : flash.media.content ≡ bytes
-  pub finds : Finds config flash finding
+  pub finds : Finds config flash found
 
 -- .. and these of the tables from the i-th on
-abbrev pub AreFound : (TableConfig → FlashState → Finding → Type 0) → Lines → List ℕ → ℕ → List Finding → Type 0
+abbrev pub AreFound : {Found : Type 0} → (TableConfig → FlashState → Found → Type 0) → Lines → List ℕ → ℕ → List Found → Type 0
 AreFound Finds lines bytes i [] = Unit {0}
-AreFound Finds lines bytes i (finding ∷ findings) = IsFound Finds lines bytes i finding × AreFound Finds lines bytes (i + 1) findings
+AreFound Finds lines bytes i (found ∷ more) = IsFound Finds lines bytes i found × AreFound Finds lines bytes (i + 1) more
+
+-- what is found rightly by the first rule that doesn't hold, or by all rules
+abbrev pub FindsBy : (extent : Extent) → (TableConfig → FlashState → Finding → Type 0) → (TableConfig → FlashState → TableRules → Type 0) → TableConfig → FlashState → FoundBy extent → Type 0
+FindsBy FirstFault Finds Rules = Finds
+FindsBy AllTables Finds Rules = Rules
 
 -- the first n tables have their lines, and all of these are sound, or not
-pub record Tells (extent : Extent) (Finds : TableConfig → FlashState → Finding → Type 0) (lines : Lines) (bytes : List ℕ) (told told_now : Option (List ℕ)) (n : ℕ) (all : Bool) : Type 0 where
-  pub findings : List Finding
+pub record Tells (extent : Extent) (Finds : TableConfig → FlashState → FoundBy extent → Type 0) (lines : Lines) (bytes : List ℕ) (told told_now : Option (List ℕ)) (n : ℕ) (all : Bool) : Type 0 where
+  pub findings : List (FoundBy extent)
   pub count : length findings ≡ n
   pub are : AreFound Finds lines bytes 0 findings
-  pub sound : list_all is_sound findings ≡ all
+  pub sound : list_all (found_sound extent) findings ≡ all
   pub text : Appends told told_now (report_lines extent lines.plans findings)
 
--- .. or the line of the next wasn't written whole
-pub record TellsNext (extent : Extent) (Finds : TableConfig → FlashState → Finding → Type 0) (lines : Lines) (bytes : List ℕ) (told told_now : Option (List ℕ)) (all : Bool) : Type 0 where
-  pub findings : List Finding
-  pub next : Finding
+-- .. or those of the next weren't written whole
+pub record TellsNext (extent : Extent) (Finds : TableConfig → FlashState → FoundBy extent → Type 0) (lines : Lines) (bytes : List ℕ) (told told_now : Option (List ℕ)) (all : Bool) : Type 0 where
+  pub findings : List (FoundBy extent)
+  pub next : FoundBy extent
   pub are : AreFound Finds lines bytes 0 (findings ++ next ∷ [])
-  pub sound : list_all is_sound findings ≡ all
+  pub sound : list_all (found_sound extent) findings ≡ all
   pub text : AppendsFront told told_now (report_lines extent lines.plans (findings ++ next ∷ []))
+
+-- the lines of the i-th table were written, or a front of them
+pub record TellsOne (extent : Extent) (Finds : TableConfig → FlashState → FoundBy extent → Type 0) (lines : Lines) (bytes : List ℕ) (i : ℕ) (sound : Bool) (Writes : List ℕ → Type 0) : Type 0 where
+  pub found : FoundBy extent
+  pub is : IsFound Finds lines bytes i found
+  pub sound_is : found_sound extent found ≡ sound
+  pub text : IfSome (slice_get lines.plans i) (λ plan. Writes (found_text extent plan.name found))
+
+-- why nothing is found of a table
+abbrev pub check_status : CheckFault → ToolStatus
+check_status (Flash fault) = Device
+check_status NoRoom = NoMemory
+
+-- .. or its lines weren't written whole
+abbrev pub IsCheckStatus : ToolStatus → Type 0
+IsCheckStatus status = (status ≡ OutWrite) ⊎ ((status ≡ NoMemory) ⊎ (status ≡ Device))
+
+-- how the check of the i-th table ends
+abbrev pub TableEnds : (extent : Extent) → (TableConfig → FlashState → FoundBy extent → Type 0) → Lines → List ℕ → ℕ → Option (List ℕ) → Option (List ℕ) → Result Bool ToolStatus → Type 0
+TableEnds extent Finds lines bytes i told told_now (Ok sound) = TellsOne extent Finds lines bytes i sound (λ text. Appends told told_now text)
+TableEnds extent Finds lines bytes i told told_now (Err OutWrite) = (sound : Bool) × TellsOne extent Finds lines bytes i sound (λ text. AppendsFront told told_now text)
+TableEnds extent Finds lines bytes i told told_now (Err status) = told_now ≡ told
 
 -- ---- up to the first table that isn't sound
 
@@ -129,26 +157,26 @@ TablesEnd Finds lines bytes told told_now (BadInput number) = ⊥
 -- ---- over all tables
 
 -- some have their lines, and nothing was found of the next
-abbrev pub TellsSome : (TableConfig → FlashState → Finding → Type 0) → Lines → List ℕ → Option (List ℕ) → Option (List ℕ) → Type 0
-TellsSome Finds lines bytes told told_now = (n : ℕ) × (n < length lines.plans) × ((all : Bool) × Tells AllTables Finds lines bytes told told_now n all)
+abbrev pub TellsSome : (TableConfig → FlashState → TableRules → Type 0) → Lines → List ℕ → Option (List ℕ) → Option (List ℕ) → Type 0
+TellsSome Rules lines bytes told told_now = (n : ℕ) × (n < length lines.plans) × ((all : Bool) × Tells AllTables Rules lines bytes told told_now n all)
 
 -- how a check of all tables ends
-abbrev pub AllTablesEnd : (TableConfig → FlashState → Finding → Type 0) → Lines → List ℕ → Option (List ℕ) → Option (List ℕ) → ToolStatus → Type 0
-AllTablesEnd Finds lines bytes told told_now Done = Tells AllTables Finds lines bytes told told_now (length lines.plans) true
-AllTablesEnd Finds lines bytes told told_now Unsound = Tells AllTables Finds lines bytes told told_now (length lines.plans) false
-AllTablesEnd Finds lines bytes told told_now OutWrite = (all : Bool) × TellsNext AllTables Finds lines bytes told told_now all
-AllTablesEnd Finds lines bytes told told_now NoMemory = TellsSome Finds lines bytes told told_now
-AllTablesEnd Finds lines bytes told told_now Device = TellsSome Finds lines bytes told told_now
-AllTablesEnd Finds lines bytes told told_now NotImage = ⊥
-AllTablesEnd Finds lines bytes told told_now (BadImage table) = ⊥
-AllTablesEnd Finds lines bytes told told_now NoTable = ⊥
-AllTablesEnd Finds lines bytes told told_now InputRead = ⊥
-AllTablesEnd Finds lines bytes told told_now InputLong = ⊥
-AllTablesEnd Finds lines bytes told told_now (BadInput number) = ⊥
+abbrev pub AllTablesEnd : (TableConfig → FlashState → TableRules → Type 0) → Lines → List ℕ → Option (List ℕ) → Option (List ℕ) → ToolStatus → Type 0
+AllTablesEnd Rules lines bytes told told_now Done = Tells AllTables Rules lines bytes told told_now (length lines.plans) true
+AllTablesEnd Rules lines bytes told told_now Unsound = Tells AllTables Rules lines bytes told told_now (length lines.plans) false
+AllTablesEnd Rules lines bytes told told_now OutWrite = (all : Bool) × TellsNext AllTables Rules lines bytes told told_now all
+AllTablesEnd Rules lines bytes told told_now NoMemory = TellsSome Rules lines bytes told told_now
+AllTablesEnd Rules lines bytes told told_now Device = TellsSome Rules lines bytes told told_now
+AllTablesEnd Rules lines bytes told told_now NotImage = ⊥
+AllTablesEnd Rules lines bytes told told_now (BadImage table) = ⊥
+AllTablesEnd Rules lines bytes told told_now NoTable = ⊥
+AllTablesEnd Rules lines bytes told told_now InputRead = ⊥
+AllTablesEnd Rules lines bytes told told_now InputLong = ⊥
+AllTablesEnd Rules lines bytes told told_now (BadInput number) = ⊥
 
-abbrev pub TablesEndBy : Extent → (TableConfig → FlashState → Finding → Type 0) → Lines → List ℕ → Option (List ℕ) → Option (List ℕ) → ToolStatus → Type 0
-TablesEndBy FirstFault Finds lines bytes told told_now status = TablesEnd Finds lines bytes told told_now status
-TablesEndBy AllTables Finds lines bytes told told_now status = AllTablesEnd Finds lines bytes told told_now status
+abbrev pub TablesEndBy : Extent → (TableConfig → FlashState → Finding → Type 0) → (TableConfig → FlashState → TableRules → Type 0) → Lines → List ℕ → Option (List ℕ) → Option (List ℕ) → ToolStatus → Type 0
+TablesEndBy FirstFault Finds Rules lines bytes told told_now status = TablesEnd Finds lines bytes told told_now status
+TablesEndBy AllTables Finds Rules lines bytes told told_now status = AllTablesEnd Rules lines bytes told told_now status
 
 -- ---- of an image
 
@@ -174,8 +202,8 @@ abbrev pub CheckEnds : (TableConfig → FlashState → Finding → Type 0) → L
 CheckEnds Finds bytes told told_now status = ChecksBy (λ lines status. TablesEnd Finds lines bytes told told_now status) bytes told told_now status
 
 -- .. or over all tables
-abbrev pub CheckAllEnds : (TableConfig → FlashState → Finding → Type 0) → List ℕ → Option (List ℕ) → Option (List ℕ) → ToolStatus → Type 0
-CheckAllEnds Finds bytes told told_now status = ChecksBy (λ lines status. AllTablesEnd Finds lines bytes told told_now status) bytes told told_now status
+abbrev pub CheckAllEnds : (TableConfig → FlashState → TableRules → Type 0) → List ℕ → Option (List ℕ) → Option (List ℕ) → ToolStatus → Type 0
+CheckAllEnds Rules bytes told told_now status = ChecksBy (λ lines status. AllTablesEnd Rules lines bytes told told_now status) bytes told told_now status
 
-abbrev pub CheckedTo : Extent → (TableConfig → FlashState → Finding → Type 0) → List ℕ → Option (List ℕ) → Option (List ℕ) → ToolStatus → Type 0
-CheckedTo extent Finds bytes told told_now status = ChecksBy (λ lines status. TablesEndBy extent Finds lines bytes told told_now status) bytes told told_now status
+abbrev pub CheckedTo : Extent → (TableConfig → FlashState → Finding → Type 0) → (TableConfig → FlashState → TableRules → Type 0) → List ℕ → Option (List ℕ) → Option (List ℕ) → ToolStatus → Type 0
+CheckedTo extent Finds Rules bytes told told_now status = ChecksBy (λ lines status. TablesEndBy extent Finds Rules lines bytes told told_now status) bytes told told_now status

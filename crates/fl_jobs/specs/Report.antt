@@ -2,7 +2,10 @@
 use Rattle.std.specs.Prelude.{ℕ, Bool, true, false, List, [], ◌∷◌, ◌++◌, codes, decimal}
 use Rattle.fl_model.specs.Record.{Plan}
 use Rattle.fl_words.specs.Medium.{line_text}
+use Rattle.fl_check.specs.Faults.{findings_of}
 use Rattle.fl_check.specs.Whole.{rule_number}
+use Rattle.fl_check.specs.declared.faults.TableRules.{TableRules}
+use Rattle.fl_check.specs.declared.faults.TableRules.TheVariants.{Kept, Broken}
 use Rattle.fl_check.specs.declared.finding.RingName.{RingName}
 use Rattle.fl_check.specs.declared.finding.RingName.TheVariants.{Index, Data, Var, Log}
 use Rattle.fl_check.specs.declared.finding.Finding.{Finding}
@@ -47,10 +50,39 @@ finding_line extent name (Fault ring page rule) =
 abbrev pub finding_text : List ℕ → Finding → List ℕ
 finding_text name finding = finding_line FirstFault name finding
 
+-- ---- of all rules
+
+abbrev pub findings_text : List ℕ → List Finding → List ℕ
+findings_text name [] = []
+findings_text name (finding ∷ findings) = finding_line AllTables name finding ++ findings_text name findings
+
+-- a line for each rule that is broken, in their order, or that of a sound table
+abbrev pub rules_text : List ℕ → TableRules → List ℕ
+rules_text name rules = findings_text name (findings_of rules)
+
+abbrev pub are_kept : TableRules → Bool
+are_kept (Kept rows pages voids) = true
+are_kept (Broken faults) = false
+
+-- ---- of tables
+
+-- what a check finds of a table: the first rule that doesn't hold, or all of them where it goes over all tables
+abbrev pub FoundBy : Extent → Type 0
+FoundBy FirstFault = Finding
+FoundBy AllTables = TableRules
+
+abbrev pub found_text : (extent : Extent) → List ℕ → FoundBy extent → List ℕ
+found_text FirstFault name finding = finding_text name finding
+found_text AllTables name rules = rules_text name rules
+
+abbrev pub found_sound : (extent : Extent) → FoundBy extent → Bool
+found_sound FirstFault = is_sound
+found_sound AllTables = are_kept
+
 -- the lines of what was found of the first tables
-abbrev pub report_lines : Extent → List Plan → List Finding → List ℕ
-report_lines extent (plan ∷ plans) (finding ∷ findings) = finding_line extent plan.name finding ++ report_lines extent plans findings
-report_lines extent plans findings = []
+abbrev pub report_lines : (extent : Extent) → List Plan → List (FoundBy extent) → List ℕ
+report_lines extent (plan ∷ plans) (found ∷ more) = found_text extent plan.name found ++ report_lines extent plans more
+report_lines extent plans more = []
 
 abbrev pub report_text : List Plan → List Finding → List ℕ
 report_text plans findings = report_lines FirstFault plans findings

@@ -22,7 +22,7 @@ fn check_tables_of<M: Media, C: CheckTable, K: Sink>(
     media: &mut M,
     out: &mut K,
 ) -> ToolStatus
-    ensures ends { IsTrue (M.state media.old).tells → CheckedTo extent C.finds (M.state media.old).content (K.written out.old) (K.written out.new) result }
+    ensures ends { IsTrue (M.state media.old).tells → CheckedTo extent C.finds C.rules (M.state media.old).content (K.written out.old) (K.written out.new) result }
     ensures looks { OnlyLooksAt (M.state media.old) (M.state media.new) }
     ensures device { result ≡ ToolStatus.Device → Rose (M.state media.old).faults (M.state media.new).faults }
     ensures write { result ≡ ToolStatus.OutWrite → Rose (K.faults out.old) (K.faults out.new) }
@@ -66,8 +66,8 @@ pub fn check_image<M: Media, C: CheckTable, K: Sink>(
     check_tables_of(alloc, checker, Extent::FirstFault, media, out)
 }
 
-/// Checks all tables of the image on a medium in their order, and writes a line for each, also behind one that isn't sound. It
-/// mounts none of them, and changes nothing.
+/// Checks all tables of the image on a medium in their order by all rules, and writes a line for each sound table, and one for
+/// each rule of another that doesn't hold. It mounts none of them, and changes nothing.
 pub fn check_all<M: Media, C: CheckTable, K: Sink>(
     alloc: Global,
     checker: &mut C,
@@ -75,7 +75,7 @@ pub fn check_all<M: Media, C: CheckTable, K: Sink>(
     out: &mut K,
 ) -> ToolStatus
     // What is written is what is found rightly, table by table.
-    ensures ends { IsTrue (M.state media.old).tells → CheckAllEnds C.finds (M.state media.old).content (K.written out.old) (K.written out.new) result }
+    ensures ends { IsTrue (M.state media.old).tells → CheckAllEnds C.rules (M.state media.old).content (K.written out.old) (K.written out.new) result }
     ensures looks { OnlyLooksAt (M.state media.old) (M.state media.new) }
 
     // Statuses have their causes.

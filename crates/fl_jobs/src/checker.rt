@@ -3,9 +3,10 @@ ghost use Rattle.std.specs.Prelude.{IsTrue, IfOk, IfErr};
 ghost use Rattle.fl_flash.specs.Flash.{FlashState};
 ghost use Rattle.fl_plan.specs.declared.table_config.TableConfig.{TableConfig};
 ghost use Rattle.fl_jobs.specs.Checking.{LiesOn, OnlyLooks, FailsBy};
+ghost use Rattle.fl_check.specs.declared.faults.TableRules.{TableRules};
 ghost use Rattle.fl_check.specs.declared.finding.Finding.{Finding};
 
-use fl_check::{CheckFault, Finding};
+use fl_check::{CheckFault, Finding, TableRules};
 use fl_flash::Flash;
 use fl_plan::TableConfig;
 use std::alloc::Global;
@@ -14,6 +15,8 @@ use std::alloc::Global;
 pub trait CheckTable {
     /// What is found rightly of a table over a flash.
     ghost finds: { TableConfig → FlashState → Finding → Type 0 };
+    /// .. by all rules.
+    ghost rules: { TableConfig → FlashState → TableRules → Type 0 };
 
     /// Finds whether the table is sound, and mounts and changes nothing.
     fn check_table<F: Flash>(
@@ -25,5 +28,17 @@ pub trait CheckTable {
         requires lies { LiesOn config.now (F.state flash.old) }
         ensures looks { OnlyLooks (F.state flash.old) (F.state flash.new) }
         ensures finding { IfOk result (λ finding. IsTrue (F.state flash.old).media.tells → finds config.now (F.state flash.old) finding) }
+        ensures fails { IfErr result (λ fault. FailsBy (F.state flash.old) fault (F.state flash.new)) };
+
+    /// Finds which of its rules hold, and mounts and changes nothing.
+    fn check_rules<F: Flash>(
+        &mut self,
+        alloc: Global,
+        flash: &mut F,
+        config: &TableConfig,
+    ) -> Result<TableRules, CheckFault>
+        requires lies { LiesOn config.now (F.state flash.old) }
+        ensures looks { OnlyLooks (F.state flash.old) (F.state flash.new) }
+        ensures found { IfOk result (λ found. IsTrue (F.state flash.old).media.tells → rules config.now (F.state flash.old) found) }
         ensures fails { IfErr result (λ fault. FailsBy (F.state flash.old) fault (F.state flash.new)) };
 }

@@ -5,6 +5,6 @@
 pub enum Extent {
     /// Up to the first table that isn't sound.
     FirstFault,
-    /// Over all tables. The rule that one breaks is told by its name too.
+    /// Over all tables, and over all rules of each. A rule that one breaks is told by its name too.
     AllTables,
 }

@@ -24,7 +24,7 @@ pub use extent::Extent;
 pub use header::{HEADER, config_of_header, config_of_lines};
 pub use image::config_of_image;
 pub use job_end::{JobEnd, LinesTaken};
-pub use report::write_finding;
+pub use report::{write_finding, write_rules};
 pub use rings::RingChecker;
 pub use status::{ToolStatus, flash_status};
 pub use values::values_of;

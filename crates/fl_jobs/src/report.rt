@@ -3,13 +3,14 @@ ghost use Rattle.std.specs.Prelude.{◌≡◌, ◌+◌, ◌≤◌, ◌∷◌, �
 ghost use Rattle.fl_words.specs.Medium.{line_text};
 ghost use Rattle.fl_base.specs.Causes.{HasCause};
 ghost use Rattle.fl_script.specs.Written.{Written};
-ghost use Rattle.fl_jobs.specs.Report.{ring_name, rule_name, finding_line, finding_text};
+ghost use Rattle.fl_jobs.specs.Report.{ring_name, rule_name, finding_line, finding_text, findings_text, rules_text};
+ghost use Rattle.fl_check.specs.Faults.{fault_of, ring_faults, table_faults};
 ghost use Rattle.fl_check.specs.declared.finding.Finding.{Finding};
 ghost use Rattle.fl_jobs.specs.declared.extent.Extent.{Extent};
 
 use crate::Extent;
 use fl_base::{Name, Sink, SinkFailed};
-use fl_check::{Finding, RingName, Rule};
+use fl_check::{Finding, RingFaults, RingName, Rule, TableFaults, TableRules};
 use fl_script::{LINE_BYTES, TextLine, write_all};
 
 fn ring_word(ring: RingName) -> &'static [u8]
@@ -136,4 +137,71 @@ pub fn write_finding<K: Sink>(
     let mut line = TextLine::new();
     add_finding(&mut line, name, extent, finding);
     write_all(line.bytes(), out)
+}
+
+/// Appends the line of a rule that this page breaks first, if there is one.
+fn write_fault<K: Sink>(
+    name: &Name,
+    ring: RingName,
+    rule: Rule,
+    page: Option<u32>,
+    out: &mut K,
+) -> Result<(), SinkFailed>
+    ensures text { Written (K.written out.old) (K.written out.new) result (findings_text name.now (fault_of ring rule page)) }
+    ensures cause { HasCause (K.faults out.old) (K.faults out.new) result }
+{
+    let Some(page) = page else {
+        return Ok(());
+    };
+    let finding = Finding::Fault { ring, page, rule };
+    write_finding(name, Extent::AllTables, &finding, out)
+}
+
+/// Appends a line for each rule of a ring that is broken.
+fn write_ring<K: Sink>(
+    name: &Name,
+    ring: RingName,
+    faults: &RingFaults,
+    out: &mut K,
+) -> Result<(), SinkFailed>
+    ensures text { Written (K.written out.old) (K.written out.new) result (findings_text name.now (ring_faults ring faults.now)) }
+    ensures cause { HasCause (K.faults out.old) (K.faults out.new) result }
+{
+    write_fault(name, ring, Rule::Head, faults.head, out)?;
+    write_fault(name, ring, Rule::State, faults.state, out)?;
+    write_fault(name, ring, Rule::Number, faults.number, out)?;
+    write_fault(name, ring, Rule::Body, faults.body, out)?;
+    write_fault(name, ring, Rule::Keys, faults.keys, out)?;
+    write_fault(name, ring, Rule::Rest, faults.rest, out)
+}
+
+/// Appends a line for each rule of a table that is broken, in the order of the rules.
+fn write_faults<K: Sink>(name: &Name, faults: &TableFaults, out: &mut K) -> Result<(), SinkFailed>
+    ensures text { Written (K.written out.old) (K.written out.new) result (findings_text name.now (table_faults faults.now)) }
+    ensures cause { HasCause (K.faults out.old) (K.faults out.new) result }
+{
+    write_ring(name, RingName::Index, &faults.index, out)?;
+    write_ring(name, RingName::Data, &faults.rows, out)?;
+    write_ring(name, RingName::Var, &faults.var, out)?;
+    write_fault(name, RingName::Index, Rule::Entry, faults.entry, out)?;
+    write_fault(name, RingName::Data, Rule::Blob, faults.blob, out)
+}
+
+/// Appends a line for each rule of a table that is broken, in the order of the rules, or that of a sound table. Where the sink
+/// fails a front of them was written.
+pub fn write_rules<K: Sink>(name: &Name, rules: &TableRules, out: &mut K) -> Result<(), SinkFailed>
+    ensures text { Written (K.written out.old) (K.written out.new) result (rules_text name.now rules.now) }
+    ensures cause { HasCause (K.faults out.old) (K.faults out.new) result }
+{
+    match rules {
+        TableRules::Broken(faults) => write_faults(name, faults, out),
+        TableRules::Kept { rows, pages, voids } => {
+            let finding = Finding::Sound {
+                rows: *rows,
+                pages: *pages,
+                voids: *voids,
+            };
+            write_finding(name, Extent::AllTables, &finding, out)
+        }
+    }
 }

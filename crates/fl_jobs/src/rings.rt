@@ -1,19 +1,22 @@
 // The rules of a table's rings, as what finds whether it is sound.
 ghost use Rattle.fl_flash.specs.Flash.{page_at};
+ghost use Rattle.fl_check.specs.Rules.{AreRules};
 ghost use Rattle.fl_check.specs.Whole.{IsFinding};
 
 use crate::CheckTable;
-use fl_check::{CheckFault, Finding, check_table};
+use fl_check::{CheckFault, Finding, TableRules, check_rules, check_table};
 use fl_flash::Flash;
 use fl_plan::TableConfig;
 use std::alloc::Global;
 
-/// Finds the first rule on a table's rings that doesn't hold.
+/// Finds the first rule on a table's rings that doesn't hold, or which of all hold.
 #[derive(Drop)]
 pub struct RingChecker;
 
 impl CheckTable for RingChecker {
     ghost finds = { λ config f finding. IsFinding config (page_at f) finding };
+
+    ghost rules = { λ config f rules. AreRules config (page_at f) rules };
 
     fn check_table<F: Flash>(
         &mut self,
@@ -22,5 +25,14 @@ impl CheckTable for RingChecker {
         config: &TableConfig,
     ) -> Result<Finding, CheckFault> {
         check_table(alloc, flash, config)
+    }
+
+    fn check_rules<F: Flash>(
+        &mut self,
+        alloc: Global,
+        flash: &mut F,
+        config: &TableConfig,
+    ) -> Result<TableRules, CheckFault> {
+        check_rules(alloc, flash, config)
     }
 }

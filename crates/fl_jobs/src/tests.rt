@@ -1,7 +1,7 @@
 // Checks of an image of two tables, by a checker that says what it is told to.
-use crate::{CheckTable, ToolStatus, check_image};
+use crate::{CheckTable, ToolStatus, check_all, check_image};
 use fl_base::{MemSink, NoMemory};
-use fl_check::{CheckFault, Finding, RingName, Rule};
+use fl_check::{CheckFault, Finding, RingFaults, RingName, Rule, TableFaults, TableRules};
 use fl_flash::{Flash, MemMedia};
 use fl_plan::TableConfig;
 use std::alloc::Global;
@@ -22,6 +22,15 @@ const FAULT: Finding = Finding::Fault {
     rule: Rule::Body,
 };
 
+const CLEAR: RingFaults = RingFaults {
+    head: None,
+    state: None,
+    number: None,
+    body: None,
+    keys: None,
+    rest: None,
+};
+
 /// Says the one of the table that begins at block 0, and the other of the next. There is no memory where it has nothing
 /// to say.
 #[derive(Drop)]
@@ -32,6 +41,8 @@ struct Says {
 
 impl CheckTable for Says {
     ghost finds = { λ config flash finding. Unit {0} };
+
+    ghost rules = { λ config flash rules. Unit {0} };
 
     fn check_table<F: Flash>(
         &mut self,
@@ -47,6 +58,32 @@ impl CheckTable for Says {
         match found {
             Some(finding) => Ok(finding),
             None => Err(CheckFault::NoMemory),
+        }
+    }
+
+    // Where there is a fault, the next page breaks the rule on blank pages too.
+    fn check_rules<F: Flash>(
+        &mut self,
+        alloc: Global,
+        flash: &mut F,
+        config: &TableConfig,
+    ) -> Result<TableRules, CheckFault> {
+        match self.check_table(alloc, flash, config)? {
+            Finding::Sound { rows, pages, voids } => Ok(TableRules::Kept { rows, pages, voids }),
+            Finding::Fault { .. } => Ok(TableRules::Broken(TableFaults {
+                index: CLEAR,
+                rows: RingFaults {
+                    head: None,
+                    state: None,
+                    number: None,
+                    body: Some(13),
+                    keys: None,
+                    rest: Some(14),
+                },
+                var: CLEAR,
+                entry: None,
+                blob: None,
+            })),
         }
     }
 }
@@ -87,6 +124,21 @@ fn lines_come_in_order(rt: HostRuntime) -> Result<(), Fail> {
     let (status, out) = check(rt.alloc(), bytes, Some(FAULT), Some(SOUND), 100)?;
     assert_eq!(rt; status, ToolStatus::Unsound);
     assert_eq!(rt; out.bytes(), "fault t data 13 4\n".as_bytes());
+    Ok(())
+}
+
+#[test]
+fn all_rules_are_told(rt: HostRuntime) -> Result<(), Fail> {
+    let mut media = MemMedia::new(rt.alloc(), image(rt.alloc(), 4096)?, 4096)?;
+    let mut out = MemSink::new(rt.alloc(), 100, Vec::new(rt.alloc()))?;
+    let mut checker = Says {
+        first: Some(FAULT),
+        second: Some(SOUND),
+    };
+    let status = check_all(rt.alloc(), &mut checker, &mut media, &mut out);
+    assert_eq!(rt; status, ToolStatus::Unsound);
+    let text = "fault t data 13 4 body\nfault t data 14 8 rest\nsound s rows 5 pages 2 voids 1\n";
+    assert_eq!(rt; out.bytes(), text.as_bytes());
     Ok(())
 }
 

@@ -50,24 +50,28 @@ fn command(first: &[u8], words: &[&[u8]], room: &mut LineRoom) -> Result<Command
     ensures room { IsOk result → leaves result ≡ false → room.new ≡ [] }
 {
     if is(first, b"device") {
-        device_line(words)
-    } else if is(first, b"table") {
-        table_line(words, room)
-    } else if is(first, b"mount") {
-        bare_line(Command::Mount, words)
-    } else if is(first, b"off") {
-        bare_line(Command::Off, words)
-    } else if is(first, b"cut") {
-        cut_line(words)
-    } else if is(first, b"put") {
-        put_line(words, room)
-    } else if is(first, b"flush") {
-        Ok(Command::Flush {
-            name: only_name(words)?,
-        })
-    } else {
-        reading_command(first, words)
+        return device_line(words);
     }
+    if is(first, b"table") {
+        return table_line(words, room);
+    }
+    if is(first, b"mount") {
+        return bare_line(Command::Mount, words);
+    }
+    if is(first, b"off") {
+        return bare_line(Command::Off, words);
+    }
+    if is(first, b"cut") {
+        return cut_line(words);
+    }
+    if is(first, b"put") {
+        return put_line(words, room);
+    }
+    if is(first, b"flush") {
+        let name = only_name(words)?;
+        return Ok(Command::Flush { name });
+    }
+    reading_command(first, words)
 }
 
 /// The command of a line that reads records, or of another.
@@ -76,21 +80,25 @@ fn reading_command(first: &[u8], words: &[&[u8]]) -> Result<Command, LineFault>
 {
     if is(first, b"get") {
         let (name, key) = name_and_key(words)?;
-        Ok(Command::Get { name, key })
-    } else if is(first, b"blob") {
-        let (name, key) = name_and_key(words)?;
-        Ok(Command::Blob { name, key })
-    } else if is(first, b"scan") {
-        scan_line(words)
-    } else if is(first, b"open") {
-        open_line(words)
-    } else if is(first, b"next") {
-        next_line(words)
-    } else if is(first, b"close") {
-        close_line(words)
-    } else {
-        operator_command(first, words)
+        return Ok(Command::Get { name, key });
     }
+    if is(first, b"blob") {
+        let (name, key) = name_and_key(words)?;
+        return Ok(Command::Blob { name, key });
+    }
+    if is(first, b"scan") {
+        return scan_line(words);
+    }
+    if is(first, b"open") {
+        return open_line(words);
+    }
+    if is(first, b"next") {
+        return next_line(words);
+    }
+    if is(first, b"close") {
+        return close_line(words);
+    }
+    operator_command(first, words)
 }
 
 /// The command of an operator's line, of the counts or of load; or an unknown one.

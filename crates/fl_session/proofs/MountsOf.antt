@@ -227,6 +227,7 @@ module _ (config : Config) (old : Machine) (notes : Notes) (entries now : List E
   by-fault bad (mount.BadKeys page last key) e ends = absurd ends
   by-fault bad (mount.BadIndex end next) e ends = absurd ends
   by-fault bad (mount.BadBlob page next) e ends = absurd ends
+  by-fault bad (mount.BadEntry page count limit) e ends = absurd ends
 
   pub mount-answers : (result : Result (Unit {0}) BadMount) (mounted : Bool) → mounted ≡ is_ok result → TablesMount config.plans old.tables (has_risen f g) old.device result now g → OnOk result (Repairs f g entries) →
       Answers config old command.Mount (SessionStands config now g mounted (without_cursors notes)) f g (text (mount_reply result))

@@ -15,6 +15,7 @@ pub(crate) fn is_config(command: &Command) -> bool
 }
 
 /// The command of the next line, which has this number. None says that the script has ended.
+#[inline(always)]
 pub(crate) fn next_command<S: Source>(
     lines: &mut Lines,
     room: &mut LineRoom,
@@ -36,6 +37,7 @@ pub(crate) fn next_command<S: Source>(
 }
 
 /// The same behind the configuration, where no line may configure.
+#[inline(always)]
 pub(crate) fn next_run<S: Source>(
     lines: &mut Lines,
     room: &mut LineRoom,

@@ -38,6 +38,7 @@ pub(crate) fn form_of(table: &Table) -> RowForm
 }
 
 /// The values of a row.
+#[inline(always)]
 pub(crate) fn values_of(row: &RowRef<'_>, columns: usize) -> ArrayVec<i64, 8>
     requires columns { columns ≡ length (layout_of_row row.now).columns }
     requires few { columns ≤ 8 }
@@ -51,6 +52,7 @@ pub(crate) fn values_of(row: &RowRef<'_>, columns: usize) -> ArrayVec<i64, 8>
 }
 
 /// The line of a row.
+#[inline(always)]
 pub(crate) fn line_of(row: &RowRef<'_>, form: RowForm) -> Reply
     requires columns { form.columns ≡ length (layout_of_row row.now).columns }
     requires few { form.columns ≤ 8 }

@@ -130,13 +130,17 @@ impl<'m, M: Media> Session<'m, M> {
     }
 
     /// The place of the table with this name, or why a command on it isn't executed.
+    #[inline(always)]
     fn find(&self, name: Name) -> Result<usize, Reply>
         ensures { Reaches self.now.tables.entries.items self.now.mounted name result }
     {
         if !self.mounted {
             return Err(Reply::NotMounted);
         }
-        self.tables.find(name).ok_or(Reply::NoTable)
+        match self.tables.find(name) {
+            Some(at) => Ok(at),
+            None => Err(Reply::NoTable),
+        }
     }
 
     /// Puts a record.

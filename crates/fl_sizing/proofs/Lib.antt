@@ -1,5 +1,6 @@
 pub mod Chains
 pub mod Keeping
+pub mod Mounting
 pub mod Planning
 pub mod Reading
 pub mod Rows

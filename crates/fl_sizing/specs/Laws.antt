@@ -1,11 +1,13 @@
 -- Laws on the sizes: what is always kept, and what is enough.
-use Rattle.std.specs.Prelude.{◌≡◌, ℕ, ◌+◌, ◌*◌, ◌≤◌, min, IsTrue, List, [], ◌∷◌, length, replicate, sum}
-use Rattle.fl_model.specs.Record.{Plan, has_index, rows_per_page, entries_per_page}
+use Rattle.std.specs.Prelude.{◌≡◌, ℕ, ◌+◌, ◌*◌, ◌≤◌, min, not, ◌&&◌, IsTrue, IfSome, None, List, [], ◌∷◌, length, replicate, sum, count_by}
+use Rattle.fl_model.specs.Facts.{IsTable}
+use Rattle.fl_model.specs.Limits.{is_listed, numbers_of}
+use Rattle.fl_model.specs.Record.{Plan, has_index, has_var, rows_per_page, entries_per_page}
 use Rattle.fl_model.specs.Ring.{Shape, IsShape, Ring, IsRing, fresh, sealed, erased}
-use Rattle.fl_model.specs.Table.{DataRing, shape_of}
-use Rattle.fl_model.specs.MountLimit.{ring_mount_limit, voids_at_end}
+use Rattle.fl_model.specs.Table.{Table, DataRing, IndexRing, VarRing, shape_of}
+use Rattle.fl_model.specs.MountLimit.{ring_mount_limit, voids_at_end, full_mount_limit}
 use Rattle.fl_sizing.specs.Rings.{least_pages, most_pages, end_reads}
-use Rattle.fl_sizing.specs.Sizes.{rows_kept, index_pages, index_blocks}
+use Rattle.fl_sizing.specs.Sizes.{rows_kept, index_pages, index_blocks, unlisted_pages, full_reads}
 
 -- a ring in which pages with these counts are sealed, one after another; a void page has the count 0
 abbrev pub sealed_all : Shape → List ℕ → Ring → Ring
@@ -40,3 +42,19 @@ abbrev pub FullRingsReadMost : Type 0
 FullRingsReadMost =
     (shape : Shape) (ring : Ring) → IsShape shape → IsRing shape ring → voids_at_end ring.counts ≡ 0 →
     length ring.counts + ring_mount_limit shape ring ≤ most_pages shape + end_reads shape
+
+-- no ring of a table without a log has void pages at its end
+pub record HasNoVoidsAtEnd (table : Table) : Type 0 where
+  pub rows : voids_at_end table.rows.counts ≡ 0
+  pub index : IfSome table.index (λ ring. voids_at_end ring.counts ≡ 0)
+  pub var : IfSome table.var (λ ring. voids_at_end ring.counts ≡ 0)
+  pub log : table.log ≡ None
+
+-- So it is with such a table whose index entries are full, where no more data pages are unlisted than are told: the reads of its mount,
+-- from the table before it and after its repairs, are at most those that are told.
+abbrev pub FullEntriesReadMost : Type 0
+FullEntriesReadMost =
+    (plan : Plan) (before after : Table) → IsTable plan before → IsTable plan after → IsTrue (plan.full_index && has_index plan) →
+    IsShape (shape_of plan DataRing) → IsShape (shape_of plan IndexRing) → HasNoVoidsAtEnd before →
+    count_by (λ number. not (is_listed plan after number)) (numbers_of after) ≤ unlisted_pages plan →
+    full_mount_limit plan before after ≤ full_reads plan

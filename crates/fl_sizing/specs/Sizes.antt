@@ -1,5 +1,5 @@
 -- The sizes of a table, by its plan alone.
-use Rattle.std.specs.Prelude.{ℕ, ◌+◌, ◌*◌, max, Bool, List, sum_by, if◌then◌else◌}
+use Rattle.std.specs.Prelude.{ℕ, ◌+◌, ◌-◌, ◌*◌, min, max, Bool, ◌&&◌, List, sum_by, if◌then◌else◌}
 use Rattle.fl_base.specs.declared.types.Geometry.{Geometry}
 use Rattle.fl_model.specs.Record.{Plan, has_index, has_var, row_len, rows_per_page, entries_per_page, content_per_page, blocks_of}
 use Rattle.fl_model.specs.Table.{DataRing, IndexRing, VarRing, shape_of}
@@ -36,12 +36,29 @@ table_memory plan =
     (3 * plan.data_blocks + 9 * plan.index_blocks + plan.var_blocks) * plan.geometry.block
     + (1 + one_if (has_index plan) + one_if (has_var plan)) * plan.geometry.page
 
--- the reads of a mount of full rings without void pages: the kept pages of data and of the index, and those that find the ends of the rings
+-- how many data pages no index page lists, where both rings are full and only the entries of the last pages aren't in an index page: they
+-- wait, as many as an index page lists at most, or the kept index pages have no room for so many
+abbrev pub unlisted_pages : Plan → ℕ
+unlisted_pages plan =
+    let pages = most_pages (shape_of plan DataRing) in
+    min pages (max (entries_per_page plan) (pages - entries_per_page plan * least_pages (shape_of plan IndexRing)))
+
+-- the data pages that a mount of such rings without void pages reads: all of them, or where index entries are full those that no index
+-- page lists, and the newest
+abbrev pub rows_read : Plan → ℕ
+rows_read plan = if plan.full_index && has_index plan then unlisted_pages plan + 1 else most_pages (shape_of plan DataRing)
+
+-- the reads of a full index, and those of a ring of variable data, whose pages a mount doesn't read
+abbrev pub index_reads : Plan → ℕ
+index_reads plan = if has_index plan then most_pages (shape_of plan IndexRing) + end_reads (shape_of plan IndexRing) else 0
+
+abbrev pub var_reads : Plan → ℕ
+var_reads plan = if has_var plan then end_reads (shape_of plan VarRing) else 0
+
+-- the reads of a mount of full rings without void pages: these data pages, the kept pages of the index, and those that find the ends of
+-- the rings
 abbrev pub full_reads : Plan → ℕ
-full_reads plan =
-    most_pages (shape_of plan DataRing) + end_reads (shape_of plan DataRing)
-    + (if has_index plan then most_pages (shape_of plan IndexRing) + end_reads (shape_of plan IndexRing) else 0)
-    + (if has_var plan then end_reads (shape_of plan VarRing) else 0)
+full_reads plan = rows_read plan + end_reads (shape_of plan DataRing) + index_reads plan + var_reads plan
 
 -- the reads of a mount at most, whatever the pages hold
 abbrev pub most_reads : Plan → ℕ

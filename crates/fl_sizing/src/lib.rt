@@ -14,7 +14,9 @@ mod text;
 mod words;
 
 pub use end::{PlanEnd, PlanStatus};
-pub use laws::{full_rings_read_most, index_is_enough, rings_keep, rows_are_kept};
+pub use laws::{
+    full_entries_read_most, full_rings_read_most, index_is_enough, rings_keep, rows_are_kept,
+};
 pub use plan::plan_tables;
 pub use sizes::TableSizes;
 pub use words::{PlanJob, plan_of};

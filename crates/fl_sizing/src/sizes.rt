@@ -4,7 +4,7 @@ ghost use Rattle.fl_bitmap.specs.Widths.{is_bits};
 ghost use Rattle.fl_model.specs.Record.{rows_per_page};
 ghost use Rattle.fl_plan.specs.Limits.{IsWithinLimits};
 ghost use Rattle.fl_plan.specs.Plan.{Label, plan_of_table};
-ghost use Rattle.fl_sizing.specs.Sizes.{pages_kept, rows_kept, index_pages, index_blocks, blob_bytes, blocks_wanted, table_memory, full_reads, most_reads, sizes_of};
+ghost use Rattle.fl_sizing.specs.Sizes.{pages_kept, rows_kept, index_pages, index_blocks, blob_bytes, blocks_wanted, table_memory, rows_read, index_reads, var_reads, full_reads, most_reads, sizes_of};
 
 use crate::rings::{blocks_for, end_reads, least_pages, most_pages, rounded_up};
 use fl_plan::TableConfig;
@@ -27,7 +27,8 @@ pub struct TableSizes {
     pub blob_bytes: u64,
     /// The bytes of memory that it takes.
     pub memory: u64,
-    /// The reads of a mount of full rings without void pages, and those of any mount at most.
+    /// The reads of a mount of full rings without void pages, where an index lists all data pages but the last ones, and those of
+    /// any mount at most.
     pub full_reads: u64,
     pub most_reads: u64,
 }
@@ -138,22 +139,59 @@ pub(crate) fn memory(config: &TableConfig) -> u64
     blocks * u64::from(config.geometry.block) + rings * u64::from(config.geometry.page)
 }
 
+/// The data pages that a mount of full rings without void pages reads: all of them, or where index entries are full those that no
+/// index page lists, and the newest.
+fn rows_read(config: &TableConfig) -> u64
+    requires { IsWithinLimits config.now }
+    ensures exact { (label : Label) → result ≡ rows_read (plan_of_table label config.now) }
+    ensures few { result ≤ 2 ^ 23 }
+{
+    let per_block = u64::from(config.geometry.block);
+    let pages = most_pages(u64::from(config.rows.blocks), per_block);
+    if !config.full_index {
+        return pages;
+    }
+    let (Some(index), Some(buckets)) = (&config.index, &config.buckets) else {
+        return pages;
+    };
+    let entries = entries_per_page(config.geometry.page, buckets.bits, true);
+    let listed = entries * least_pages(u64::from(index.blocks), per_block);
+    pages.saturating_sub(listed).max(entries).min(pages) + 1
+}
+
+/// The reads of a full index: its kept pages, and those that find its end.
+fn index_reads(config: &TableConfig) -> u64
+    requires { IsWithinLimits config.now }
+    ensures exact { (label : Label) → result ≡ index_reads (plan_of_table label config.now) }
+    ensures few { result ≤ 2 ^ 23 }
+{
+    let Some(place) = &config.index else {
+        return 0;
+    };
+    let (blocks, per_block) = (u64::from(place.blocks), u64::from(config.geometry.block));
+    most_pages(blocks, per_block) + end_reads(blocks, per_block)
+}
+
+/// The reads that find the end of a full ring of variable data.
+fn var_reads(config: &TableConfig) -> u64
+    requires { IsWithinLimits config.now }
+    ensures exact { (label : Label) → result ≡ var_reads (plan_of_table label config.now) }
+    ensures few { result ≤ 2 ^ 16 }
+{
+    let Some(place) = &config.var else {
+        return 0;
+    };
+    end_reads(u64::from(place.blocks), u64::from(config.geometry.block))
+}
+
 /// The reads of a mount of full rings without void pages.
 fn full_reads(config: &TableConfig) -> u64
     requires { IsWithinLimits config.now }
     ensures { (label : Label) → result ≡ full_reads (plan_of_table label config.now) }
 {
-    let per_block = u64::from(config.geometry.block);
     let rows = u64::from(config.rows.blocks);
-    let mut reads = most_pages(rows, per_block) + end_reads(rows, per_block);
-    if config.index.is_some() {
-        let blocks = u64::from(config.index_blocks());
-        reads += most_pages(blocks, per_block) + end_reads(blocks, per_block);
-    }
-    if config.var.is_some() {
-        reads += end_reads(u64::from(config.var_blocks()), per_block);
-    }
-    reads
+    let rows_end = end_reads(rows, u64::from(config.geometry.block));
+    rows_read(config) + rows_end + index_reads(config) + var_reads(config)
 }
 
 /// The reads of any mount at most.

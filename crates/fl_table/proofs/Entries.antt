@@ -56,11 +56,11 @@ first-within : (plan : Plan) (entries : List Entry) → AllByRecursion (FitsPlan
 first-within plan [] h = omega arith
 first-within plan (entry ∷ entries) h = h.0.key
 
-pub first-few : {KNOTS SLOTS : ℕ} (t : Table KNOTS SLOTS) (f : FlashState) (first : ℕ) (plan : Plan) (table : model.Table) → Stands t f first plan table → (n rows : ℕ) → first_key (rows_at table n rows) < 2 ^ 64
-first-few t f first plan table stands n rows =
-    let fit = each-take (FitsPlan plan) rows (drop (sum (take n table.rows.counts)) table.entries) (each-drop (FitsPlan plan) (sum (take n table.rows.counts)) table.entries stands.facts.fit) in
+pub first-few : {KNOTS SLOTS : ℕ} (t : Table KNOTS SLOTS) (first : ℕ) (plan : Plan) (table : model.Table) → IsPlanned t first plan → IsTable plan table → (n rows : ℕ) → first_key (rows_at table n rows) < 2 ^ 64
+first-few t first plan table planned facts n rows =
+    let fit = each-take (FitsPlan plan) rows (drop (sum (take n table.rows.counts)) table.entries) (each-drop (FitsPlan plan) (sum (take n table.rows.counts)) table.entries facts.fit) in
     let key = first-within plan (rows_at table n rows) fit in
-    let few = few-keys t first plan stands.planned in
+    let few = few-keys t first plan planned in
     omega (arith, key, few)
 
 -- ---- the end of blobs
@@ -118,22 +118,24 @@ module _ (plan : Plan) (table : model.Table) (facts : IsTable plan table) where
       let taken = length-take rows (drop (sum (take n table.rows.counts)) table.entries) in
       omega (arith, few, most, taken, size)
 
--- what an entry tells of a page of a table, as it fits its fields, is all of it
+-- all that a full entry tells of a page of a table fits its fields
+pub fields-fit : {KNOTS SLOTS : ℕ} (t : Table KNOTS SLOTS) (first : ℕ) (plan : Plan) (table : model.Table) → IsPlanned t first plan → IsTable plan table → (n rows : ℕ) → slice_get table.rows.counts n ≡ Some rows →
+    full_view (fields_of (full_of (rows_at table n rows))) ≡ full_of (rows_at table n rows)
+fields-fit t first plan table planned facts n rows e =
+    ap (λ k. record { first_key = k; count = length (rows_at table n rows) % 2 ^ 16; blob_end = end_of_blobs (rows_at table n rows) % 2 ^ 32 }) (mod-eq_of_lt (first-few t first plan table planned facts n rows))
+    ∙ (ap (λ k. record { first_key = first_key (rows_at table n rows); count = k; blob_end = end_of_blobs (rows_at table n rows) % 2 ^ 32 }) (mod-eq_of_lt (count-fits plan table facts size n rows e))
+    ∙ ap (λ k. record { first_key = first_key (rows_at table n rows); count = length (rows_at table n rows); blob_end = k }) (mod-eq_of_lt (ends-fit plan table facts n rows e)))
+  where
+    size : plan.geometry.page ≤ 4096
+    size = subst (λ (g : Geometry). g.page ≤ 4096) (sym planned.geometry) t.served.page_greatest
+
+-- so what it tells is right
 pub tells-of : {KNOTS SLOTS : ℕ} (t : Table KNOTS SLOTS) (f : FlashState) (first : ℕ) (plan : Plan) (table : model.Table) → Stands t f first plan table → (n rows : ℕ) → slice_get table.rows.counts n ≡ Some rows →
     (found : Found) → TellsRows plan (rows_at table n rows) found → TellsOf plan (rows_at table n rows) found
 tells-of t f first plan table stands n rows e found tells = record { bitmap = tells.bitmap; full = ap (option_map full_view) tells.full ∙ by_form plan.full_index }
   where
-    size : plan.geometry.page ≤ 4096
-    size = subst (λ (g : Geometry). g.page ≤ 4096) (sym stands.planned.geometry) t.served.page_greatest
-
-    whole : full_view (fields_of (full_of (rows_at table n rows))) ≡ full_of (rows_at table n rows)
-    whole =
-        ap (λ k. record { first_key = k; count = length (rows_at table n rows) % 2 ^ 16; blob_end = end_of_blobs (rows_at table n rows) % 2 ^ 32 }) (mod-eq_of_lt (first-few t f first plan table stands n rows))
-        ∙ (ap (λ k. record { first_key = first_key (rows_at table n rows); count = k; blob_end = end_of_blobs (rows_at table n rows) % 2 ^ 32 }) (mod-eq_of_lt (count-fits plan table stands.facts size n rows e))
-        ∙ ap (λ k. record { first_key = first_key (rows_at table n rows); count = length (rows_at table n rows); blob_end = k }) (mod-eq_of_lt (ends-fit plan table stands.facts n rows e)))
-
     by_form : (full : Bool) → option_map full_view (cond full (Some (fields_of (full_of (rows_at table n rows)))) None) ≡ cond full (Some (full_of (rows_at table n rows))) None
-    by_form true = ap Some whole
+    by_form true = ap Some (fields-fit t first plan table stands.planned stands.facts n rows e)
     by_form false = refl
 
 -- .. as the index shows it

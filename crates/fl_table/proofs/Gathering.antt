@@ -1,5 +1,5 @@
 -- The entries that a mount notes as it reads the pages.
-use Rattle.std.proofs.Common.{◌≡◌, ℕ, ◌+◌, ◌-◌, ◌/◌, ◌%◌, ◌^◌, ◌<◌, ◌≤◌, ◌==◌, Bool, true, false, cond, IsTrue, List, [], length, Option, Some, None, IfSome, refl, sym, ◌∙◌, ap, subst, arith, ◌⊎◌, inl, inr}
+use Rattle.std.proofs.Common.{◌≡◌, ℕ, ◌+◌, ◌-◌, ◌/◌, ◌%◌, ◌^◌, ◌<◌, ◌≤◌, ◌==◌, Bool, true, false, cond, IsTrue, min, max, List, [], length, Option, Some, None, IfSome, refl, sym, ◌∙◌, ap, subst, arith, ◌⊎◌, inl, inr}
 use Rattle.std.proofs.lemmas.Bool.{cases_lt, eqb-true}
 use Rattle.std.proofs.Math.Nat.{mod-lt, mod-eq_of_lt}
 use Rattle.fl_base.specs.declared.types.Geometry.{Geometry}
@@ -23,9 +23,10 @@ use Rattle.fl_mark.specs.declared.page_state.PageState.TheVariants.{Committed}
 use Rattle.fl_model.specs.Layout.{committed, data_body, is_void}
 use Rattle.fl_model.specs.Row.{le, number_of}
 use Rattle.fl_ring.proofs.Found.{committed_state}
-use Rattle.fl_table.specs.Bitmaps.{AreSamePlan, AreIdle, EndAt, HaveRoom, AreNoted, first_to_wait}
+use Rattle.fl_table.specs.Bitmaps.{AreSamePlan, AreIdle, AreWaiting, EndAt, HaveRoom, AreNoted, first_to_wait}
 use Rattle.fl_table.proofs.PageRows.{entries-push}
-use Rattle.fl_table.specs.Reading.{WaitFor, entries_from, IsEntryOf, HaveEntries, GatherUpTo, AreGathered, bitmap_on, full_on, bitmap_where, page_bitmap}
+use Rattle.fl_table.specs.Coming.{WaitBetween}
+use Rattle.fl_table.specs.Reading.{WaitFor, WaitFrom, entries_from, IsEntryOf, HaveEntries, GatherUpTo, AreGathered, bitmap_on, full_on, bitmap_where, page_bitmap}
 use Rattle.fl_table.proofs.States.{committed-end}
 
 -- at first none waits
@@ -118,6 +119,29 @@ pub gather-waits : (layout : RowLayout) (old now : Index) (page : ℕ → List �
 gather-waits layout old now page high first plan table idle at waits entries low within h =
     let here : first_waiting old ≡ first = omega (arith, at, idle) in
     subst (λ k. Waits now k (entries_from plan table k (high - k))) here (h plan table (subst (λ k. Waits old k []) (sym here) waits) entries (omega (arith, low, here)) within)
+
+-- .. whose entries wait then, over any table
+pub waits-from : (layout : RowLayout) (begun now : Option Index) (page : ℕ → List ℕ) (high first : ℕ) → AreIdle begun → EndAt begun first → AreWaiting begun first [] → GatherUpTo layout begun page high now → WaitFrom layout page first high now
+waits-from layout None None page high first idle at waits h = λ plan table entries low within. tt
+waits-from layout None (Some now) page high first idle at waits h = absurd (cc h)
+waits-from layout (Some begun) None page high first idle at waits h = absurd h
+waits-from layout (Some begun) (Some now) page high first idle at waits h = λ plan table entries low within. gather-waits layout begun now page high first plan table idle (at begun refl) waits entries low within h
+
+-- .. and so many
+pub wait-between : (begun now : Option Index) (high first : ℕ) → AreIdle begun → EndAt begun first → AreGathered begun high now → WaitBetween first high now
+wait-between None None high first idle at g = tt
+wait-between None (Some now) high first idle at g = absurd (cc g)
+wait-between (Some begun) None high first idle at g = absurd g
+wait-between (Some begun) (Some now) high first idle at g =
+    let here : first_waiting begun ≡ first = omega (arith, at begun refl, idle) in
+    (omega (arith, g.0, here), omega (arith, g.1, here))
+
+-- the first that waits is the same where the plan is
+pub first-same : (was now : Option Index) (end low high : ℕ) → AreSamePlan was now → first_to_wait now end low high ≡ first_to_wait was end low high
+first-same None None end low high same = refl
+first-same None (Some now) end low high same = absurd same
+first-same (Some was) None end low high same = absurd same
+first-same (Some was) (Some now) end low high same = ap (λ per. high - min (high - max end low) per) (per_same was now same)
 
 -- the bitmap in the header of a data page is that of its rows
 bits_small : (bits b : ℕ) → IsTrue (is_bits bits) → b % 256 ^ (bits / 8) ≡ b → b % 256 ^ 8 ≡ b

@@ -1,5 +1,5 @@
 -- The index of a table, where it has one.
-use Rattle.std.proofs.Common.{◌≡◌, ℕ, ◌+◌, ◌-◌, ◌*◌, ◌^◌, ◌<◌, ◌≤◌, Bool, true, false, cond, nat_le, ◌==◌, is_some, option_map, unwrap_or, Option, Some, None, IfSome, List, [], ◌∷◌, ◌++◌, length, refl, sym, ◌∙◌, ap, subst, arith, IsTrue, length-append}
+use Rattle.std.proofs.Common.{◌≡◌, ℕ, ◌+◌, ◌-◌, ◌*◌, ◌^◌, ◌<◌, ◌≤◌, Bool, true, false, cond, nat_le, nat_lt, ◌==◌, is_some, option_map, unwrap_or, Option, Some, None, IfSome, List, [], ◌∷◌, ◌++◌, length, refl, sym, ◌∙◌, ap, subst, arith, IsTrue, length-append}
 use Rattle.std.proofs.lemmas.Bool.{lt-ltb, ne_eqb}
 use Rattle.std.specs.Option.{ForSome}
 use Rattle.fl_base.specs.declared.types.RingPlace.{RingPlace}
@@ -18,10 +18,10 @@ use Rattle.fl_model.specs.Ring as model
 use Rattle.fl_model.specs.Table.{Table, DataRing, IndexRing, shape_of, pending_entries, after_seal, spent_from}
 use Rattle.fl_model.proofs.Sealed.{sealed-next}
 use Rattle.fl_model.specs.Facts.{is_some_ring}
-use Rattle.fl_ring.specs.Place.{next_of}
+use Rattle.fl_ring.specs.Place.{next_of, oldest_of}
 use Rattle.fl_ring.specs.declared.ring.Ring.{Ring}
 use Rattle.fl_table.specs.Bitmaps as numbers
-use Rattle.fl_table.specs.Bitmaps.{ArePlanned, AreSamePlan, AreSameRing, AreRunning, AreBroken, EndAt, RoomMade, LieOn, Stand, HaveRoom, NumberLeft, AreNoted}
+use Rattle.fl_table.specs.Bitmaps.{AreStillFound, StaysFound, ArePlanned, AreSamePlan, AreSameRing, AreRunning, AreBroken, EndAt, RoomMade, LieOn, Stand, HaveRoom, NumberLeft, AreNoted}
 use Rattle.fl_table.specs.Pages.{bytes_in}
 use Rattle.fl_table.proofs.Moved.{has-index, ring-moved}
 use Rattle.fl_table.proofs.Plain.{IsPlainTable, IsIndexed}
@@ -73,7 +73,7 @@ pub planned-some : (index : Index) (first : ℕ) (plan : Plan) → ArePlanned (S
 planned-some index first plan h = lt-ltb 0 plan.index_blocks (omega (arith, h.blocks, index.some_blocks))
 
 pub planned-none : (first : ℕ) (plan : Plan) → ArePlanned None first plan → has_index plan ≡ false
-planned-none first plan h = rw h refl
+planned-none first plan h = ap (nat_lt 0) h.0
 
 -- it lies where it lay
 pub lies-goes : (bitmaps : Option Index) (f g : FlashState) → Goes f g → LieOn bitmaps f → LieOn bitmaps g
@@ -111,6 +111,31 @@ still-lies (Some old) (Some new) f same still h = record {
   few = h.few;
   ring = λ ring is. h.ring ring (sym still.ring ∙ is);
 }
+
+-- the ring is the one that was found
+pub found-same : (bitmaps : Option Index) → AreStillFound bitmaps bitmaps
+found-same None = tt
+found-same (Some index) = by_form (memory.form_in index).full
+  where
+    by_form : (full : Bool) → StaysFound full index index
+    by_form true = (refl, refl, refl)
+    by_form false = record { ring = refl; firsts = refl }
+
+pub found-then : (a b c : Option Index) → AreStillFound a b → AreSameRing b c → AreStillFound a c
+found-then None None None h k = tt
+found-then None None (Some z) h k = absurd k
+found-then None (Some y) c h k = absurd h
+found-then (Some x) None c h k = absurd h
+found-then (Some x) (Some y) None h k = absurd k
+found-then (Some x) (Some y) (Some z) h k = by_form (memory.form_in x).full h
+  where
+    by_form : (full : Bool) → StaysFound full x y → StaysFound full x z
+    by_form true h = (
+      ap (λ (o : Option Ring). is_some o) k.ring ∙ h.0,
+      ap (λ (o : Option Ring). unwrap_or (option_map (λ ring. oldest_of ring) o) 0) k.ring ∙ h.1,
+      ap (λ (o : Option Ring). unwrap_or (option_map (λ ring. next_of ring) o) 0) k.ring ∙ h.2,
+    )
+    by_form false h = record { ring = k.ring ∙ h.ring; firsts = k.firsts ∙ h.firsts }
 
 pub still-running : (old new : Option Index) → AreSameRing old new → AreRunning old → AreRunning new
 still-running None None same h = λ index e. absurd (none index e)

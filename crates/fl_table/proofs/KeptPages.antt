@@ -1,26 +1,24 @@
 -- What the kept pages of a table read as.
-use Rattle.std.proofs.Common.{◌≡◌, ℕ, zero, suc, ◌+◌, ◌-◌, ◌*◌, ◌^◌, ◌<◌, ◌≤◌, ◌⊎◌, Bool, true, false, cond, ◌==◌, Option, Some, None, IfSome, List, [], ◌∷◌, length, map, take, drop, refl, sym, ◌∙◌, ap, subst, arith, inl, inr}
+use Rattle.std.proofs.Common.{◌≡◌, ℕ, zero, suc, ◌+◌, ◌-◌, ◌*◌, ◌^◌, ◌<◌, ◌≤◌, ◌⊎◌, Bool, true, false, Option, Some, None, IfSome, List, [], ◌∷◌, length, map, take, drop, refl, sym, ◌∙◌, ap, subst, arith, inl, inr}
 use Rattle.std.proofs.Math.Nat.{le-div_iff_mul-le, mul-le-mul_left}
 use Rattle.std.proofs.lemmas.Bool.{cases_lt}
-use Rattle.std.proofs.Math.Seq.{take-add}
-use Rattle.fl_table.specs.BlobEnds.{blobs_end}
-use Rattle.fl_table.proofs.BlobEnds.{AreNumbered, ends-append}
+use Rattle.fl_table.proofs.BlobEnds.{AreNumbered}
 use Rattle.fl_table.proofs.FullEntries.{full-on}
-use Rattle.std.proofs.lemmas.List.{map-append, length-map, length-take-le, length-drop, take_all}
+use Rattle.std.proofs.lemmas.List.{length-map, length-take-le, length-drop, take_all}
 use Rattle.std.proofs.lemmas.List.Sums.{sum_by-cons, sum_by-take-le}
-use Rattle.std.specs.List.{slice_get, sum, sum_by, count_by, AllByRecursion}
+use Rattle.std.specs.List.{slice_get, sum, sum_by, AllByRecursion}
 use Rattle.fl_mark.specs.Mark.{state_of_page}
 use Rattle.fl_mark.specs.declared.page_state.PageState.TheVariants.{Committed, Void}
 use Rattle.fl_mark.proofs.InModel.{model_state}
 use Rattle.fl_model.specs.Record.{Plan, row_layout, row_len, rows_per_page, has_var}
 use Rattle.fl_model.specs.Ring as model
-use Rattle.fl_model.specs.Row.{Row, IsStorable, stored_row}
+use Rattle.fl_model.specs.Row.{IsStorable, stored_row}
 use Rattle.fl_model.specs.Table.{Table, Entry, DataRing, shape_of, written}
 use Rattle.fl_model.specs.Facts.{FitsPlan, BlobFits, is_some_ring}
 use Rattle.fl_model.specs.Layout.{data_body, committed, full_of}
 use Rattle.fl_index.specs.Page.{full_view}
 use Rattle.fl_model.specs.Image.{IsRingImage, HoldsRows, rows_at}
-use Rattle.fl_model.proofs.Lists.{slice_get-some, slice_get-short, slice_get-drop, slice_get-front, each-drop, each-take}
+use Rattle.fl_model.proofs.Lists.{slice_get-short, slice_get-drop, slice_get-front, each-drop, each-take}
 use Rattle.fl_table.proofs.BlobRows.{stored-row, written-numbered}
 use Rattle.fl_table.proofs.Plain.{IsPlainTable}
 use Rattle.fl_page.specs.Page.{IsGoodPage, rows_in}
@@ -31,8 +29,7 @@ use Rattle.fl_schema.specs.Form.{layout_with}
 use Rattle.fl_schema.specs.declared.column.ColumnType.{ColumnType}
 use Rattle.fl_schema.specs.declared.schema.KeyWidth.{KeyWidth}
 use Rattle.fl_table.specs.Pages.{bytes_in}
-use Rattle.fl_table.specs.Reading.{keys_fault, last_in, AreRead, last_after, rows_after, voids_after, ends_after, full_on}
-use Rattle.fl_table.proofs.KeyOrder.{key_before, rising}
+use Rattle.fl_table.specs.Reading.{full_on}
 use Rattle.fl_table.proofs.States.{shape_in, state_of, HaveSize, to-image, committed-end}
 use Rattle.fl_find.specs.Pages.{rows_on, rows_where}
 
@@ -161,59 +158,5 @@ module _ (page : ℕ → List ℕ) (first : ℕ) (plan : Plan) (table : Table) (
   pub full-kept : (i c : ℕ) → slice_get table.rows.counts i ≡ Some c → full_view (full_on (row_layout plan) (page (place (shape_in first plan) (model.oldest table.rows + i)))) ≡ full_of (rows_at table i c)
   full-kept i c e = full-on (row_layout plan) (page (place (shape_in first plan) (model.oldest table.rows + i))) (rows_at table i c) (kept i c e).rows (numbered i c)
 
-  -- the first n of them
-  pub record AreKeptRead (n : ℕ) : Type 0 where
-    pub read : AreRead (row_layout plan) (λ number. page (place (shape_in first plan) number)) (model.oldest table.rows) n
-    pub last : last_after (row_layout plan) (λ number. page (place (shape_in first plan) number)) (model.oldest table.rows) n ≡ key_before table.entries (sum (take n table.rows.counts))
-    pub rows : rows_after (row_layout plan) (λ number. page (place (shape_in first plan) number)) (model.oldest table.rows) n ≡ sum (take n table.rows.counts)
-    pub voids : voids_after (row_layout plan) (λ number. page (place (shape_in first plan) number)) (model.oldest table.rows) n ≡ count_by (λ count. count == 0) (take n table.rows.counts)
-    pub ends : ends_after (row_layout plan) (λ number. page (place (shape_in first plan) number)) (model.oldest table.rows) n ≡ blobs_end 0 (map stored_row (take (sum (take n table.rows.counts)) table.entries))
-
   pub length-kept : (i c : ℕ) → slice_get table.rows.counts i ≡ Some c → length (rows_on (row_layout plan) (page (place (shape_in first plan) (model.oldest table.rows + i)))) ≡ c
   length-kept i c e = ap length (kept i c e).rows ∙ (length-map (rows_at table i c) stored_row ∙ as_many i c e)
-
-  pub kept-read : (n : ℕ) → n ≤ length table.rows.counts → AreKeptRead n
-  kept-read zero le = record {
-    read = tt;
-    last = ap (key_before table.entries) (sym (ap sum (take_none table.rows.counts)));
-    rows = sym (ap sum (take_none table.rows.counts));
-    voids = sym (ap (count_by (λ count. count == 0)) (take_none table.rows.counts));
-    ends = sym (ap (λ (cs : List ℕ). blobs_end 0 (map stored_row (take (sum cs) table.entries))) (take_none table.rows.counts) ∙ ap (λ (es : List Entry). blobs_end 0 (map stored_row es)) (no_entries table.entries));
-  }
-    where
-      take_none : (zs : List ℕ) → take 0 zs ≡ []
-      take_none [] = refl
-      take_none (z ∷ zs) = refl
-
-      no_entries : (es : List Entry) → take 0 es ≡ []
-      no_entries [] = refl
-      no_entries (e ∷ es) = refl
-  kept-read (suc n) le =
-      let h = kept-read n (omega (arith, le)) in
-      let at_n = slice_get-some table.rows.counts n (omega (arith, le)) in
-      let c = at_n.0 in
-      let k = kept n at_n.0 at_n.1 in
-      let up = rising table.entries facts.kept.ascending (model.oldest table.rows + n) (sum (take n table.rows.counts)) (drop (sum (take n table.rows.counts)) table.entries) refl at_n.0 in
-      let more : sum (take (suc n) table.rows.counts) ≡ sum (take n table.rows.counts) + at_n.0 = sum-next (λ (m : ℕ). m) table.rows.counts n at_n.0 at_n.1 in
-      let many = length-kept n at_n.0 at_n.1 in
-      record {
-        read = (
-          h.read,
-          record {
-            good = k.good;
-            keys = ap (λ (l : Option ℕ). keys_fault (model.oldest table.rows + n) l (rows_on (row_layout plan) (page (place (shape_in first plan) (model.oldest table.rows + n))))) h.last
-                ∙ (ap (keys_fault (model.oldest table.rows + n) (key_before table.entries (sum (take n table.rows.counts)))) k.rows ∙ up.0);
-          },
-        );
-        last = ap (λ (l : Option ℕ). last_in l (rows_on (row_layout plan) (page (place (shape_in first plan) (model.oldest table.rows + n))))) h.last
-            ∙ (ap (last_in (key_before table.entries (sum (take n table.rows.counts)))) k.rows ∙ (up.1 ∙ ap (key_before table.entries) (omega (arith, as_many n at_n.0 at_n.1, more))));
-        rows = omega (arith, h.rows, many, more);
-        ends = ap (λ (rows : List Row). blobs_end (ends_after (row_layout plan) (λ number. page (place (shape_in first plan) number)) (model.oldest table.rows) n) rows) k.rows
-            ∙ (ap (λ m. blobs_end m (map stored_row (rows_at table n at_n.0))) h.ends
-            ∙ (sym (ends-append 0 (map stored_row (take (sum (take n table.rows.counts)) table.entries)) (map stored_row (rows_at table n at_n.0)))
-            ∙ (ap (blobs_end 0) (sym (map-append stored_row (take (sum (take n table.rows.counts)) table.entries) (rows_at table n at_n.0)))
-            ∙ (ap (λ (es : List Entry). blobs_end 0 (map stored_row es)) (sym (take-add (sum (take n table.rows.counts)) at_n.0 table.entries))
-            ∙ ap (λ m. blobs_end 0 (map stored_row (take m table.entries))) (sym more)))));
-        voids = ap (λ m. m + cond (length (rows_on (row_layout plan) (page (place (shape_in first plan) (model.oldest table.rows + n)))) == 0) 1 0) h.voids
-            ∙ (ap (λ m. count_by (λ count. count == 0) (take n table.rows.counts) + cond (m == 0) 1 0) many ∙ sym (sum-next (λ (m : ℕ). cond (m == 0) 1 0) table.rows.counts n at_n.0 at_n.1));
-      }

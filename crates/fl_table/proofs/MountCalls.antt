@@ -1,11 +1,11 @@
 -- What the calls of a mount say of its table.
-use Rattle.std.proofs.Common.{◌≡◌, ℕ, ◌-◌, ◌<◌, ◌≤◌, Bool, true, false, Option, List, refl, sym, ◌∙◌, ap, subst, arith, IsTrue, inl, inr}
+use Rattle.std.proofs.Common.{◌≡◌, ℕ, ◌+◌, ◌-◌, ◌<◌, ◌≤◌, Bool, true, false, Option, Some, None, List, refl, sym, ◌∙◌, ap, subst, arith, IsTrue, inl, inr}
 use Rattle.fl_base.specs.Causes.{Rose}
 use Rattle.fl_base.specs.declared.types.Geometry.{Geometry}
 use Rattle.fl_base.specs.declared.types.RingPlace.{RingPlace}
 use Rattle.fl_flash.specs.Flash.{FlashState, Goes, page_at}
 use Rattle.fl_flash.specs.declared.flash.FlashFault.TheVariants.{PowerLost, Media}
-use Rattle.fl_model.specs.Record.{Plan, RowLayout}
+use Rattle.fl_model.specs.Record.{Plan}
 use Rattle.fl_model.specs.Work.{Device}
 use Rattle.fl_ring.specs.Causes as ring_causes
 use Rattle.fl_ring.specs.Causes.{CausedBy}
@@ -28,12 +28,23 @@ use Rattle.fl_table.specs.Pages.{bytes_in, place_in}
 use Rattle.fl_table.proofs.Blobbing.{var-stands}
 use Rattle.fl_table.proofs.Moved.{index-stands}
 use Rattle.fl_table.proofs.SealAnswers.{planned-ring}
-use Rattle.fl_table.specs.Mounting.{ReadsRing, FindsData, HasBadPage, RefusesData}
-use Rattle.fl_table.specs.Reading.{AreRead, AreRefused, last_after, rows_after, voids_after, ends_after, pages_of}
+use Rattle.fl_find.specs.declared.index.LearnedIndex.{LearnedIndex}
+use Rattle.fl_index.specs.declared.index.Index.{Index}
+use Rattle.fl_table.specs.Bitmaps.{room_of}
+use Rattle.fl_table.specs.ByEntries.{Come, facts_on, rows_of, voids_of, end_of, known_after, mount_fault}
+use Rattle.fl_table.specs.Coming.{FirstsKnown, WaitUnlisted, index_pages_of, most_in}
+use Rattle.fl_table.specs.Knowing.{KnowsAll, KnowsBy, KnowsWith}
+use Rattle.fl_table.specs.Mounting.{ReadsRing, FindsData, HasBadPage, RefusesData, RemembersKept, comes_in}
+use Rattle.fl_table.specs.Reading.{pages_of}
 use Rattle.fl_table.specs.declared.counts.Mounted.{Mounted}
+use Rattle.fl_table.specs.declared.known.Known.{Known}
+use Rattle.fl_table.specs.declared.known.Listed.{Listed}
 use Rattle.fl_table.specs.declared.faults.MountFault.{MountFault}
-use Rattle.fl_table.specs.declared.faults.MountFault.TheVariants.{Flash, Ring as OfRing, BadPage, BadKeys, BadIndex, BadBlob}
+use Rattle.fl_table.specs.declared.faults.MountFault.TheVariants.{Flash, Ring as OfRing, BadPage, BadKeys, BadIndex, BadBlob, BadEntry}
 use Rattle.fl_table.specs.declared.table.Table.{Table}
+use Rattle.fl_table.proofs.Comings.{come-as, come-rows}
+use Rattle.fl_table.proofs.Firsts.{firsts-read, kept-firsts}
+use Rattle.fl_table.proofs.Steps.{ends-well}
 
 -- where its ring lies
 pub same-shape : {KNOTS SLOTS : ℕ} (old new : Table KNOTS SLOTS) (f : FlashState) → IsSamePlan old new → f.geometry ≡ old.geometry → shape_at new.place f.geometry ≡ shape_at old.place old.geometry
@@ -62,61 +73,80 @@ module _ {KNOTS SLOTS : ℕ} (old new : Table KNOTS SLOTS) (f mid g : FlashState
   pub outside-stands : OutsideStands (shape_at new.place f.geometry) (page_at f) (page_at mid) → OutsideStands (shape_at old.place old.geometry) (page_at f) (page_at g)
   outside-stands h q out = same_page mid g n q reads ∙ subst (λ (r : Shape). OutsideStands r (page_at f) (page_at mid)) (same-shape old new f same geometry) h q out
 
-  module _ (ring : Ring) (least : ℕ) (numbers : HasNumbers f (shape_at new.place f.geometry) least ring mid) (within : least ≤ next_of ring) (all : n ≡ next_of ring - oldest_of ring) where
-    pub reads-ring : ReadsRing old f least ring g
+  module _ (bitmaps : Option Index) (ring : Ring) (least : ℕ) (numbers : HasNumbers f (shape_at new.place f.geometry) least ring mid) (lies : shape_of ring ≡ shape_at new.place f.geometry) (within : least ≤ next_of ring) (all : n ≡ index_pages_of bitmaps + (next_of ring - oldest_of ring)) where
+    pub reads-ring : ReadsRing old bitmaps f least ring g
     reads-ring = record {
       repaired = mid;
       numbers = subst (λ (r : Shape). HasNumbers f r least ring mid) (same-shape old new f same geometry) numbers;
+      shape = lies ∙ same-shape old new f same geometry;
       within = within;
       reads = subst (λ (k : ℕ). OnlyReads mid k g) all reads;
     }
 
-    now_read : (P : (ℕ → List ℕ) → Type 0) → P (pages_of ring mid) → P (pages_of ring g)
-    now_read P h = subst (λ (page : ℕ → List ℕ). P (λ number. page (place (shape_of ring) number))) (sym (same_pages mid g n reads)) h
+    -- the mount comes to the same pages after the reads as before them
+    same-come : comes_in old bitmaps ring g ≡ comes_in old bitmaps ring mid
+    same-come = come-as (layout_of old.schema) (most_in old.geometry.page (layout_of old.schema)) bitmaps ring mid g (same_pages mid g n reads)
 
-    refused-page : (fault : MountFault) → AreRefused (layout_of new.schema) (pages_of ring mid) (oldest_of ring) (next_of ring - oldest_of ring) fault → HasBadPage old f least fault g
-    refused-page fault h = record {
-      ring = ring;
-      ring_reads = reads-ring;
-      refused = subst (λ (l : RowLayout). AreRefused l (pages_of ring g) (oldest_of ring) (next_of ring - oldest_of ring) fault) same.layout
-          (now_read (λ page. AreRefused (layout_of new.schema) page (oldest_of ring) (next_of ring - oldest_of ring) fault) h);
-    }
+    -- .. and the same entries wait
+    pub same-waits : (end next : ℕ) (now : Option Index) → WaitUnlisted (comes_in old bitmaps ring mid) (pages_of ring mid) bitmaps end next now → WaitUnlisted (comes_in old bitmaps ring g) (pages_of ring g) bitmaps end next now
+    same-waits end next now h =
+        subst (λ (page : ℕ → List ℕ). WaitUnlisted (comes_in old bitmaps ring g) page bitmaps end next now) (sym (ap (λ (page : ℕ → List ℕ). λ (number : ℕ). page (place (shape_of ring) number)) (same_pages mid g n reads)))
+        (subst (λ (t : Come). WaitUnlisted t (pages_of ring mid) bitmaps end next now) (sym same-come) h)
 
-    pub refuses-page : (e : MountFault) → is_of_pages e ≡ true → IsTrue mid.media.tells → IfFlash (λ fault. ReadFails mid fault g) e → IfPage (λ fault. IsTrue mid.media.tells → AreRefused (layout_of new.schema) (pages_of ring mid) (oldest_of ring) (next_of ring - oldest_of ring) fault) e → RefusesData old f least e g
+    refused-page : (fault : MountFault) → mount_fault (comes_in old bitmaps ring mid) ≡ Some fault → HasBadPage old bitmaps f least fault g
+    refused-page fault h = record { ring = ring; ring_reads = reads-ring; refused = ap mount_fault same-come ∙ h }
+
+    pub refuses-page : (e : MountFault) → is_of_pages e ≡ true → IfFlash (λ fault. ReadFails mid fault g) e → IfPage (λ fault. mount_fault (comes_in old bitmaps ring mid) ≡ Some fault) e → RefusesData old bitmaps f least e g
     unfolding reads-ring
-    refuses-page (Flash fault) only told fails h = inr (record { ring = ring; ring_reads = reads-ring; fails = fails })
-    refuses-page (OfRing fault) only told fails h = absurd (cc only)
-    refuses-page (BadPage bad) only told fails h = refused-page (BadPage bad) (h told)
-    refuses-page (BadKeys number last first) only told fails h = refused-page (BadKeys number last first) (h told)
-    refuses-page (BadIndex end next) only told fails h = absurd (cc only)
-    refuses-page (BadBlob number next) only told fails h = absurd (cc only)
+    refuses-page (Flash fault) only fails h = inr (record { ring = ring; ring_reads = reads-ring; fails = fails })
+    refuses-page (OfRing fault) only fails h = absurd (cc only)
+    refuses-page (BadPage bad) only fails h = refused-page (BadPage bad) h
+    refuses-page (BadKeys number last first) only fails h = refused-page (BadKeys number last first) h
+    refuses-page (BadIndex end next) only fails h = absurd (cc only)
+    refuses-page (BadBlob number next) only fails h = absurd (cc only)
+    refuses-page (BadEntry number count limit) only fails h = refused-page (BadEntry number count limit) h
 
-    pub finds-data : (mounted : Mounted) (last : Option ℕ) (end : ℕ) → AreRead (layout_of new.schema) (pages_of ring mid) (oldest_of ring) (next_of ring - oldest_of ring) →
-        mounted ≡ record {
-          rows = rows_after (layout_of new.schema) (pages_of ring mid) (oldest_of ring) (next_of ring - oldest_of ring);
-          pages = next_of ring - oldest_of ring;
-          voids = voids_after (layout_of new.schema) (pages_of ring mid) (oldest_of ring) (next_of ring - oldest_of ring);
-        } → last ≡ last_after (layout_of new.schema) (pages_of ring mid) (oldest_of ring) (next_of ring - oldest_of ring) →
-        end ≡ ends_after (layout_of new.schema) (pages_of ring mid) (oldest_of ring) (next_of ring - oldest_of ring) → FindsData old f least ring mounted last end g
-    finds-data mounted last end read is last_is end_is =
+    -- what is known of all data pages is what the mount answers
+    pub finds-data : (error : ℕ) (known : Known) (counts : List ℕ) (index : LearnedIndex KNOTS SLOTS) → known.newest ≡ None →
+        KnowsWith error (comes_in old bitmaps ring mid) (comes_in old bitmaps ring mid).index_pages (comes_in old bitmaps ring mid).pages known counts index →
+        FindsData old bitmaps f least ring (record { rows = known.rows; pages = next_of ring - oldest_of ring; voids = known.voids }) known.last known.blob_end g
+    finds-data error known counts index none h =
+        let t = comes_in old bitmaps ring g in
+        let all : KnowsAll t t.index_pages t.pages known counts =
+        subst (λ (t : Come). KnowsAll t t.index_pages t.pages known counts) (sym same-come)
+        (subst (λ (o : Option Listed). KnowsBy o (comes_in old bitmaps ring mid) (comes_in old bitmaps ring mid).index_pages (comes_in old bitmaps ring mid).pages known counts) none h.knows) in
+        let is = come-rows (layout_of old.schema) (most_in old.geometry.page (layout_of old.schema)) bitmaps ring g in
+        let n = next_of ring - oldest_of ring in
         record {
           ring_reads = reads-ring;
-          read = subst (λ (l : RowLayout). AreRead l (pages_of ring g) (oldest_of ring) (next_of ring - oldest_of ring)) same.layout (now_read (λ page. AreRead (layout_of new.schema) page (oldest_of ring) (next_of ring - oldest_of ring)) read);
-          mounted_is = subst (λ (l : RowLayout). mounted ≡ record { rows = rows_after l (pages_of ring g) (oldest_of ring) (next_of ring - oldest_of ring); pages = next_of ring - oldest_of ring; voids = voids_after l (pages_of ring g) (oldest_of ring) (next_of ring - oldest_of ring) }) same.layout
-              (now_read (λ page. mounted ≡ record { rows = rows_after (layout_of new.schema) page (oldest_of ring) (next_of ring - oldest_of ring); pages = next_of ring - oldest_of ring; voids = voids_after (layout_of new.schema) page (oldest_of ring) (next_of ring - oldest_of ring) }) is);
-          last_is = subst (λ (l : RowLayout). last ≡ last_after l (pages_of ring g) (oldest_of ring) (next_of ring - oldest_of ring)) same.layout
-              (now_read (λ page. last ≡ last_after (layout_of new.schema) page (oldest_of ring) (next_of ring - oldest_of ring)) last_is);
-          end_is = subst (λ (l : RowLayout). end ≡ ends_after l (pages_of ring g) (oldest_of ring) (next_of ring - oldest_of ring)) same.layout
-              (now_read (λ page. end ≡ ends_after (layout_of new.schema) page (oldest_of ring) (next_of ring - oldest_of ring)) end_is);
+          fine = ends-well t known counts all;
+          mounted_is = mounted_as (rows_of (facts_on t) (oldest_of ring) n) (voids_of (facts_on t) (oldest_of ring) n) (all.counted.rows ∙ at (rows_of (facts_on t)) is.oldest is.pages) (all.voids ∙ at (voids_of (facts_on t)) is.oldest is.pages);
+          last_is = all.counted.last ∙ ap (known_after t) is.pages;
+          end_is = all.blob_end ∙ at (end_of (facts_on t)) is.oldest is.pages;
         }
+      where
+        at : {o p : ℕ} (total : ℕ → ℕ → ℕ) → o ≡ oldest_of ring → p ≡ next_of ring - oldest_of ring → total o p ≡ total (oldest_of ring) (next_of ring - oldest_of ring)
+        at {o = o} {p = p} total e k = ap (λ o. total o p) e ∙ ap (total (oldest_of ring)) k
+
+        mounted_as : (rows voids : ℕ) → known.rows ≡ rows → known.voids ≡ voids →
+            ◌≡◌ {A = Mounted} (record { rows = known.rows; pages = next_of ring - oldest_of ring; voids = known.voids }) (record { rows = rows; pages = next_of ring - oldest_of ring; voids = voids })
+        mounted_as rows voids e k = rw (e, k) refl
+
+    -- .. and the first data page of each kept index page is remembered
+    pub finds-firsts : (error : ℕ) (known : Known) (counts : List ℕ) (index : LearnedIndex KNOTS SLOTS) (now : Option Index) → known.newest ≡ None →
+        KnowsWith error (comes_in old bitmaps ring mid) (comes_in old bitmaps ring mid).index_pages (comes_in old bitmaps ring mid).pages known counts index →
+        index_pages_of bitmaps ≤ room_of bitmaps → FirstsKnown bitmaps mid now → RemembersKept bitmaps g now
+    finds-firsts error known counts index now none h few firsts =
+        firsts-read bitmaps now mid g n reads
+        (kept-firsts (layout_of old.schema) (most_in old.geometry.page (layout_of old.schema)) bitmaps now ring mid (ap mount_fault (sym same-come) ∙ (finds-data error known counts index none h).fine) few firsts)
 
 -- the ring was refused
-pub refuses-ring : {KNOTS SLOTS : ℕ} (old new : Table KNOTS SLOTS) (f g : FlashState) (least : ℕ) (e : RingFault) → IsSamePlan old new → f.geometry ≡ old.geometry → FoundFault f (shape_at new.place f.geometry) least e → FailsAs f (shape_at new.place f.geometry) least e g →
-    RefusesData old f least (of_ring e) g
-refuses-ring old new f g least e same geometry found fails =
+pub refuses-ring : {KNOTS SLOTS : ℕ} (old new : Table KNOTS SLOTS) (bitmaps : Option Index) (f g : FlashState) (least : ℕ) (e : RingFault) → IsSamePlan old new → f.geometry ≡ old.geometry → FoundFault f (shape_at new.place f.geometry) least e → FailsAs f (shape_at new.place f.geometry) least e g →
+    RefusesData old bitmaps f least (of_ring e) g
+refuses-ring old new bitmaps f g least e same geometry found fails =
     by_fault e (subst (λ (r : Shape). FoundFault f r least e) (same-shape old new f same geometry) found) (subst (λ (r : Shape). FailsAs f r least e g) (same-shape old new f same geometry) fails)
   where
-    by_fault : (e : RingFault) → FoundFault f (shape_at old.place old.geometry) least e → FailsAs f (shape_at old.place old.geometry) least e g → RefusesData old f least (of_ring e) g
+    by_fault : (e : RingFault) → FoundFault f (shape_at old.place old.geometry) least e → FailsAs f (shape_at old.place old.geometry) least e g → RefusesData old bitmaps f least (of_ring e) g
     by_fault (ring.Flash fault) found fails = inl fails
     by_fault (ring.BadHead heads) found fails = record { found = found; reads = fails }
     by_fault (ring.BadGap page) found fails = record { found = found; reads = fails }
@@ -124,9 +154,9 @@ refuses-ring old new f g least e same geometry found fails =
     by_fault (ring.NoNumber least) found fails = record { found = found; reads = fails }
 
 -- the ring was found, and the index ends behind it
-pub refuses-end : {KNOTS SLOTS : ℕ} (old new : Table KNOTS SLOTS) (f g : FlashState) (least next : ℕ) (ring : Ring) → IsSamePlan old new → f.geometry ≡ old.geometry → HasNumbers f (shape_at new.place f.geometry) least ring g → next ≡ next_of ring → next < least →
-    RefusesData old f least (BadIndex least next) g
-refuses-end old new f g least next ring same geometry numbers is beyond = record {
+pub refuses-end : {KNOTS SLOTS : ℕ} (old new : Table KNOTS SLOTS) (bitmaps : Option Index) (f g : FlashState) (least next : ℕ) (ring : Ring) → IsSamePlan old new → f.geometry ≡ old.geometry → HasNumbers f (shape_at new.place f.geometry) least ring g → next ≡ next_of ring → next < least →
+    RefusesData old bitmaps f least (BadIndex least next) g
+refuses-end old new bitmaps f g least next ring same geometry numbers is beyond = record {
   ring = ring;
   numbers = subst (λ (r : Shape). HasNumbers f r least ring g) (same-shape old new f same geometry) numbers;
   end_is = refl;
@@ -154,3 +184,4 @@ pages-cause old mid new goes on (BadPage bad) only fails = tt
 pages-cause old mid new goes on (BadKeys number last first) only fails = tt
 pages-cause old mid new goes on (BadIndex end next) only fails = tt
 pages-cause old mid new goes on (BadBlob number next) only fails = tt
+pages-cause old mid new goes on (BadEntry number count limit) only fails = tt

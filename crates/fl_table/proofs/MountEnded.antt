@@ -9,7 +9,7 @@ use Rattle.fl_flash.specs.Places.{extent}
 use Rattle.fl_flash.specs.declared.armed.Armed.{Armed}
 use Rattle.fl_flash.specs.declared.flash.FlashFault.{FlashFault}
 use Rattle.fl_flash.specs.declared.flash.FlashFault.TheVariants.{PowerLost, Media}
-use Rattle.fl_model.specs.Record.{Plan, RowLayout, row_layout, row_len, layout_len, has_index, entries_per_page}
+use Rattle.fl_model.specs.Record.{Plan, RowLayout, has_index, entries_per_page}
 use Rattle.fl_model.specs.Ring as model
 use Rattle.fl_model.specs.Row.{stored_row}
 use Rattle.fl_model.specs.Table.{Table, Entry, DataRing, IndexRing, VarRing, shape_of, pending_entries, lose, end_of_blobs}
@@ -19,7 +19,7 @@ use Rattle.fl_model.specs.Mount.{Of, renumber, ready, index_end, blob_end, waiti
 use Rattle.fl_model.specs.Facts.{IsTable}
 use Rattle.fl_model.specs.Work.{Device, PartProgress}
 use Rattle.fl_model.specs.Within.{TableMounts, TableStopped, TableUnread}
-use Rattle.fl_model.proofs.Lists.{slice_get-short, slice_get-some}
+use Rattle.fl_model.proofs.Lists.{slice_get-some}
 use Rattle.fl_table.proofs.BlobTables.{HoldsVar}
 use Rattle.fl_table.proofs.Blobbing.{var-as, var-same}
 use Rattle.fl_table.proofs.MountCalls.{OthersStill}
@@ -40,7 +40,8 @@ use Rattle.fl_ring.specs.declared.fault.RingFault.{RingFault}
 use Rattle.fl_ring.specs.declared.fault.RingFault.TheVariants as ring
 use Rattle.fl_ring.specs.declared.ring.Ring.{Ring}
 use Rattle.fl_ring.proofs.Founds.{same_pages}
-use Rattle.fl_schema.specs.Schema.{layout_of, types_of}
+use Rattle.fl_schema.specs.Schema.{layout_of}
+use Rattle.fl_table.specs.ByEntries.{Come, end_before, mount_fault}
 use Rattle.fl_table.specs.Causes.{of_ring, IfFlash, IfPage, is_of_pages}
 use Rattle.fl_table.specs.Memory.{IsPlanned, HoldsInMemory}
 use Rattle.fl_table.specs.Outcomes.{FaultEnds, MountsBadly, DataEnds, mounted_of}
@@ -51,28 +52,31 @@ use Rattle.fl_index.specs.Memory as memory
 use Rattle.fl_index.specs.Page.{full_view}
 use Rattle.fl_index.specs.Standing.{Waits}
 use Rattle.fl_index.proofs.Lists.{end_after}
-use Rattle.fl_index.proofs.Memories as memories
 use Rattle.fl_index.proofs.Sealings.{planned-bits, planned-page}
 use Rattle.fl_model.specs.Image.{rows_at, IsRingImage, HoldsRows}
-use Rattle.fl_table.specs.Bitmaps.{ArePlanned, AreSamePlan, AreSameRing, AreIdle, AreWaiting, EndAt, Stand, StandForRing, first_to_wait}
-use Rattle.fl_table.proofs.Gathering.{gather-waits, page-bitmap, void-bitmap}
-use Rattle.fl_table.proofs.Indexing.{planned-none, planned-some}
+use Rattle.fl_table.specs.Bitmaps.{AreSamePlan, Stand, StandForRing, first_to_wait}
+use Rattle.fl_table.specs.Coming.{WaitUnlisted}
+use Rattle.fl_table.proofs.Gathering.{first-same, page-bitmap, void-bitmap}
+use Rattle.fl_table.proofs.Indexing.{planned-none, planned-some, still-planned}
 use Rattle.fl_table.specs.Pages.{Rests, bytes_in}
-use Rattle.fl_find.specs.Index.{IndexOf}
-use Rattle.fl_table.specs.Reading.{AreRefused, AreNoted, last_after, rows_after, voids_after, ends_after, pages_of, points_after, HaveEntries, GatherUpTo, entries_from, bitmap_on, full_on}
+use Rattle.fl_find.specs.declared.index.LearnedIndex.{LearnedIndex}
+use Rattle.fl_table.specs.Reading.{pages_of, HaveEntries, entries_from, bitmap_on, full_on}
 use Rattle.fl_table.specs.declared.counts.Mounted.{Mounted}
+use Rattle.fl_table.specs.declared.known.Known.{Known}
 use Rattle.fl_table.specs.declared.faults.MountFault.{MountFault}
 use Rattle.fl_table.specs.declared.faults.MountFault.TheVariants as mount
 use Rattle.fl_table.specs.declared.table.Table as code
 use Rattle.fl_table.proofs.Holding.{plain-on, plain-rests}
 use Rattle.fl_table.proofs.Lifted.{TableAnswers}
-use Rattle.fl_table.proofs.Memories.{few-kept}
 use Rattle.fl_table.proofs.MountGood.{ring-renumbered, numbered-facts, numbered-idle, good-ring}
 use Rattle.fl_table.proofs.MountLifted.{RowsMount, mount-lifts, mount-fails}
-use Rattle.fl_table.proofs.MountRead.{HoldRows, hold-rows, not-refused}
+use Rattle.fl_table.proofs.MountComes.{pages-hold}
 use Rattle.fl_table.proofs.Repaired.{IsIdle, IsRepaired, idle-lost, lost-idle}
 use Rattle.fl_table.proofs.SealAnswers.{planned-shape, planned-large, planned-few, lies-size, counts-room}
 use Rattle.fl_table.proofs.Sealings.{fault-ends}
+use Rattle.fl_table.proofs.Standing.{IsOf}
+use Rattle.fl_table.proofs.StandingKeys.{mount-fine}
+use Rattle.fl_table.proofs.StandingKnown.{KnowsTable}
 use Rattle.fl_table.proofs.States.{shape_in, state_of, state-oldest, HaveSize, to-image}
 
 -- what the mount of the data ring is told of its table
@@ -196,6 +200,9 @@ module _ (first : ℕ) (plan : Plan) (table : Table) (rose : Bool) (device : Dev
     on_now : OnRing (shape_in first plan) (page_at new) (state_of plan (lose l.now.state))
     on_now = subst (λ (page : ℕ → List ℕ). OnRing (shape_in first plan) page (state_of plan (lose l.now.state))) (sym (same_pages mid new n reads)) l.on
 
+    mid_sizes : HaveSize first plan (page_at mid)
+    mid_sizes = subst (λ (page : ℕ → List ℕ). HaveSize first plan page) (same_pages mid new n reads) sizes
+
     pub same_device : SameDevice new l.now.device
     same_device = record {
       armed = subst (λ (a : Option Armed). ArmsAs l.now.device.armed a) (sym reads.armed) l.counts.armed;
@@ -220,32 +227,25 @@ module _ (first : ℕ) (plan : Plan) (table : Table) (rose : Bool) (device : Dev
           rests = subst (λ (x : Table). Rests new first plan x) (sym u.3) rests_now;
         }
 
-    -- the pages that the ring reads hold the table's rows
-    pub reads-hold : {KNOTS SLOTS : ℕ} (t : code.Table KNOTS SLOTS) → IsPlanned t first plan → place.shape_of ring ≡ shape_in first plan → HoldRows l.now.state (layout_of t.schema) (pages_of ring mid) (oldest_of ring) (next_of ring - oldest_of ring)
-    reads-hold t planned is =
-        let st = l.now.state in
-        let on : OnRing (shape_in first plan) (page_at mid) (state_of plan l.now.state) = subst (λ (x : Table). OnRing (shape_in first plan) (page_at mid) (state_of plan x)) (sym (idle-lost l.now.state l.repaired.idle)) l.on in
-        let old : oldest_of ring ≡ model.oldest st.rows = l.stands.oldest ∙ state-oldest plan (lose l.now.state) in
-        let many : next_of ring - oldest_of ring ≡ length st.rows.counts = omega (arith, l.stands.next, old, l.facts.rows.not_negative) in
-        let mid_sizes : HaveSize first plan (page_at mid) = subst (λ (page : ℕ → List ℕ). HaveSize first plan page) (same_pages mid new n reads) sizes in
-        let size : t.geometry.page ≡ plan.geometry.page = ap (λ g. g.page) (sym planned.geometry) in
-        let len : row_len plan ≡ layout_len (layout_of t.schema) = ap (λ (x : RowLayout). layout_len x) planned.layout in
-        let h = hold-rows (page_at mid) first plan st t.schema.key (types_of t.schema) t.schema.blobs (sym planned.layout) limited l.facts l.repaired.idle.pending large
-        (omega (arith, len, size, t.room_for_row)) (omega (arith, len, t.some_row)) (omega (arith, size, t.served.page_greatest)) mid_sizes on in
-        subst (λ (x : RowLayout). HoldRows l.now.state x (pages_of ring mid) (oldest_of ring) (next_of ring - oldest_of ring)) planned.layout
-        (subst (λ (r : Shape). HoldRows l.now.state (row_layout plan) (λ number. page_at mid (place_at r number)) (oldest_of ring) (next_of ring - oldest_of ring)) (sym is)
-        (subst (λ (k : ℕ). HoldRows l.now.state (row_layout plan) (λ number. page_at mid (place_at (shape_in first plan) number)) k (next_of ring - oldest_of ring)) (sym old)
-        (subst (λ (k : ℕ). HoldRows l.now.state (row_layout plan) (λ number. page_at mid (place_at (shape_in first plan) number)) (model.oldest l.now.state.rows) k) (sym many) h)))
-
     -- no page is refused
-    pub reads-end : {KNOTS SLOTS : ℕ} (t t' : code.Table KNOTS SLOTS) (e : MountFault) → IsPlanned t first plan → place.shape_of ring ≡ shape_in first plan → (Rose mid.media.faults new.media.faults → IsTrue rose) → is_of_pages e ≡ true → IfFlash (λ fault. ReadFails mid fault new) e →
-        IsTrue mid.media.tells → IfPage (λ fault. IsTrue mid.media.tells → AreRefused (layout_of t.schema) (pages_of ring mid) (oldest_of ring) (next_of ring - oldest_of ring) fault) e → DataEnds first plan table rose device (Err e) t' new
-    reads-end t t' (mount.Flash fault) planned is risen only fails told refused = reads-fail fault fails risen
-    reads-end t t' (mount.BadPage bad) planned is risen only fails told refused = absurd (not-refused _ _ _ _ (mount.BadPage bad) (reads-hold t planned is).read (refused told))
-    reads-end t t' (mount.BadKeys page last first_key) planned is risen only fails told refused = absurd (not-refused _ _ _ _ (mount.BadKeys page last first_key) (reads-hold t planned is).read (refused told))
-    reads-end t t' (mount.Ring fault) planned is risen only fails told refused = absurd (cc only)
-    reads-end t t' (mount.BadIndex end next) planned is risen only fails told refused = absurd (cc only)
-    reads-end t t' (mount.BadBlob page next) planned is risen only fails told refused = absurd (cc only)
+    pub reads-end : {KNOTS SLOTS : ℕ} (t : code.Table KNOTS SLOTS) (e : MountFault) (c : Come) → IsOf c l.now.state → (Rose mid.media.faults new.media.faults → IsTrue rose) → is_of_pages e ≡ true → IfFlash (λ fault. ReadFails mid fault new) e →
+        IfPage (λ fault. mount_fault c ≡ Some fault) e → DataEnds first plan table rose device (Err e) t new
+    reads-end t e c is risen only fails refused = by_fault e only fails refused
+      where
+        fine : (fault : MountFault) → mount_fault c ≡ Some fault → ⊥
+        fine fault h = none (sym (mount-fine c l.now.state is) ∙ h)
+          where
+            none : ◌≡◌ {A = Option MountFault} None (Some fault) → ⊥
+            none k = cc
+
+        by_fault : (e : MountFault) → is_of_pages e ≡ true → IfFlash (λ fault. ReadFails mid fault new) e → IfPage (λ fault. mount_fault c ≡ Some fault) e → DataEnds first plan table rose device (Err e) t new
+        by_fault (mount.Flash fault) only fails refused = reads-fail fault fails risen
+        by_fault (mount.BadPage bad) only fails refused = fine (mount.BadPage bad) refused
+        by_fault (mount.BadKeys page last first_key) only fails refused = fine (mount.BadKeys page last first_key) refused
+        by_fault (mount.BadEntry page count limit) only fails refused = fine (mount.BadEntry page count limit) refused
+        by_fault (mount.Ring fault) only fails refused = absurd (cc only)
+        by_fault (mount.BadIndex end next) only fails refused = absurd (cc only)
+        by_fault (mount.BadBlob page next) only fails refused = absurd (cc only)
 
     nothing_pending : pending_entries (ready plan l.now.state) ≡ []
     nothing_pending = ap (λ k. drop (length l.now.state.entries - k) l.now.state.entries) l.repaired.idle.pending ∙ gone l.now.state.entries
@@ -297,57 +297,39 @@ module _ (first : ℕ) (plan : Plan) (table : Table) (rose : Bool) (device : Dev
     pub ready_facts : IsTable plan (ready plan l.now.state)
     ready_facts = table-facts plan (ready plan l.now.state) ready_plain
 
+    old_is : oldest_of ring ≡ model.oldest l.now.state.rows
+    old_is = l.stands.oldest ∙ state-oldest plan (lose l.now.state)
+
     -- what the table holds in memory then
-    pub started-memory : {KNOTS SLOTS : ℕ} (t : code.Table KNOTS SLOTS) → IsPlanned t first plan → place.shape_of ring ≡ shape_in first plan → ((layout : RowLayout) → Gathers layout [] t.writer) → t.bitmap ≡ 0 → t.blob_end ≡ 0 →
-        t.last_key ≡ last_after (layout_of t.schema) (pages_of ring mid) (oldest_of ring) (next_of ring - oldest_of ring) →
-        (next_of ring - oldest_of ring ≤ length t.counts.items → AreNoted (layout_of t.schema) (pages_of ring mid) (oldest_of ring) (next_of ring - oldest_of ring) t.counts.items) →
-        IndexOf plan.error (points_after (layout_of t.schema) (pages_of ring mid) (oldest_of ring) (next_of ring - oldest_of ring)) t.index →
-        t.voids ≡ voids_after (layout_of t.schema) (pages_of ring mid) (oldest_of ring) (next_of ring - oldest_of ring) → HoldsInMemory t ring plan (ready plan l.now.state)
-    started-memory t planned is empty bitmap ends last noted index voids =
-        let st = l.now.state in
-        let h = reads-hold t planned is in
-        let old : oldest_of ring ≡ model.oldest st.rows = l.stands.oldest ∙ state-oldest plan (lose l.now.state) in
-        let many : next_of ring - oldest_of ring ≡ length st.rows.counts = omega (arith, l.stands.next, old, l.facts.rows.not_negative) in
+    pub started-memory : {KNOTS SLOTS : ℕ} (t : code.Table KNOTS SLOTS) (c : Come) (known : Known) → IsPlanned t first plan → c.oldest ≡ oldest_of ring → ((layout : RowLayout) → Gathers layout [] t.writer) → t.bitmap ≡ 0 → t.blob_end ≡ 0 →
+        t.last_key ≡ known.last → t.voids ≡ known.voids → KnowsTable plan.error c l.now.state known t.counts.items t.index → HoldsInMemory t ring plan (ready plan l.now.state)
+    started-memory t c known planned begin empty bitmap ends last voids knows =
         let room = counts-room t first plan planned in
-        let fits = few-kept plan st shape l.facts.rows in
-        let are = noted (omega (arith, many, fits, room)) in
         record {
           next = l.stands.next;
-          oldest = old;
+          oldest = old_is;
           gathers = subst (λ (es : List Entry). Gathers (layout_of t.schema) (map stored_row es) t.writer) (sym nothing_pending) (empty (layout_of t.schema));
           bitmap = bitmap ∙ sym (ap (bitmap_of plan) nothing_pending ∙ no_values (plan.bits == 0));
           blob_end = ends ∙ sym (ap end_of_blobs nothing_pending);
-          last = last ∙ h.last;
-          counts = λ i c e.
-              ap (λ (k : ℕ). get_or t.counts.items (k % (plan.data_blocks * plan.geometry.block)) 0) (let s : model.oldest st.rows + i ≡ oldest_of ring + i = omega (arith, old) in s)
-              ∙ (ap (λ (k : ℕ). get_or t.counts.items ((oldest_of ring + i) % k) 0) (sym room)
-              ∙ (are i (omega (arith, many, slice_get-short st.rows.counts i c e)) ∙ h.each i c e));
-          voids = voids ∙ h.voids;
-          index = subst (λ (points : List (ℕ × ℕ)). IndexOf plan.error points t.index) h.points index;
+          last = last ∙ knows.last;
+          counts = λ i count e.
+              ap (λ (k : ℕ). get_or t.counts.items (k % (plan.data_blocks * plan.geometry.block)) 0) (let s : model.oldest l.now.state.rows + i ≡ c.oldest + i = omega (arith, old_is, begin) in s)
+              ∙ (ap (λ (k : ℕ). get_or t.counts.items ((c.oldest + i) % k) 0) (sym room) ∙ knows.noted i count e);
+          voids = voids ∙ knows.voids;
+          index = knows.points;
         }
 
-    -- the blobs of its rows end there
-    pub ends-there : {KNOTS SLOTS : ℕ} (t : code.Table KNOTS SLOTS) (end : ℕ) → IsPlanned t first plan → place.shape_of ring ≡ shape_in first plan → end ≡ ends_after (layout_of t.schema) (pages_of ring mid) (oldest_of ring) (next_of ring - oldest_of ring) → end ≡ blob_end l.now.state
-    ends-there t end planned is e = e ∙ (reads-hold t planned is).ends
-
     -- what it answers
-    pub mount-answer : {KNOTS SLOTS : ℕ} (t : code.Table KNOTS SLOTS) (mounted : Mounted) → IsPlanned t first plan → place.shape_of ring ≡ shape_in first plan → mounted ≡ record {
-      rows = rows_after (layout_of t.schema) (pages_of ring mid) (oldest_of ring) (next_of ring - oldest_of ring);
-      pages = next_of ring - oldest_of ring;
-      voids = voids_after (layout_of t.schema) (pages_of ring mid) (oldest_of ring) (next_of ring - oldest_of ring);
-    } → mounted ≡ mounted_of (ready plan l.now.state)
-    mount-answer t mounted planned is e =
-        let st = l.now.state in
-        let h = reads-hold t planned is in
-        let old : oldest_of ring ≡ model.oldest st.rows = l.stands.oldest ∙ state-oldest plan (lose l.now.state) in
-        let many : next_of ring - oldest_of ring ≡ length st.rows.counts = omega (arith, l.stands.next, old, l.facts.rows.not_negative) in
-        e ∙ rw (h.rows, h.voids, many) refl
+    pub mount-answer : {KNOTS SLOTS : ℕ} (c : Come) (known : Known) (counts : List ℕ) (index : LearnedIndex KNOTS SLOTS) → KnowsTable plan.error c l.now.state known counts index →
+        ◌≡◌ {A = Mounted} (record { rows = known.rows; pages = next_of ring - oldest_of ring; voids = known.voids }) (mounted_of (ready plan l.now.state))
+    mount-answer c known counts index knows =
+        let many : next_of ring - oldest_of ring ≡ length l.now.state.rows.counts = omega (arith, l.stands.next, old_is, l.facts.rows.not_negative) in
+        rw (knows.rows, knows.voids, many) refl
 
     -- the entries of the pages that the ring reads
     reads-entries : {KNOTS SLOTS : ℕ} (t : code.Table KNOTS SLOTS) → IsPlanned t first plan → place.shape_of ring ≡ shape_in first plan → IsTrue (is_bits plan.bits) → HaveEntries (layout_of t.schema) plan (ready plan l.now.state) (pages_of ring mid)
     reads-entries t planned is bits =
         let on : OnRing (shape_in first plan) (page_at mid) (state_of plan l.now.state) = subst (λ (x : Table). OnRing (shape_in first plan) (page_at mid) (state_of plan x)) (sym (idle-lost l.now.state l.repaired.idle)) l.on in
-        let mid_sizes : HaveSize first plan (page_at mid) = subst (λ (page : ℕ → List ℕ). HaveSize first plan page) (same_pages mid new n reads) sizes in
         let image = to-image (page_at mid) first plan l.now.state mid_sizes large l.facts.rows on in
         let bitmap : (number : ℕ) → model.oldest l.now.state.rows ≤ number → number < l.now.state.rows.next → bitmap_on (pages_of ring mid number) ≡ bitmap_of plan (rows_of_page l.now.state number) =
         subst (λ (r : Shape). (number : ℕ) → model.oldest l.now.state.rows ≤ number → number < l.now.state.rows.next → bitmap_on (page_at mid (place_at r number)) ≡ bitmap_of plan (rows_of_page l.now.state number)) (sym is) (λ number low high. one_page image mid_sizes number low high) in
@@ -361,11 +343,10 @@ module _ (first : ℕ) (plan : Plan) (table : Table) (rose : Bool) (device : Dev
         full_page number low high =
             let i = number - model.oldest l.now.state.rows in
             let there : model.oldest l.now.state.rows + i ≡ number = omega (arith, low) in
-            let old : oldest_of ring ≡ model.oldest l.now.state.rows = l.stands.oldest ∙ state-oldest plan (lose l.now.state) in
             let c = slice_get-some l.now.state.rows.counts i (omega (arith, low, high, l.facts.rows.not_negative)) in
             subst (λ n. full_view (full_on (layout_of t.schema) (pages_of ring mid n)) ≡ full_of (rows_of_page l.now.state n)) there
-            (subst (λ n. full_view (full_on (layout_of t.schema) (pages_of ring mid (n + i))) ≡ full_of (rows_of_page l.now.state (model.oldest l.now.state.rows + i))) old
-            ((reads-hold t planned is).full i c.0 c.1 ∙ ap full_of (sym (page-rows l.now.state i c.0 c.1))))
+            (subst (λ n. full_view (full_on (layout_of t.schema) (pages_of ring mid (n + i))) ≡ full_of (rows_of_page l.now.state (model.oldest l.now.state.rows + i))) old_is
+            ((pages-hold t first plan table rose device ring old mid planned is l mid_sizes).full i c.0 c.1 ∙ ap full_of (sym (page-rows l.now.state i c.0 c.1))))
 
         one_page : IsRingImage (shape_of plan DataRing) l.now.state.rows (bytes_in (page_at mid) first plan DataRing) (HoldsRows plan l.now.state) → HaveSize first plan (page_at mid) → (number : ℕ) → model.oldest l.now.state.rows ≤ number → number < l.now.state.rows.next →
             bitmap_on (page_at mid (place_at (shape_in first plan) number)) ≡ bitmap_of plan (rows_of_page l.now.state number)
@@ -384,40 +365,35 @@ module _ (first : ℕ) (plan : Plan) (table : Table) (rose : Bool) (device : Dev
                 void-bitmap (page_at mid (place_at (shape_in first plan) (model.oldest l.now.state.rows + i))) (omega (arith, mid_sizes (model.oldest l.now.state.rows + i), large)) (image.void i (e ∙ ap (λ (n : ℕ). Some n) zero_is))
                 ∙ sym (ap (bitmap_of plan) nothing ∙ no_values (plan.bits == 0))
 
-    -- the index stands for that of the table that was started
-    pub started-stand : {KNOTS SLOTS : ℕ} (t : code.Table KNOTS SLOTS) → IsPlanned t first plan → (was begun now : Option Index) (least wait : ℕ) → place.shape_of ring ≡ shape_in first plan → ArePlanned was (first + plan.data_blocks) plan → StandForRing was old (first + plan.data_blocks) plan table → least ≡ index_end plan table →
-        wait ≡ first_to_wait was least (oldest_of ring) (next_of ring) → AreSamePlan was begun → AreSameRing was begun → AreIdle begun → EndAt begun wait → AreWaiting begun wait [] →
-        AreSamePlan begun now → AreSameRing begun now → GatherUpTo (layout_of t.schema) begun (pages_of ring mid) (next_of ring) now → Stand now new (first + plan.data_blocks) plan (ready plan l.now.state)
-    started-stand t all_planned None None None least wait is planned stands end wait_is same kept unused at waits same' still' gathers =
+    -- the index stands for that of the table that was started, where entries of the data pages wait that it doesn't list
+    pub started-stand : {KNOTS SLOTS : ℕ} (t : code.Table KNOTS SLOTS) (c : Come) (now : Option Index) (least : ℕ) → IsPlanned t first plan → place.shape_of ring ≡ shape_in first plan → c.layout ≡ layout_of t.schema → c.oldest ≡ oldest_of ring →
+        end_before c c.index_pages ≤ index_end plan l.now.state → least ≡ index_end plan table → AreSamePlan t.bitmaps now → StandForRing now new (first + plan.data_blocks) plan l.now.state →
+        WaitUnlisted c (pages_of ring mid) t.bitmaps least (next_of ring) now → Stand now new (first + plan.data_blocks) plan (ready plan l.now.state)
+    started-stand t c None least planned is layout begin ends end same stands waits =
+        let none = planned-none (first + plan.data_blocks) plan (still-planned t.bitmaps None (first + plan.data_blocks) plan planned.index same) in
         let count : waiting_after plan l.now.state ≡ 0 =
-        ap (λ b. cond b (min (entries_per_page plan) (l.now.state.rows.next - max (index_end plan l.now.state) (model.oldest l.now.state.rows))) 0) (planned-none (first + plan.data_blocks) plan planned) in
+        ap (λ b. cond b (min (entries_per_page plan) (l.now.state.rows.next - max (index_end plan l.now.state) (model.oldest l.now.state.rows))) 0) none in
         ap (λ k. entries_from plan l.now.state (l.now.state.rows.next - k) k) count
-    started-stand t all_planned None None (Some now) least wait is planned stands end wait_is same kept unused at waits same' still' gathers = absurd same'
-    started-stand t all_planned None (Some begun) now least wait is planned stands end wait_is same kept unused at waits same' still' gathers = absurd same
-    started-stand t all_planned (Some was) None now least wait is planned stands end wait_is same kept unused at waits same' still' gathers = absurd same
-    started-stand t all_planned (Some was) (Some begun) None least wait is planned stands end wait_is same kept unused at waits same' still' gathers = absurd same'
-    started-stand t all_planned (Some was) (Some begun) (Some now) least wait is planned stands end wait_is same kept unused at waits same' still' gathers =
+    started-stand t c (Some now) least planned is layout begin ends end same stands waits =
         let D = first + plan.data_blocks in
         let st = l.now.state in
-        let has = planned-some was D plan planned in
-        let old_is : oldest_of ring ≡ model.oldest st.rows = l.stands.oldest ∙ state-oldest plan (lose l.now.state) in
+        let there = still-planned t.bitmaps (Some now) D plan planned.index same in
+        let has = planned-some now D plan there in
         let next_is : next_of ring ≡ st.rows.next = l.stands.next in
         let ended : index_end plan st ≡ index_end plan table = ends_as st l.repaired.index_pages in
-        let per = planned-page was D plan planned in
+        let per = planned-page now D plan there in
         let waiting : waiting_after plan st ≡ min (entries_per_page plan) (st.rows.next - max (index_end plan st) (model.oldest st.rows)) =
         ap (λ b. cond b (min (entries_per_page plan) (l.now.state.rows.next - max (index_end plan l.now.state) (model.oldest l.now.state.rows))) 0) has in
-        let there : wait ≡ next_of ring - min (next_of ring - max least (oldest_of ring)) (memory.per_page was) = wait_is in
-        let first_is : wait ≡ st.rows.next - min (st.rows.next - max (index_end plan st) (model.oldest st.rows)) (entries_per_page plan) = omega (arith, there, end, ended, old_is, next_is, per) in
-        let s0 = memories.ring-same begun now old D plan table same' still' (memories.ring-same was begun old D plan table same kept stands) in
-        let s1 = ring-moved now old old D plan table (renumber plan DataRing table) s0 refl (has-index plan (renumber plan DataRing table) s0.ring s0.facts.ring_is known (omega (arith, ap length idle.waiting))) (λ k. refl) in
-        let s2 = ring-moved now old new D plan (renumber plan DataRing table) st s1 l.repaired.index_pages (has-index plan st s1.ring (l.repaired.index ∙ s1.facts.ring_is) l.facts (omega (arith, ap length l.repaired.idle.waiting))) (λ n. (still n).0) in
-        let s3 = ring-moved now new new D plan st (ready plan st) s2 refl (has-index plan (ready plan st) s2.ring s2.facts.ring_is ready_plain few_wait) (λ k. refl) in
-        let low : model.oldest st.rows ≤ wait = omega (arith, first_is, old_is, end, ended, next_is, l.facts.rows.not_negative) in
+        let wait = first_to_wait t.bitmaps least waits.from (next_of ring) in
+        let wait_is : wait ≡ next_of ring - min (next_of ring - max least waits.from) (memory.per_page now) = sym (first-same t.bitmaps (Some now) least waits.from (next_of ring) same) in
+        let first_is : wait ≡ st.rows.next - min (st.rows.next - max (index_end plan st) (model.oldest st.rows)) (entries_per_page plan) =
+        omega (arith, wait_is, end, ended, begin, waits.low, waits.listed.near, ends, old_is, next_is, per) in
+        let low : model.oldest st.rows ≤ wait = omega (arith, first_is, end, ended, next_is, l.facts.rows.not_negative) in
         let w : Waits now wait (entries_from plan st wait (next_of ring - wait)) =
-        gather-waits (layout_of t.schema) begun now (pages_of ring mid) (next_of ring) wait plan (ready plan st) unused (at begun refl) waits (reads-entries t all_planned is (planned-bits was D plan planned)) low (omega (arith, next_is)) gathers in
-        let from : wait ≡ st.rows.next - waiting_after plan st = omega (arith, first_is, waiting) in
+        waits.waits plan (ready plan st) (subst (λ (x : RowLayout). HaveEntries x plan (ready plan l.now.state) (pages_of ring mid)) (sym layout) (reads-entries t planned is (planned-bits now D plan there))) low (omega (arith, next_is)) in
+        let begins : wait ≡ st.rows.next - waiting_after plan st = omega (arith, first_is, waiting) in
         let count : next_of ring - wait ≡ waiting_after plan st = omega (arith, first_is, waiting, next_is) in
         record {
-          in_ring = s3;
-          waits = subst (λ k. Waits now (st.rows.next - k) (ready plan st).waiting) (sym many_wait) (subst (λ k. Waits now k (entries_from plan st k (waiting_after plan st))) from (subst (λ k. Waits now wait (entries_from plan st wait k)) count w));
+          in_ring = ring-moved now new new D plan st (ready plan st) stands refl (has-index plan (ready plan st) stands.ring stands.facts.ring_is ready_plain few_wait) (λ k. refl);
+          waits = subst (λ k. Waits now (st.rows.next - k) (ready plan st).waiting) (sym many_wait) (subst (λ k. Waits now k (entries_from plan st k (waiting_after plan st))) begins (subst (λ k. Waits now wait (entries_from plan st wait k)) count w));
         }

@@ -193,14 +193,14 @@ module _ (old new : FlashState) (first : ℕ) (plan : Plan) (table : Table) (ros
           record { front = g.front; others = g.others ++ u.0.others; split = u.0.split ∙ (ap (λ (ops : List (RingName × Kind)). ops ++ u.0.others) g.split ∙ append_assoc g.front g.others u.0.others); state = g.state }
 
   -- it ended well, and then the data ring is mounted
-  pub index-mounts : (end : Option ℕ) (now : Index) (h : outcomes.MountsWell (first + plan.data_blocks) plan table rose device end now new) → Rests new first plan h.now.state
-  index-mounts end now h =
+  pub index-mounts : (Remembers : Index → Plan → Table → model.Ring → Type 0) (end : Option ℕ) (now : Index) (h : outcomes.EndsWell Remembers (first + plan.data_blocks) plan table rose device end now new) → Rests new first plan h.now.state
+  index-mounts Remembers end now h =
       left-rests h.now.state h.stands.ring (front-left (λ (o : RingName × Kind). o.1) (effect_within plan) rose (repair_within plan IndexRing (renumber plan IndexRing table)) device (renumber plan IndexRing table) h.now h.did)
       h.stands.facts h.stands.pages
 
-  pub then-rows : {KNOTS SLOTS : ℕ} (end : Option ℕ) (now : Index) (h : outcomes.MountsWell (first + plan.data_blocks) plan table rose device end now new) (result : Result Mounted MountFault) (t : code.Table KNOTS SLOTS) (last : FlashState) →
+  pub then-rows : {KNOTS SLOTS : ℕ} (Remembers : Index → Plan → Table → model.Ring → Type 0) (end : Option ℕ) (now : Index) (h : outcomes.EndsWell Remembers (first + plan.data_blocks) plan table rose device end now new) (result : Result Mounted MountFault) (t : code.Table KNOTS SLOTS) (last : FlashState) →
       RingsEnd first plan (DataRing ∷ var_rings plan) h.now.state rose h.now.device result t last → MountEnds first plan table rose device result t last
-  then-rows end now h result t last k = by_result result k
+  then-rows Remembers end now h result t last k = by_result result k
     where
       all : (how : TableMountEnd) → TableMounts plan rose (turns (DataRing ∷ var_rings plan)) h.now.device h.now.state how → TableMounts plan rose (turns (rings_of plan)) device table how
       all how m = subst (λ (rings : List RingName). TableMounts plan rose (turns rings) device table how) (sym two_rings)
@@ -219,3 +219,4 @@ module _ (old new : FlashState) (first : ℕ) (plan : Plan) (table : Table) (ros
       by_result (Err (mount.BadKeys page last key)) k = k
       by_result (Err (mount.BadIndex end next)) k = k
       by_result (Err (mount.BadBlob page next)) k = k
+      by_result (Err (mount.BadEntry page count limit)) k = k

@@ -8,7 +8,6 @@ use Rattle.fl_flash.specs.Flash.{FlashState, Goes, page_at}
 use Rattle.fl_index.specs.declared.index.Index.{Index}
 use Rattle.fl_index.specs.Memory as memory
 use Rattle.fl_index.specs.Outcomes as outcomes
-use Rattle.fl_index.specs.Outcomes.{end_of}
 use Rattle.fl_index.proofs.Sealings.{planned-ring}
 use Rattle.fl_model.specs.Facts.{counts_in, is_some_ring}
 use Rattle.fl_model.specs.Image.{IsRingImage, HoldsEntries}
@@ -30,15 +29,19 @@ use Rattle.fl_ring.specs.Step.{IsWatched}
 use Rattle.fl_ring.specs.declared.fault.RingFault.{RingFault}
 use Rattle.fl_ring.specs.declared.fault.RingFault.TheVariants as ring
 use Rattle.fl_ring.specs.declared.ring.Ring.{Ring}
-use Rattle.fl_table.specs.Bitmaps.{ArePlanned, AreSamePlan, AreSameRing, StandForRing, StandOutside, MountEndsOf, IsOutside}
+use Rattle.fl_index.specs.Finding.{FindsIndex}
+use Rattle.fl_schema.specs.Schema.{layout_of}
+use Rattle.fl_table.specs.Bitmaps.{ArePlanned, AreSamePlan, AreStillFound, StaysFound, StandOutside, MountEndsOf, RemembersFound, IsOutside}
 use Rattle.fl_table.specs.BlobEnds.{least_of}
 use Rattle.fl_table.specs.BlobMount.{FindsBlobs, RefusesWithin}
 use Rattle.fl_table.specs.Causes.{MountCausedBy, of_ring}
 use Rattle.fl_table.specs.Memory.{IsPlanned, IsSamePlan, ring_shape}
-use Rattle.fl_table.specs.Mounting.{FindsBitmaps, FindsRows, ReadsRing, HasBadPage, FindsData, RefusesData, RefusesRows}
+use Rattle.fl_table.specs.ByEntries.{Come, facts_on, known_after, rows_of, voids_of, end_of, mount_fault}
+use Rattle.fl_table.specs.Coming.{StandFound, StandsFoundBy, WaitUnlisted, come_of, most_in}
+use Rattle.fl_table.specs.Mounting.{FindsBy, FindsBitmaps, FindsRows, ReadsRing, HasBadPage, FindsData, RefusesData, RefusesRows, comes_in}
 use Rattle.fl_table.specs.Outcomes.{RingsEnd, MountEnds, var_rings}
 use Rattle.fl_table.specs.Pages.{Rests, bytes_in}
-use Rattle.fl_table.specs.Reading.{AreRead, AreRefused, last_after, rows_after, voids_after, ends_after, pages_of}
+use Rattle.fl_table.specs.Reading.{pages_of}
 use Rattle.fl_table.specs.declared.counts.Mounted.{Mounted as Found}
 use Rattle.fl_table.specs.declared.faults.MountFault.{MountFault}
 use Rattle.fl_table.specs.declared.faults.MountFault.TheVariants as mount
@@ -119,7 +122,7 @@ module _ {KNOTS SLOTS : ℕ} (t : code.Table KNOTS SLOTS) (old new : FlashState)
   mount-fails (Some index) None e t' is outside h = absurd h
   mount-fails (Some index) (Some now) e t' is outside h = by_fault e (h watched (planned_index index is outside) (rests_index index is outside))
     where
-      by_fault : (e : RingFault) → outcomes.MountEnds (first + plan.data_blocks) plan table rose device (Err e) now new → MountEnds first plan table rose device (Err (of_ring e)) t' new
+      by_fault : (e : RingFault) → outcomes.EndsAs (RemembersFound (memory.form_in index).full now) (first + plan.data_blocks) plan table rose device (Err e) now new → MountEnds first plan table rose device (Err (of_ring e)) t' new
       by_fault (ring.Flash fault) m = index-fails old new first plan table rose device (has index is outside) (some_pages index is outside) facts (lost-idle table rests.settled.lost) rests (same_rows index is outside) (same_var index is outside) fault m
       by_fault (ring.BadHead heads) m = absurd m
       by_fault (ring.BadGap page) m = absurd m
@@ -127,115 +130,135 @@ module _ {KNOTS SLOTS : ℕ} (t : code.Table KNOTS SLOTS) (old new : FlashState)
       by_fault (ring.NoNumber least) m = absurd m
 
   -- the index was mounted, and then the data ring
-  pub mount-then : (bitmaps now : Option Index) (end : Option ℕ) (result : Result Found MountFault) (t' : code.Table KNOTS SLOTS) (last : FlashState) → t.bitmaps ≡ bitmaps → StandOutside bitmaps (page_at old) (page_at new) →
+  pub mount-then : (bitmaps now : Option Index) (end : Option ℕ) (result : Result Found MountFault) (t' : code.Table KNOTS SLOTS) (last : FlashState) → t.bitmaps ≡ bitmaps → AreSamePlan bitmaps now → StandOutside bitmaps (page_at old) (page_at new) →
       MountEndsOf bitmaps old (first + plan.data_blocks) plan table rose device (Ok end) now new →
-      ((x : Table) (later : Device) → new.is_on ≡ true → SameDevice new later → Rests new first plan x → StandForRing now new (first + plan.data_blocks) plan x → unwrap_or end 0 ≡ index_end plan x →
+      ((x : Table) (later : Device) → new.is_on ≡ true → SameDevice new later → Rests new first plan x → StandFound now new (first + plan.data_blocks) plan x → unwrap_or end 0 ≡ index_end plan x →
       RingsEnd first plan (DataRing ∷ var_rings plan) x rose later result t' last) → MountEnds first plan table rose device result t' last
-  mount-then None now end result t' last is outside h go =
+  mount-then None now end result t' last is same outside h go =
       let none = planned-none (first + plan.data_blocks) plan (subst (λ (o : Option Index). ArePlanned o (first + plan.data_blocks) plan) is planned.index) in
       let one : rings_of plan ≡ DataRing ∷ var_rings plan = ap (λ (b : Bool). (cond b (IndexRing ∷ []) []) ++ DataRing ∷ [] ++ var_rings plan) none in
       subst (λ (rings : List RingName). RingsEnd first plan rings table rose device result t' last) (sym one)
       (go table device (ap (λ (f : FlashState). f.is_on) h.2 ∙ watched.on) (subst (λ (f : FlashState). SameDevice f device) (sym h.2) watched.counts) (subst (λ (f : FlashState). Rests f first plan table) (sym h.2) rests)
-      (subst (λ (o : Option Index). StandForRing o new (first + plan.data_blocks) plan table) (sym h.1) tt) (ends h.0 ∙ sym (none_listed plan table none facts)))
+      (subst (λ (o : Option Index). StandFound o new (first + plan.data_blocks) plan table) (sym h.1) tt) (ends h.0 ∙ sym (none_listed plan table none facts)))
     where
       ends : ◌≡◌ {A = Result (Option ℕ) RingFault} (Ok end) (Ok None) → unwrap_or end 0 ≡ 0
       ends e = let k : end ≡ None = cc in ap (λ (o : Option ℕ). unwrap_or o 0) k
-  mount-then (Some index) None end result t' last is outside h go = absurd h
-  mount-then (Some index) (Some now) end result t' last is outside h go =
+  mount-then (Some index) None end result t' last is same outside h go = absurd h
+  mount-then (Some index) (Some now) end result t' last is same outside h go =
+      let Remembers = RemembersFound (memory.form_in index).full now in
       let m = h watched (planned_index index is outside) (rests_index index is outside) in
-      let at_rest = index-mounts old new first plan table rose device (has index is outside) (some_pages index is outside) facts (lost-idle table rests.settled.lost) rests (same_rows index is outside) (same_var index is outside) end now m in
-      then-rows old new first plan table rose device (has index is outside) (some_pages index is outside) facts (lost-idle table rests.settled.lost) rests (same_rows index is outside) (same_var index is outside) end now m result t' last
-      (go m.now.state m.now.device m.power m.counts at_rest m.stands (ap (λ (o : Option ℕ). unwrap_or o 0) m.answer))
+      let at_rest = index-mounts old new first plan table rose device (has index is outside) (some_pages index is outside) facts (lost-idle table rests.settled.lost) rests (same_rows index is outside) (same_var index is outside) Remembers end now m in
+      let stands = subst (λ (full : Bool). StandsFoundBy full now new (first + plan.data_blocks) plan m.now.state) (sym same.full) m.stands in
+      then-rows old new first plan table rose device (has index is outside) (some_pages index is outside) facts (lost-idle table rests.settled.lost) rests (same_rows index is outside) (same_var index is outside) Remembers end now m result t' last
+      (go m.now.state m.now.device m.power m.counts at_rest stands (ap (λ (o : Option ℕ). unwrap_or o 0) m.answer))
 
--- the index is the same where its ring is
-pub still-found : (was mid now : Option Index) (old new : FlashState) (end : Option ℕ) → FindsBitmaps was old end mid new → AreSamePlan mid now → AreSameRing mid now → FindsBitmaps was old end now new
-still-found None None None old new end h same still = h
-still-found None None (Some now) old new end h same still = absurd same
-still-found None (Some mid) now old new end h same still = absurd h
-still-found (Some was) None now old new end h same still = absurd h
-still-found (Some was) (Some mid) None old new end h same still = absurd same
-still-found (Some was) (Some mid) (Some now) old new end h same still = record {
-  ring = h.ring;
-  ring_is = still.ring ∙ h.ring_is;
-  ring_reads = h.ring_reads;
-  firsts = λ number low high. ap (λ v. get_or v.items (number % v.len) None) still.firsts ∙ h.firsts number low high;
-  end_is = h.end_is;
-}
+-- Where entries aren't full, the index that was found is the same where its ring and what is remembered of its pages are.
+pub still-found : (was mid now : Option Index) (old new : FlashState) (end : Option ℕ) → FindsBitmaps was old end mid new → AreSamePlan was mid → AreStillFound mid now → IfSome was (λ index. (memory.form_in index).full ≡ false) →
+    FindsBitmaps was old end now new
+still-found None None None old new end h same still bare = h
+still-found None None (Some now) old new end h same still bare = absurd still
+still-found None (Some mid) now old new end h same still bare = absurd h
+still-found (Some was) None now old new end h same still bare = absurd h
+still-found (Some was) (Some mid) None old new end h same still bare = absurd still
+still-found (Some was) (Some mid) (Some now) old new end h same still bare =
+    subst (λ (full : Bool). FindsBy full was old end now new) (sym bare)
+    (by_ring (subst (λ (full : Bool). FindsBy full was old end mid new) bare h) (subst (λ (full : Bool). StaysFound full mid now) (same.full ∙ bare) still))
+  where
+    by_ring : FindsIndex was old end mid new → memory.IsSameRing mid now → FindsIndex was old end now new
+    by_ring h still = record {
+      ring = h.ring;
+      ring_is = still.ring ∙ h.ring_is;
+      ring_reads = h.ring_reads;
+      firsts = λ number low high. ap (λ v. get_or v.items (number % v.len) None) still.firsts ∙ h.firsts number low high;
+      end_is = h.end_is;
+    }
 
 -- what a mount of the data ring found, of a table of the same plan
 shape_as : {KNOTS SLOTS : ℕ} (t t1 : code.Table KNOTS SLOTS) → IsSamePlan t t1 → ring_shape t1 ≡ ring_shape t
 shape_as t t1 same = ap (λ (p : RingPlace). shape_at p t1.geometry) same.place ∙ ap (λ (g : Geometry). shape_at t.place g) same.geometry
 
-reads_as : {KNOTS SLOTS : ℕ} (t t1 : code.Table KNOTS SLOTS) (f new : FlashState) (least : ℕ) (ring : Ring) → IsSamePlan t t1 → ReadsRing t1 f least ring new → ReadsRing t f least ring new
-reads_as t t1 f new least ring same h = record {
+reads_as : {KNOTS SLOTS : ℕ} (t t1 : code.Table KNOTS SLOTS) (bitmaps : Option Index) (f new : FlashState) (least : ℕ) (ring : Ring) → IsSamePlan t t1 → ReadsRing t1 bitmaps f least ring new → ReadsRing t bitmaps f least ring new
+reads_as t t1 bitmaps f new least ring same h = record {
   repaired = h.repaired;
   numbers = subst (λ (r : Shape). HasNumbers f r least ring h.repaired) (shape_as t t1 same) h.numbers;
+  shape = h.shape ∙ shape_as t t1 same;
   within = h.within;
   reads = h.reads;
 }
 
-data_as : {KNOTS SLOTS : ℕ} (t t1 : code.Table KNOTS SLOTS) (f : FlashState) (least : ℕ) (ring : Ring) (mounted : Found) (last : Option ℕ) (end : ℕ) (new : FlashState) → IsSamePlan t t1 → FindsData t1 f least ring mounted last end new → FindsData t f least ring mounted last end new
-data_as t t1 f least ring mounted last end new same h = record {
-  ring_reads = reads_as t t1 f new least ring same h.ring_reads;
-  read = subst (λ (l : RowLayout). AreRead l (pages_of ring new) (oldest_of ring) (next_of ring - oldest_of ring)) same.layout h.read;
-  mounted_is = h.mounted_is ∙ ap (λ (l : RowLayout). record {
-    rows = rows_after l (pages_of ring new) (oldest_of ring) (next_of ring - oldest_of ring);
-    pages = next_of ring - oldest_of ring;
-    voids = voids_after l (pages_of ring new) (oldest_of ring) (next_of ring - oldest_of ring);
-  }) same.layout;
-  last_is = h.last_is ∙ ap (λ (l : RowLayout). last_after l (pages_of ring new) (oldest_of ring) (next_of ring - oldest_of ring)) same.layout;
-  end_is = h.end_is ∙ ap (λ (l : RowLayout). ends_after l (pages_of ring new) (oldest_of ring) (next_of ring - oldest_of ring)) same.layout;
-}
+-- it comes to the same pages
+comes_as : {KNOTS SLOTS : ℕ} (t t1 : code.Table KNOTS SLOTS) (bitmaps : Option Index) (ring : Ring) (f : FlashState) → IsSamePlan t t1 → comes_in t1 bitmaps ring f ≡ comes_in t bitmaps ring f
+comes_as t t1 bitmaps ring f same =
+    ap (λ (l : RowLayout). come_of l (most_in t1.geometry.page l) bitmaps ring f) same.layout
+    ∙ ap (λ (g : Geometry). come_of (layout_of t.schema) (most_in g.page (layout_of t.schema)) bitmaps ring f) same.geometry
 
-pub finds-as : {KNOTS SLOTS : ℕ} (t t1 : code.Table KNOTS SLOTS) (f : FlashState) (was least : ℕ) (mounted : Found) (now : code.Table KNOTS SLOTS) (new : FlashState) → FindsRows t1 f was mounted now new → IsSamePlan t t1 → t1.blobs ≡ t.blobs → was ≡ least → FindsRows t f least mounted now new
-finds-as t t1 f was least mounted now new h same blobs e = subst (λ (n : ℕ). FindsRows t f n mounted now new) e (record {
+data_as : {KNOTS SLOTS : ℕ} (t t1 : code.Table KNOTS SLOTS) (bitmaps : Option Index) (f : FlashState) (least : ℕ) (ring : Ring) (mounted : Found) (last : Option ℕ) (end : ℕ) (new : FlashState) → IsSamePlan t t1 →
+    FindsData t1 bitmaps f least ring mounted last end new → FindsData t bitmaps f least ring mounted last end new
+data_as t t1 bitmaps f least ring mounted last end new same h =
+    let pages = next_of ring - oldest_of ring in
+    let comes = comes_as t t1 bitmaps ring new same in
+    record {
+      ring_reads = reads_as t t1 bitmaps f new least ring same h.ring_reads;
+      fine = subst (λ (c : Come). mount_fault c ≡ None) comes h.fine;
+      mounted_is = h.mounted_is ∙ ap (λ (c : Come). record { rows = rows_of (facts_on c) (oldest_of ring) pages; pages = pages; voids = voids_of (facts_on c) (oldest_of ring) pages }) comes;
+      last_is = h.last_is ∙ ap (λ (c : Come). known_after c pages) comes;
+      end_is = h.end_is ∙ ap (λ (c : Come). end_of (facts_on c) (oldest_of ring) pages) comes;
+    }
+
+pub finds-as : {KNOTS SLOTS : ℕ} (t t1 : code.Table KNOTS SLOTS) (bitmaps : Option Index) (f : FlashState) (was least : ℕ) (mounted : Found) (now : code.Table KNOTS SLOTS) (new : FlashState) → FindsRows t1 bitmaps f was mounted now new → IsSamePlan t t1 →
+    t1.blobs ≡ t.blobs → was ≡ least → FindsRows t bitmaps f least mounted now new
+finds-as t t1 bitmaps f was least mounted now new h same blobs e = subst (λ (n : ℕ). FindsRows t bitmaps f n mounted now new) e (record {
   ring = h.ring;
   ring_is = h.ring_is;
   end = h.end;
   between = h.between;
-  pages = data_as t t1 f was h.ring mounted now.last_key h.end h.between same h.pages;
+  pages = data_as t t1 bitmaps f was h.ring mounted now.last_key h.end h.between same h.pages;
+  waits = subst (λ (c : Come). WaitUnlisted c (pages_of h.ring h.between) bitmaps was (next_of h.ring) now.bitmaps) (comes_as t t1 bitmaps h.ring h.between same) h.waits;
+  firsts = h.firsts;
+  pending = h.pending;
   blobs = subst (λ (o : Option VarData). FindsBlobs o h.between (least_of h.end) now.blobs new) blobs h.blobs;
   below = h.below;
 })
 
-bad_page_as : {KNOTS SLOTS : ℕ} (t t1 : code.Table KNOTS SLOTS) (f : FlashState) (least : ℕ) (fault : MountFault) (new : FlashState) → IsSamePlan t t1 → HasBadPage t1 f least fault new → HasBadPage t f least fault new
-bad_page_as t t1 f least fault new same h = record {
+bad_page_as : {KNOTS SLOTS : ℕ} (t t1 : code.Table KNOTS SLOTS) (bitmaps : Option Index) (f : FlashState) (least : ℕ) (fault : MountFault) (new : FlashState) → IsSamePlan t t1 → HasBadPage t1 bitmaps f least fault new → HasBadPage t bitmaps f least fault new
+bad_page_as t t1 bitmaps f least fault new same h = record {
   ring = h.ring;
-  ring_reads = reads_as t t1 f new least h.ring same h.ring_reads;
-  refused = subst (λ (l : RowLayout). AreRefused l (pages_of h.ring new) (oldest_of h.ring) (next_of h.ring - oldest_of h.ring) fault) same.layout h.refused;
+  ring_reads = reads_as t t1 bitmaps f new least h.ring same h.ring_reads;
+  refused = subst (λ (c : Come). mount_fault c ≡ Some fault) (comes_as t t1 bitmaps h.ring new same) h.refused;
 }
 
-refuses_as : {KNOTS SLOTS : ℕ} (t t1 : code.Table KNOTS SLOTS) (f : FlashState) (least : ℕ) (fault : MountFault) (new : FlashState) → IsSamePlan t t1 → RefusesData t1 f least fault new → RefusesData t f least fault new
+refuses_as : {KNOTS SLOTS : ℕ} (t t1 : code.Table KNOTS SLOTS) (bitmaps : Option Index) (f : FlashState) (least : ℕ) (fault : MountFault) (new : FlashState) → IsSamePlan t t1 → RefusesData t1 bitmaps f least fault new → RefusesData t bitmaps f least fault new
 unfolding reads_as
-refuses_as t t1 f least (mount.Flash fault) new same (inl h) = inl (subst (λ (r : Shape). FailsAs f r least (ring.Flash fault) new) (shape_as t t1 same) h)
-refuses_as t t1 f least (mount.Flash fault) new same (inr h) = inr (record { ring = h.ring; ring_reads = reads_as t t1 f new least h.ring same h.ring_reads; fails = h.fails })
-refuses_as t t1 f least (mount.Ring fault) new same h = record {
+refuses_as t t1 bitmaps f least (mount.Flash fault) new same (inl h) = inl (subst (λ (r : Shape). FailsAs f r least (ring.Flash fault) new) (shape_as t t1 same) h)
+refuses_as t t1 bitmaps f least (mount.Flash fault) new same (inr h) = inr (record { ring = h.ring; ring_reads = reads_as t t1 bitmaps f new least h.ring same h.ring_reads; fails = h.fails })
+refuses_as t t1 bitmaps f least (mount.Ring fault) new same h = record {
   found = subst (λ (r : Shape). FoundFault f r least fault) (shape_as t t1 same) h.found;
   reads = subst (λ (r : Shape). OnlyReads f (search_reads r) new) (shape_as t t1 same) h.reads;
 }
-refuses_as t t1 f least (mount.BadPage bad) new same h = bad_page_as t t1 f least (mount.BadPage bad) new same h
-refuses_as t t1 f least (mount.BadKeys page last first) new same h = bad_page_as t t1 f least (mount.BadKeys page last first) new same h
-refuses_as t t1 f least (mount.BadIndex end next) new same h = record {
+refuses_as t t1 bitmaps f least (mount.BadPage bad) new same h = bad_page_as t t1 bitmaps f least (mount.BadPage bad) new same h
+refuses_as t t1 bitmaps f least (mount.BadKeys page last first) new same h = bad_page_as t t1 bitmaps f least (mount.BadKeys page last first) new same h
+refuses_as t t1 bitmaps f least (mount.BadIndex end next) new same h = record {
   ring = h.ring;
   numbers = subst (λ (r : Shape). HasNumbers f r least h.ring new) (shape_as t t1 same) h.numbers;
   end_is = h.end_is;
   next_is = h.next_is;
   beyond = h.beyond;
 }
-refuses_as t t1 f least (mount.BadBlob page next) new same h = h
+refuses_as t t1 bitmaps f least (mount.BadBlob page next) new same h = h
+refuses_as t t1 bitmaps f least (mount.BadEntry page count limit) new same h = bad_page_as t t1 bitmaps f least (mount.BadEntry page count limit) new same h
 
-pub refuses-by : {KNOTS SLOTS : ℕ} (t t1 : code.Table KNOTS SLOTS) (f : FlashState) (was least : ℕ) (fault : MountFault) (new : FlashState) → RefusesRows t1 f was fault new → IsSamePlan t t1 → t1.blobs ≡ t.blobs → was ≡ least → RefusesRows t f least fault new
-refuses-by t t1 f was least fault new h same blobs e = subst (λ (n : ℕ). RefusesRows t f n fault new) e (by_part h)
+pub refuses-by : {KNOTS SLOTS : ℕ} (t t1 : code.Table KNOTS SLOTS) (bitmaps : Option Index) (f : FlashState) (was least : ℕ) (fault : MountFault) (new : FlashState) → RefusesRows t1 bitmaps f was fault new → IsSamePlan t t1 → t1.blobs ≡ t.blobs → was ≡ least → RefusesRows t bitmaps f least fault new
+refuses-by t t1 bitmaps f was least fault new h same blobs e = subst (λ (n : ℕ). RefusesRows t bitmaps f n fault new) e (by_part h)
   where
-    by_part : RefusesRows t1 f was fault new → RefusesRows t f was fault new
-    by_part (inl h) = inl (refuses_as t t1 f was fault new same h)
+    by_part : RefusesRows t1 bitmaps f was fault new → RefusesRows t bitmaps f was fault new
+    by_part (inl h) = inl (refuses_as t t1 bitmaps f was fault new same h)
     by_part (inr b) = inr (record {
       ring = b.ring;
       mounted = b.mounted;
       last = b.last;
       end = b.end;
       between = b.between;
-      pages = data_as t t1 f was b.ring b.mounted b.last b.end b.between same b.pages;
+      pages = data_as t t1 bitmaps f was b.ring b.mounted b.last b.end b.between same b.pages;
       why = subst (λ (o : Option VarData). RefusesWithin o b.between b.end fault new) blobs b.why;
     })
 
@@ -251,6 +274,7 @@ mount-cause-later old mid new goes on (mount.BadPage bad) h = tt
 mount-cause-later old mid new goes on (mount.BadKeys page last first) h = tt
 mount-cause-later old mid new goes on (mount.BadIndex end next) h = tt
 mount-cause-later old mid new goes on (mount.BadBlob page next) h = tt
+mount-cause-later old mid new goes on (mount.BadEntry page count limit) h = tt
 
 -- a page outside the index ring stands
 pub stand-outside : (bitmaps : Option Index) (old new : ℕ → List ℕ) (page : ℕ) → StandOutside bitmaps old new → IfSome bitmaps (λ index. IsOutside (memory.ring_shape index) page) → new page ≡ old page

@@ -10,9 +10,10 @@ use Rattle.fl_ring.specs.Place.{next_of, oldest_of}
 use Rattle.fl_ring.specs.Repairing.{Beside}
 use Rattle.fl_ring.specs.Ring.{Shape, room, is_due_at}
 use Rattle.fl_ring.specs.declared.ring.Ring.{Ring}
-use Rattle.fl_table.specs.Memory.{IsSamePlan}
+use Rattle.fl_table.specs.Memory.{ring_shape, IsSamePlan}
 use Rattle.fl_table.specs.Mounting.{FewReads}
 use Rattle.fl_table.specs.declared.table.Table.{Table}
+use Rattle.fl_table.proofs.FoundReads.{four-each}
 use Rattle.fl_table.proofs.MountCalls.{same-shape}
 
 -- a ring is found to keep fewer pages than it has
@@ -48,12 +49,9 @@ ring-few old new r least ring some h told =
     not_less true = omega arith
     not_less false = omega arith
 
--- four for each page
-four-each : (blocks pages : ℕ) → 3 ≤ blocks → 2 ≤ pages → blocks + pages + blocks * pages + pages + blocks * pages ≤ 4 * (blocks * pages)
-four-each blocks pages b p =
-    let rows : blocks * 2 ≤ blocks * pages = mul-le-mul_left blocks p in
-    let columns : 3 * pages ≤ blocks * pages = mul-le-mul_right pages b in
-    omega (arith, rows, columns)
+pub kept-room : {KNOTS SLOTS : ℕ} (old new : Table KNOTS SLOTS) (f mid : FlashState) → IsSamePlan old new → f.geometry ≡ old.geometry → (least : ℕ) (ring : Ring) → HasNumbers f (shape_at new.place f.geometry) least ring mid → IsTrue f.media.tells → next_of ring - oldest_of ring ≤ room (ring_shape old)
+kept-room old new f mid same geometry least ring numbers told =
+    ring-few f mid (shape_at old.place old.geometry) least ring (omega (arith, old.some_blocks)) (subst (λ (r : Shape). HasNumbers f r least ring mid) (same-shape old new f same geometry) numbers) told
 
 module _ {KNOTS SLOTS : ℕ} (old new : Table KNOTS SLOTS) (f mid : FlashState) (same : IsSamePlan old new) (geometry : f.geometry ≡ old.geometry)
     (beside : Beside (shape_at new.place f.geometry) (search_reads (shape_at new.place f.geometry) + f.geometry.block) 1 1 f mid) where
@@ -65,14 +63,15 @@ module _ {KNOTS SLOTS : ℕ} (old new : Table KNOTS SLOTS) (f mid : FlashState) 
   all : old.place.blocks + old.geometry.block + old.place.blocks * old.geometry.block + old.geometry.block + old.place.blocks * old.geometry.block ≤ 4 * (old.place.blocks * old.geometry.block)
   all = four-each old.place.blocks old.geometry.block old.some_blocks old.served.block_least
 
-  pub few-first : FewReads (4 * (old.place.blocks * old.geometry.block)) f mid
-  few-first = record { reads = omega (arith, searched.few_reads, all); media_reads = omega (arith, searched.media_reads, all) }
+  pub few-first : (pages : ℕ) → FewReads (4 * (old.place.blocks * old.geometry.block) + pages) f mid
+  few-first pages = record { reads = omega (arith, searched.few_reads, all); media_reads = omega (arith, searched.media_reads, all) }
 
-  pub few-all : (least : ℕ) (ring : Ring) (n : ℕ) (g : FlashState) → n ≡ next_of ring - oldest_of ring → HasNumbers f (shape_at new.place f.geometry) least ring mid → OnlyReads mid n g → IsTrue f.media.tells →
-      FewReads (4 * (old.place.blocks * old.geometry.block)) f g
-  few-all least ring n g many numbers reads told =
+  -- .. and so many pages of another ring
+  pub few-all : (least pages : ℕ) (ring : Ring) (g : FlashState) → HasNumbers f (shape_at new.place f.geometry) least ring mid → OnlyReads mid (pages + (next_of ring - oldest_of ring)) g → IsTrue f.media.tells →
+      FewReads (4 * (old.place.blocks * old.geometry.block) + pages) f g
+  few-all least pages ring g numbers reads told =
       let few = ring-few f mid (shape_at old.place old.geometry) least ring (omega (arith, old.some_blocks)) (subst (λ (r : Shape). HasNumbers f r least ring mid) (same-shape old new f same geometry) numbers) told in
       record {
-        reads = omega (arith, searched.few_reads, reads.reads, few, many, all);
-        media_reads = omega (arith, searched.media_reads, reads.media_reads, few, many, all);
+        reads = omega (arith, searched.few_reads, reads.reads, few, all);
+        media_reads = omega (arith, searched.media_reads, reads.media_reads, few, all);
       }

@@ -275,6 +275,7 @@ module _ {KNOTS SLOTS : ℕ} (t : code.Table KNOTS SLOTS) (mid new : FlashState)
       by_fault (mount.BadKeys page last key) b = absurd b
       by_fault (mount.BadIndex end next) b = absurd b
       by_fault (mount.BadBlob page next) b = absurd b
+      by_fault (mount.BadEntry page count limit) b = absurd b
 
   pub rows-mount : (blobs now : Option VarData) (u : Unit {0}) → t.blobs ≡ blobs → StandOutside blobs (page_at mid) (page_at new) → WithinEndsOf blobs mid (first + plan.data_blocks + plan.index_blocks) plan w.now.state rose w.now.device (Ok u) now new →
       IsMountedAll t first plan table w.now.state rose device now new
@@ -319,3 +320,4 @@ data-fails first plan table rose device (mount.BadPage bad) t t' new h = h
 data-fails first plan table rose device (mount.BadKeys page last key) t t' new h = h
 data-fails first plan table rose device (mount.BadIndex end next) t t' new h = h
 data-fails first plan table rose device (mount.BadBlob page next) t t' new h = h
+data-fails first plan table rose device (mount.BadEntry page count limit) t t' new h = h

@@ -15,7 +15,7 @@ use Rattle.fl_model.specs.Ring as model
 use Rattle.fl_model.specs.Ring.{oldest}
 use Rattle.fl_model.specs.Table.{Table, Entry, IndexRing, shape_of, full_pages}
 use Rattle.fl_index.specs.declared.index.Index.{Index}
-use Rattle.fl_index.specs.Standing.{HasIndex, HoldsIndex, StandsForRing, bytes_in}
+use Rattle.fl_index.specs.Standing.{HasIndex, HoldsIndex, RemembersAll, RemembersBelow, StandsWith, StandsBelow, StandsForRing, bytes_in, first_told}
 use Rattle.fl_table.specs.Pages.{place_in, bytes_in as table_bytes}
 use Rattle.fl_ring.specs.Ring.{OutsideStands}
 use Rattle.fl_table.proofs.States.{shape_in}
@@ -109,19 +109,37 @@ image-same first plan table ring old new same h =
     subst (λ (at : ℕ → List ℕ). IsRingImage (shape_of plan IndexRing) ring at (HoldsEntries plan table ring)) (sym (fun_ext (λ n. same n))) h
 
 -- an index in memory stands for that of another table, on a flash with the same index pages
+module _ (R : Index → Plan → Table → model.Ring → Type 0) (index : Index) (f g : FlashState) (first : ℕ) (plan : Plan) (table new : Table) (s : StandsWith R index f first plan table) (pages : new.index_pages ≡ table.index_pages)
+    (facts : HasIndex plan new s.ring) (same : (n : ℕ) → bytes_in (page_at g) first plan n ≡ bytes_in (page_at f) first plan n) where
+  pub with-moved : R index plan new s.ring → StandsWith R index g first plan new
+  with-moved remembers = record {
+    planned = s.planned;
+    ring = s.ring;
+    facts = facts;
+    whole = s.whole;
+    clean = s.clean;
+    pages = image-moved plan table new s.ring (bytes_in (page_at g) first plan) pages
+        (image-same first plan table s.ring (page_at f) (page_at g) same s.pages);
+    in_memory = s.in_memory;
+    memory_is = s.memory_is;
+    next = s.next;
+    oldest_is = s.oldest_is;
+    first_of = remembers;
+  }
+
+  -- an index page lists data pages from the same one on
+  pub told-moved : (i count : ℕ) → first_told plan table s.ring i count ≡ first_told plan new s.ring i count
+  told-moved i count = ap (λ (ps : List IndexPage). cond (count == 0) None (slice_get (map (λ (page : IndexPage). page.first) ps) (full_pages (take i s.ring.counts)))) (sym pages)
+
+-- .. of which the first data page of each index page is remembered
 pub ring-moved : (index : Index) (f g : FlashState) (first : ℕ) (plan : Plan) (table new : Table) (s : StandsForRing index f first plan table) → new.index_pages ≡ table.index_pages →
     HasIndex plan new s.ring → ((n : ℕ) → bytes_in (page_at g) first plan n ≡ bytes_in (page_at f) first plan n) → StandsForRing index g first plan new
-ring-moved index f g first plan table new s pages facts same = record {
-  planned = s.planned;
-  ring = s.ring;
-  facts = facts;
-  whole = s.whole;
-  clean = s.clean;
-  pages = image-moved plan table new s.ring (bytes_in (page_at g) first plan) pages
-      (image-same first plan table s.ring (page_at f) (page_at g) same s.pages);
-  in_memory = s.in_memory;
-  memory_is = s.memory_is;
-  next = s.next;
-  oldest_is = s.oldest_is;
-  first_of = λ i count e. s.first_of i count e ∙ ap (λ (ps : List IndexPage). cond (count == 0) None (slice_get (map (λ (page : IndexPage). page.first) ps) (full_pages (take i s.ring.counts)))) (sym pages);
-}
+ring-moved index f g first plan table new s pages facts same =
+    with-moved RemembersAll index f g first plan table new s pages facts same (λ i count e. s.first_of i count e ∙ told-moved RemembersAll index f g first plan table new s pages facts same i count)
+
+-- .. or of those below a number
+pub below-moved : (number : ℕ) (index : Index) (f g : FlashState) (first : ℕ) (plan : Plan) (table new : Table) (s : StandsBelow number index f first plan table) → new.index_pages ≡ table.index_pages →
+    HasIndex plan new s.ring → ((n : ℕ) → bytes_in (page_at g) first plan n ≡ bytes_in (page_at f) first plan n) → StandsBelow number index g first plan new
+below-moved number index f g first plan table new s pages facts same =
+    with-moved (RemembersBelow number) index f g first plan table new s pages facts same
+    (λ i count lt e. s.first_of i count lt e ∙ told-moved (RemembersBelow number) index f g first plan table new s pages facts same i count)

@@ -112,7 +112,7 @@ shows-none plan table span top number entries e =
 -- .. and without an index none is
 pub shows-unindexed : (bitmaps : Option Index) (start : ℕ) (plan : Plan) (table : model.Table) (span : Span) (top : Option ℕ) (number : ℕ) (entries : List model.Entry) → ((index : Index) → bitmaps ≡ Some index → ⊥) → ArePlanned bitmaps start plan → ShowsPage plan table (Some span) top number entries (Ok Wanted)
 shows-unindexed None start plan table span top number entries none planned =
-    shows-none plan table span top number entries (sym (ap (λ n. nat_lt 0 n && (waits table number || is_listed plan table number)) planned))
+    shows-none plan table span top number entries (sym (ap (λ n. nat_lt 0 n && (waits table number || is_listed plan table number)) planned.0))
 shows-unindexed (Some index) start plan table span top number entries none planned = absurd (none index refl)
 
 -- what is told of an indexed page is what its entry tells

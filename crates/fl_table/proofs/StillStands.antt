@@ -1,5 +1,5 @@
 -- Reads leave a table as it stands.
-use Rattle.std.proofs.Common.{◌≡◌, ℕ, ◌<◌, ◌^◌, ◌*◌, ◌+◌, Bool, true, false, Result, List, length, take, drop, refl, sym, ◌∙◌, ap, subst, arith}
+use Rattle.std.proofs.Common.{◌≡◌, ℕ, ◌<◌, ◌^◌, ◌*◌, ◌+◌, Bool, true, false, Result, Err, List, length, take, drop, refl, sym, ◌∙◌, ap, subst, arith}
 use Rattle.fl_flash.specs.Buffer.{BufferState}
 use Rattle.fl_flash.specs.Flash.{FlashState, Goes, ReadsPage, page_at, pages}
 use Rattle.fl_flash.specs.Media.{next_count}
@@ -11,7 +11,8 @@ use Rattle.fl_flash.specs.declared.flash.Work.{Work}
 use Rattle.fl_model.specs.Record.{Plan}
 use Rattle.fl_model.specs.Table as model
 use Rattle.fl_model.specs.Table.{IndexRing, VarRing, lose}
-use Rattle.fl_ring.specs.Looking.{OnlyReads}
+use Rattle.fl_flash.specs.declared.flash.FlashFault.TheVariants.{PowerLost, Media}
+use Rattle.fl_ring.specs.Looking.{OnlyReads, ReadFails}
 use Rattle.fl_ring.proofs.Readings.{no_reads, same_page}
 use Rattle.fl_table.specs.Memory.{LiesOn}
 use Rattle.fl_table.specs.Pages.{place_in}
@@ -65,6 +66,15 @@ lies-still t f g n reads lies = lies-moved t f g reads.goes lies
 pub lies-powered : {KNOTS SLOTS : ℕ} (t : Table KNOTS SLOTS) (f : FlashState) (on : Bool) → LiesOn t f → LiesOn t (record f { is_on = on })
 lies-powered t f on lies =
     lies-moved t f (record f { is_on = on }) (record { geometry = refl; blocks = refl; start = refl; origin = refl; tells = refl; size = refl; front = λ told. refl; back = λ told. refl; cuts = omega arith; faults = omega arith }) lies
+
+-- why a read of a page failed
+pub read-fails : (old new : FlashState) (page size : ℕ) (fault : FlashFault) (into : BufferState) → ReadsPage old page size (Err fault) into new → ReadFails old fault new
+read-fails old new page size PowerLost into is = by_power old.is_on refl
+  where
+    by_power : (on : Bool) → old.is_on ≡ on → old.is_on ≡ false
+    by_power true e = absurd (is.never_lost e refl)
+    by_power false e = e
+read-fails old new page size Media into is = is.cause.media refl
 
 -- one read of a page
 pub read-once : (old new : FlashState) (page size : ℕ) (result : Result (Unit {0}) FlashFault) (into : BufferState) → ReadsPage old page size result into new → OnlyReads old 1 new

@@ -11,6 +11,7 @@ use Rattle.fl_index.specs.Standing as standing
 use Rattle.fl_index.specs.Standing.{Waits}
 use Rattle.fl_model.specs.Layout.{IndexEntry}
 use Rattle.fl_model.specs.Record.{Plan, has_index, entries_per_page}
+use Rattle.fl_model.specs.Ring.{Ring}
 use Rattle.fl_model.specs.Table.{Table, RingName, IndexRing}
 use Rattle.fl_model.specs.Work.{Device}
 use Rattle.fl_ring.specs.Ring.{Shape, OutsideStands, room}
@@ -19,9 +20,9 @@ use Rattle.fl_ring.specs.declared.fault.RingFault.{RingFault}
 use Rattle.fl_flash.specs.declared.flash.FlashFault.{FlashFault}
 use Rattle.fl_index.specs.Outcomes as outcomes
 
--- as a plan says, where its index ring begins at this block
+-- as a plan says, where its index ring begins at this block; only an index has full entries
 abbrev pub ArePlanned : Option Index → ℕ → Plan → Type 0
-ArePlanned None first plan = plan.index_blocks ≡ 0
+ArePlanned None first plan = (plan.index_blocks ≡ 0) × (plan.full_index ≡ false)
 ArePlanned (Some index) first plan = memory.IsPlanned index first plan
 
 -- what no call changes
@@ -42,6 +43,17 @@ AreSameRing None None = Unit {0}
 AreSameRing (Some old) (Some new) = IsSameRing old new
 AreSameRing None (Some new) = ⊥
 AreSameRing (Some old) None = ⊥
+
+-- The ring is the one that was found. Where entries aren't full, what is remembered of its pages stays too.
+abbrev pub StaysFound : Bool → Index → Index → Type 0
+StaysFound true old new = (memory.is_running new ≡ memory.is_running old) × (memory.oldest_in new ≡ memory.oldest_in old) × (next_in new ≡ next_in old)
+StaysFound false old new = IsSameRing old new
+
+abbrev pub AreStillFound : Option Index → Option Index → Type 0
+AreStillFound None None = Unit {0}
+AreStillFound (Some old) (Some new) = StaysFound (form_in old).full old new
+AreStillFound None (Some new) = ⊥
+AreStillFound (Some old) None = ⊥
 
 -- it stands for that of a table of the model, where no entry waits without an index
 abbrev pub Stand : Option Index → FlashState → ℕ → Plan → Table → Type 0
@@ -143,11 +155,17 @@ MakesRoomOf (Some index) old first plan table rose device result None new = ⊥
 MakesRoomOf (Some index) old first plan table rose device result (Some now) new =
     IsWatched old new rose device → standing.Stands index old first plan table → outcomes.MakesRoom first plan table rose device result now old new
 
+-- what is remembered of the index pages after the first part of a mount: where entries are full, of none its first data page
+abbrev pub RemembersFound : Bool → Index → Index → Plan → Table → Ring → Type 0
+RemembersFound true now = standing.RemembersBelow (memory.oldest_in now)
+RemembersFound false now = standing.RemembersAll
+
 abbrev pub MountEndsOf : Option Index → FlashState → ℕ → Plan → Table → Bool → Device → Result (Option ℕ) RingFault → Option Index → FlashState → Type 0
 MountEndsOf None old first plan table rose device result new_index new = (result ≡ Ok None) × (new_index ≡ None) × (new ≡ old)
 MountEndsOf (Some index) old first plan table rose device result None new = ⊥
 MountEndsOf (Some index) old first plan table rose device result (Some now) new =
-    IsWatched old new rose device → memory.IsPlanned index first plan → standing.Rests old first plan table → outcomes.MountEnds first plan table rose device result now new
+    IsWatched old new rose device → memory.IsPlanned index first plan → standing.Rests old first plan table →
+    outcomes.EndsAs (RemembersFound (form_in index).full now) first plan table rose device result now new
 
 -- a flash page that isn't one of a ring's
 abbrev pub IsOutside : Shape → ℕ → Type 0

@@ -91,6 +91,7 @@ WithinEnds first plan table rose device old (Err (mount.BadPage bad)) var new = 
 WithinEnds first plan table rose device old (Err (mount.BadKeys page last key)) var new = ⊥
 WithinEnds first plan table rose device old (Err (mount.BadIndex end next)) var new = ⊥
 WithinEnds first plan table rose device old (Err (mount.BadBlob page next)) var new = ⊥
+WithinEnds first plan table rose device old (Err (mount.BadEntry page count limit)) var new = ⊥
 
 abbrev pub WithinEndsOf : Option VarData → FlashState → ℕ → Plan → Table → Bool → Device → Result (Unit {0}) MountFault → Option VarData → FlashState → Type 0
 WithinEndsOf None old first plan table rose device result blobs new = (result ≡ Ok tt) × (blobs ≡ None) × (new ≡ old)

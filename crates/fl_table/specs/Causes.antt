@@ -44,6 +44,7 @@ IfFlash P _ = Unit {0}
 abbrev pub IfPage : (MountFault → Type 0) → MountFault → Type 0
 IfPage P (mount.BadPage bad) = P (mount.BadPage bad)
 IfPage P (mount.BadKeys page last first) = P (mount.BadKeys page last first)
+IfPage P (mount.BadEntry page count limit) = P (mount.BadEntry page count limit)
 IfPage P _ = Unit {0}
 
 -- the flash failed, or a page is refused
@@ -51,7 +52,15 @@ abbrev pub is_of_pages : MountFault → Bool
 is_of_pages (mount.Flash fault) = true
 is_of_pages (mount.BadPage bad) = true
 is_of_pages (mount.BadKeys page last first) = true
+is_of_pages (mount.BadEntry page count limit) = true
 is_of_pages _ = false
+
+-- .. and the flash didn't fail
+abbrev pub is_refused : MountFault → Bool
+is_refused (mount.BadPage bad) = true
+is_refused (mount.BadKeys page last first) = true
+is_refused (mount.BadEntry page count limit) = true
+is_refused _ = false
 
 -- a refusal that isn't a fault of the flash leaves the table and the flash as they are
 abbrev pub RefusedSame : {KNOTS SLOTS : ℕ} → Table KNOTS SLOTS → FlashState → PutRefusal → Table KNOTS SLOTS → FlashState → Type 0

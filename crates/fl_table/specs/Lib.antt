@@ -12,6 +12,9 @@ pub mod Accepting
 pub mod Outcomes
 pub mod Causes
 pub mod Reading
+pub mod ByEntries
+pub mod Coming
+pub mod Knowing
 pub mod Mounting
 pub mod Look
 pub mod Kept

@@ -86,6 +86,15 @@ pub record IsSamePlan {KNOTS SLOTS : ℕ} (old new : Table KNOTS SLOTS) : Type 0
   pub blobs : variable.AreSamePlan old.blobs new.blobs
   pub limit : new.blob_limit ≡ old.blob_limit
 
+-- what a read of the kept pages leaves as it is
+pub record IsSameRest {KNOTS SLOTS : ℕ} (old new : Table KNOTS SLOTS) : Type 0 where
+  pub ring : new.ring ≡ old.ring
+  pub stopped : new.stopped ≡ old.stopped
+  pub writer : new.writer ≡ old.writer
+  pub bitmap : new.bitmap ≡ old.bitmap
+  pub blob_end : new.blob_end ≡ old.blob_end
+  pub blobs : new.blobs ≡ old.blobs
+
 -- nothing is in memory, as before the first mount
 pub record IsForgotten {KNOTS SLOTS : ℕ} (t : Table KNOTS SLOTS) : Type 0 where
   pub down : t.ring ≡ None

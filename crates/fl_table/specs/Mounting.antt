@@ -1,5 +1,5 @@
 -- What a mount found on a flash, over any bytes.
-use Rattle.std.specs.Prelude.{◌≡◌, ◌⊎◌, ℕ, ◌+◌, ◌-◌, ◌<◌, ◌≤◌, Option, Some, None, IfSome, unwrap_or, List}
+use Rattle.std.specs.Prelude.{◌≡◌, ◌⊎◌, ℕ, ◌+◌, ◌-◌, ◌<◌, ◌≤◌, Bool, true, false, Option, Some, None, IfSome, unwrap_or, List}
 use Rattle.fl_flash.specs.Flash.{FlashState}
 use Rattle.fl_flash.specs.declared.flash.FlashFault.{FlashFault}
 use Rattle.fl_ring.specs.declared.fault.RingFault.{RingFault}
@@ -8,24 +8,28 @@ use Rattle.fl_ring.specs.declared.ring.Ring.{Ring}
 use Rattle.fl_ring.specs.Finding.{FoundFault}
 use Rattle.fl_ring.specs.Looking.{OnlyReads, ReadFails}
 use Rattle.fl_ring.specs.Mounting.{search_reads, HasNumbers, FailsAs}
-use Rattle.fl_ring.specs.Place.{next_of, oldest_of}
+use Rattle.fl_ring.specs.Place.{next_of, oldest_of, shape_of}
 use Rattle.fl_schema.specs.Schema.{layout_of}
 use Rattle.fl_index.specs.Memory as memory
-use Rattle.fl_index.specs.Finding.{FindsIndex, RefusesIndex}
+use Rattle.fl_index.specs.Finding as finding
+use Rattle.fl_index.specs.Finding.{FindsEnd, FindsIndex, RefusesEnd, RefusesIndex}
+use Rattle.fl_index.specs.Page.{first_on}
 use Rattle.fl_index.specs.declared.index.Index.{Index}
 use Rattle.fl_ring.specs.Ring.{room}
-use Rattle.fl_table.specs.Bitmaps.{room_of, rings_of, IsOutside}
+use Rattle.fl_table.specs.Bitmaps.{room_of, rings_of, IsOutside, AreSamePlan, AreStillFound}
 use Rattle.fl_table.specs.Blobs as variable
 use Rattle.fl_var.specs.Memory.{var_shape}
 use Rattle.fl_table.specs.Causes.{of_ring}
-use Rattle.fl_table.specs.Memory.{ring_shape}
+use Rattle.fl_table.specs.Memory.{pending_in, ring_shape}
 use Rattle.fl_table.specs.declared.table.Table.{Table}
 use Rattle.fl_table.specs.declared.faults.MountFault.{MountFault}
 use Rattle.fl_table.specs.declared.faults.MountFault.TheVariants as mount
 use Rattle.fl_table.specs.declared.counts.Mounted.{Mounted}
 use Rattle.fl_table.specs.BlobEnds.{least_of}
 use Rattle.fl_table.specs.BlobMount.{FindsBlobs, RefusesWithin, AreBelow}
-use Rattle.fl_table.specs.Reading.{AreRead, AreRefused, last_after, rows_after, voids_after, ends_after, pages_of}
+use Rattle.fl_table.specs.ByEntries.{Come, facts_on, known_after, rows_of, voids_of, end_of, mount_fault}
+use Rattle.fl_table.specs.Coming.{WaitUnlisted, come_of, most_in, index_pages_of}
+use Rattle.fl_table.specs.Reading.{pages_of}
 
 -- at most so many reads
 pub record FewReads (n : ℕ) (old new : FlashState) : Type 0 where
@@ -44,49 +48,80 @@ rings_in t = rings_of t.bitmaps + variable.rings_of t.blobs + 1
 abbrev pub pages_in : {KNOTS SLOTS : ℕ} → Table KNOTS SLOTS → ℕ
 pages_in t = room (ring_shape t) + room_of t.bitmaps + variable.room_of t.blobs
 
--- The index was found and repaired, where the table has one; it is this one now, and ends at this number.
+-- The index was found and repaired, where the table has one; it is this one now, and ends at this number. Where entries are full,
+-- its kept pages are read later.
+abbrev pub FindsBy : Bool → Index → FlashState → Option ℕ → Index → FlashState → Type 0
+FindsBy true index old end now new = FindsEnd index old end now new
+FindsBy false index old end now new = FindsIndex index old end now new
+
 abbrev pub FindsBitmaps : Option Index → FlashState → Option ℕ → Option Index → FlashState → Type 0
 FindsBitmaps None old end None new = (end ≡ None) × (new ≡ old)
 FindsBitmaps None old end (Some now) new = ⊥
 FindsBitmaps (Some index) old end None new = ⊥
-FindsBitmaps (Some index) old end (Some now) new = FindsIndex index old end now new
+FindsBitmaps (Some index) old end (Some now) new = FindsBy (memory.form_in index).full index old end now new
 
 -- why it is refused, and what was done
+abbrev pub RefusesBy : Bool → Index → FlashState → RingFault → FlashState → Type 0
+RefusesBy true index old fault new = RefusesEnd index old fault new
+RefusesBy false index old fault new = RefusesIndex index old fault new
+
 abbrev pub RefusesBitmaps : Option Index → FlashState → RingFault → FlashState → Type 0
 RefusesBitmaps None old fault new = ⊥
-RefusesBitmaps (Some index) old fault new = RefusesIndex index old fault new
+RefusesBitmaps (Some index) old fault new = RefusesBy (memory.form_in index).full index old fault new
 
 -- the index was found, and ends at this number
 pub record Indexed {KNOTS SLOTS : ℕ} (t : Table KNOTS SLOTS) (old : FlashState) (end : Option ℕ) (found : FlashState) : Type 0 where
   pub now : Option Index
+  pub same : AreSamePlan t.bitmaps now
   pub bitmaps : FindsBitmaps t.bitmaps old end now found
 
--- The data ring was found and repaired, whose void pages follow a number, and then each of its kept pages was read.
-pub record ReadsRing {KNOTS SLOTS : ℕ} (t : Table KNOTS SLOTS) (old : FlashState) (least : ℕ) (ring : Ring) (new : FlashState) : Type 0 where
+-- The data ring was found and repaired, whose void pages follow a number. Then kept pages were read, each at most once: those of
+-- the data ring, and where entries are full those of the index that was found.
+pub record ReadsRing {KNOTS SLOTS : ℕ} (t : Table KNOTS SLOTS) (bitmaps : Option Index) (old : FlashState) (least : ℕ) (ring : Ring) (new : FlashState) : Type 0 where
   pub repaired : FlashState
   pub numbers : HasNumbers old (ring_shape t) least ring repaired
+  pub shape : shape_of ring ≡ ring_shape t
   pub within : least ≤ next_of ring
-  pub reads : OnlyReads repaired (next_of ring - oldest_of ring) new
+  pub reads : OnlyReads repaired (index_pages_of bitmaps + (next_of ring - oldest_of ring)) new
 
--- each kept page may stand where it does, and the blobs of their rows end there
-pub record FindsData {KNOTS SLOTS : ℕ} (t : Table KNOTS SLOTS) (old : FlashState) (least : ℕ) (ring : Ring) (mounted : Mounted) (last : Option ℕ) (end : ℕ) (new : FlashState) : Type 0 where
-  pub ring_reads : ReadsRing t old least ring new
-  pub read : AreRead (layout_of t.schema) (pages_of ring new) (oldest_of ring) (next_of ring - oldest_of ring)
+-- what the mount of a table comes to behind the index that was found
+abbrev pub comes_in : {KNOTS SLOTS : ℕ} → Table KNOTS SLOTS → Option Index → Ring → FlashState → Come
+comes_in t bitmaps ring f = come_of (layout_of t.schema) (most_in t.geometry.page (layout_of t.schema)) bitmaps ring f
+
+-- nothing is wrong with the kept pages, and what is known of the data pages is counted
+pub record FindsData {KNOTS SLOTS : ℕ} (t : Table KNOTS SLOTS) (bitmaps : Option Index) (old : FlashState) (least : ℕ) (ring : Ring) (mounted : Mounted) (last : Option ℕ) (end : ℕ) (new : FlashState) : Type 0 where
+  pub ring_reads : ReadsRing t bitmaps old least ring new
+  pub fine : mount_fault (comes_in t bitmaps ring new) ≡ None
   pub mounted_is : mounted ≡ record {
-    rows = rows_after (layout_of t.schema) (pages_of ring new) (oldest_of ring) (next_of ring - oldest_of ring);
+    rows = rows_of (facts_on (comes_in t bitmaps ring new)) (oldest_of ring) (next_of ring - oldest_of ring);
     pages = next_of ring - oldest_of ring;
-    voids = voids_after (layout_of t.schema) (pages_of ring new) (oldest_of ring) (next_of ring - oldest_of ring);
+    voids = voids_of (facts_on (comes_in t bitmaps ring new)) (oldest_of ring) (next_of ring - oldest_of ring);
   }
-  pub last_is : last ≡ last_after (layout_of t.schema) (pages_of ring new) (oldest_of ring) (next_of ring - oldest_of ring)
-  pub end_is : end ≡ ends_after (layout_of t.schema) (pages_of ring new) (oldest_of ring) (next_of ring - oldest_of ring)
+  pub last_is : last ≡ known_after (comes_in t bitmaps ring new) (next_of ring - oldest_of ring)
+  pub end_is : end ≡ end_of (facts_on (comes_in t bitmaps ring new)) (oldest_of ring) (next_of ring - oldest_of ring)
 
--- .. and the variable data were found then, where the table has any: each blob begins before their next page
-pub record FindsRows {KNOTS SLOTS : ℕ} (t : Table KNOTS SLOTS) (old : FlashState) (least : ℕ) (mounted : Mounted) (now : Table KNOTS SLOTS) (new : FlashState) : Type 0 where
+-- Where entries are full, the first data page of each kept index page is remembered.
+abbrev pub RemembersPages : Bool → Index → FlashState → Index → Type 0
+RemembersPages true index f now =
+    (number : ℕ) → memory.oldest_in index ≤ number → number < memory.next_in index → memory.first_in now number ≡ first_on (finding.pages_of index f number)
+RemembersPages false index f now = Unit {0}
+
+abbrev pub RemembersKept : Option Index → FlashState → Option Index → Type 0
+RemembersKept None f now = Unit {0}
+RemembersKept (Some index) f None = ⊥
+RemembersKept (Some index) f (Some now) = RemembersPages (memory.form_in index).full index f now
+
+-- The entries of the last data pages wait that no index page lists, and no row is pending. The variable data were found then, where the table has any:
+-- each blob begins before their next page.
+pub record FindsRows {KNOTS SLOTS : ℕ} (t : Table KNOTS SLOTS) (bitmaps : Option Index) (old : FlashState) (least : ℕ) (mounted : Mounted) (now : Table KNOTS SLOTS) (new : FlashState) : Type 0 where
   pub ring : Ring
   pub ring_is : now.ring ≡ Some ring
   pub end : ℕ
   pub between : FlashState
-  pub pages : FindsData t old least ring mounted now.last_key end between
+  pub pages : FindsData t bitmaps old least ring mounted now.last_key end between
+  pub waits : WaitUnlisted (comes_in t bitmaps ring between) (pages_of ring between) bitmaps least (next_of ring) now.bitmaps
+  pub firsts : RemembersKept bitmaps between now.bitmaps
+  pub pending : pending_in now ≡ 0
   pub blobs : FindsBlobs t.blobs between (least_of end) now.blobs new
   pub below : AreBelow end now.blobs
 
@@ -94,19 +129,22 @@ pub record FindsRows {KNOTS SLOTS : ℕ} (t : Table KNOTS SLOTS) (old : FlashSta
 pub record FindsPages {KNOTS SLOTS : ℕ} (t : Table KNOTS SLOTS) (old : FlashState) (mounted : Mounted) (now : Table KNOTS SLOTS) (new : FlashState) : Type 0 where
   pub end : Option ℕ
   pub indexed : FlashState
-  pub bitmaps : FindsBitmaps t.bitmaps old end now.bitmaps indexed
-  pub rows : FindsRows t indexed (unwrap_or end 0) mounted now new
+  pub found : Option Index
+  pub same : AreSamePlan t.bitmaps found
+  pub bitmaps : FindsBitmaps t.bitmaps old end found indexed
+  pub still : AreStillFound found now.bitmaps
+  pub rows : FindsRows t found indexed (unwrap_or end 0) mounted now new
 
--- one of the pages may not, and it is the first
-pub record HasBadPage {KNOTS SLOTS : ℕ} (t : Table KNOTS SLOTS) (old : FlashState) (least : ℕ) (fault : MountFault) (new : FlashState) : Type 0 where
+-- a page of them is refused, and it is the first
+pub record HasBadPage {KNOTS SLOTS : ℕ} (t : Table KNOTS SLOTS) (bitmaps : Option Index) (old : FlashState) (least : ℕ) (fault : MountFault) (new : FlashState) : Type 0 where
   pub ring : Ring
-  pub ring_reads : ReadsRing t old least ring new
-  pub refused : AreRefused (layout_of t.schema) (pages_of ring new) (oldest_of ring) (next_of ring - oldest_of ring) fault
+  pub ring_reads : ReadsRing t bitmaps old least ring new
+  pub refused : mount_fault (comes_in t bitmaps ring new) ≡ Some fault
 
 -- the ring was found and repaired, and then a read of a kept page failed
-pub record PagesUnread {KNOTS SLOTS : ℕ} (t : Table KNOTS SLOTS) (old : FlashState) (least : ℕ) (fault : FlashFault) (new : FlashState) : Type 0 where
+pub record PagesUnread {KNOTS SLOTS : ℕ} (t : Table KNOTS SLOTS) (bitmaps : Option Index) (old : FlashState) (least : ℕ) (fault : FlashFault) (new : FlashState) : Type 0 where
   pub ring : Ring
-  pub ring_reads : ReadsRing t old least ring new
+  pub ring_reads : ReadsRing t bitmaps old least ring new
   pub fails : ReadFails ring_reads.repaired fault new
 
 -- a ring that is refused is left as it is
@@ -123,33 +161,34 @@ pub record HasBadEnd {KNOTS SLOTS : ℕ} (t : Table KNOTS SLOTS) (old : FlashSta
   pub beyond : next < end
 
 -- why the mount of the data ring and the read of its pages fail, and what was done
-abbrev pub RefusesData : {KNOTS SLOTS : ℕ} → Table KNOTS SLOTS → FlashState → ℕ → MountFault → FlashState → Type 0
-RefusesData t old least (mount.Flash fault) new = FailsAs old (ring_shape t) least (ring.Flash fault) new ⊎ PagesUnread t old least fault new
-RefusesData t old least (mount.Ring fault) new = HasBadRing t old least fault new
-RefusesData t old least (mount.BadPage bad) new = HasBadPage t old least (mount.BadPage bad) new
-RefusesData t old least (mount.BadKeys page last first) new = HasBadPage t old least (mount.BadKeys page last first) new
-RefusesData t old least (mount.BadIndex end next) new = HasBadEnd t old least end next new
-RefusesData t old least (mount.BadBlob page next) new = ⊥
+abbrev pub RefusesData : {KNOTS SLOTS : ℕ} → Table KNOTS SLOTS → Option Index → FlashState → ℕ → MountFault → FlashState → Type 0
+RefusesData t bitmaps old least (mount.Flash fault) new = FailsAs old (ring_shape t) least (ring.Flash fault) new ⊎ PagesUnread t bitmaps old least fault new
+RefusesData t bitmaps old least (mount.Ring fault) new = HasBadRing t old least fault new
+RefusesData t bitmaps old least (mount.BadPage bad) new = HasBadPage t bitmaps old least (mount.BadPage bad) new
+RefusesData t bitmaps old least (mount.BadKeys page last first) new = HasBadPage t bitmaps old least (mount.BadKeys page last first) new
+RefusesData t bitmaps old least (mount.BadIndex end next) new = HasBadEnd t old least end next new
+RefusesData t bitmaps old least (mount.BadBlob page next) new = ⊥
+RefusesData t bitmaps old least (mount.BadEntry page count limit) new = HasBadPage t bitmaps old least (mount.BadEntry page count limit) new
 
 -- the data pages were found, and the variable data are refused
-pub record BlobsRefused {KNOTS SLOTS : ℕ} (t : Table KNOTS SLOTS) (old : FlashState) (least : ℕ) (fault : MountFault) (new : FlashState) : Type 0 where
+pub record BlobsRefused {KNOTS SLOTS : ℕ} (t : Table KNOTS SLOTS) (bitmaps : Option Index) (old : FlashState) (least : ℕ) (fault : MountFault) (new : FlashState) : Type 0 where
   pub ring : Ring
   pub mounted : Mounted
   pub last : Option ℕ
   pub end : ℕ
   pub between : FlashState
-  pub pages : FindsData t old least ring mounted last end between
+  pub pages : FindsData t bitmaps old least ring mounted last end between
   pub why : RefusesWithin t.blobs between end fault new
 
 -- why the mount of the data ring and of the variable data fails
-abbrev pub RefusesRows : {KNOTS SLOTS : ℕ} → Table KNOTS SLOTS → FlashState → ℕ → MountFault → FlashState → Type 0
-RefusesRows t old least fault new = RefusesData t old least fault new ⊎ BlobsRefused t old least fault new
+abbrev pub RefusesRows : {KNOTS SLOTS : ℕ} → Table KNOTS SLOTS → Option Index → FlashState → ℕ → MountFault → FlashState → Type 0
+RefusesRows t bitmaps old least fault new = RefusesData t bitmaps old least fault new ⊎ BlobsRefused t bitmaps old least fault new
 
 -- why a mount fails: the index is refused, or it is found, and the data pages or the variable data aren't
 abbrev pub RefusesPages : {KNOTS SLOTS : ℕ} → Table KNOTS SLOTS → FlashState → MountFault → FlashState → Type 0
 RefusesPages t old fault new =
     ((e : RingFault) × (fault ≡ of_ring e) × RefusesBitmaps t.bitmaps old e new)
-    ⊎ ((end : Option ℕ) × (found : FlashState) × Indexed t old end found × RefusesRows t found (unwrap_or end 0) fault new)
+    ⊎ ((end : Option ℕ) × (found : FlashState) × (i : Indexed t old end found) × RefusesRows t i.now found (unwrap_or end 0) fault new)
 
 -- each flash page outside a table's rings stands
 abbrev pub OutsideStands : {KNOTS SLOTS : ℕ} → Table KNOTS SLOTS → (ℕ → List ℕ) → (ℕ → List ℕ) → Type 0

@@ -136,6 +136,7 @@ DataEnds first plan table rose device (Err (mount.BadPage bad)) t new = ⊥
 DataEnds first plan table rose device (Err (mount.BadKeys page last key)) t new = ⊥
 DataEnds first plan table rose device (Err (mount.BadIndex end next)) t new = ⊥
 DataEnds first plan table rose device (Err (mount.BadBlob page next)) t new = ⊥
+DataEnds first plan table rose device (Err (mount.BadEntry page count limit)) t new = ⊥
 
 -- the ring of variable data, where a plan has one
 abbrev pub var_rings : Plan → List RingName
@@ -150,6 +151,7 @@ RingsEnd first plan rings table rose device (Err (mount.BadPage bad)) t new = �
 RingsEnd first plan rings table rose device (Err (mount.BadKeys page last key)) t new = ⊥
 RingsEnd first plan rings table rose device (Err (mount.BadIndex end next)) t new = ⊥
 RingsEnd first plan rings table rose device (Err (mount.BadBlob page next)) t new = ⊥
+RingsEnd first plan rings table rose device (Err (mount.BadEntry page count limit)) t new = ⊥
 
 -- .. and of all of them
 abbrev pub MountEnds : {KNOTS SLOTS : ℕ} → ℕ → Plan → model.Table → Bool → Device → Result Mounted MountFault → Table KNOTS SLOTS → FlashState → Type 0

@@ -1,5 +1,5 @@
 -- What a mount reads in the kept pages, over any bytes.
-use Rattle.std.specs.Prelude.{◌≡◌, ◌⊎◌, ℕ, zero, suc, ◌+◌, ◌-◌, ◌%◌, ◌<◌, ◌≤◌, Bool, true, false, nat_lt, ◌==◌, Option, Some, None, option_map, unwrap_or, List, [], ◌∷◌, ◌++◌, length, map, take, drop, slice_index, if◌then◌else◌}
+use Rattle.std.specs.Prelude.{◌≡◌, ◌⊎◌, ℕ, ◌+◌, ◌-◌, ◌<◌, ◌≤◌, Bool, true, nat_lt, Option, Some, None, unwrap_or, List, [], ◌∷◌, length, map, take, drop, if◌then◌else◌}
 use Rattle.fl_find.specs.Pages.{first_key, rows_on}
 use Rattle.fl_flash.specs.Flash.{FlashState, page_at}
 use Rattle.fl_mark.specs.Mark.{state_of_page}
@@ -20,6 +20,7 @@ use Rattle.fl_page.specs.Page.{IsGoodPage, bad_page, rows_in}
 use Rattle.fl_ring.specs.Place.{shape_of}
 use Rattle.fl_ring.specs.Ring.{place}
 use Rattle.fl_ring.specs.declared.ring.Ring.{Ring}
+use Rattle.fl_table.specs.Bitmaps.{AreWaiting}
 use Rattle.fl_table.specs.BlobEnds.{least_of, blobs_end}
 use Rattle.fl_table.specs.declared.faults.MountFault.{MountFault}
 use Rattle.fl_table.specs.declared.faults.MountFault.TheVariants.{BadPage, BadKeys}
@@ -54,53 +55,6 @@ pub record IsRefused (layout : RowLayout) (number : ℕ) (page : List ℕ) (last
 -- the bytes of a page of a ring, by its number
 abbrev pub pages_of : Ring → FlashState → ℕ → List ℕ
 pages_of ring f number = page_at f (place (shape_of ring) number)
-
--- the last key of so many pages
-abbrev pub last_after : RowLayout → (ℕ → List ℕ) → ℕ → ℕ → Option ℕ
-last_after layout page number zero = None
-last_after layout page number (suc n) = last_in (last_after layout page number n) (rows_on layout (page (number + n)))
-
--- so many pages from this number on may stand there
-abbrev pub AreRead : RowLayout → (ℕ → List ℕ) → ℕ → ℕ → Type 0
-AreRead layout page number zero = Unit {0}
-AreRead layout page number (suc n) =
-    AreRead layout page number n × IsRead layout (number + n) (page (number + n)) (last_after layout page number n)
-
--- the first of them that may not, and why
-pub record AreRefused (layout : RowLayout) (page : ℕ → List ℕ) (number n : ℕ) (fault : MountFault) : Type 0 where
-  pub before : ℕ
-  pub within : before < n
-  pub read : AreRead layout page number before
-  pub refused : IsRefused layout (number + before) (page (number + before)) (last_after layout page number before) fault
-
--- the rows in all, and the pages without rows
-abbrev pub rows_after : RowLayout → (ℕ → List ℕ) → ℕ → ℕ → ℕ
-rows_after layout page number zero = 0
-rows_after layout page number (suc n) = rows_after layout page number n + length (rows_on layout (page (number + n)))
-
-abbrev pub voids_after : RowLayout → (ℕ → List ℕ) → ℕ → ℕ → ℕ
-voids_after layout page number zero = 0
-voids_after layout page number (suc n) =
-    voids_after layout page number n + (if length (rows_on layout (page (number + n))) == 0 then 1 else 0)
-
--- the point of a page with rows: its first key and its number
-abbrev pub point_of : ℕ → List Row → List (ℕ × ℕ)
-point_of number rows = unwrap_or (option_map (λ key. (key, number) ∷ []) (first_key rows)) []
-
--- the points of so many pages
-abbrev pub points_after : RowLayout → (ℕ → List ℕ) → ℕ → ℕ → List (ℕ × ℕ)
-points_after layout page number zero = []
-points_after layout page number (suc n) = points_after layout page number n ++ point_of (number + n) (rows_on layout (page (number + n)))
-
--- one more than the greatest page at which a blob of so many pages' rows begins, and 0 where none has a page
-abbrev pub ends_after : RowLayout → (ℕ → List ℕ) → ℕ → ℕ → ℕ
-ends_after layout page number zero = 0
-ends_after layout page number (suc n) = blobs_end (ends_after layout page number n) (rows_on layout (page (number + n)))
-
--- how many rows each page has is noted at its place
-abbrev pub AreNoted : RowLayout → (ℕ → List ℕ) → ℕ → ℕ → List ℕ → Type 0
-AreNoted layout page number n counts =
-    (i : ℕ) → i < n → slice_index counts ((number + i) % length counts) ≡ length (rows_on layout (page (number + i)))
 
 -- the bitmap in the header of a data page, and in a page by its bytes; a page that isn't committed has none
 abbrev pub page_bitmap : List ℕ → ℕ
@@ -148,6 +102,11 @@ GatherUpTo layout (Some old) page next None = ⊥
 GatherUpTo layout (Some old) page next (Some new) =
     (plan : Plan) (table : model.Table) → Waits old (first_waiting old) [] → HaveEntries layout plan table page →
     model_oldest table.rows ≤ first_waiting old → next ≤ table.rows.next → Waits new (first_waiting old) (entries_from plan table (first_waiting old) (next - first_waiting old))
+
+-- those of the pages from a number on wait then
+abbrev pub WaitFrom : RowLayout → (ℕ → List ℕ) → ℕ → ℕ → Option Index → Type 0
+WaitFrom layout page first next new =
+    (plan : Plan) (table : model.Table) → HaveEntries layout plan table page → model_oldest table.rows ≤ first → next ≤ table.rows.next → AreWaiting new first (entries_from plan table first (next - first))
 
 -- .. as many as there are from the first that waits on
 abbrev pub AreGathered : Option Index → ℕ → Option Index → Type 0

@@ -1,5 +1,5 @@
 // The index of a table, where it has one.
-ghost use Rattle.std.specs.Prelude.{◌≡◌, ◌+◌, ◌*◌, ◌^◌, ◌<◌, ◌≤◌, ℕ, Bool, None, [], Ok, Err, true, false, length, IsTrue, IfOk, IfErr, OnOk, OnErr};
+ghost use Rattle.std.specs.Prelude.{◌≡◌, ◌+◌, ◌-◌, ◌*◌, ◌^◌, ◌<◌, ◌≤◌, ℕ, Bool, None, [], Ok, Err, true, false, length, IsTrue, IfOk, IfErr, OnOk, OnErr};
 ghost use Rattle.fl_flash.specs.Flash.{Goes, page_at};
 ghost use Rattle.fl_model.specs.Record.{Plan};
 ghost use Rattle.fl_model.specs.Table as model;
@@ -7,13 +7,15 @@ ghost use Rattle.fl_model.specs.Work.{Device};
 ghost use Rattle.fl_ring.specs.Causes.{CausedBy, IfFlash};
 ghost use Rattle.fl_table.specs.Bitmaps.{AreSamePlan, AreSameRing, LieOn, AreRunning, AreBroken, AreWaiting, AreIdle, HaveRoom, EndAt, NumberLeft, AreNoted, StandOutside, MountEndsOf, MakesRoomOf, RoomMade, first_to_wait, room_of, rings_of};
 ghost use Rattle.fl_table.specs.Causes.{OffFailsAs};
+ghost use Rattle.fl_table.specs.Coming.{index_pages_of};
 ghost use Rattle.fl_table.specs.Mounting.{FewReads, FewRepairs, FindsBitmaps, RefusesBitmaps};
 
 use fl_flash::{Flash, FlashFault, PageBuf};
 use fl_index::{Full, Index};
 use fl_ring::RingFault;
 
-/// Mounts the index. It answers the number after the data pages that it lists, where it lists any.
+/// Mounts the index, or finds its end alone where entries are full: its pages are read later then. It answers the number after
+/// the data pages that it lists, where it lists any.
 pub(crate) fn mount_bitmaps<F: Flash>(
     bitmaps: &mut Option<Index>,
     flash: &mut F,
@@ -34,12 +36,14 @@ pub(crate) fn mount_bitmaps<F: Flash>(
     ensures refused { IfErr result (λ e. IsTrue (F.state flash.old).media.tells → RefusesBitmaps bitmaps.old (F.state flash.old) e (F.state flash.new)) }
     ensures outside { IsTrue (F.state flash.old).media.tells → StandOutside bitmaps.old (page_at (F.state flash.old)) (page_at (F.state flash.new)) }
     ensures reads { IsTrue (F.state flash.old).media.tells → FewReads (4 * room_of bitmaps.old) (F.state flash.old) (F.state flash.new) }
+    ensures spared { OnOk result (IsTrue (F.state flash.old).media.tells → FewReads (4 * room_of bitmaps.old - index_pages_of bitmaps.new) (F.state flash.old) (F.state flash.new)) }
     ensures repairs { FewRepairs (rings_of bitmaps.old) (F.state flash.old) (F.state flash.new) }
     ensures cause { IfErr result (λ e. IfFlash (λ fault. CausedBy (F.state flash.old) fault (F.state flash.new)) e) }
     ensures power { OnOk result ((F.state flash.old).is_on ≡ true → (F.state flash.new).is_on ≡ true) }
     ensures off { OffFailsAs (RingFault.Flash FlashFault.PowerLost) (F.state flash.old) result (F.state flash.new) }
 {
     match bitmaps {
+        Some(index) if index.is_full() => index.find(flash, buf),
         Some(index) => index.mount(flash, buf),
         None => Ok(None),
     }

@@ -36,7 +36,8 @@ pub enum FlushFault {
 pub enum MountFault {
     Flash(FlashFault),
     Ring(RingFault),
-    /// A committed page has another number or no count that a page has.
+    /// A committed page has another number or no count that a page has. Where index entries are full also: an index page lists a data
+    /// page that one before it may list, or a page of which an entry tells rows isn't committed.
     BadPage(BadPage),
     /// The first key that isn't above the one before it.
     BadKeys { page: u32, last: u64, first: u64 },
@@ -44,6 +45,8 @@ pub enum MountFault {
     BadIndex { end: u32, next: u32 },
     /// A blob names a page from the next number on.
     BadBlob { page: u32, next: u32 },
+    /// The index entry of a kept page tells more rows than a page holds.
+    BadEntry { page: u32, count: u32, limit: u32 },
 }
 
 impl From<FlashFault> for PutRefusal {

@@ -1,12 +1,14 @@
 // The mount of a table: its rings are mounted, and its pages are read.
-ghost use Rattle.std.specs.Prelude.{◌≡◌, ◌+◌, ◌-◌, ◌*◌, None, Err, false, true, is_ok, length, [], ◌∷◌, IsTrue, IfOk, IfErr, OnOk, OnErr};
+ghost use Rattle.std.specs.Prelude.{◌≡◌, ◌≤◌, ◌+◌, ◌-◌, ◌*◌, Some, None, Err, false, true, is_ok, length, [], ◌∷◌, IsTrue, IfOk, IfErr, OnOk, OnErr};
 ghost use Rattle.fl_flash.specs.declared.flash.FlashFault.{FlashFault};
 ghost use Rattle.fl_flash.specs.Flash.{Goes, page_at};
 ghost use Rattle.fl_table.specs.Causes.{MountCausedBy};
 
 use crate::bitmaps::{first_to_wait, mount_bitmaps, restart};
 use crate::blobs::mount_within;
-use crate::reading::read_pages;
+use crate::by_entries::read_listed;
+use crate::known::Known;
+use crate::reading::{read_newest, read_pages};
 use crate::table::Table;
 use crate::{MountFault, Mounted};
 use fl_flash::{Flash, PageBuf};
@@ -30,15 +32,22 @@ impl<const KNOTS: usize, const SLOTS: usize> Table<KNOTS, SLOTS> {
     ghost use Rattle.fl_ring.specs.Ring.{room};
     ghost use Rattle.fl_ring.specs.Mounting.{shape_at};
     ghost use Rattle.fl_ring.specs.Place as place;
-    ghost use Rattle.fl_ring.specs.Place.{next_of, shape_of};
-    ghost use Rattle.fl_table.specs.Bitmaps.{AreIdle, AreRunning, AreSameRing, EndAt, StandForRing};
+    ghost use Rattle.fl_find.specs.Index.{error_in};
+    ghost use Rattle.fl_ring.specs.Looking.{OnlyReads, ReadFails};
+    ghost use Rattle.fl_ring.specs.Place.{next_of, oldest_of, shape_of};
+    ghost use Rattle.fl_table.specs.Bitmaps.{AreIdle, AreRunning, AreStillFound, EndAt, StandForRing, room_of};
+    ghost use Rattle.fl_table.specs.ByEntries.{mount_fault, unlisted_of};
+    ghost use Rattle.fl_table.specs.Causes.{IfFlash, IfPage, is_of_pages};
+    ghost use Rattle.fl_table.specs.Coming.{FirstsKnown, StandFound, WaitUnlisted, index_pages_of};
+    ghost use Rattle.fl_table.specs.Knowing.{KnowsWith};
+    ghost use Rattle.fl_table.specs.Reading.{pages_of};
     ghost use Rattle.fl_table.specs.Blobs as variable;
     ghost use Rattle.fl_model.specs.Work.{Device};
     ghost use Rattle.fl_ring.specs.Step.{IsWatched};
-    ghost use Rattle.fl_table.specs.Memory.{is_running, is_stopped, ring_shape, IsForgotten, IsPlanned, IsSamePlan, LiesOn};
+    ghost use Rattle.fl_table.specs.Memory.{is_running, is_stopped, ring_shape, IsForgotten, IsPlanned, IsSamePlan, IsSameRest, LiesOn};
     ghost use Rattle.fl_table.specs.Pages.{Rests};
     ghost use Rattle.fl_table.specs.Outcomes.{DataEnds, MountEnds, RingsEnd, var_rings};
-    ghost use Rattle.fl_table.specs.Mounting.{FewReads, FewRepairs, FindsData, FindsPages, FindsRows, OutsideStands, RefusesData, RefusesPages, RefusesRows, RowsStandOutside, pages_in, rings_in};
+    ghost use Rattle.fl_table.specs.Mounting.{FewReads, FewRepairs, FindsData, FindsPages, FindsRows, OutsideStands, RefusesData, RefusesPages, RefusesRows, RemembersKept, RowsStandOutside, comes_in, pages_in, rings_in};
 
     // As it was before its first mount.
     fn forget(&mut self)
@@ -57,6 +66,84 @@ impl<const KNOTS: usize, const SLOTS: usize> Table<KNOTS, SLOTS> {
         self.index.clear();
     }
 
+    /// Reads the kept pages of the data ring, and those of an index whose entries are full and which ends at this number. It
+    /// answers what is known of the data pages. Of those that no index page lists the entries of the last ones wait then.
+    fn read_kept<F: Flash>(
+        &mut self,
+        ring: &Ring,
+        end: u32,
+        flash: &mut F,
+        buf: &mut PageBuf,
+    ) -> Result<Known, MountFault>
+        requires forgotten { IsForgotten self.old }
+        requires running { AreRunning self.old.bitmaps }
+        requires idle { AreIdle self.old.bitmaps }
+        requires lies { LiesOn self.old (F.state flash.old) }
+        requires shape { shape_of ring.now ≡ ring_shape self.old }
+        requires lies_ring { place.LiesOn ring.now (F.state flash.old) }
+        requires few { IsTrue (F.state flash.old).media.tells → next_of ring.now - oldest_of ring.now ≤ room (ring_shape self.old) }
+        requires end { end ≤ next_of ring.now }
+        requires room { length buf.old.bytes ≡ (F.state flash.old).geometry.page }
+        requires none { buf.old.holds ≡ None }
+        ensures knows { IsTrue (F.state flash.old).media.tells → let t = comes_in self.old self.old.bitmaps ring.now (F.state flash.old) in
+            IfOk result (λ known. KnowsWith (error_in self.old.index) t t.index_pages t.pages known self.new.counts.items self.new.index) × IfErr result (IfPage (λ e. mount_fault t ≡ Some e)) }
+        ensures counted { IfOk result (λ known. known.newest ≡ None) }
+        ensures waits { OnOk result (IsTrue (F.state flash.old).media.tells → WaitUnlisted (comes_in self.old self.old.bitmaps ring.now (F.state flash.old)) (pages_of ring.now (F.state flash.old)) self.old.bitmaps end (next_of ring.now) self.new.bitmaps) }
+        ensures remembers { OnOk result (IsTrue (F.state flash.old).media.tells → FirstsKnown self.old.bitmaps (F.state flash.old) self.new.bitmaps) }
+        ensures stands { (first : ℕ) → (plan : Plan) → (table : model.Table) → IsTrue (F.state flash.old).media.tells → StandFound self.old.bitmaps (F.state flash.old) first plan table →
+            OnOk result (StandForRing self.new.bitmaps (F.state flash.new) first plan table) }
+        ensures follow { OnOk result (EndAt self.new.bitmaps (next_of ring.now)) }
+        ensures same { IsSamePlan self.old self.new }
+        ensures rest { IsSameRest self.old self.new }
+        ensures still { AreStillFound self.old.bitmaps self.new.bitmaps }
+        ensures running { AreRunning self.new.bitmaps }
+        ensures lies { LiesOn self.new (F.state flash.new) }
+        ensures reads { OnlyReads (F.state flash.old) (index_pages_of self.old.bitmaps + (next_of ring.now - oldest_of ring.now)) (F.state flash.new) }
+        ensures few_reads { IsTrue (F.state flash.old).media.tells → let t = comes_in self.old self.old.bitmaps ring.now (F.state flash.old) in
+            OnOk result ((F.state flash.new).work.reads ≤ (F.state flash.old).work.reads + t.index_pages + unlisted_of t t.oldest t.pages + 1) }
+        ensures room { length buf.new.bytes ≡ length buf.old.bytes }
+        ensures none { buf.new.holds ≡ None }
+        ensures fails { IfErr result (IfFlash (λ e. ReadFails (F.state flash.old) e (F.state flash.new))) }
+        ensures only { IfErr result (λ e. is_of_pages e ≡ true) }
+    {
+        let mut known = Known::nothing();
+        let limit = (self.geometry.page - 24) / self.schema.row_len();
+        let from = read_listed(
+            &self.schema,
+            ring,
+            &mut self.bitmaps,
+            limit,
+            &mut known,
+            &mut self.counts,
+            &mut self.index,
+            flash,
+            buf,
+        )?;
+        let first = first_to_wait(&self.bitmaps, end, from, ring.next_number());
+        restart(&mut self.bitmaps, first);
+        read_pages(
+            &self.schema,
+            ring,
+            from,
+            &mut known,
+            &mut self.counts,
+            &mut self.index,
+            &mut self.bitmaps,
+            flash,
+            buf,
+        )?;
+        read_newest(
+            &self.schema,
+            ring,
+            &mut known,
+            &mut self.counts,
+            &mut self.index,
+            flash,
+            buf,
+        )?;
+        Ok(known)
+    }
+
     /// Mounts the data ring, whose void pages follow the end of the index, and reads its pages.
     fn read_rows<F: Flash>(
         &mut self,
@@ -69,9 +156,10 @@ impl<const KNOTS: usize, const SLOTS: usize> Table<KNOTS, SLOTS> {
         requires idle { AreIdle self.old.bitmaps }
         requires lies { LiesOn self.old (F.state flash.old) }
         requires room { length buf.old.bytes ≡ (F.state flash.old).geometry.page }
+        requires few { IsTrue (F.state flash.old).media.tells → index_pages_of self.old.bitmaps ≤ room_of self.old.bitmaps }
         ensures goes { Goes (F.state flash.old) (F.state flash.new) }
         ensures same { IsSamePlan self.old self.new }
-        ensures still { AreSameRing self.old.bitmaps self.new.bitmaps }
+        ensures still { AreStillFound self.old.bitmaps self.new.bitmaps }
         ensures blobs { self.new.blobs ≡ self.old.blobs }
         ensures lies { LiesOn self.new (F.state flash.new) }
         ensures room { length buf.new.bytes ≡ length buf.old.bytes }
@@ -84,12 +172,14 @@ impl<const KNOTS: usize, const SLOTS: usize> Table<KNOTS, SLOTS> {
         ensures follow { IfOk result (λ rows. EndAt self.new.bitmaps (next_of rows.ring)) }
         ensures lies_ring { IfOk result (λ rows. place.LiesOn rows.ring (F.state flash.new)) }
         ensures ends { (first : ℕ) → (plan : Plan) → (table : model.Table) → (rose : Bool) → (device : Device) → IsWatched (F.state flash.old) (F.state flash.new) rose device
-            → IsPlanned self.old first plan → Rests (F.state flash.old) first plan table → StandForRing self.old.bitmaps (F.state flash.old) (first + plan.data_blocks) plan table → end ≡ index_end plan table
+            → IsPlanned self.old first plan → Rests (F.state flash.old) first plan table → StandFound self.old.bitmaps (F.state flash.old) (first + plan.data_blocks) plan table → end ≡ index_end plan table
             → DataEnds first plan table rose device result self.new (F.state flash.new) }
-        ensures found { IfOk result (λ rows. IsTrue (F.state flash.old).media.tells → FindsData self.old (F.state flash.old) end rows.ring rows.mounted self.new.last_key rows.blob_end (F.state flash.new)) }
-        ensures refused { IfErr result (λ e. IsTrue (F.state flash.old).media.tells → RefusesData self.old (F.state flash.old) end e (F.state flash.new)) }
+        ensures found { IfOk result (λ rows. IsTrue (F.state flash.old).media.tells → FindsData self.old self.old.bitmaps (F.state flash.old) end rows.ring rows.mounted self.new.last_key rows.blob_end (F.state flash.new)) }
+        ensures waits { IfOk result (λ rows. IsTrue (F.state flash.old).media.tells → WaitUnlisted (comes_in self.old self.old.bitmaps rows.ring (F.state flash.new)) (pages_of rows.ring (F.state flash.new)) self.old.bitmaps end (next_of rows.ring) self.new.bitmaps) }
+        ensures remembers { OnOk result (IsTrue (F.state flash.old).media.tells → RemembersKept self.old.bitmaps (F.state flash.new) self.new.bitmaps) }
+        ensures refused { IfErr result (λ e. IsTrue (F.state flash.old).media.tells → RefusesData self.old self.old.bitmaps (F.state flash.old) end e (F.state flash.new)) }
         ensures outside { IsTrue (F.state flash.old).media.tells → rings.OutsideStands (ring_shape self.old) (page_at (F.state flash.old)) (page_at (F.state flash.new)) }
-        ensures reads { IsTrue (F.state flash.old).media.tells → FewReads (4 * room (ring_shape self.old)) (F.state flash.old) (F.state flash.new) }
+        ensures reads { IsTrue (F.state flash.old).media.tells → FewReads (4 * room (ring_shape self.old) + index_pages_of self.old.bitmaps) (F.state flash.old) (F.state flash.new) }
         ensures repairs { FewRepairs 1 (F.state flash.old) (F.state flash.new) }
         ensures power { OnOk result ((F.state flash.old).is_on ≡ true → (F.state flash.new).is_on ≡ true) }
         ensures cause { IfErr result (λ e. MountCausedBy (F.state flash.old) e (F.state flash.new)) }
@@ -100,23 +190,17 @@ impl<const KNOTS: usize, const SLOTS: usize> Table<KNOTS, SLOTS> {
         if end > next {
             return Err(MountFault::BadIndex { end, next });
         }
-        let first = first_to_wait(&self.bitmaps, end, ring.oldest(), next);
-        restart(&mut self.bitmaps, first);
-        let (mounted, last, blob_end) = read_pages(
-            &self.schema,
-            &ring,
-            &mut self.counts,
-            &mut self.index,
-            &mut self.bitmaps,
-            flash,
-            buf,
-        )?;
-        self.last_key = last;
-        self.voids = mounted.voids;
+        let known = self.read_kept(&ring, end, flash, buf)?;
+        self.last_key = known.last;
+        self.voids = known.voids;
         Ok(FoundRows {
+            mounted: Mounted {
+                rows: known.rows,
+                pages: next - ring.oldest(),
+                voids: known.voids,
+            },
             ring,
-            mounted,
-            blob_end,
+            blob_end: known.blob_end,
         })
     }
 
@@ -132,21 +216,22 @@ impl<const KNOTS: usize, const SLOTS: usize> Table<KNOTS, SLOTS> {
         requires idle { AreIdle self.old.bitmaps }
         requires lies { LiesOn self.old (F.state flash.old) }
         requires room { length buf.old.bytes ≡ (F.state flash.old).geometry.page }
+        requires few { IsTrue (F.state flash.old).media.tells → index_pages_of self.old.bitmaps ≤ room_of self.old.bitmaps }
         ensures goes { Goes (F.state flash.old) (F.state flash.new) }
         ensures same { IsSamePlan self.old self.new }
-        ensures still { AreSameRing self.old.bitmaps self.new.bitmaps }
+        ensures still { AreStillFound self.old.bitmaps self.new.bitmaps }
         ensures lies { LiesOn self.new (F.state flash.new) }
         ensures room { length buf.new.bytes ≡ length buf.old.bytes }
         ensures holds { buf.new.holds ≡ None }
         ensures ends { (first : ℕ) → (plan : Plan) → (table : model.Table) → (rose : Bool) → (device : Device) → IsWatched (F.state flash.old) (F.state flash.new) rose device
-            → IsPlanned self.old first plan → Rests (F.state flash.old) first plan table → StandForRing self.old.bitmaps (F.state flash.old) (first + plan.data_blocks) plan table → end ≡ index_end plan table
+            → IsPlanned self.old first plan → Rests (F.state flash.old) first plan table → StandFound self.old.bitmaps (F.state flash.old) (first + plan.data_blocks) plan table → end ≡ index_end plan table
             → RingsEnd first plan (DataRing ∷ var_rings plan) table rose device result self.new (F.state flash.new) }
         ensures mounted { is_running self.new ≡ is_ok result }
         ensures calm { is_stopped self.new ≡ false }
-        ensures found { IfOk result (λ mounted. IsTrue (F.state flash.old).media.tells → FindsRows self.old (F.state flash.old) end mounted self.new (F.state flash.new)) }
-        ensures refused { IfErr result (λ e. IsTrue (F.state flash.old).media.tells → RefusesRows self.old (F.state flash.old) end e (F.state flash.new)) }
+        ensures found { IfOk result (λ mounted. IsTrue (F.state flash.old).media.tells → FindsRows self.old self.old.bitmaps (F.state flash.old) end mounted self.new (F.state flash.new)) }
+        ensures refused { IfErr result (λ e. IsTrue (F.state flash.old).media.tells → RefusesRows self.old self.old.bitmaps (F.state flash.old) end e (F.state flash.new)) }
         ensures outside { IsTrue (F.state flash.old).media.tells → RowsStandOutside self.old (page_at (F.state flash.old)) (page_at (F.state flash.new)) }
-        ensures reads { IsTrue (F.state flash.old).media.tells → FewReads (4 * (room (ring_shape self.old) + variable.room_of self.old.blobs)) (F.state flash.old) (F.state flash.new) }
+        ensures reads { IsTrue (F.state flash.old).media.tells → FewReads (4 * (room (ring_shape self.old) + variable.room_of self.old.blobs) + index_pages_of self.old.bitmaps) (F.state flash.old) (F.state flash.new) }
         ensures repairs { FewRepairs (1 + variable.rings_of self.old.blobs) (F.state flash.old) (F.state flash.new) }
         ensures cause { IfErr result (λ e. MountCausedBy (F.state flash.old) e (F.state flash.new)) }
         ensures off { (F.state flash.old).is_on ≡ false → (result ≡ Err (MountFault.Flash FlashFault.PowerLost)) × (F.state flash.new ≡ F.state flash.old) }
@@ -157,7 +242,8 @@ impl<const KNOTS: usize, const SLOTS: usize> Table<KNOTS, SLOTS> {
         Ok(rows.mounted)
     }
 
-    /// Mounts the table: its rings are repaired, and each kept page is read once. After an error it isn't mounted.
+    /// Mounts the table: its rings are repaired, and each kept page is read once; where index entries are full, of the data pages
+    /// those that no index page lists and the newest with rows. After an error it isn't mounted.
     /// The buffer holds no page afterwards.
     pub fn mount<F: Flash>(
         &mut self,

@@ -7,5 +7,6 @@ pub mod Naming
 pub mod TablesMade
 pub mod MountedSoFar
 pub mod TablesReads
+pub mod InTurn
 pub mod RingRepairs
 pub mod TableRepairs

@@ -306,6 +306,7 @@ module _ (plans : List Plan) (start : List model.Table) (rose : Bool) (device : 
   mounted-err (mount.BadKeys page last key) h = absurd h
   mounted-err (mount.BadIndex end next) h = absurd h
   mounted-err (mount.BadBlob page next) h = absurd h
+  mounted-err (mount.BadEntry page count limit) h = absurd h
 
 -- all were mounted
 all-ready-at : (plans : List Plan) (tables : List model.Table) (i : ℕ) (plan : Plan) (table : model.Table) → slice_get plans i ≡ Some plan → slice_get tables i ≡ Some table → slice_get (all_ready plans tables) i ≡ Some (made_ready plan table)

@@ -1,9 +1,10 @@
 -- Where a mount of tables stops, and why.
-use Rattle.std.proofs.Common.{◌≡◌, ℕ, zero, suc, ◌<◌, ◌≤◌, true, false, Some, List, [], ◌∷◌, length, get_or, set, refl, sym, ◌∙◌, ap, arith}
+use Rattle.std.proofs.Common.{◌≡◌, ℕ, zero, suc, ◌<◌, ◌≤◌, Bool, true, false, IsTrue, inl, inr, Some, List, [], ◌∷◌, length, get_or, set, refl, sym, ◌∙◌, ap, arith}
 use Rattle.std.specs.List.{slice_get}
 use Rattle.std.proofs.lemmas.Option.{slice_get_within}
-use Rattle.fl_flash.specs.Flash.{FlashState}
+use Rattle.fl_flash.specs.Flash.{FlashState, Goes}
 use Rattle.fl_flash.specs.declared.flash.FlashFault.TheVariants.{PowerLost, Media}
+use Rattle.fl_ring.specs.Causes.{CausedBy}
 use Rattle.fl_ring.specs.declared.fault.RingFault.TheVariants as ring
 use Rattle.fl_table.specs.Causes.{MountCausedBy}
 use Rattle.fl_table.specs.Memory.{is_running}
@@ -13,6 +14,7 @@ use Rattle.fl_table.specs.declared.table.Table.{Table}
 use Rattle.fl_tables.specs.Tables.{StopsAt, MountFailsFor, entries_with}
 use Rattle.fl_tables.specs.declared.tables.BadMount.{BadMount}
 use Rattle.fl_tables.specs.declared.tables.Entry.{Entry}
+use Rattle.fl_tables.proofs.Going.{rose-back}
 use Rattle.fl_tables.proofs.TablesChanged.{item-there, set-elsewhere}
 
 set-there : {X : Type 0} (xs : List X) (n : ℕ) (y x : X) → slice_get xs n ≡ Some x → slice_get (set xs n y) n ≡ Some y
@@ -44,15 +46,22 @@ stops-at old so_far entry t bad here named down running ahead = record {
     now : Entry
     now = record { name = entry.name; table = t }
 
-pub fails-for : (old mid new : FlashState) (fault : MountFault) → old.media.faults ≤ mid.media.faults → MountCausedBy mid fault new → MountFailsFor old fault new
-fails-for old mid new (mount.Flash PowerLost) le cause = tt
-fails-for old mid new (mount.Flash Media) le cause = omega (arith, le, cause)
-fails-for old mid new (mount.Ring (ring.Flash fault)) le cause = cause
-fails-for old mid new (mount.Ring (ring.BadHead heads)) le cause = tt
-fails-for old mid new (mount.Ring (ring.BadGap page)) le cause = tt
-fails-for old mid new (mount.Ring (ring.BadPage page wanted found)) le cause = tt
-fails-for old mid new (mount.Ring (ring.NoNumber least)) le cause = tt
-fails-for old mid new (mount.BadPage page) le cause = tt
-fails-for old mid new (mount.BadKeys page last key) le cause = tt
-fails-for old mid new (mount.BadIndex end next) le cause = tt
-fails-for old mid new (mount.BadBlob page next) le cause = tt
+-- from the flash that the tables before left, on which the power is still on
+pub fails-for : (old mid new : FlashState) (fault : MountFault) → Goes old mid → (IsTrue old.media.tells → old.is_on ≡ true → mid.is_on ≡ true) → MountCausedBy mid fault new → MountFailsFor old fault new
+fails-for old mid new (mount.Flash PowerLost) goes still cause = λ told. by-power told old.is_on refl cause
+  where
+    by-power : IsTrue old.media.tells → (b : Bool) → old.is_on ≡ b → CausedBy mid PowerLost new → CausedBy old PowerLost new
+    by-power told false off cause = inl off
+    by-power told true on (inl off) = absurd (cc (still told on, off))
+    by-power told true on (inr rose) = inr (rose-back old.cuts mid.cuts new.cuts goes.cuts rose)
+fails-for old mid new (mount.Flash Media) goes still cause = rose-back old.media.faults mid.media.faults new.media.faults goes.faults cause
+fails-for old mid new (mount.Ring (ring.Flash fault)) goes still cause = cause
+fails-for old mid new (mount.Ring (ring.BadHead heads)) goes still cause = tt
+fails-for old mid new (mount.Ring (ring.BadGap page)) goes still cause = tt
+fails-for old mid new (mount.Ring (ring.BadPage page wanted found)) goes still cause = tt
+fails-for old mid new (mount.Ring (ring.NoNumber least)) goes still cause = tt
+fails-for old mid new (mount.BadPage page) goes still cause = tt
+fails-for old mid new (mount.BadKeys page last key) goes still cause = tt
+fails-for old mid new (mount.BadIndex end next) goes still cause = tt
+fails-for old mid new (mount.BadBlob page next) goes still cause = tt
+fails-for old mid new (mount.BadEntry page count limit) goes still cause = tt

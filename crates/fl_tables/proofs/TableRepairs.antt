@@ -1,5 +1,5 @@
 -- What the mount of the tables leaves of the pages of a flash.
-use Rattle.std.proofs.Common.{◌≡◌, ℕ, suc, ◌+◌, ◌*◌, ◌<◌, ◌≤◌, false, IsTrue, Option, None, Some, List, sym, ◌∙◌, ap, subst, arith}
+use Rattle.std.proofs.Common.{◌≡◌, ℕ, suc, ◌+◌, ◌*◌, ◌<◌, ◌≤◌, Bool, true, false, IsTrue, Option, None, Some, List, sym, ◌∙◌, ap, subst, arith}
 use Rattle.std.specs.Option.{unwrap_or}
 use Rattle.std.specs.List.{slice_get}
 use Rattle.std.proofs.Math.Nat.{mul-le-mul_right, add-mul}
@@ -22,7 +22,7 @@ use Rattle.fl_table.specs.BlobEnds.{least_of}
 use Rattle.fl_table.specs.BlobMount.{FindsBlobs}
 use Rattle.fl_table.specs.Blobs as variable
 use Rattle.fl_table.specs.Memory.{IsPlanned, ring_shape}
-use Rattle.fl_table.specs.Mounting.{FindsBitmaps, FindsPages}
+use Rattle.fl_table.specs.Mounting.{FindsBy, FindsBitmaps, FindsPages}
 use Rattle.fl_table.specs.declared.counts.Mounted.{Mounted}
 use Rattle.fl_table.specs.declared.table.Table.{Table}
 use Rattle.fl_table.proofs.Blobbing as blobbing
@@ -71,10 +71,14 @@ module _ (plan : Plan) (pages : 2 ≤ plan.geometry.block) where
   index-found None None old new end first planned told geometry h = none-there plan first plan.index_blocks old new h.1
   index-found None (Some now) old new end first planned told geometry h = absurd h
   index-found (Some index) None old new end first planned told geometry h = absurd h
-  index-found (Some index) (Some now) old new end first planned told geometry h =
-      let reads = h.ring_reads in
-      then-read plan first plan.index_blocks _ old reads.repaired new
-      (ring-found first plan.index_blocks 0 (memory.ring_shape index) h.ring old reads.repaired (index-ring index first plan planned) (ltb-true 0 plan.index_blocks (planned-some index first plan planned)) told geometry reads.numbers) reads.reads
+  index-found (Some index) (Some now) old new end first planned told geometry h = by_form (memory.form_in index).full h
+    where
+      found-to : (ring : Ring) (mid : FlashState) → HasNumbers old (memory.ring_shape index) 0 ring mid → RepairsBlocks plan first plan.index_blocks old mid
+      found-to ring mid numbers = ring-found first plan.index_blocks 0 (memory.ring_shape index) ring old mid (index-ring index first plan planned) (ltb-true 0 plan.index_blocks (planned-some index first plan planned)) told geometry numbers
+
+      by_form : (full : Bool) → FindsBy full index old end now new → RepairsBlocks plan first plan.index_blocks old new
+      by_form true h = found-to h.ring new h.numbers
+      by_form false h = let reads = h.ring_reads in then-read plan first plan.index_blocks _ old reads.repaired new (found-to h.ring reads.repaired reads.numbers) reads.reads
 
   var-found : (blobs now : Option VarData) (old new : FlashState) (least first : ℕ) → variable.ArePlanned blobs first plan → IsTrue old.media.tells → old.geometry ≡ plan.geometry → FindsBlobs blobs old least now new → RepairsBlocks plan first plan.var_blocks old new
   var-found None now old new least first planned told geometry h = none-there plan first plan.var_blocks old new h.1
@@ -89,7 +93,7 @@ table-found t u first plan old new mounted planned told geometry h =
     let shape = planned-shape t first plan planned in
     let rows = h.rows in
     let reads = rows.pages.ring_reads in
-    let index = index-found plan shape.pages t.bitmaps u.bitmaps old h.indexed h.end (first + plan.data_blocks) planned.index told geometry h.bitmaps in
+    let index = index-found plan shape.pages t.bitmaps h.found old h.indexed h.end (first + plan.data_blocks) planned.index told geometry h.bitmaps in
     let found = ring-found plan shape.pages first plan.data_blocks (unwrap_or h.end 0) (ring_shape t) rows.ring h.indexed reads.repaired (planned-ring t first plan planned) (omega (arith, shape.blocks)) (subst IsTrue (sym index.0.tells) told)
     (index.0.geometry ∙ geometry) reads.numbers in
     let pages = then-read plan first plan.data_blocks _ h.indexed reads.repaired rows.between found reads.reads in

@@ -1,3 +1,4 @@
 pub mod Tables
+pub mod Mounting
 pub mod Repaired
 pub mod Replies

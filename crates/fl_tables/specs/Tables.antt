@@ -1,5 +1,5 @@
 -- The tables of an image, whose rings stand one after another on its flash.
-use Rattle.std.specs.Prelude.{◌≡◌, ℕ, ◌+◌, ◌^◌, ◌<◌, ◌≤◌, Bool, true, false, ◌⊎◌, MatchBool, Option, Some, None, Result, Ok, Err, List, length, take, slice_get, set, sum_by}
+use Rattle.std.specs.Prelude.{◌≡◌, ℕ, ◌+◌, ◌^◌, ◌<◌, ◌≤◌, Bool, true, false, ◌⊎◌, MatchBool, Option, Some, None, Result, Ok, Err, List, length, take, slice_get, set, sum_by, IsTrue}
 use Rattle.fl_flash.specs.Flash.{FlashState, pages}
 use Rattle.fl_flash.specs.declared.flash.FlashFault.{FlashFault}
 use Rattle.fl_flash.specs.declared.flash.FlashFault.TheVariants.{PowerLost, Media}
@@ -8,6 +8,7 @@ use Rattle.fl_model.specs.Record.{Plan, blocks_of}
 use Rattle.fl_model.specs.Table as model
 use Rattle.fl_model.specs.Work.{Device, Progress, Outcome, Finished, CutShort, Failed}
 use Rattle.fl_base.specs.Causes.{Rose}
+use Rattle.fl_ring.specs.Causes.{CausedBy}
 use Rattle.fl_ring.specs.Device.{SameDevice}
 use Rattle.fl_ring.specs.declared.fault.RingFault.TheVariants as ring
 use Rattle.fl_words.specs.Config.{Lines}
@@ -70,9 +71,11 @@ pub record StopsAt (old new : List Entry) (bad : BadMount) : Type 0 where
   pub before : (i : ℕ) (other : Entry) → i < bad.at → slice_get new i ≡ Some other → is_running other.table ≡ true
   pub behind : (i : ℕ) → bad.at < i → slice_get new i ≡ slice_get old i
 
--- a fault of the medium comes only where its count rose, and one of the flash never as one of a ring
+-- A fault of the medium comes only where its count rose, and one of the flash never as one of a ring. Where the bytes are told the
+-- power is lost only where it was off or a cut came.
 abbrev pub MountFailsFor : FlashState → MountFault → FlashState → Type 0
 MountFailsFor old (mount.Flash Media) new = Rose old.media.faults new.media.faults
+MountFailsFor old (mount.Flash PowerLost) new = IsTrue old.media.tells → CausedBy old PowerLost new
 MountFailsFor old (mount.Ring (ring.Flash fault)) new = ⊥
 MountFailsFor old fault new = Unit {0}
 

@@ -41,6 +41,8 @@ pub struct BadMount {
 }
 
 impl Tables {
+    ghost use Rattle.fl_table.specs.Mounting.{FewRepairs};
+    ghost use Rattle.fl_tables.specs.Mounting.{MountsInTurn, OutsideStands, RefusesAt, rings_of, tried};
     ghost use Rattle.fl_tables.specs.Repaired.{IsRepaired};
     ghost use Rattle.fl_tables.specs.Tables.{AreNewTables, Names, LieOn, AreRunning, StopsAt, MountFailsFor, TablesStand, TablesMount, pages_of};
 
@@ -71,23 +73,30 @@ impl Tables {
         None
     }
 
-    /// Mounts the tables in their order, up to the first that isn't mounted; those behind it stay as they are. The buffer has
-    /// the size of a page.
+    /// Mounts the tables in their order, up to the first that isn't mounted; those behind it stay as they are, in memory and on
+    /// the flash. The buffer has the size of a page.
     pub fn mount<F: Flash>(&mut self, flash: &mut F, buf: &mut PageBuf) -> Result<(), BadMount>
         requires lie { LieOn self.old.entries.items (F.state flash.old) }
         requires room { length buf.old.bytes ≡ (F.state flash.old).geometry.page }
+        ensures ends { (plans : List Plan) → (tables : List model.Table) → (rose : Bool) → (device : Device) → IsWatched (F.state flash.old) (F.state flash.new) rose device
+            → TablesStand (F.state flash.old) (λ i. false) plans self.old.entries.items tables → TablesMount plans tables rose device result self.new.entries.items (F.state flash.new) }
+        ensures found { OnOk result (IsTrue (F.state flash.old).media.tells →
+            MountsInTurn (length self.old.entries.items) self.old.entries.items self.new.entries.items (F.state flash.old) (F.state flash.new)) }
+        ensures refused { IfErr result (λ bad. IsTrue (F.state flash.old).media.tells →
+            RefusesAt self.old.entries.items self.new.entries.items bad (F.state flash.old) (F.state flash.new)) }
+        ensures running { OnOk result (AreRunning self.new.entries.items) }
+        ensures stops { IfErr result (λ bad. StopsAt self.old.entries.items self.new.entries.items bad) }
+        ensures cause { IfErr result (λ bad. MountFailsFor (F.state flash.old) bad.fault (F.state flash.new)) }
+        ensures repaired { OnOk result (IsTrue (F.state flash.old).media.tells → (plans : List Plan) → (tables : List model.Table) → TablesStand (F.state flash.old) (λ i. false) plans self.old.entries.items tables
+            → (page : ℕ) → page < sum_by blocks_of plans * (F.state flash.old).geometry.block → IsRepaired (F.state flash.old).geometry.page (page_at (F.state flash.old) page) (page_at (F.state flash.new) page)) }
+        ensures repairs { FewRepairs (rings_of (tried result self.old.entries.items)) (F.state flash.old) (F.state flash.new) }
+        ensures outside { IsTrue (F.state flash.old).media.tells →
+            OutsideStands (tried result self.old.entries.items) (page_at (F.state flash.old)) (page_at (F.state flash.new)) }
+        ensures reads { IsTrue (F.state flash.old).media.tells → (F.state flash.new).work.reads ≤ (F.state flash.old).work.reads + 4 * pages_of self.old.entries.items }
         ensures goes { Goes (F.state flash.old) (F.state flash.new) }
         ensures lie { LieOn self.new.entries.items (F.state flash.new) }
         ensures room { length buf.new.bytes ≡ length buf.old.bytes }
         ensures as_many { length self.new.entries.items ≡ length self.old.entries.items }
-        ensures running { OnOk result (AreRunning self.new.entries.items) }
-        ensures stops { IfErr result (λ bad. StopsAt self.old.entries.items self.new.entries.items bad) }
-        ensures cause { IfErr result (λ bad. MountFailsFor (F.state flash.old) bad.fault (F.state flash.new)) }
-        ensures reads { IsTrue (F.state flash.old).media.tells → (F.state flash.new).work.reads ≤ (F.state flash.old).work.reads + 4 * pages_of self.old.entries.items }
-        ensures ends { (plans : List Plan) → (tables : List model.Table) → (rose : Bool) → (device : Device) → IsWatched (F.state flash.old) (F.state flash.new) rose device
-            → TablesStand (F.state flash.old) (λ i. false) plans self.old.entries.items tables → TablesMount plans tables rose device result self.new.entries.items (F.state flash.new) }
-        ensures repaired { OnOk result (IsTrue (F.state flash.old).media.tells → (plans : List Plan) → (tables : List model.Table) → TablesStand (F.state flash.old) (λ i. false) plans self.old.entries.items tables
-            → (page : ℕ) → page < sum_by blocks_of plans * (F.state flash.old).geometry.block → IsRepaired (F.state flash.old).geometry.page (page_at (F.state flash.old) page) (page_at (F.state flash.new) page)) }
     {
         for i in 0..self.entries.len() {
             if let Err(fault) = self.entries[i].table.mount(flash, buf) {

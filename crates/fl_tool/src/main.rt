@@ -2,7 +2,8 @@
 //! `flashts check IMAGE` tells there whether each table of the image is sound, `flashts map IMAGE` draws its pages, `flashts export
 //! IMAGE NAME LOW HIGH` writes the records of a table whose keys are in the range, `flashts salvage IMAGE NAME` those that a damaged
 //! image still holds, and `flashts import IMAGE NAME` puts those that standard input has into a table. `flashts plan` tells what the
-//! tables of a configuration keep and take, without an image, and `flashts help` tells the jobs.
+//! tables of a configuration keep and take, without an image, and `flashts help` tells the jobs. `flashts run sync IMAGE` runs a script
+//! likewise, and has each write on the disk before it counts as done.
 #![tactic(auto)]
 
 ghost use Rattle.std.specs.Prelude.{◌≤◌, IfSome};
@@ -10,8 +11,8 @@ ghost use Rattle.std.specs.Prelude.{◌≤◌, IfSome};
 use fl_base::{Sink, Source};
 use fl_command::{Ending, Exit, Help, plan, reason_of, tool};
 use fl_edge::{
-    Access, FileMedia, ReplyBuffer, StandardDescriptors, StandardInput, StandardOutput, is_missing,
-    remove_empty,
+    Access, FileMedia, ReplyBuffer, StandardDescriptors, StandardInput, StandardOutput,
+    SyncedMedia, is_missing, remove_empty,
 };
 use fl_flash::Media;
 use fl_jobs::{ToolJob, tool_of};
@@ -22,7 +23,7 @@ use std::alloc::Global;
 use std::cell::RefCell;
 use std::env::Env;
 use std::fs::File;
-use std::io;
+use std::io::{self, Write};
 use std::process::{ExitCode, Termination};
 use std::rt::Files;
 
@@ -34,9 +35,24 @@ fn main(rt: HostRuntime) -> ExitCode {
 /// Does what the words of the command line say.
 fn ending<R: Alloc<A = Global> + Env + Files<File = File> + Input + Print>(rt: &R) -> Ending {
     match words_of(rt) {
-        Some(words) => ending_of(rt, &words),
+        Some(mut words) => {
+            let sync = take_sync(&mut words);
+            ending_of(rt, &words, sync)
+        }
         None => Ending::of(Exit::Run(Status::NoMemory)),
     }
+}
+
+/// Takes the word `sync` behind `run` away, if it stands there before the name of an image, and tells whether it did.
+fn take_sync(words: &mut Vec<String>) -> bool {
+    let is_there = match words.as_slice() {
+        [job, word, _] => job.as_str() == "run" && word.as_str() == "sync",
+        _ => false,
+    };
+    if is_there {
+        let _sync = words.remove(1);
+    }
+    is_there
 }
 
 /// The words behind the program's name; none where the system can't hand them out.
@@ -79,10 +95,10 @@ fn access_of(job: Option<ToolJob>) -> Access {
 }
 
 /// Does what the words say over the image that they name, and hands out what was written. Other words leave every file alone.
-/// A file that was made and into which nothing was written doesn't stay.
 fn ending_of<R: Alloc<A = Global> + Files<File = File> + Input + Print>(
     rt: &R,
     words: &[String],
+    sync: bool,
 ) -> Ending {
     if let Some(job) = plan_of(words) {
         return plan_told(rt, job);
@@ -99,18 +115,38 @@ fn ending_of<R: Alloc<A = Global> + Files<File = File> + Input + Print>(
     let Ok(replies) = ReplyBuffer::new(rt.alloc(), io::writer(rt)) else {
         return Ending::of(Exit::Run(Status::NoMemory));
     };
-    let Ok(mut media) = FileMedia::open_image(rt, image, access_of(job)) else {
+    let Ok(media) = FileMedia::open_image(rt, image, access_of(job)) else {
         return Ending::of(Exit::InUse);
     };
+    let made = if was_missing { Some(image) } else { None };
+    if sync {
+        done_over(rt, words, &job, made, SyncedMedia::of(media), replies)
+    } else {
+        done_over(rt, words, &job, made, media, replies)
+    }
+}
+
+/// Does the job, or the run where there is none, over the medium of the image, and hands out what was written. The file that was made
+/// doesn't stay if nothing was written into it: it goes while the medium still has the lock.
+fn done_over<R: Alloc<A = Global> + Files + Input, M: Media + Drop, W: Write + Drop>(
+    rt: &R,
+    words: &[String],
+    job: &Option<ToolJob>,
+    made: Option<&str>,
+    mut media: M,
+    replies: ReplyBuffer<W>,
+) -> Ending {
     let replies = RefCell::new(replies);
     let mut input = StandardInput::new(rt.reader(), &replies);
     let mut out = StandardOutput::new(&replies);
-    let ending = match &job {
+    let ending = match job {
         Some(job) => Ending::of(tool(rt.alloc(), *job, &mut media, &mut input, &mut out)),
         None => run_told(rt.alloc(), words, &mut media, input, &mut out),
     };
-    if was_missing && media.len() == 0 {
-        remove_empty(rt, image);
+    if let Some(image) = made {
+        if media.len() == 0 {
+            remove_empty(rt, image);
+        }
     }
     Ending {
         exit: ending.exit.behind(out.hand_out()),

@@ -3,6 +3,8 @@
 #![tactic(auto)]
 
 #[cfg(test)]
+mod changed_pages;
+#[cfg(test)]
 mod cursors;
 #[cfg(test)]
 mod indexes;

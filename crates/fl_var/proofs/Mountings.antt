@@ -1,7 +1,8 @@
 -- The mount of the ring, in the words of its table.
-use Rattle.std.proofs.Common.{◌≡◌, inl, inr, ℕ, ◌+◌, ◌-◌, ◌<◌, ◌≤◌, Bool, true, false, cond, Option, Some, None, unwrap_or, Result, Ok, Err, List, [], ◌∷◌, ◌++◌, map, length, take, drop, get_or, refl, sym, ◌∙◌, ap, subst, arith, IsTrue}
+use Rattle.std.proofs.Common.{◌≡◌, inl, inr, ℕ, ◌+◌, ◌-◌, ◌*◌, ◌<◌, ◌≤◌, Bool, true, false, cond, Option, Some, None, unwrap_or, Result, Ok, Err, List, [], ◌∷◌, ◌++◌, map, length, take, drop, get_or, refl, sym, ◌∙◌, ap, subst, arith, IsTrue}
 use Rattle.std.specs.Prelude.{option_map, is_some, IfSome}
 use Rattle.std.specs.List.{list_any}
+use Rattle.fl_base.specs.declared.types.Geometry.{Geometry}
 use Rattle.fl_flash.specs.Flash.{FlashState, page_at}
 use Rattle.fl_flash.specs.declared.flash.FlashFault.{FlashFault}
 use Rattle.fl_flash.specs.declared.flash.FlashFault.TheVariants.{PowerLost, Media}
@@ -9,6 +10,7 @@ use Rattle.fl_model.specs.Layout.{le, ContentPage, content_body}
 use Rattle.fl_model.specs.Row.{number_of as model_number}
 use Rattle.fl_model.specs.Mount as numbering
 use Rattle.fl_model.specs.Mount.{renumber, blob_end}
+use Rattle.fl_model.specs.MountLimit.{ring_mount_limit, part_mount_limit}
 use Rattle.fl_model.specs.Record.{Plan}
 use Rattle.fl_model.specs.Ring as model
 use Rattle.fl_model.specs.Table.{Table, RingName, VarRing, shape_of, seal_page, is_dirty, is_torn}
@@ -16,10 +18,10 @@ use Rattle.fl_model.specs.Work.{Kind, VoidMark, Erase, Device, PartEnd, Whole, C
 use Rattle.fl_model.specs.Within.{repair_within, TablePerforms, effect_within, all_done}
 use Rattle.fl_model.proofs.Performs.{performs-whole}
 use Rattle.fl_ring.specs.Head.{one}
-use Rattle.fl_ring.specs.Mounting.{IsGood, Mounted, RepairEnds}
+use Rattle.fl_ring.specs.Mounting.{shape_at, IsGood, Mounted, RepairEnds}
 use Rattle.fl_ring.specs.Mounting as ring_mounting
 use Rattle.fl_ring.specs.Newest.{number_of}
-use Rattle.fl_ring.specs.Numbers.{renumbered, least_alike}
+use Rattle.fl_ring.specs.Numbers.{renumbered, least_alike, voids_at_end}
 use Rattle.fl_ring.specs.Operations.{change, repair_kinds}
 use Rattle.fl_ring.specs.Ring.{Shape, RingState, IsShape, OnRing, room, place, count, oldest, voided}
 use Rattle.fl_ring.specs.Sealing.{AnswersEnd}
@@ -27,6 +29,7 @@ use Rattle.fl_ring.specs.declared.fault.RingFault.{RingFault}
 use Rattle.fl_ring.specs.declared.fault.RingFault.TheVariants as ring_fault
 use Rattle.fl_ring.specs.declared.ring.Ring as memory
 use Rattle.fl_ring.proofs.Counts.{counts_length, counts_renumbered, counts_voided}
+use Rattle.fl_ring.proofs.VoidsAtEnd.{voids_are}
 use Rattle.fl_ring.proofs.Moved.{renumbered_on, renumbered_same}
 use Rattle.fl_schema.proofs.Numbers.{number_of-le}
 use Rattle.fl_schema.proofs.References.{field_4}
@@ -89,6 +92,20 @@ repairs-waits plan table = by_torn (is_torn VarRing table)
     by_torn : (b : Bool) → (all_done (effect_within plan) ((cond b ((VarRing, VoidMark) ∷ []) []) ++ (cond (is_dirty VarRing (cond b (seal_page plan VarRing 0 table) table)) ((VarRing, Erase) ∷ []) [])) table).buffered ≡ table.buffered
     by_torn true = by_dirty (is_dirty VarRing (seal_page plan VarRing 0 table)) (seal_page plan VarRing 0 table)
     by_torn false = by_dirty (is_dirty VarRing table) table
+
+-- the limit on its reads, as the ring's mount has it
+pub few-read : (v : VarData) (f g : FlashState) (plan : Plan) (table : Table) → Rests v f plan table → f.geometry ≡ v.geometry → ((n : ℕ) → length (page_at f (place (var_shape v) n)) ≡ v.geometry.page) →
+    ((s : RingState) → OnRing (shape_at v.place f.geometry) (page_at f) s → g.work.reads ≤ f.work.reads + (v.place.blocks + 2 * f.geometry.block + 1 + voids_at_end s.kept)) →
+    g.work.reads ≤ f.work.reads + part_mount_limit (shape_of plan VarRing) table.var
+few-read v f g plan table rests geometry sizes few =
+    let s = state_of rests.ring table.var_pages in
+    let is = state-is (var_shape v) plan (page_at f) sizes (shape-is v) (shape-here v plan rests.planned) rests.ring table.var_pages rests.pages in
+    let limit : part_mount_limit (shape_of plan VarRing) table.var ≡ plan.var_blocks + 2 * plan.geometry.block + 1 + voids_at_end s.kept =
+    ap (λ (o : Option model.Ring). part_mount_limit (shape_of plan VarRing) o) rests.ring_is
+    ∙ (ap (λ (x : model.Ring). ring_mount_limit (shape_of plan VarRing) x) (sym is.counts)
+    ∙ ap (λ (n : ℕ). plan.var_blocks + 2 * plan.geometry.block + 1 + n) (voids_are once s (all-once s))) in
+    let reads = few s (subst (λ (x : Geometry). OnRing (shape_at v.place x) (page_at f) s) (sym geometry) is.on) in
+    omega (arith, reads, limit, rests.planned.blocks, ap (λ (x : Geometry). x.block) (geometry ∙ sym rests.planned.geometry))
 
 module _ (v : VarData) (f g : FlashState) (plan : Plan) (table : Table) (at_least : ℕ) (rests : Rests v f plan table) (least_is : at_least ≡ blob_end table)
     (sizes : (n : ℕ) → length (page_at f (place (var_shape v) n)) ≡ v.geometry.page) (later_sizes : (n : ℕ) → length (page_at g (place (var_shape v) n)) ≡ v.geometry.page) where

@@ -1,5 +1,5 @@
 // The mount of variable data.
-ghost use Rattle.std.specs.Prelude.{◌≡◌, ◌+◌, ◌<◌, None, false, is_ok, length, [], IsTrue, IfOk, IfErr, OnOk};
+ghost use Rattle.std.specs.Prelude.{◌≡◌, ◌+◌, ◌<◌, ◌≤◌, None, false, is_ok, length, [], IsTrue, IfOk, IfErr, OnOk};
 ghost use Rattle.fl_flash.specs.Flash.{Goes, page_at};
 ghost use Rattle.fl_ring.specs.Causes.{CausedBy, IfFlash};
 ghost use Rattle.fl_ring.specs.Finding.{FoundFault};
@@ -13,8 +13,10 @@ use fl_ring::{Ring, RingFault};
 impl VarData {
     ghost use Rattle.std.specs.Prelude.{ℕ, Bool, Err};
     ghost use Rattle.fl_model.specs.Mount.{blob_end};
+    ghost use Rattle.fl_model.specs.MountLimit.{part_mount_limit};
     ghost use Rattle.fl_model.specs.Record.{Plan};
     ghost use Rattle.fl_model.specs.Table as model;
+    ghost use Rattle.fl_model.specs.Table.{VarRing, shape_of as model_shape};
     ghost use Rattle.fl_model.specs.Work.{Device};
     ghost use Rattle.fl_ring.specs.Step.{IsWatched};
     ghost use Rattle.fl_var.specs.Memory.{is_mounted, waiting_in, var_shape, IsSamePlan, LiesOn};
@@ -42,6 +44,8 @@ impl VarData {
         ensures found { OnOk result (Finds self.old (F.state flash.old) at_least self.new (F.state flash.new)) }
         ensures fault { IfErr result (λ e. FoundFault (F.state flash.old) (var_shape self.old) at_least e) }
         ensures fails { IfErr result (λ e. FailsAs (F.state flash.old) (var_shape self.old) at_least e (F.state flash.new)) }
+        ensures reads { (plan : Plan) → (table : model.Table) → IsTrue (F.state flash.old).media.tells → Rests self.old (F.state flash.old) plan table
+            → (F.state flash.new).work.reads ≤ (F.state flash.old).work.reads + part_mount_limit (model_shape plan VarRing) table.var }
         ensures beside { Beside (var_shape self.old) (search_reads (var_shape self.old) + (F.state flash.old).geometry.block) 1 1 (F.state flash.old) (F.state flash.new) }
         ensures off { (F.state flash.old).is_on ≡ false → (result ≡ Err (RingFault.Flash FlashFault.PowerLost)) × (F.state flash.new ≡ F.state flash.old) }
         ensures cause { IfErr result (λ e. IfFlash (λ fault. CausedBy (F.state flash.old) fault (F.state flash.new)) e) }

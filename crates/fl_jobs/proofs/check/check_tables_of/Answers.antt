@@ -25,7 +25,7 @@ returns-in_default-new-clause-ends g c told = inl (told-none (g.K.Sink.written c
 
 pub returns-in-Err-clause-ends : goal.returns-in-Err-clause-ends
 returns-in-Err-clause-ends g c told =
-    early-ends (λ (l : Lines) (s : ToolStatus). TablesEndBy c.args.extent g.C.CheckTable.finds l (g.M.Media.state c.args.media.now).content (g.K.Sink.written c.args.out.now) (g.K.Sink.written c.args.out.now) s) (g.M.Media.state c.args.media.now).content (g.K.Sink.written c.args.out.now) c.in-Err.status c.in-Err.ensures.statuses
+    early-ends (λ (l : Lines) (s : ToolStatus). TablesEndBy c.args.extent g.C.CheckTable.finds g.C.CheckTable.rules l (g.M.Media.state c.args.media.now).content (g.K.Sink.written c.args.out.now) (g.K.Sink.written c.args.out.now) s) (g.M.Media.state c.args.media.now).content (g.K.Sink.written c.args.out.now) c.in-Err.status c.in-Err.ensures.statuses
     (λ is. c.in-Err.ensures.none (ap (λ s. Err s) is) told)
 
 pub returns-clause-ends : goal.returns-clause-ends
@@ -37,9 +37,9 @@ returns-clause-ends g c told =
     let now = g.K.Sink.written c.check_tables-status.new.out in
     let bytes = (g.M.Media.state c.args.media.now).content in
     let status = c.check_tables-status.result in
-    let ends : TablesEndBy c.args.extent g.C.CheckTable.finds lines bytes before now status =
-    ends-over (λ (l : List ℕ) (s : ToolStatus). TablesEndBy c.args.extent g.C.CheckTable.finds lines l before now s) status
+    let ends : TablesEndBy c.args.extent g.C.CheckTable.finds g.C.CheckTable.rules lines bytes before now status =
+    ends-over (λ (l : List ℕ) (s : ToolStatus). TablesEndBy c.args.extent g.C.CheckTable.finds g.C.CheckTable.rules lines l before now s) status
     (g.M.Media.state c.args.media.now).tells c.geometry-geometry.result c.blocks-blocks.result _ _ (g.M.Media.state c.config_of_image.new.media) _ bytes c.with_room-flash.ensures found.looks.content found.looks.tells told c.check_tables-status.ensures.ends in
-    image-ends (λ (l : Lines) (s : ToolStatus). TablesEndBy c.args.extent g.C.CheckTable.finds l bytes before now s) bytes before now status
-    (λ is. ends-known c.args.extent g.C.CheckTable.finds lines bytes before now (subst (λ (s : ToolStatus). TablesEndBy c.args.extent g.C.CheckTable.finds lines bytes before now s) is ends))
+    image-ends (λ (l : Lines) (s : ToolStatus). TablesEndBy c.args.extent g.C.CheckTable.finds g.C.CheckTable.rules l bytes before now s) bytes before now status
+    (λ is. ends-known c.args.extent g.C.CheckTable.finds g.C.CheckTable.rules lines bytes before now (subst (λ (s : ToolStatus). TablesEndBy c.args.extent g.C.CheckTable.finds g.C.CheckTable.rules lines bytes before now s) is ends))
     (record { lines = lines; accepted = image.0; image = image.1; ends = ends })

@@ -1,4 +1,4 @@
-use Rattle.std.proofs.Common.{◌≡◌, ℕ, [], ◌∷◌, ap, ◌∙◌, codes}
+use Rattle.std.proofs.Common.{ℕ, [], ◌∷◌, ap, ◌∙◌, codes}
 use Rattle.std.specs.Prelude.{decimal}
 use Rattle.fl_words.specs.Medium.{line_text}
 use Rattle.fl_jobs.specs.Report.{ring_name}

@@ -1,17 +1,41 @@
-use Rattle.std.proofs.Common.{◌≡◌, ℕ, Option, Some, Result, IfErr, refl, sym, subst}
+use Rattle.std.proofs.Common.{◌≡◌, ℕ, ◌*◌, ◌-◌, Bool, true, false, cond, Option, Some, IsTrue, sym, ◌∙◌, ap, subst}
 use Rattle.fl_index.specs.declared.index.Index.{Index}
-use Rattle.fl_table.specs.Bitmaps.{MountEndsOf}
-use Rattle.fl_flash.specs.declared.flash.FlashFault.TheVariants.{PowerLost}
-use Rattle.fl_ring.specs.declared.fault.RingFault.{RingFault}
-use Rattle.fl_ring.specs.declared.fault.RingFault.TheVariants.{Flash}
+use Rattle.fl_index.specs.Finding.{FindsEnd}
+use Rattle.fl_index.specs.Memory.{form_in, next_in, oldest_in}
+use Rattle.fl_index.specs.Outcomes.{EndsAs}
+use Rattle.fl_table.specs.Bitmaps.{MountEndsOf, RemembersFound, room_of}
+use Rattle.fl_table.specs.Mounting.{FewReads}
+use Rattle.fl_table.proofs.FoundReads.{found-few, found-spared, ok-then}
 use Rattle.fl_table.proofs.bitmaps.mount_bitmaps.Goals as goal
 
 pub returns-in-Some-clause-ends : goal.returns-in-Some-clause-ends
 returns-in-Some-clause-ends g c = λ first plan table rose device.
-    subst (λ (o : Option Index). MountEndsOf o (g.F.Flash.state c.args.flash.now) first plan table rose device c.mount.result (Some c.mount.new.self) (g.F.Flash.state c.mount.new.flash))
-    (sym c.in-Some.is) (λ watched planned rests. c.mount.ensures.ends first plan table rose device watched planned rests)
+    let old = g.F.Flash.state c.args.flash.now in
+    let new = g.F.Flash.state c.find.new.flash in
+    let now = c.find.new.self in
+    let full : (form_in c.in-Some.index).full ≡ true = sym c.is_full.ensures ∙ c.if-is_full.true in
+    subst (λ (o : Option Index). MountEndsOf o old first plan table rose device c.find.result (Some now) new) (sym c.in-Some.is)
+    (λ watched planned rests. subst (λ full. EndsAs (RemembersFound full now) first plan table rose device c.find.result now new) (sym full) (c.find.ensures.ends first plan table rose device watched planned rests))
 
-pub returns-in-Some-clause-off : goal.returns-in-Some-clause-off
-returns-in-Some-clause-off g c = λ down.
-    let h = c.mount.ensures.off down in
-    (subst (λ (r : Result (Option ℕ) RingFault). IfErr r (λ e. e ≡ Flash PowerLost)) (sym h.0) refl, h.1)
+pub returns-in-Some-clause-reads : goal.returns-in-Some-clause-reads
+returns-in-Some-clause-reads g c = λ told.
+    let old = g.F.Flash.state c.args.flash.now in
+    let new = g.F.Flash.state c.find.new.flash in
+    subst (λ (o : Option Index). FewReads (4 * room_of o) old new) (sym c.in-Some.is) (found-few c.in-Some.index c.find.new.self old new c.find.ensures.beside)
+
+pub returns-in-Some-clause-spared : goal.returns-in-Some-clause-spared
+returns-in-Some-clause-spared g c =
+    let old = g.F.Flash.state c.args.flash.now in
+    let new = g.F.Flash.state c.find.new.flash in
+    let now = c.find.new.self in
+    ok-then c.find.result (λ end. IsTrue old.media.tells → FindsEnd c.in-Some.index old end now new) c.find.ensures.found (λ end found told.
+    subst (λ (o : Option Index). FewReads (4 * room_of o - cond now.full (next_in now - oldest_in now) 0) old new) (sym c.in-Some.is) (found-spared c.in-Some.index now old new c.find.ensures.beside end (found told) told))
+
+pub returns-in-Some-2-clause-ends : goal.returns-in-Some-2-clause-ends
+returns-in-Some-2-clause-ends g c = λ first plan table rose device.
+    let old = g.F.Flash.state c.args.flash.now in
+    let new = g.F.Flash.state c.mount.new.flash in
+    let now = c.mount.new.self in
+    let full : (form_in c.in-Some.index).full ≡ false = sym c.is_full.ensures ∙ c.if-is_full.false in
+    subst (λ (o : Option Index). MountEndsOf o old first plan table rose device c.mount.result (Some now) new) (sym c.in-Some.is)
+    (λ watched planned rests. subst (λ full. EndsAs (RemembersFound full now) first plan table rose device c.mount.result now new) (sym full) (c.mount.ensures.ends first plan table rose device watched planned rests))

@@ -35,7 +35,7 @@ returns-in_err-look_ahead-clause-fails g c =
     let some : rows_noted c.args.self.now.table.now c.args.next ≡ 0 → ⊥ = λ none. c.if-rows_of-eq0.false (c.rows_of.ensures.exact ∙ none) in
     let p = err_from_is_err_and c.from_residual.result c.from_residual.ensures.1 in
     let e = c.in_err-look_ahead.ensures in
-    let l = looked c.args.self.now c.args.next c.requires.next placed.0 before (g.F.Flash.state c.args.flash.now) (g.F.Flash.state c.look_ahead.new.flash) _ _ refl
+    let l = looked c.args.self.now c.args.next c.requires.next placed.0 before (g.F.Flash.state c.args.flash.now) (g.F.Flash.state c.look_ahead.new.flash) _ _ e.one refl
     e.room e.counts e.good e.fresh e.looks e.shows e.misses in
     rw p.1 (look-fails c.args.self.now c.args.next c.requires.next placed.0 before (contents_of (g.F.Flash.state c.args.flash.now)) (g.F.Flash.state c.args.flash.now).work.reads _ some (g.F.Flash.state c.look_ahead.new.flash).work.reads _ l)
 
@@ -45,7 +45,7 @@ returns-in-Missed-clause-goes g c =
     let before : c.args.next < next_in c.args.self.now.table.now = within-end c.args.self.now c.args.end c.args.next c.requires.end c.if-end-next.false in
     let some : rows_noted c.args.self.now.table.now c.args.next ≡ 0 → ⊥ = λ none. c.if-rows_of-eq0.false (c.rows_of.ensures.exact ∙ none) in
     let e = c.in_ok-look_ahead.ensures in
-    let l = looked c.args.self.now c.args.next c.requires.next placed.0 before (g.F.Flash.state c.args.flash.now) (g.F.Flash.state c.look_ahead.new.flash) (Ok c.in_ok-look_ahead.field-0) _ refl
+    let l = looked c.args.self.now c.args.next c.requires.next placed.0 before (g.F.Flash.state c.args.flash.now) (g.F.Flash.state c.look_ahead.new.flash) (Ok c.in_ok-look_ahead.field-0) _ e.one refl
     e.room e.counts e.good e.fresh e.looks e.shows e.misses in
     page-missed c.args.self.now c.args.next c.requires.next placed.0 before (contents_of (g.F.Flash.state c.args.flash.now)) (g.F.Flash.state c.args.flash.now).work.reads _ some (g.F.Flash.state c.look_ahead.new.flash).work.reads
     (looked-as c.in-Missed.is l)
@@ -56,7 +56,7 @@ returns-in-Beyond-clause-goes g c =
     let before : c.args.next < next_in c.args.self.now.table.now = within-end c.args.self.now c.args.end c.args.next c.requires.end c.if-end-next.false in
     let some : rows_noted c.args.self.now.table.now c.args.next ≡ 0 → ⊥ = λ none. c.if-rows_of-eq0.false (c.rows_of.ensures.exact ∙ none) in
     let e = c.in_ok-look_ahead.ensures in
-    let l = looked c.args.self.now c.args.next c.requires.next placed.0 before (g.F.Flash.state c.args.flash.now) (g.F.Flash.state c.look_ahead.new.flash) (Ok c.in_ok-look_ahead.field-0) _ refl
+    let l = looked c.args.self.now c.args.next c.requires.next placed.0 before (g.F.Flash.state c.args.flash.now) (g.F.Flash.state c.look_ahead.new.flash) (Ok c.in_ok-look_ahead.field-0) _ e.one refl
     e.room e.counts e.good e.fresh e.looks e.shows e.misses in
     page-beyond c.args.self.now c.args.next c.requires.next placed.0 before (contents_of (g.F.Flash.state c.args.flash.now)) (g.F.Flash.state c.args.flash.now).work.reads _ some (g.F.Flash.state c.look_ahead.new.flash).work.reads
     (looked-as c.in-Beyond.is l)
@@ -82,7 +82,7 @@ returns-in_err-read_page-clause-fails g c =
     let some : rows_noted c.args.self.now.table.now c.args.next ≡ 0 → ⊥ = λ none. c.if-rows_of-eq0.false (c.rows_of.ensures.exact ∙ none) in
     let p = err_from_is_err_and c.from_residual-in_err-read_page.result c.from_residual-in_err-read_page.ensures.1 in
     let e = c.in_ok-look_ahead.ensures in
-    let l = looked c.args.self.now c.args.next c.requires.next placed.0 before (g.F.Flash.state c.args.flash.now) (g.F.Flash.state c.look_ahead.new.flash) (Ok c.in_ok-look_ahead.field-0) _ refl
+    let l = looked c.args.self.now c.args.next c.requires.next placed.0 before (g.F.Flash.state c.args.flash.now) (g.F.Flash.state c.look_ahead.new.flash) (Ok c.in_ok-look_ahead.field-0) _ e.one refl
     e.room e.counts e.good e.fresh e.looks e.shows e.misses in
     rw p.1 (page-fails c.args.self.now c.args.next c.requires.next placed.0 before (contents_of (g.F.Flash.state c.args.flash.now)) (g.F.Flash.state c.args.flash.now).work.reads _ some (g.F.Flash.state c.look_ahead.new.flash).work.reads
     (looked-as c.in-Wanted.is l)
@@ -96,7 +96,7 @@ returns-then-not-branch-clause-goes g c =
     let one = c.in_ok-read_page.ensures.one in
     let other : state_of_page c.read_page.new.buf.bytes ≡ Committed → ⊥ = search rules in
     let e = c.in_ok-look_ahead.ensures in
-    let l = looked c.args.self.now c.args.next c.requires.next placed.0 before (g.F.Flash.state c.args.flash.now) (g.F.Flash.state c.look_ahead.new.flash) (Ok c.in_ok-look_ahead.field-0) _ refl
+    let l = looked c.args.self.now c.args.next c.requires.next placed.0 before (g.F.Flash.state c.args.flash.now) (g.F.Flash.state c.look_ahead.new.flash) (Ok c.in_ok-look_ahead.field-0) _ e.one refl
     e.room e.counts e.good e.fresh e.looks e.shows e.misses in
     page-void c.args.self.now c.args.next c.requires.next placed.0 before (contents_of (g.F.Flash.state c.args.flash.now)) (g.F.Flash.state c.args.flash.now).work.reads _ some (g.F.Flash.state c.look_ahead.new.flash).work.reads
     (looked-as c.in-Wanted.is l)
@@ -111,7 +111,7 @@ returns-clause-goes g c =
     let one = c.in_ok-read_page.ensures.one in
     let good : IsGoodPage (layout_in c.args.self.now.table.now) c.args.next c.read_page.new.buf.bytes = search rules in
     let e = c.in_ok-look_ahead.ensures in
-    let l = looked c.args.self.now c.args.next c.requires.next placed.0 before (g.F.Flash.state c.args.flash.now) (g.F.Flash.state c.look_ahead.new.flash) (Ok c.in_ok-look_ahead.field-0) _ refl
+    let l = looked c.args.self.now c.args.next c.requires.next placed.0 before (g.F.Flash.state c.args.flash.now) (g.F.Flash.state c.look_ahead.new.flash) (Ok c.in_ok-look_ahead.field-0) _ e.one refl
     e.room e.counts e.good e.fresh e.looks e.shows e.misses in
     page-entered c.args.self.now c.args.next c.requires.next placed.0 before (contents_of (g.F.Flash.state c.args.flash.now)) (g.F.Flash.state c.args.flash.now).work.reads _ some (g.F.Flash.state c.look_ahead.new.flash).work.reads
     (looked-as c.in-Wanted.is l)

@@ -6,7 +6,7 @@ use Rattle.fl_table.specs.Memory.{next_in}
 use Rattle.fl_table.specs.declared.counts.TableCounts.{TableCounts}
 use Rattle.fl_table.proofs.Looks.{counts-is, counts-told}
 use Rattle.fl_table.proofs.Sizes.{table-fits}
-use Rattle.fl_table.proofs.PagesRead.{is-void, not-void, voids_few}
+use Rattle.fl_table.proofs.Voids.{is-void, not-void, voids_few}
 use Rattle.fl_table.proofs.table.Table.counts.Goals as goal
 use Rattle.fl_table.proofs.table.Table.counts.Goals.{then-rows-eq0, else-rows-eq0}
 

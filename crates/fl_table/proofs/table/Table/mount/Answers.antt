@@ -1,4 +1,4 @@
-use Rattle.std.proofs.Common.{arith, ◌*◌, ◌≡◌, ◌+◌, Option, Err, IsTrue, sym, ◌∙◌, ap, subst, inr}
+use Rattle.std.proofs.Common.{arith, ◌*◌, ◌≡◌, ◌+◌, ◌-◌, Option, Err, IsTrue, sym, ◌∙◌, ap, subst, inr}
 use Rattle.std.proofs.lemmas.Result.{err_from_is_err_and, IfErr-weaker, IfOk-weaker}
 use Rattle.fl_flash.specs.Flash.{FlashState, page_at}
 use Rattle.std.specs.Option.{unwrap_or}
@@ -6,13 +6,16 @@ use Rattle.fl_index.specs.declared.index.Index.{Index}
 use Rattle.fl_base.specs.declared.types.Geometry.{Geometry}
 use Rattle.fl_base.specs.declared.types.RingPlace.{RingPlace}
 use Rattle.fl_ring.specs.Mounting.{shape_at}
-use Rattle.fl_ring.specs.Ring.{Shape}
-use Rattle.fl_table.specs.Bitmaps.{AreSamePlan, IsOutside, StandOutside}
-use Rattle.fl_table.specs.Mounting.{FindsBitmaps}
+use Rattle.fl_ring.specs.Ring.{Shape, room}
+use Rattle.fl_table.specs.Bitmaps.{AreSamePlan, IsOutside, StandOutside, room_of}
+use Rattle.fl_table.specs.Coming.{index_pages_of}
+use Rattle.fl_table.specs.Mounting.{FewReads, FindsBitmaps}
+use Rattle.fl_table.proofs.Firsts.{room-same}
+use Rattle.fl_table.proofs.FoundReads.{index-within, reads-joined}
 use Rattle.fl_table.proofs.Following.{watched-front, watched-then}
-use Rattle.fl_table.proofs.MountJoined.{mount-fails, mount-then, still-found, finds-as, refuses-by, stand-outside}
+use Rattle.fl_table.proofs.MountJoined.{mount-cause-later, mount-fails, mount-then, finds-as, refuses-by, stand-outside}
 use Rattle.fl_table.proofs.Outsides.{blobs-outside}
-use Rattle.fl_table.proofs.SealAnswers.{planned-same}
+use Rattle.fl_table.proofs.SealAnswers.{planned-same, same-then}
 use Rattle.fl_ring.specs.declared.fault.RingFault.{RingFault}
 use Rattle.fl_table.specs.Causes.{of_ring}
 use Rattle.fl_ring.proofs.Readings.{goes_more}
@@ -40,7 +43,7 @@ returns-clause-ends g c = λ first plan table rose device watched planned rests.
     let new = g.F.Flash.state c.mount_rows.new.flash in
     let goes = c.in_ok-end.ensures.goes in
     mount-then t old mid first plan table rose device planned rests (watched-front old mid new rose device watched c.mount_rows.ensures.goes) c.forget.new.self.bitmaps c.mount_bitmaps.new.bitmaps c.in_ok-end.end c.mount_rows.result c.mount_rows.new.self new (sym c.forget.ensures.bitmaps)
-    (c.in_ok-end.ensures.outside watched.told) (c.in_ok-end.ensures.ends (first + plan.data_blocks) plan table rose device)
+    c.in_ok-end.ensures.same (c.in_ok-end.ensures.outside watched.told) (c.in_ok-end.ensures.ends (first + plan.data_blocks) plan table rose device)
     (λ x later on counts at_rest stands end. c.mount_rows.ensures.ends first plan x rose later (watched-then old mid new rose device later watched goes on counts) (planned-same t _ first plan planned (record {
       geometry = c.forget.ensures.same.geometry;
       layout = c.forget.ensures.same.layout;
@@ -63,9 +66,11 @@ returns-clause-found g c =
     IfOk-weaker c.mount_rows.result _ _ (λ mounted h told. record {
       end = end;
       indexed = mid;
-      bitmaps = still-found t.bitmaps c.mount_bitmaps.new.bitmaps now.bitmaps old mid end (subst (λ (o : Option Index). FindsBitmaps o old end c.mount_bitmaps.new.bitmaps mid) c.forget.ensures.bitmaps (c.in_ok-end.ensures.found told))
-          c.mount_rows.ensures.same.bitmaps c.mount_rows.ensures.still;
-      rows = finds-as t _ mid c.unwrap_or.result (unwrap_or end 0) mounted now new (h (subst IsTrue (sym c.in_ok-end.ensures.goes.tells) told)) (record {
+      found = c.mount_bitmaps.new.bitmaps;
+      same = subst (λ (o : Option Index). AreSamePlan o c.mount_bitmaps.new.bitmaps) c.forget.ensures.bitmaps c.in_ok-end.ensures.same;
+      bitmaps = subst (λ (o : Option Index). FindsBitmaps o old end c.mount_bitmaps.new.bitmaps mid) c.forget.ensures.bitmaps (c.in_ok-end.ensures.found told);
+      still = c.mount_rows.ensures.still;
+      rows = finds-as t _ c.mount_bitmaps.new.bitmaps mid c.unwrap_or.result (unwrap_or end 0) mounted now new (h (subst IsTrue (sym c.in_ok-end.ensures.goes.tells) told)) (record {
         geometry = c.forget.ensures.same.geometry;
         layout = c.forget.ensures.same.layout;
         place = c.forget.ensures.same.place;
@@ -87,8 +92,12 @@ returns-clause-refused g c =
     IfErr-weaker c.mount_rows.result _ _ (λ e h told. inr (
       end,
       mid,
-      record { now = c.mount_bitmaps.new.bitmaps; bitmaps = subst (λ (o : Option Index). FindsBitmaps o old end c.mount_bitmaps.new.bitmaps mid) c.forget.ensures.bitmaps (c.in_ok-end.ensures.found told) },
-      refuses-by t _ mid c.unwrap_or.result (unwrap_or end 0) e new (h (subst IsTrue (sym c.in_ok-end.ensures.goes.tells) told)) (record {
+      record {
+        now = c.mount_bitmaps.new.bitmaps;
+        same = subst (λ (o : Option Index). AreSamePlan o c.mount_bitmaps.new.bitmaps) c.forget.ensures.bitmaps c.in_ok-end.ensures.same;
+        bitmaps = subst (λ (o : Option Index). FindsBitmaps o old end c.mount_bitmaps.new.bitmaps mid) c.forget.ensures.bitmaps (c.in_ok-end.ensures.found told);
+      },
+      refuses-by t _ c.mount_bitmaps.new.bitmaps mid c.unwrap_or.result (unwrap_or end 0) e new (h (subst IsTrue (sym c.in_ok-end.ensures.goes.tells) told)) (record {
         geometry = c.forget.ensures.same.geometry;
         layout = c.forget.ensures.same.layout;
         place = c.forget.ensures.same.place;
@@ -100,6 +109,26 @@ returns-clause-refused g c =
       }) c.forget.ensures.blobs c.unwrap_or.ensures,
     )) c.mount_rows.ensures.refused
 
+pub returns-clause-same : goal.returns-clause-same
+returns-clause-same g c =
+    same-then c.args.self.now _ c.mount_rows.new.self (record {
+      geometry = c.forget.ensures.same.geometry;
+      layout = c.forget.ensures.same.layout;
+      place = c.forget.ensures.same.place;
+      buckets = c.forget.ensures.same.buckets;
+      error = c.forget.ensures.same.error;
+      bitmaps = subst (λ (o : Option Index). AreSamePlan o c.mount_bitmaps.new.bitmaps) c.forget.ensures.bitmaps c.in_ok-end.ensures.same;
+      blobs = c.forget.ensures.same.blobs;
+      limit = c.forget.ensures.same.limit;
+    }) c.mount_rows.ensures.same
+
+pub returns-clause-cause : goal.returns-clause-cause
+returns-clause-cause g c =
+    let old = g.F.Flash.state c.args.flash.now in
+    let mid = g.F.Flash.state c.mount_bitmaps.new.flash in
+    let new = g.F.Flash.state c.mount_rows.new.flash in
+    IfErr-weaker c.mount_rows.result _ _ (λ e h. mount-cause-later old mid new c.in_ok-end.ensures.goes c.in_ok-end.ensures.power e h) c.mount_rows.ensures.cause
+
 pub returns-clause-outside : goal.returns-clause-outside
 returns-clause-outside g c = λ told page out index blobs.
     let t = c.args.self.now in
@@ -109,6 +138,23 @@ returns-clause-outside g c = λ told page out index blobs.
     let shape : shape_at c.forget.new.self.place c.forget.new.self.geometry ≡ shape_at t.place t.geometry =
     ap (λ (p : RingPlace). shape_at p c.forget.new.self.geometry) c.forget.ensures.same.place ∙ ap (λ (x : Geometry). shape_at t.place x) c.forget.ensures.same.geometry in
     c.mount_rows.ensures.outside (subst IsTrue (sym c.in_ok-end.ensures.goes.tells) told) page (subst (λ (r : Shape). IsOutside r page) (sym shape) out) (blobs-outside t.blobs c.forget.new.self.blobs page c.forget.ensures.same.blobs blobs) ∙ first
+
+pub returns-clause-reads : goal.returns-clause-reads
+returns-clause-reads g c = λ told.
+    let t = c.args.self.now in
+    let old = g.F.Flash.state c.args.flash.now in
+    let mid = g.F.Flash.state c.mount_bitmaps.new.flash in
+    let new = g.F.Flash.state c.mount_rows.new.flash in
+    let now = c.mount_bitmaps.new.bitmaps in
+    let within = index-within t.bitmaps now old mid c.in_ok-end.end (subst (λ (o : Option Index). AreSamePlan o now) c.forget.ensures.bitmaps c.in_ok-end.ensures.same)
+    (subst (λ (o : Option Index). FindsBitmaps o old c.in_ok-end.end now mid) c.forget.ensures.bitmaps (c.in_ok-end.ensures.found told)) told in
+    let spared = subst (λ (o : Option Index). FewReads (4 * room_of o - index_pages_of now) old mid) c.forget.ensures.bitmaps (c.in_ok-end.ensures.spared told) in
+    let shape : shape_at c.forget.new.self.place c.forget.new.self.geometry ≡ shape_at t.place t.geometry =
+    ap (λ (p : RingPlace). shape_at p c.forget.new.self.geometry) c.forget.ensures.same.place ∙ ap (λ (x : Geometry). shape_at t.place x) c.forget.ensures.same.geometry in
+    let few = subst (λ (r : Shape). FewReads (4 * (room r + variable.room_of t.blobs) + index_pages_of now) mid new) shape
+    (subst (λ (o : Option VarData). FewReads (4 * (room (shape_at c.forget.new.self.place c.forget.new.self.geometry) + variable.room_of o) + index_pages_of now) mid new) c.forget.ensures.blobs
+    (c.mount_rows.ensures.reads (subst IsTrue (sym c.in_ok-end.ensures.goes.tells) told))) in
+    reads-joined (room_of t.bitmaps) (index_pages_of now) (room (shape_at t.place t.geometry)) (variable.room_of t.blobs) old mid new within spared few
 
 pub returns-in_err-end-clause-off : goal.returns-in_err-end-clause-off
 returns-in_err-end-clause-off g c = λ down.
@@ -180,7 +226,15 @@ mount_rows-requires g c =
                 bitmaps = c.in_ok-end.ensures.lies;
                 blobs = blobbing.lies-goes c.forget.new.self.blobs old mid goes (subst (λ (o : Option VarData). variable.LieOn o old) (sym c.forget.ensures.blobs) lies.blobs);
               },
-              c.in_ok-end.ensures.room ∙ (c.requires.room ∙ sym (ap (λ (x : Geometry). x.page) goes.geometry)),
+              (
+                c.in_ok-end.ensures.room ∙ (c.requires.room ∙ sym (ap (λ (x : Geometry). x.page) goes.geometry)),
+                λ told.
+                    let was = c.forget.new.self.bitmaps in
+                    let now = c.mount_bitmaps.new.bitmaps in
+                    let told' = subst IsTrue goes.tells told in
+                    let few = index-within was now old mid c.in_ok-end.end c.in_ok-end.ensures.same (c.in_ok-end.ensures.found told') told' in
+                    omega (arith, few, room-same was now c.in_ok-end.ensures.same),
+              ),
             ),
           ),
         ),

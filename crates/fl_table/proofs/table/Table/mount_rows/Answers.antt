@@ -103,6 +103,9 @@ returns-clause-found g c = λ told.
       end = rows.blob_end;
       between = mid;
       pages = c.in_ok-rows.ensures.found told;
+      waits = c.in_ok-rows.ensures.waits told;
+      firsts = c.in_ok-rows.ensures.remembers told;
+      pending = c.in_ok-rows.ensures.none;
       blobs = subst (λ (o : Option VarData). FindsBlobs o mid (least_of rows.blob_end) c.mount_within.new.blobs (g.F.Flash.state c.mount_within.new.flash)) c.in_ok-rows.ensures.blobs c.in_ok-mount_within.ensures.found;
       below = c.in_ok-mount_within.ensures.below;
     }
@@ -287,4 +290,4 @@ invariant_of-self-2 g c =
     }
 
 pub read_rows-requires : goal.read_rows-requires
-read_rows-requires g c = (table-fits g.row.KNOTS g.row.SLOTS c.args.self.now.few_knots c.args.self.now.few_slots, (c.requires.forgotten, (c.requires.running, (c.requires.idle, (c.requires.lies, c.requires.room)))))
+read_rows-requires g c = (table-fits g.row.KNOTS g.row.SLOTS c.args.self.now.few_knots c.args.self.now.few_slots, (c.requires.forgotten, (c.requires.running, (c.requires.idle, (c.requires.lies, (c.requires.room, c.requires.few))))))

@@ -1,10 +1,15 @@
-use Rattle.std.proofs.Common.{rules, ◌≡◌, ◌+◌, IsTrue, Some, length, refl, sym, ◌∙◌, ap, subst, arith}
+use Rattle.std.proofs.Common.{rules, ◌≡◌, ℕ, ◌+◌, IsTrue, Some, List, length, refl, sym, ◌∙◌, ap, subst, arith}
 use Rattle.std.specs.List.{slice_get}
-use Rattle.std.proofs.lemmas.List.{length-set}
+use Rattle.std.proofs.lemmas.List.{length-set, take_all}
 use Rattle.std.proofs.lemmas.Option.{slice_get_within}
 use Rattle.fl_base.specs.declared.types.Geometry.{Geometry}
+use Rattle.fl_flash.specs.Flash.{page_at}
 use Rattle.fl_ring.specs.Step.{IsWatched}
+use Rattle.fl_table.specs.Mounting.{FewRepairs}
+use Rattle.fl_tables.specs.Mounting.{MountsInTurn, OutsideStands, rings_of}
 use Rattle.fl_tables.specs.Tables.{first_of}
+use Rattle.fl_tables.specs.declared.tables.Entry.{Entry}
+use Rattle.fl_tables.proofs.InTurn.{turn-before, turn-more, turn-on, repairs-none, repairs-more, outside-none, outside-more}
 use Rattle.fl_tables.proofs.Going.{goes-same, goes-on, rose-front, rose-back}
 use Rattle.fl_tables.proofs.Lying.{lie-with, running-more}
 use Rattle.fl_tables.proofs.MountedSoFar.{mounted-none, mounted-more, mounted-err, mounted-all, own, was, stood}
@@ -24,6 +29,9 @@ loop-i-init g c = record {
   running = λ j entry lt e. absurd (omega (arith, lt));
   ahead = λ j le. refl;
   reads = λ told. omega arith;
+  in_turn = λ told. refl;
+  repairs = repairs-none c.args.self.now.entries.items (g.F.Flash.state c.args.flash.now);
+  outside = λ told. outside-none c.args.self.now.entries.items (page_at (g.F.Flash.state c.args.flash.now));
   repaired = λ told plans tables stand. repaired-none plans (g.F.Flash.state c.args.flash.now);
   so_far = λ plans tables rose device told on counts stand risen. mounted-none plans tables rose device c.args.self.now.entries.items (g.F.Flash.state c.args.flash.now) counts on stand;
 }
@@ -66,9 +74,42 @@ returns-in-Err-clause-stops g c =
     (name-after c.loop-i.self.entries.items c.loop-i.i c.index_mut.result.now c.mount.new.self c.index.result.now here c.index.ensures) c.in-Err.ensures.mounted
     c.loop-i.invariant.running c.loop-i.invariant.ahead
 
+pub returns-in-Err-clause-refused : goal.returns-in-Err-clause-refused
+returns-in-Err-clause-refused g c = λ told.
+    let i = c.loop-i.invariant in
+    let here : slice_get c.loop-i.self.entries.items c.loop-i.i ≡ Some c.index_mut.result.now =
+    item-there c.loop-i.self.entries.items (length c.loop-i.self.entries.items) c.loop-i.i c.index_mut.result.now refl (omega (arith, c.loop-i-test.true, c.len-i-end.ensures, c.args.self.now.entries.ok.0, c.loop-i.invariant.as_many)) c.index_mut.ensures.value in
+    record {
+      entry = c.index_mut.result.now;
+      here = sym (i.ahead c.loop-i.i (omega arith)) ∙ here;
+      named = name-after c.loop-i.self.entries.items c.loop-i.i c.index_mut.result.now c.mount.new.self c.index.result.now here c.index.ensures;
+      left = g.F.Flash.state c.loop-i.flash;
+      before = turn-before c.loop-i.i c.args.self.now.entries.items c.loop-i.self.entries.items c.index_mut.result.now c.mount.new.self (g.F.Flash.state c.args.flash.now) (g.F.Flash.state c.loop-i.flash) (i.in_turn told);
+      refused = c.in-Err.ensures.refused (subst IsTrue (sym i.goes.tells) told);
+    }
+
+pub returns-in-Err-clause-repairs : goal.returns-in-Err-clause-repairs
+returns-in-Err-clause-repairs g c =
+    let i = c.loop-i.invariant in
+    let here : slice_get c.loop-i.self.entries.items c.loop-i.i ≡ Some c.index_mut.result.now =
+    item-there c.loop-i.self.entries.items (length c.loop-i.self.entries.items) c.loop-i.i c.index_mut.result.now refl (omega (arith, c.loop-i-test.true, c.len-i-end.ensures, c.args.self.now.entries.ok.0, c.loop-i.invariant.as_many)) c.index_mut.ensures.value in
+    repairs-more c.args.self.now.entries.items c.loop-i.i c.index_mut.result.now (g.F.Flash.state c.args.flash.now) (g.F.Flash.state c.loop-i.flash) (g.F.Flash.state c.mount.new.flash)
+    (sym (i.ahead c.loop-i.i (omega arith)) ∙ here) i.repairs c.mount.ensures.repairs
+
+pub returns-in-Err-clause-outside : goal.returns-in-Err-clause-outside
+returns-in-Err-clause-outside g c = λ told.
+    let i = c.loop-i.invariant in
+    let here : slice_get c.loop-i.self.entries.items c.loop-i.i ≡ Some c.index_mut.result.now =
+    item-there c.loop-i.self.entries.items (length c.loop-i.self.entries.items) c.loop-i.i c.index_mut.result.now refl (omega (arith, c.loop-i-test.true, c.len-i-end.ensures, c.args.self.now.entries.ok.0, c.loop-i.invariant.as_many)) c.index_mut.ensures.value in
+    outside-more c.args.self.now.entries.items c.loop-i.i c.index_mut.result.now (page_at (g.F.Flash.state c.args.flash.now)) (page_at (g.F.Flash.state c.loop-i.flash)) (page_at (g.F.Flash.state c.mount.new.flash))
+    (sym (i.ahead c.loop-i.i (omega arith)) ∙ here) (i.outside told) (c.mount.ensures.outside (subst IsTrue (sym i.goes.tells) told))
+
 pub returns-in-Err-clause-cause : goal.returns-in-Err-clause-cause
 returns-in-Err-clause-cause g c =
-    fails-for (g.F.Flash.state c.args.flash.now) (g.F.Flash.state c.loop-i.flash) (g.F.Flash.state c.mount.new.flash) c.in-Err.fault c.loop-i.invariant.goes.faults c.in-Err.ensures.cause
+    let f = g.F.Flash.state c.args.flash.now in
+    let m = g.F.Flash.state c.loop-i.flash in
+    let i = c.loop-i.invariant in
+    fails-for f m (g.F.Flash.state c.mount.new.flash) c.in-Err.fault i.goes (λ told. turn-on c.loop-i.i c.args.self.now.entries.items c.loop-i.self.entries.items f m (i.in_turn told)) c.in-Err.ensures.cause
 
 pub loop-i-preserved : goal.loop-i-preserved
 loop-i-preserved g c =
@@ -79,6 +120,7 @@ loop-i-preserved g c =
     let p = c.mount.ensures in
     let here : slice_get c.loop-i.self.entries.items c.loop-i.i ≡ Some c.index_mut.result.now =
     item-there c.loop-i.self.entries.items (length c.loop-i.self.entries.items) c.loop-i.i c.index_mut.result.now refl (omega (arith, c.loop-i-test.true, c.len-i-end.ensures, c.args.self.now.entries.ok.0, c.loop-i.invariant.as_many)) c.index_mut.ensures.value in
+    let was_here : slice_get c.args.self.now.entries.items c.loop-i.i ≡ Some c.index_mut.result.now = sym (i.ahead c.loop-i.i (omega arith)) ∙ here in
     record {
       lie = lie-with c.loop-i.self.entries.items c.loop-i.i c.index_mut.result.now c.mount.new.self m n here p.goes i.lie p.lies;
       room = p.room ∙ (i.room ∙ ap (λ (x : Geometry). x.page) (sym p.goes.geometry));
@@ -87,9 +129,13 @@ loop-i-preserved g c =
       goes = goes-on f m n i.goes p.goes;
       running = running-more c.loop-i.self.entries.items c.loop-i.i c.index_mut.result.now c.mount.new.self here i.running c.in_default.ensures.mounted;
       ahead = λ j le. set-elsewhere c.loop-i.self.entries.items c.loop-i.i j (record { name = c.index_mut.result.now.name; table = c.mount.new.self }) (λ is. absurd (omega (arith, le, is))) ∙ i.ahead j (omega (arith, le));
-      reads = λ told. reads-more c.args.self.now.entries.items c.loop-i.i c.index_mut.result.now f m n (sym (i.ahead c.loop-i.i (omega arith)) ∙ here) (i.reads told) (p.reads (subst IsTrue (sym i.goes.tells) told));
+      reads = λ told. reads-more c.args.self.now.entries.items c.loop-i.i c.index_mut.result.now f m n was_here (i.reads told) (p.reads (subst IsTrue (sym i.goes.tells) told));
+      in_turn = λ told. turn-more c.loop-i.i c.args.self.now.entries.items c.loop-i.self.entries.items c.index_mut.result.now c.mount.new.self c.in_default.field-0 f m n was_here here p.same
+          (c.in_default.ensures.found (subst IsTrue (sym i.goes.tells) told)) (i.in_turn told);
+      repairs = repairs-more c.args.self.now.entries.items c.loop-i.i c.index_mut.result.now f m n was_here i.repairs p.repairs;
+      outside = λ told. outside-more c.args.self.now.entries.items c.loop-i.i c.index_mut.result.now (page_at f) (page_at m) (page_at n) was_here (i.outside told) (p.outside (subst IsTrue (sym i.goes.tells) told));
       repaired = λ told plans tables stand.
-          repaired-more plans tables c.args.self.now.entries.items c.loop-i.i c.index_mut.result.now c.mount.new.self f m n c.in_default.field-0 stand (sym (i.ahead c.loop-i.i (omega arith)) ∙ here) i.goes told
+          repaired-more plans tables c.args.self.now.entries.items c.loop-i.i c.index_mut.result.now c.mount.new.self f m n c.in_default.field-0 stand was_here i.goes told
           (c.in_default.ensures.found (subst IsTrue (sym i.goes.tells) told)) (i.repaired told plans tables stand);
       so_far = λ plans tables rose device told on counts stand risen.
           let told' : IsTrue m.media.tells = subst IsTrue (sym i.goes.tells) told in
@@ -110,6 +156,22 @@ pub returns-clause-ends : goal.returns-clause-ends
 returns-clause-ends g c = λ plans tables rose device watched stand.
     let all : c.loop-i.i ≡ length c.loop-i.self.entries.items = omega (arith, c.loop-i-test.false, c.loop-i.auto.i-end, c.len-i-end.ensures, c.args.self.now.entries.ok.0, c.loop-i.invariant.as_many) in
     mounted-all plans tables rose device c.loop-i.i c.loop-i.self.entries.items (g.F.Flash.state c.loop-i.flash) all (c.loop-i.invariant.so_far plans tables rose device watched.told watched.on watched.counts stand watched.risen)
+
+pub returns-clause-found : goal.returns-clause-found
+returns-clause-found g c = λ told.
+    let i = c.loop-i.invariant in
+    let all : c.loop-i.i ≡ length c.args.self.now.entries.items = omega (arith, c.loop-i-test.false, c.loop-i.auto.i-end, c.len-i-end.ensures, c.args.self.now.entries.ok.0) in
+    subst (λ (n : ℕ). MountsInTurn n c.args.self.now.entries.items c.loop-i.self.entries.items (g.F.Flash.state c.args.flash.now) (g.F.Flash.state c.loop-i.flash)) all (i.in_turn told)
+
+pub returns-clause-repairs : goal.returns-clause-repairs
+returns-clause-repairs g c =
+    let all : c.loop-i.i ≡ length c.args.self.now.entries.items = omega (arith, c.loop-i-test.false, c.loop-i.auto.i-end, c.len-i-end.ensures, c.args.self.now.entries.ok.0) in
+    subst (λ (es : List Entry). FewRepairs (rings_of es) (g.F.Flash.state c.args.flash.now) (g.F.Flash.state c.loop-i.flash)) (take_all c.loop-i.i c.args.self.now.entries.items (omega (arith, all))) c.loop-i.invariant.repairs
+
+pub returns-clause-outside : goal.returns-clause-outside
+returns-clause-outside g c = λ told.
+    let all : c.loop-i.i ≡ length c.args.self.now.entries.items = omega (arith, c.loop-i-test.false, c.loop-i.auto.i-end, c.len-i-end.ensures, c.args.self.now.entries.ok.0) in
+    subst (λ (es : List Entry). OutsideStands es (page_at (g.F.Flash.state c.args.flash.now)) (page_at (g.F.Flash.state c.loop-i.flash))) (take_all c.loop-i.i c.args.self.now.entries.items (omega (arith, all))) (c.loop-i.invariant.outside told)
 
 pub returns-in-Err-clause-reads : goal.returns-in-Err-clause-reads
 returns-in-Err-clause-reads g c = λ told.

@@ -6,7 +6,7 @@ use Rattle.fl_ring.specs.Numbers.{renumbered}
 use Rattle.fl_ring.specs.declared.fault.RingFault.{RingFault}
 use Rattle.fl_var.proofs.States.{state_of}
 use Rattle.std.proofs.lemmas.Result.{err_from_is_err_and}
-use Rattle.fl_var.proofs.Mountings.{good, mount-well, mount-badly, mount-fault, mount-err}
+use Rattle.fl_var.proofs.Mountings.{few-read, good, mount-well, mount-badly, mount-fault, mount-err}
 use Rattle.fl_var.proofs.Sealings.{pages-size}
 use Rattle.fl_var.proofs.var_data.VarData.mount.Goals as goal
 
@@ -47,3 +47,17 @@ returns-clause-found g c = record {
   ring_is = refl;
   numbers = subst (λ (x : Geometry). HasNumbers (g.F.Flash.state c.args.flash.now) (shape_at c.args.self.now.place x) c.args.at_least c.in_ok-ring.ring (g.F.Flash.state c.mount.new.flash)) c.requires.lies.geometry c.in_ok-ring.ensures.found;
 }
+
+pub returns-in_err-ring-clause-reads : goal.returns-in_err-ring-clause-reads
+returns-in_err-ring-clause-reads g c = λ plan table told rests.
+    let v = c.args.self.now in
+    let f = g.F.Flash.state c.args.flash.now in
+    let lies = c.requires.lies in
+    few-read v f (g.F.Flash.state c.mount.new.flash) plan table rests lies.geometry (pages-size v f (g.met.F.Flash.reaches c.args.flash.now) lies.geometry lies.within) (λ s on. c.in_err-ring.ensures.reads s told on)
+
+pub returns-clause-reads : goal.returns-clause-reads
+returns-clause-reads g c = λ plan table told rests.
+    let v = c.args.self.now in
+    let f = g.F.Flash.state c.args.flash.now in
+    let lies = c.requires.lies in
+    few-read v f (g.F.Flash.state c.mount.new.flash) plan table rests lies.geometry (pages-size v f (g.met.F.Flash.reaches c.args.flash.now) lies.geometry lies.within) (λ s on. c.in_ok-ring.ensures.reads s told on)

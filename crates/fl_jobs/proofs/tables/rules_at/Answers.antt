@@ -1,0 +1,30 @@
+use Rattle.std.proofs.Common.{refl}
+use Rattle.fl_jobs.proofs.Telling.{plan-there, config-there, lies-at}
+use Rattle.fl_jobs.proofs.tables.rules_at.Goals as goal
+
+pub check_rules-requires : goal.check_rules-requires
+check_rules-requires g c =
+    let lines = c.args.config.now in
+    let p = plan-there lines.plans c.args.i c.requires.table in
+    let is = config-there lines.plans c.args.i p.0 c.table.result.now p.1 c.table.ensures.plan in
+    record {
+      lies = lies-at lines (g.F.Flash.state c.args.flash.now) c.args.i p.0 c.table.result.now c.requires.over p.1 is c.table.ensures.first c.table.ensures.device c.table.ensures.limits c.table.ensures.passes;
+    }
+
+pub returns-in-Ok-clause-found : goal.returns-in-Ok-clause-found
+returns-in-Ok-clause-found g c told =
+    let lines = c.args.config.now in
+    let p = plan-there lines.plans c.args.i c.requires.table in
+    let is = config-there lines.plans c.args.i p.0 c.table.result.now p.1 c.table.ensures.plan in
+    record {
+      plan = p.0;
+      plan_is = p.1;
+      config = c.table.result.now;
+      config_is = is;
+      first = c.table.ensures.first;
+      flash = g.F.Flash.state c.args.flash.now;
+      over = c.requires.over;
+      lies = lies-at lines (g.F.Flash.state c.args.flash.now) c.args.i p.0 c.table.result.now c.requires.over p.1 is c.table.ensures.first c.table.ensures.device c.table.ensures.limits c.table.ensures.passes;
+      content = refl;
+      finds = c.in-Ok.ensures.found told;
+    }

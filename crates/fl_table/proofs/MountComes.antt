@@ -1,0 +1,135 @@
+-- Where a flash stands for a table, the mount of its data ring comes to the pages of that table.
+use Rattle.std.proofs.Common.{◌≡◌, ℕ, ◌+◌, ◌-◌, ◌/◌, ◌<◌, ◌≤◌, Bool, true, false, Option, Some, None, length, sym, ◌∙◌, ap, subst, arith}
+use Rattle.std.specs.List.{slice_get}
+use Rattle.fl_flash.specs.Flash.{FlashState, page_at}
+use Rattle.fl_flash.specs.Places.{extent}
+use Rattle.fl_index.specs.declared.index.Index.{Index}
+use Rattle.fl_index.specs.Memory.{form_in, oldest_in}
+use Rattle.fl_index.specs.Memory as memory
+use Rattle.fl_index.specs.Standing.{HasIndex, RemembersBelow}
+use Rattle.fl_index.proofs.Sealings.{lies-size}
+use Rattle.fl_model.specs.Image.{rows_at}
+use Rattle.fl_model.specs.Mount.{index_end}
+use Rattle.fl_model.specs.Record.{Plan, RowLayout, row_layout, row_len, rows_per_page, layout_len}
+use Rattle.fl_model.specs.Ring as model
+use Rattle.fl_model.specs.Table.{Table, lose}
+use Rattle.fl_model.specs.Work.{Device}
+use Rattle.fl_model.proofs.Lists.{each-at}
+use Rattle.fl_ring.specs.Place.{next_of, oldest_of}
+use Rattle.fl_ring.specs.Place as place
+use Rattle.fl_ring.specs.Ring.{OnRing, Shape}
+use Rattle.fl_ring.specs.Ring.{place as place_at}
+use Rattle.fl_ring.specs.declared.ring.Ring.{Ring}
+use Rattle.fl_schema.specs.Schema.{layout_of, types_of}
+use Rattle.fl_table.specs.Bitmaps.{LieOn}
+use Rattle.fl_table.specs.ByEntries.{Come, index_page, is_committed, end_before}
+use Rattle.fl_table.specs.Coming.{ComesBy, ComesTo, StandFound, StandsFoundBy, most_in}
+use Rattle.fl_table.specs.Memory.{IsPlanned}
+use Rattle.fl_table.specs.Reading.{pages_of}
+use Rattle.fl_table.specs.declared.table.Table as code
+use Rattle.fl_table.proofs.Comings.{rows-come}
+use Rattle.fl_table.proofs.Entries.{fields-fit}
+use Rattle.fl_table.proofs.MountCalls.{OthersStill}
+use Rattle.fl_table.proofs.MountLifted.{RowsMount}
+use Rattle.fl_table.proofs.MountRead.{HoldRows, hold-rows, page-of}
+use Rattle.fl_table.proofs.Moved.{has-index, below-moved, ring-moved}
+use Rattle.fl_table.proofs.Plain.{table-facts}
+use Rattle.fl_table.proofs.Repaired.{idle-lost}
+use Rattle.fl_table.proofs.SealAnswers.{planned-large}
+use Rattle.fl_table.proofs.Standing.{IsOf, IsPageOf, IsIndexOf}
+use Rattle.fl_table.proofs.StandingIndex.{index-of, ends-within}
+use Rattle.fl_table.proofs.States.{shape_in, state_of, state-oldest, HaveSize}
+
+module _ {KNOTS SLOTS : ℕ} (t : code.Table KNOTS SLOTS) (first : ℕ) (plan : Plan) (table : Table) (rose : Bool) (device : Device) (ring : Ring) (old mid : FlashState) (planned : IsPlanned t first plan) (here : place.shape_of ring ≡ shape_in first plan)
+    (l : RowsMount first plan table rose device ring mid) (sizes : HaveSize first plan (page_at mid)) where
+  old-is : oldest_of ring ≡ model.oldest l.now.state.rows
+  old-is = l.stands.oldest ∙ state-oldest plan (lose l.now.state)
+
+  many : next_of ring - oldest_of ring ≡ length l.now.state.rows.counts
+  many = omega (arith, l.stands.next, old-is, l.facts.rows.not_negative)
+
+  -- the pages that the ring reads hold the table's rows
+  pub pages-hold : HoldRows l.now.state (layout_of t.schema) (pages_of ring mid) (oldest_of ring)
+  pages-hold =
+      let st = l.now.state in
+      let on : OnRing (shape_in first plan) (page_at mid) (state_of plan l.now.state) = subst (λ (x : Table). OnRing (shape_in first plan) (page_at mid) (state_of plan x)) (sym (idle-lost l.now.state l.repaired.idle)) l.on in
+      let size : t.geometry.page ≡ plan.geometry.page = ap (λ g. g.page) (sym planned.geometry) in
+      let len : row_len plan ≡ layout_len (layout_of t.schema) = ap (λ (x : RowLayout). layout_len x) planned.layout in
+      let h = hold-rows (page_at mid) first plan st t.schema.key (types_of t.schema) t.schema.blobs (sym planned.layout) (omega (arith, planned.limit, t.blobs_fit)) l.facts l.repaired.idle.pending (planned-large t first plan planned)
+      (omega (arith, len, size, t.room_for_row)) (omega (arith, len, t.some_row)) (omega (arith, size, t.served.page_greatest)) sizes on in
+      subst (λ (x : RowLayout). HoldRows l.now.state x (pages_of ring mid) (oldest_of ring)) planned.layout
+      (subst (λ (r : Shape). HoldRows l.now.state (row_layout plan) (λ number. page_at mid (place_at r number)) (oldest_of ring)) (sym here)
+      (subst (λ (k : ℕ). HoldRows l.now.state (row_layout plan) (λ number. page_at mid (place_at (shape_in first plan) number)) k) (sym old-is) h))
+
+  -- the index that was found stands for the table's
+  module _ (still : OthersStill old mid first plan) (stands : StandFound t.bitmaps old (first + plan.data_blocks) plan table) where
+    pub found-there : StandFound t.bitmaps mid (first + plan.data_blocks) plan l.now.state
+    found-there = by_index t.bitmaps stands
+      where
+        has : (r : model.Ring) → table.index ≡ Some r → HasIndex plan l.now.state r
+        has r e = has-index plan l.now.state r (l.repaired.index ∙ e) l.facts (omega (arith, ap length l.repaired.idle.waiting))
+
+        by_form : (index : Index) (full : Bool) → StandsFoundBy full index old (first + plan.data_blocks) plan table → StandsFoundBy full index mid (first + plan.data_blocks) plan l.now.state
+        by_form index true h = below-moved (oldest_in index) index old mid (first + plan.data_blocks) plan table l.now.state h l.repaired.index_pages (has h.ring h.facts.ring_is) (λ n. (still n).0)
+        by_form index false h = ring-moved index old mid (first + plan.data_blocks) plan table l.now.state h l.repaired.index_pages (has h.ring h.facts.ring_is) (λ n. (still n).0)
+
+        by_index : (o : Option Index) → StandFound o old (first + plan.data_blocks) plan table → StandFound o mid (first + plan.data_blocks) plan l.now.state
+        by_index None h = tt
+        by_index (Some index) h = by_form index (form_in index).full h
+
+    module _ (c : Come) (comes : ComesTo c (layout_of t.schema) (most_in t.geometry.page (layout_of t.schema)) t.bitmaps ring mid) (most_is : c.most ≡ most_in t.geometry.page (layout_of t.schema)) (lies : LieOn t.bitmaps mid)
+        (reaches : mid.start + extent mid.geometry mid.blocks ≤ length mid.media.content) where
+      begin-is : c.oldest ≡ model.oldest l.now.state.rows
+      begin-is = (rows-come c (layout_of t.schema) (most_in t.geometry.page (layout_of t.schema)) t.bitmaps ring mid comes).oldest ∙ old-is
+
+      -- what a mount comes to of the index
+      record IsIndexed : Type 0 where
+        index : (k : ℕ) → k < c.index_pages → is_committed (index_page c k) ≡ true → IsIndexOf c k l.now.state
+        ends : end_before c c.index_pages ≤ index_end plan l.now.state
+
+      index-comes : IsIndexed
+      index-comes = by_index t.bitmaps found-there comes lies
+        where
+          none : c.index_pages ≡ 0 → IsIndexed
+          none e = record {
+            index = λ k lt is. absurd (omega (arith, lt, e));
+            ends = let z : end_before c c.index_pages ≡ 0 = ap (end_before c) e in omega (arith, z);
+          }
+
+          by_form : (index : Index) (full : Bool) → StandsFoundBy full index mid (first + plan.data_blocks) plan l.now.state → ComesBy full c (layout_of t.schema) (most_in t.geometry.page (layout_of t.schema)) index ring mid → memory.LiesOn index mid → IsIndexed
+          by_form index false h k lie = none k.1
+          by_form index true h k lie =
+              let size = lies-size index mid (first + plan.data_blocks) plan h.planned lie.geometry lie.within reaches in
+              let fit = λ (n rows : ℕ) (e : slice_get l.now.state.rows.counts n ≡ Some rows). fields-fit t first plan l.now.state planned (table-facts plan l.now.state l.facts) n rows e in
+              record {
+                index = λ j lt is. index-of (RemembersBelow (oldest_in index)) c (layout_of t.schema) (most_in t.geometry.page (layout_of t.schema)) index ring mid (first + plan.data_blocks) plan l.now.state k h size begin-is fit j lt is;
+                ends = ends-within (RemembersBelow (oldest_in index)) c (layout_of t.schema) (most_in t.geometry.page (layout_of t.schema)) index ring mid (first + plan.data_blocks) plan l.now.state k h size begin-is fit;
+              }
+
+          by_index : (o : Option Index) → StandFound o mid (first + plan.data_blocks) plan l.now.state → ComesTo c (layout_of t.schema) (most_in t.geometry.page (layout_of t.schema)) o ring mid → LieOn o mid → IsIndexed
+          by_index None h k lie = none k.1
+          by_index (Some index) h k lie = by_form index (form_in index).full h k lie
+
+      pub index-ends : end_before c c.index_pages ≤ index_end plan l.now.state
+      index-ends = index-comes.ends
+
+      -- .. and of all pages
+      pub comes-to : IsOf c l.now.state
+      comes-to =
+          let rows = rows-come c (layout_of t.schema) (most_in t.geometry.page (layout_of t.schema)) t.bitmaps ring mid comes in
+          record {
+            oldest = begin-is;
+            pages = rows.pages ∙ many;
+            rows = λ n count e.
+                let at : c.oldest + n ≡ oldest_of ring + n = omega (arith, rows.oldest) in
+                subst (λ number. IsPageOf c number count (rows_at l.now.state n count)) (sym at)
+                (page-of c (layout_of t.schema) (oldest_of ring + n) count (pages_of ring mid (oldest_of ring + n)) (rows_at l.now.state n count) rows.layout_is (rows.rows (oldest_of ring + n)) (pages-hold.good n count e) (pages-hold.rows n count e)
+                (pages-hold.many n count e));
+            index = index-comes.index;
+            few = λ n count e. let le = each-at (λ count. count ≤ rows_per_page plan) l.now.state.rows.counts n count l.facts.kept.few_rows e in omega (arith, le, most_is, room);
+            ascending = l.facts.kept.ascending;
+            counted = omega (arith, l.facts.kept.counted, l.repaired.idle.pending);
+          }
+        where
+          room : rows_per_page plan ≡ most_in t.geometry.page (layout_of t.schema)
+          room = ap (λ g. (g.page - 24) / row_len plan) planned.geometry ∙ ap (λ (x : RowLayout). (t.geometry.page - 24) / layout_len x) planned.layout

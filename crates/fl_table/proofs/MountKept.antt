@@ -1,0 +1,121 @@
+-- How the mount of a data ring ends that found its ring and read the kept pages.
+use Rattle.std.proofs.Common.{◌≡◌, ℕ, ◌+◌, ◌-◌, ◌≤◌, Bool, true, Some, None, Ok, Err, [], length, sym, ◌∙◌, subst, arith}
+use Rattle.fl_find.specs.Index.{error_in}
+use Rattle.fl_flash.specs.Flash.{FlashState, Goes, page_at}
+use Rattle.fl_flash.specs.Places.{extent}
+use Rattle.fl_model.specs.Mount.{index_end}
+use Rattle.fl_model.specs.Record.{Plan, RowLayout}
+use Rattle.fl_model.specs.Table.{Table}
+use Rattle.fl_model.specs.Work.{Device}
+use Rattle.fl_page.specs.Writer.{Gathers}
+use Rattle.fl_ring.specs.Looking.{OnlyReads, ReadFails}
+use Rattle.fl_ring.specs.Mounting as ring_mount
+use Rattle.fl_ring.specs.Mounting.{shape_at}
+use Rattle.fl_ring.specs.Numbers.{renumbered}
+use Rattle.fl_ring.specs.Place.{next_of, oldest_of}
+use Rattle.fl_ring.specs.Place as place
+use Rattle.fl_ring.specs.Ring.{RingState, OutsideStands}
+use Rattle.fl_ring.specs.Step.{IsWatched}
+use Rattle.fl_ring.specs.declared.ring.Ring.{Ring}
+use Rattle.fl_schema.specs.Schema.{layout_of}
+use Rattle.fl_table.specs.Bitmaps.{StandForRing}
+use Rattle.fl_table.specs.ByEntries.{Come, mount_fault}
+use Rattle.fl_table.specs.Causes.{IfFlash, IfPage, is_of_pages}
+use Rattle.fl_table.specs.Coming.{StandFound, WaitUnlisted, most_in}
+use Rattle.fl_table.specs.Knowing.{KnowsWith}
+use Rattle.fl_table.specs.Memory.{IsPlanned, IsSamePlan, LiesOn}
+use Rattle.fl_table.specs.Mounting.{comes_in}
+use Rattle.fl_table.specs.Outcomes.{DataEnds, DataWell}
+use Rattle.fl_table.specs.Pages.{Rests}
+use Rattle.fl_table.specs.Reading.{pages_of}
+use Rattle.fl_table.specs.declared.faults.MountFault.{MountFault}
+use Rattle.fl_table.specs.declared.known.Known.{Known}
+use Rattle.fl_table.specs.declared.table.Table as code
+use Rattle.fl_table.proofs.Comings.{come-most, come-rows, comes-of}
+use Rattle.fl_table.proofs.Following.{watched-front}
+use Rattle.fl_table.proofs.Indexing.{lies-goes}
+use Rattle.fl_table.proofs.MountCalls.{OthersStill, index-read, index-still, risen-later, same-shape}
+use Rattle.fl_table.proofs.MountComes.{comes-to, found-there, index-ends}
+use Rattle.fl_table.proofs.MountEnded.{IsMounting, mounting-of, mount-answer, reads-end, ready_facts, rests_now, ring-ends, ring-mounts, same_device, started-memory, started-stand}
+use Rattle.fl_table.proofs.MountLifted.{RowsMount}
+use Rattle.fl_table.proofs.SealAnswers.{lies-size, plan-self, planned-ring, planned-same}
+use Rattle.fl_table.proofs.Standing.{IsOf}
+use Rattle.fl_table.proofs.StandingKnown.{KnowsTable, knows-table}
+use Rattle.fl_table.proofs.States.{shape_in, HaveSize}
+
+-- the medium reaches to the end of the flash
+abbrev Reaches : FlashState → Type 0
+Reaches f = f.start + extent f.geometry f.blocks ≤ length f.media.content
+
+module _ {KNOTS SLOTS : ℕ} (t : code.Table KNOTS SLOTS) (first : ℕ) (plan : Plan) (table : Table) (rose : Bool) (device : Device) (old mid new : FlashState) (ring : Ring) (n end : ℕ) (watched : IsWatched old new rose device) (planned : IsPlanned t first plan)
+    (rests : Rests old first plan table) (stands : StandFound t.bitmaps old (first + plan.data_blocks) plan table) (end_is : end ≡ index_end plan table) (lies : LiesOn t old) (reaches : Reaches old) (reaches_mid : Reaches mid) (reaches_new : Reaches new)
+    (goes : Goes old mid) (outside : OutsideStands (shape_at t.place old.geometry) (page_at old) (page_at mid)) (shape : place.shape_of ring ≡ shape_at t.place old.geometry)
+    (mounts : (s : RingState) (rose : Bool) (device : Device) → ring_mount.IsGood old (shape_at t.place old.geometry) end s → IsWatched old mid rose device →
+    ring_mount.MountEnds (shape_at t.place old.geometry) rose device (renumbered (shape_at t.place old.geometry) end s) (Ok ring) mid) (reads : OnlyReads mid n new) where
+  is : IsMounting first plan table old
+  is = mounting-of t old first plan table planned lies.geometry lies.within reaches rests
+
+  at : shape_at t.place old.geometry ≡ shape_in first plan
+  at = same-shape t t old (plan-self t) lies.geometry ∙ planned-ring t first plan planned
+
+  here : place.shape_of ring ≡ shape_in first plan
+  here = shape ∙ at
+
+  l : RowsMount first plan table rose device ring mid
+  l = ring-mounts first plan table rose device old is ring mid (ring-ends first plan table rose device old is (shape_at t.place old.geometry) at end end_is mid (Ok ring) mounts (watched-front old mid new rose device watched reads.goes))
+
+  mid_sizes : HaveSize first plan (page_at mid)
+  mid_sizes = lies-size t mid first plan planned (goes.geometry ∙ lies.geometry) (omega (arith, goes.blocks, lies.within)) reaches_mid
+
+  sizes : HaveSize first plan (page_at new)
+  sizes = lies-size t new first plan planned (reads.goes.geometry ∙ (goes.geometry ∙ lies.geometry)) (omega (arith, reads.goes.blocks, goes.blocks, lies.within)) reaches_new
+
+  mid_still : OthersStill old mid first plan
+  mid_still = index-still t old mid first plan planned lies.geometry outside
+
+  still : OthersStill old new first plan
+  still = index-read t old mid new n first plan planned lies.geometry reads outside
+
+  -- what it comes to
+  abbrev come : Come
+  come = comes_in t t.bitmaps ring mid
+
+  most : come.most ≡ most_in t.geometry.page (layout_of t.schema)
+  most = come-most (layout_of t.schema) (most_in t.geometry.page (layout_of t.schema)) t.bitmaps ring mid
+
+  of : IsOf come l.now.state
+  of = comes-to t first plan table rose device ring old mid planned here l mid_sizes mid_still stands come (comes-of (layout_of t.schema) (most_in t.geometry.page (layout_of t.schema)) t.bitmaps ring mid) most (lies-goes t.bitmaps old mid goes lies.bitmaps) reaches_mid
+
+  -- a page wasn't read: none is refused
+  pub kept-fails : (now : code.Table KNOTS SLOTS) (e : MountFault) → is_of_pages e ≡ true → IfFlash (λ fault. ReadFails mid fault new) e → IfPage (λ fault. mount_fault (comes_in t t.bitmaps ring mid) ≡ Some fault) e → DataEnds first plan table rose device (Err e) now new
+  kept-fails now e only fails refused = reads-end first plan table rose device old is ring mid new n l reads sizes still now e come of (risen-later old mid new rose device watched goes) only fails refused
+
+  -- all were read
+  pub kept-well : (now : code.Table KNOTS SLOTS) (known : Known) → IsSamePlan t now → ((layout : RowLayout) → Gathers layout [] now.writer) → now.bitmap ≡ 0 → now.blob_end ≡ 0 → now.last_key ≡ known.last → now.voids ≡ known.voids → known.newest ≡ None →
+      KnowsWith (error_in t.index) (comes_in t t.bitmaps ring mid) (comes_in t t.bitmaps ring mid).index_pages (comes_in t t.bitmaps ring mid).pages known now.counts.items now.index →
+      ((table : Table) → StandFound t.bitmaps mid (first + plan.data_blocks) plan table → StandForRing now.bitmaps new (first + plan.data_blocks) plan table) →
+      WaitUnlisted (comes_in t t.bitmaps ring mid) (pages_of ring mid) t.bitmaps end (next_of ring) now.bitmaps →
+      DataWell first plan table rose device (record { ring = ring; mounted = record { rows = known.rows; pages = next_of ring - oldest_of ring; voids = known.voids }; blob_end = known.blob_end }) now new
+  kept-well now known same empty bitmap ends last voids none knows found waits =
+      let planned_now = planned-same t now first plan planned same in
+      let known_all : KnowsTable plan.error come l.now.state known now.counts.items now.index =
+      subst (λ error. KnowsTable error come l.now.state known now.counts.items now.index) (sym planned.error) (knows-table (error_in t.index) come l.now.state known now.counts.items now.index of knows none) in
+      let begin : come.oldest ≡ oldest_of ring = (come-rows (layout_of t.schema) (most_in t.geometry.page (layout_of t.schema)) t.bitmaps ring mid).oldest in
+      let listed = index-ends t first plan table rose device ring old mid planned here l mid_sizes mid_still stands come (comes-of (layout_of t.schema) (most_in t.geometry.page (layout_of t.schema)) t.bitmaps ring mid) most
+      (lies-goes t.bitmaps old mid goes lies.bitmaps) reaches_mid in
+      record {
+        now = l.now;
+        did = l.did;
+        counts = same_device first plan table rose device old is ring mid new n l reads sizes still;
+        power = reads.power ∙ l.power;
+        rests = rests_now first plan table rose device old is ring mid new n l reads sizes still;
+        whole = l.whole;
+        clean = l.clean;
+        planned = planned_now;
+        facts = ready_facts first plan table rose device old is ring mid new n l reads sizes still;
+        memory = started-memory first plan table rose device old is ring mid new n l reads sizes still now come known planned_now begin empty bitmap ends last voids known_all;
+        bitmaps = started-stand first plan table rose device old is ring mid new n l reads sizes still t come now.bitmaps end planned here (come-rows (layout_of t.schema) (most_in t.geometry.page (layout_of t.schema)) t.bitmaps ring mid).layout_is begin
+            listed end_is same.bitmaps (found l.now.state (found-there t first plan table rose device ring old mid planned here l mid_sizes mid_still stands)) waits;
+        answer = mount-answer first plan table rose device old is ring mid new n l reads sizes still come known now.counts.items now.index known_all;
+        end_is = known_all.blob_end;
+      }
