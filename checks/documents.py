@@ -1,8 +1,8 @@
 #!/usr/bin/env python3
 """documents.py PROGRAM: what the pages show is what the program answers.
 
-Of README.md and of each page of docs/ the fenced blocks of three forms are run, those of one page in their order, in one new folder,
-in which `./flashts` is the program and `examples/` lies:
+Of README.md and of each page of docs/ the fenced blocks of four forms are run, those of one page in their order, in one new folder,
+in which `./flashts` is the program and `examples/` and `clients/` lie:
 
   ```console                the lines behind `$ ` are commands of a shell (one that ends in a word like <<END goes on up to END), and
                             below each is all that it writes, standard error too. A line `..` stands for any number of lines
@@ -10,6 +10,8 @@ in which `./flashts` is the program and `examples/` lies:
   ```script sensor.img      a script on the left, run over this image, and on the right, behind three spaces or more, the reply to each
                             line; further lines of a reply have nothing on the left. A word `as FILE` behind the image's name says
                             that the left side is also that file of examples/, but for its comments and empty lines
+
+  ```shell sensor.img       the same in a shell over this image, to whose lines also those of standard error belong, at its end
 
   ```config                 the lines of a configuration, which has to be accepted; other lines are a drawing that explains them
 
@@ -27,7 +29,7 @@ import tempfile
 ROOT = pathlib.Path(__file__).resolve().parent.parent
 FENCE = re.compile(r"^```(.*)$")
 TWO_COLUMNS = re.compile(r"^(.*?\S)   +(\S.*)$")
-NEW_IMAGE = "flashts: a new image was made"
+NOTES = re.compile(r"^flashts: (a new image was made$|rows that no flush has written: )")
 UNSEEN = re.compile(r"^(device \d|table \w+ [48] |\$ |\./flashts|flashts )")
 
 
@@ -66,8 +68,8 @@ def shell(folder, command, stdin=None):
 
 
 def run(folder, image, script):
-    """The replies to a script, without the note that the image was made, which pages show where they show the command."""
-    return [line for line in shell(folder, f"./flashts run {image}", script) if line != NEW_IMAGE]
+    """The replies to a script, without the notes at its end, which pages show where they show the command."""
+    return [line for line in shell(folder, f"./flashts run {image}", script) if not NOTES.match(line)]
 
 
 def commands(lines):
@@ -152,6 +154,13 @@ def run_block(folder, page, block):
             yield difference(f"{where}: the script's replies", shown, answered)
         if "as" in block.form and not is_file([line for line, _ in rows], block.form[3]):
             yield f"{where}: the left side isn't examples/{block.form[3]}"
+    elif form == "shell":
+        rows = columns(block.lines)
+        shown = [reply for _, replies in rows for reply in replies]
+        asked = "".join(line + "\n" for line, _ in rows)
+        answered = [line.strip() for line in shell(folder, f"./flashts shell {block.form[1]}", asked)]
+        if not matches(shown, answered):
+            yield difference(f"{where}: the shell's answers", shown, answered)
     elif form == "open":
         yield f"{where}: a fence that isn't closed"
     elif form == "config":
@@ -161,7 +170,7 @@ def run_block(folder, page, block):
         if told:
             yield difference(f"{where}: the configuration", [], told)
     elif any(UNSEEN.match(line) for line in block.lines):
-        yield f"{where}: a script or a command that isn't run (forms `console`, `script` and `config`)"
+        yield f"{where}: a script or a command that isn't run (forms `console`, `script`, `shell` and `config`)"
 
 
 def main():
@@ -173,9 +182,10 @@ def main():
     for page in pages:
         with tempfile.TemporaryDirectory() as folder:
             (pathlib.Path(folder) / "flashts").symlink_to(program)
-            shutil.copytree(ROOT / "examples", pathlib.Path(folder) / "examples")
+            for beside in ("examples", "clients"):
+                shutil.copytree(ROOT / beside, pathlib.Path(folder) / beside)
             for block in blocks(page.read_text()):
-                count += block.form[:1] in (["console"], ["script"], ["config"])
+                count += block.form[:1] in (["console"], ["script"], ["shell"], ["config"])
                 wrong += run_block(folder, page.relative_to(ROOT), block)
     for text in wrong:
         print(text)

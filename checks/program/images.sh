@@ -42,6 +42,9 @@ status13="flashts: status 13"$'\n'"flashts: no run has left what the pages of ta
 status14="flashts: status 14"$'\n'"flashts: no table has this name: flashts check IMAGE all tells the names"$'\n'
 status16="flashts: status 16"$'\n'"flashts: a table isn't sound: each line that begins with fault says which, in which ring and page, and the rule (docs/CHECK.md)"$'\n'
 
+# .. and of one that another program uses
+in_use=$'flashts: another program uses the image\nflashts: it is left as it is; call again if that one has ended\n'
+
 # status15 LINE: the same of 15
 status15() {
     echo "flashts: status 15"

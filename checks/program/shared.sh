@@ -1,6 +1,4 @@
 # Several programs over one image, and programs that are killed.
-in_use=$'flashts: another program uses the image\nflashts: it is left as it is; call again if that one has ended\n'
-
 # await NUMBER COMMAND..: waits until the command holds, or the program with this number has ended
 await() {
     local number=$1
@@ -35,6 +33,7 @@ exec 8>&-
 flashts check image
 leaves "a run that is killed has it no more" 0 $'sound t rows 1 pages 1 voids 0\n' ''
 
+rm -f replies
 ./flashts import image t < lines > replies 2> /dev/null &
 holder=$!
 exec 8> lines

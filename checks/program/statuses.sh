@@ -5,10 +5,19 @@ flashts run image < script
 ends "a script that is read to its end, over a new image" 0 $'ok\nok\nok\nrow 1 5\n' $'flashts: a new image was made\n'
 flashts run image <<< "$configuration"
 ends "the same image again" 0 '' ''
+two="$configuration
+table u 8 i32 3 0 0 8 0 10 1 0"
+flashts run two <<< "$two"$'\nmount\nput t 1 0\nput u 1 0\nput u 2 0'
+ends "rows of two tables that no flush has written" 0 $'ok\nok\nok\nok\n' $'flashts: rows that no flush has written: t 1, u 2\nflashts: a new image was made\n'
+flashts run two <<< "$two"$'\nmount\nput t 1 0\nput u 1 0\nflush t'
+ends "rows of one of them" 0 $'ok\nok\nok\nok\n' $'flashts: rows that no flush has written: u 1\n'
+flashts run two <<< "$two"$'\nmount\nput u 1 0\nflush u\nput u 2 0\noff'
+ends "none after the end of the session" 0 $'ok\nok\nok\nok\nok\n' ''
+rm two
 flashts help
 told=$(printf '%s' "$(cat err)$(grep -v '^flashts \|^    ' out)")
 [ $status = 0 ] || told="status $status"
-for words in 'run [sync] IMAGE' 'plan [SECONDS]' 'check IMAGE [all]' 'map IMAGE [svg]' 'export IMAGE NAME [LOW HIGH]' 'import IMAGE NAME [gone]' 'salvage IMAGE NAME' 'help'; do
+for words in 'run [sync] IMAGE' 'shell [sync] IMAGE' 'plan [SECONDS]' 'check IMAGE [all]' 'map IMAGE [svg]' 'export IMAGE NAME [LOW HIGH]' 'import IMAGE NAME [gone]' 'salvage IMAGE NAME' 'help'; do
     grep -qxF "flashts $words" out || told="no $words"
 done
 tell "the help has each job" "$told"

@@ -24,7 +24,7 @@ IsOwn number = (number ≡ too_small) ⊎ (number ≡ bad_length)
 
 -- the line that a status names, and 0 where it names none
 abbrev pub line_of : Status → ℕ
-line_of Done = 0
+line_of (Done pending) = 0
 line_of Usage = 0
 line_of (Line n) = n
 line_of ScriptRead = 0

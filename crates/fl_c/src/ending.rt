@@ -27,11 +27,11 @@ impl Refusal {
 }
 
 /// The line that a status names, and 0 where it names none.
-pub(crate) fn line_of(status: Status) -> u64
-    ensures { result ≡ line_of status }
+pub(crate) fn line_of(status: &Status) -> u64
+    ensures { result ≡ line_of status.now }
 {
     match status {
-        Status::Line { line } | Status::Config { line } => line,
+        Status::Line { line } | Status::Config { line } => *line,
         _ => 0,
     }
 }

@@ -53,13 +53,13 @@ pub extern "C" fn flashts_run(
     }
     *image_len = give(ran.media.bytes(), image);
     *replies_len = give(ran.out.bytes(), replies);
-    ended(ran.status, line)
+    ended(&ran.status, line)
 }
 
 /// How a call ends whose run ended so.
-fn ended(status: Status, line: &mut u64) -> u32
-    ensures number { result ≡ number_of status }
-    ensures line { line.new ≡ line_of status }
+fn ended(status: &Status, line: &mut u64) -> u32
+    ensures number { result ≡ number_of status.now }
+    ensures line { line.new ≡ line_of status.now }
 {
     *line = line_of(status);
     u32::from(status.number())
@@ -72,5 +72,5 @@ fn none_ran(replies_len: &mut usize, line: &mut u64) -> u32
     ensures line { line.new ≡ line_of Status.NoMemory }
 {
     *replies_len = 0;
-    ended(Status::NoMemory, line)
+    ended(&Status::NoMemory, line)
 }

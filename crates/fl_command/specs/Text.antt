@@ -1,7 +1,8 @@
 -- The text that standard error has of an exit.
-use Rattle.std.specs.Prelude.{ℕ, ◌==◌, Option, Some, None, List, [], ◌++◌, codes, decimal, if◌then◌else◌}
+use Rattle.std.specs.Prelude.{ℕ, ◌==◌, Option, Some, None, is_some, List, [], ◌∷◌, ◌++◌, codes, decimal, if◌then◌else◌}
+use Rattle.std.specs.List.{list_any}
 use Rattle.fl_command.specs.declared.exit.Exit.{Exit}
-use Rattle.fl_command.specs.declared.exit.Exit.TheVariants.{Run, Plan, Job, Salvage, Words, Help, InUse}
+use Rattle.fl_command.specs.declared.exit.Exit.TheVariants.{Run, Shell, Plan, Job, Salvage, Words, Help, InUse}
 use Rattle.fl_jobs.specs.Number.{number_of}
 use Rattle.fl_csv.specs.declared.record.LineForm.{LineForm}
 use Rattle.fl_jobs.specs.declared.job_end.JobEnd.{JobEnd}
@@ -10,8 +11,13 @@ use Rattle.fl_salvage.specs.declared.passed_over.PassedOver.{PassedOver}
 use Rattle.fl_salvage.specs.declared.salvage.SalvageEnd.{SalvageEnd}
 use Rattle.fl_jobs.specs.declared.status.ToolStatus.{ToolStatus}
 use Rattle.fl_jobs.specs.declared.status.ToolStatus.TheVariants as job
+use Rattle.fl_session.specs.declared.pending.TableRows.{TableRows}
 use Rattle.fl_session.specs.declared.status.Status.{Status}
 use Rattle.fl_session.specs.declared.status.Status.TheVariants.{Done, Usage, Line, ScriptRead, OutWrite, MediaMake, Config, OtherConfig, ScriptLong, NoMemory}
+use Rattle.fl_shell.specs.declared.end.Flushed.{Flushed}
+use Rattle.fl_shell.specs.declared.end.ShellEnd.{ShellEnd}
+use Rattle.fl_shell.specs.declared.end.ShellStatus.{ShellStatus}
+use Rattle.fl_shell.specs.declared.end.ShellStatus.TheVariants as shell
 use Rattle.fl_sizing.specs.declared.end.PlanStatus.{PlanStatus}
 use Rattle.fl_sizing.specs.declared.end.PlanStatus.TheVariants as plan
 
@@ -19,9 +25,27 @@ use Rattle.fl_sizing.specs.declared.end.PlanStatus.TheVariants as plan
 abbrev pub line_of : List ℕ → List ℕ
 line_of words = codes "flashts: " ++ words
 
--- of a run: nothing where it is done
+-- a table and how many of its rows are pending, behind these words
+abbrev pub table_text : List ℕ → Option TableRows → List ℕ
+table_text before (Some table) = before ++ table.name ++ codes " " ++ decimal table.rows
+table_text before None = []
+
+-- what stands before the table behind this one
+abbrev pub behind : List ℕ → Option TableRows → List ℕ
+behind before (Some table) = codes ", "
+behind before None = before
+
+abbrev pub tables_text : List ℕ → List (Option TableRows) → List ℕ
+tables_text before [] = []
+tables_text before (table ∷ tables) = table_text before table ++ tables_text (behind before table) tables
+
+-- the tables of which rows are pending, joined by commas; nothing where there are none
+abbrev pub pending_text : List (Option TableRows) → List ℕ
+pending_text tables = if list_any is_some tables then line_of (codes "rows that no flush has written: " ++ tables_text [] tables ++ codes "\n") else []
+
+-- of a run: what is pending where it is done
 abbrev pub run_text : Status → List ℕ
-run_text Done = []
+run_text (Done pending) = pending_text pending.tables
 run_text Usage = line_of (codes "usage: flashts run [sync] IMAGE\n")
 run_text (Line n) = line_of (codes "line " ++ decimal n ++ codes " is not a command\n")
 run_text ScriptRead = line_of (codes "the script cannot be read\n")
@@ -70,6 +94,28 @@ status_text job.InputLong kept = run_text ScriptLong
 status_text job.NoMemory kept = run_text NoMemory
 status_text status kept = line_of (codes "status " ++ decimal (number_of status) ++ codes "\n") ++ meaning_text status
 
+-- of a shell: the words of the same statuses of a run, and of a job
+abbrev pub shell_status_text : ShellStatus → List ℕ
+shell_status_text shell.Done = []
+shell_status_text shell.InputRead = run_text ScriptRead
+shell_status_text shell.OutWrite = run_text OutWrite
+shell_status_text shell.MediaMake = run_text MediaMake
+shell_status_text shell.Unconfigured = run_text (Config 0)
+shell_status_text shell.InputLong = line_of (codes "the input is longer than 17592186044416 bytes\n")
+shell_status_text shell.NoMemory = run_text NoMemory
+shell_status_text shell.NotImage = status_text job.NotImage None
+shell_status_text shell.Unflushed = line_of (codes "the last flush failed\n")
+
+-- what became of the rows that were pending, where some were
+abbrev pub flushed_text : Flushed → List ℕ
+flushed_text flushed =
+    if flushed.pending == 0 then []
+    else if flushed.all then line_of (codes "pending rows flushed: " ++ decimal flushed.pending ++ codes "\n")
+    else line_of (codes "of the pending rows, " ++ decimal flushed.pending ++ codes ", some may be lost: scan tells which are there\n")
+
+abbrev pub shell_text : ShellEnd → List ℕ
+shell_text end = shell_status_text end.status ++ flushed_text end.flushed
+
 -- what the first line of an import has to be, where it isn't that
 abbrev pub names_text : Option LineForm → List ℕ
 names_text (Some form) =
@@ -109,11 +155,12 @@ form_of words = codes "                flashts " ++ words
 
 abbrev pub forms_text : List ℕ
 forms_text =
-    run_text Usage ++ form_of (codes "plan [SECONDS]\n") ++ form_of (codes "check IMAGE [all]\n") ++ form_of (codes "map IMAGE [svg]\n") ++ form_of (codes "export IMAGE NAME [LOW HIGH]\n")
+    run_text Usage ++ form_of (codes "shell [sync] IMAGE\n") ++ form_of (codes "plan [SECONDS]\n") ++ form_of (codes "check IMAGE [all]\n") ++ form_of (codes "map IMAGE [svg]\n") ++ form_of (codes "export IMAGE NAME [LOW HIGH]\n")
     ++ form_of (codes "import IMAGE NAME [gone]\n") ++ form_of (codes "salvage IMAGE NAME\n") ++ form_of (codes "help\n")
 
 abbrev pub exit_text : Exit → List ℕ
 exit_text (Run status) = run_text status
+exit_text (Shell end) = shell_text end
 exit_text (Plan status) = plan_text status
 exit_text (Job end) = job_text end
 exit_text (Salvage end) = salvage_text end

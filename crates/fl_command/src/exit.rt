@@ -3,10 +3,12 @@ ghost use Rattle.std.specs.Prelude.{◌≡◌, OnOk, OnErr};
 ghost use Rattle.fl_command.specs.Number.{number_of, unwritten};
 
 use crate::lines::{Forms, JobLines, PlanLines, RunLines, SalvageLines};
+use crate::shell_lines::ShellLines;
 use fl_base::SinkFailed;
 use fl_jobs::{JobEnd, ToolStatus};
 use fl_salvage::SalvageEnd;
 use fl_session::Status;
+use fl_shell::{ShellEnd, ShellStatus};
 use fl_sizing::PlanStatus;
 use std::fmt::{self, Display};
 
@@ -15,6 +17,8 @@ use std::fmt::{self, Display};
 pub enum Exit {
     /// A run of a script ended so, or its words don't name an image.
     Run(Status),
+    /// A shell over an image ended so.
+    Shell(ShellEnd),
     /// The plan of a configuration ended so.
     Plan(PlanStatus),
     /// A job over an image ended so.
@@ -36,6 +40,7 @@ impl Exit {
     {
         match self {
             Exit::Run(status) => status.number(),
+            Exit::Shell(end) => end.status.number(),
             Exit::Plan(status) => status.number(),
             Exit::Job(end) => end.status.number(),
             Exit::Salvage(end) => end.status.number(),
@@ -54,6 +59,10 @@ impl Exit {
         match (handed, self) {
             (Ok(()), exit) => exit,
             (Err(_), Exit::Run(_)) => Exit::Run(Status::OutWrite),
+            (Err(_), Exit::Shell(end)) => Exit::Shell(ShellEnd {
+                status: ShellStatus::OutWrite,
+                ..end
+            }),
             (Err(_), Exit::Plan(_)) => Exit::Plan(PlanStatus::OutWrite),
             (Err(_), Exit::Job(end)) => Exit::Job(JobEnd {
                 status: ToolStatus::OutWrite,
@@ -80,6 +89,7 @@ impl Display for Exit {
     fn fmt<W: fmt::Write>(&self, f: &mut fmt::Formatter<W>) -> fmt::Result {
         match self {
             Exit::Run(status) => RunLines(*status).fmt(f),
+            Exit::Shell(end) => ShellLines(*end).fmt(f),
             Exit::Plan(status) => PlanLines(*status).fmt(f),
             Exit::Job(end) => JobLines(*end).fmt(f),
             Exit::Salvage(end) => SalvageLines(*end).fmt(f),

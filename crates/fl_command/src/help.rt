@@ -13,11 +13,16 @@ struct JobForm {
 }
 
 /// The jobs, in the order in which they are told: one more is an entry more here, and one of the usage's forms.
-const JOBS: [JobForm; 8] = [
+const JOBS: [JobForm; 9] = [
     JobForm {
         form: "run [sync] IMAGE",
         does: "runs the script on standard input, and makes an image that is missing; with sync each page is on the disk before it is answered",
         example: "flashts run sensor.img < first.script",
+    },
+    JobForm {
+        form: "shell [sync] IMAGE",
+        does: "answers the commands on standard input one by one, goes on after a mistyped line, and flushes at the end; sync as above",
+        example: "flashts shell sensor.img",
     },
     JobForm {
         form: "plan [SECONDS]",

@@ -7,8 +7,10 @@ mod exit;
 mod help;
 mod jobs;
 mod lines;
+mod pending_line;
 mod planning;
 mod reason;
+mod shell_lines;
 
 pub use ending::Ending;
 pub use exit::Exit;

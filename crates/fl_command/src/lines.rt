@@ -1,4 +1,5 @@
 // What standard error says of a run, of a job, and of words that name neither.
+use crate::pending_line::PendingLine;
 use fl_csv::LineForm;
 use fl_jobs::{JobEnd, LinesTaken, ToolStatus};
 use fl_salvage::{PassedOver, SalvageEnd};
@@ -6,7 +7,7 @@ use fl_session::Status;
 use fl_sizing::PlanStatus;
 use std::fmt::{self, Display};
 
-/// The lines of a run that ended so; none where the script was read to its end.
+/// The lines of a run that ended so; where the script was read to its end, the rows that no flush has written, if there are any.
 #[derive(Drop)]
 pub(crate) struct RunLines(pub(crate) Status);
 
@@ -18,7 +19,7 @@ impl Display for RunLines {
 
     fn fmt<W: fmt::Write>(&self, f: &mut fmt::Formatter<W>) -> fmt::Result {
         match self.0 {
-            Status::Done => Ok(()),
+            Status::Done { pending } => PendingLine(pending).fmt(f),
             Status::Usage => f.write_str("flashts: usage: flashts run [sync] IMAGE\n"),
             Status::Line { line } => writeln!(f, "flashts: line {line} is not a command"),
             Status::ScriptRead => f.write_str("flashts: the script cannot be read\n"),
@@ -92,9 +93,9 @@ impl Display for JobLines {
 
 /// The lines of a status of a job.
 #[derive(Drop)]
-struct StatusLines {
-    status: ToolStatus,
-    kept: Option<u64>,
+pub(crate) struct StatusLines {
+    pub(crate) status: ToolStatus,
+    pub(crate) kept: Option<u64>,
 }
 
 impl Display for StatusLines {
@@ -313,8 +314,9 @@ impl Display for Forms {
     fn fmt<W: fmt::Write>(&self, f: &mut fmt::Formatter<W>) -> fmt::Result {
         RunLines(Status::Usage).fmt(f)?;
         f.write_str(
-            "                flashts plan [SECONDS]\n                flashts check IMAGE [all]\n",
+            "                flashts shell [sync] IMAGE\n                flashts plan [SECONDS]\n",
         )?;
+        f.write_str("                flashts check IMAGE [all]\n")?;
         f.write_str("                flashts map IMAGE [svg]\n")?;
         f.write_str(
             "                flashts export IMAGE NAME [LOW HIGH]\n                flashts import IMAGE NAME [gone]\n",

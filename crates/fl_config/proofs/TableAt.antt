@@ -4,8 +4,9 @@ use Rattle.std.specs.Prelude.{IfSome, sum_by, slice_get, ℤ}
 use Rattle.std.proofs.lemmas.List.{length-map, take-map}
 use Rattle.fl_base.specs.declared.types.Geometry.{Geometry}
 use Rattle.fl_bitmap.specs.declared.buckets.Buckets.{Buckets}
-use Rattle.fl_model.specs.Record.{blocks_of}
+use Rattle.fl_model.specs.Record.{Plan, blocks_of}
 use Rattle.fl_words.specs.Config.{Lines}
+use Rattle.fl_words.specs.Medium.{table_text}
 use Rattle.fl_plan.specs.declared.table_config.TableConfig.{TableConfig}
 use Rattle.fl_plan.specs.Plan.{IsConfigOf, base_in, width_in}
 use Rattle.fl_plan.specs.Limits.{IsWithinLimits}
@@ -70,3 +71,9 @@ table-is lines device blocks entries xs i d view are same lt =
     let here : i < length entries = omega (arith, lt, ap (λ (l : Lines). length l.plans) view, length-map entries plan_in) in
     subst (λ (l : Lines). TableIs l i (get_or xs i d).config) view
     (subst (λ (l : List Entry). TableIs (record { device = device; plans = map plan_in entries }) i (get_or l i d).config) (sym same) (of-lines device blocks entries i d are here))
+
+-- the line of a table
+pub line-at : (entries : List Entry) (plans : List Plan) (i : ℕ) (d : Entry) (text : List ℕ) → map plan_in entries ≡ plans → i < length plans → text ≡ table_text (plan_in (get_or entries i d)) → IfSome (slice_get plans i) (λ plan. text ≡ table_text plan)
+line-at entries plans i d text are lt is =
+    let here : i < length entries = omega (arith, lt, ap (λ (l : List Plan). length l) are, length-map entries plan_in) in
+    subst (λ (ps : List Plan). IfSome (slice_get ps i) (λ plan. text ≡ table_text plan)) are (subst (λ o. IfSome o (λ plan. text ≡ table_text plan)) (sym (plan-at entries i d here)) is)

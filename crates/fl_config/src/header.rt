@@ -15,9 +15,9 @@ use std::marker::Model;
 /// Room for the text of any configuration: its longest line has fewer than 200 bytes.
 const ROOM: usize = 1024;
 
-/// The text so far.
+/// Lines of a configuration, as the header of an image has them.
 #[derive(Drop)]
-pub(crate) struct HeaderText {
+pub struct HeaderText {
     text: ArrayVec<u8, ROOM>,
 }
 
@@ -38,7 +38,8 @@ impl HeaderText {
         }
     }
 
-    pub(crate) fn bytes(&self) -> &[u8]
+    /// The bytes of the lines.
+    pub fn bytes(&self) -> &[u8]
         ensures text { result.now ≡ self.now }
         ensures short { length result.now ≤ ROOM }
     {

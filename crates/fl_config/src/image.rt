@@ -1,6 +1,7 @@
 // Images of a configuration: made, or found.
-ghost use Rattle.std.specs.Prelude.{◌≡◌, ◌+◌, ◌≤◌, ◌<◌, ◌^◌, ◌-◌, ◌≢◌, ◌++◌, length, replicate, IsTrue, []};
+ghost use Rattle.std.specs.Prelude.{◌≡◌, ◌+◌, ◌≤◌, ◌<◌, ◌^◌, ◌-◌, ◌≢◌, ◌++◌, length, replicate, slice_get, IfSome, IsTrue, Some, []};
 ghost use Rattle.std.specs.List.{flat_map};
+ghost use Rattle.fl_base.specs.declared.types.Geometry.{Geometry};
 ghost use Rattle.fl_model.specs.Record.{Config as Configured};
 ghost use Rattle.fl_model.specs.Image.{medium_len};
 ghost use Rattle.fl_words.specs.Medium.{header, device_text, table_text};
@@ -123,6 +124,26 @@ impl Config {
         let mut text = HeaderText::new();
         text.add_device(self.geometry());
         text.add_tables(self.entries());
+        text
+    }
+
+    /// The device line, as the header of an image has it.
+    pub fn device_line(&self) -> HeaderText
+        requires { IsTrue (is_whole self.now) }
+        ensures { (geometry : Geometry) → self.now.device ≡ Some geometry → result ≡ device_text geometry }
+    {
+        let mut text = HeaderText::new();
+        text.add_device(self.geometry());
+        text
+    }
+
+    /// The line of a table, by its number from 0, as the header of an image has it.
+    pub fn table_line(&self, i: usize) -> HeaderText
+        requires { i < length self.now.plans }
+        ensures { IfSome (slice_get self.now.plans i) (λ plan. result ≡ table_text plan) }
+    {
+        let mut text = HeaderText::new();
+        text.add_table(&self.entries()[i]);
         text
     }
 

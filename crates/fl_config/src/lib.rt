@@ -10,4 +10,5 @@ mod taking;
 mod words;
 
 pub use config::Config;
+pub use header::HeaderText;
 pub use image::ImageRefusal;

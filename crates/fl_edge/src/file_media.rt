@@ -1,5 +1,5 @@
 // A file as a medium.
-ghost use Rattle.std.specs.Prelude.{◌≡◌, ◌≤◌, ◌<◌, ◌+◌, ◌^◌, ◌⊎◌, ◌<ℤ◌, pos, false, max, length, None, IfOk, IfSome, OnOk, OnErr};
+ghost use Rattle.std.specs.Prelude.{◌≡◌, ◌≤◌, ◌<◌, ◌+◌, ◌^◌, ◌⊎◌, ◌<ℤ◌, pos, false, max, length, None, is_some, IfOk, IfSome, OnOk, OnErr};
 ghost use Rattle.fl_base.specs.Causes.{HasCause};
 ghost use Rattle.fl_edge.specs.Image.{file_of};
 
@@ -51,6 +51,13 @@ impl<F: ImageFile + Drop> FileMedia<F> {
         ensures no_read { IfOk result (λ media. (⟦<FileMedia<F> as Media>⟧.state media).reads ≡ 0) }
     {
         Ok(FileMedia::of(open_locked(rt, name, access)?))
+    }
+
+    /// Whether there is a file that can be used. Without one the length is 0 and each call fails.
+    pub fn is_usable(&self) -> bool
+        ensures { result ≡ is_some (file_of self.now) }
+    {
+        self.file.is_some()
     }
 
     // The medium of a file, or of none.

@@ -6,6 +6,7 @@
 mod file_media;
 mod image_file;
 mod new_file;
+mod prompted;
 mod read_ahead;
 mod reply_buffer;
 mod retried;
@@ -18,6 +19,7 @@ mod tests;
 pub use file_media::FileMedia;
 pub use image_file::{Access, ImageFile, ImageInUse};
 pub use new_file::{is_missing, remove_empty};
+pub use prompted::Prompted;
 pub use reply_buffer::ReplyBuffer;
 pub use standard::{StandardInput, StandardOutput};
 pub use standard_descriptors::StandardDescriptors;

@@ -12,7 +12,7 @@ use Rattle.fl_table.specs.Standing.{Stands}
 use Rattle.fl_table.specs.declared.table.Table.{Table}
 use Rattle.fl_tables.specs.Tables.{first_of, EntryStands, TablesStand}
 use Rattle.fl_tables.specs.declared.tables.Entry.{Entry}
-use Rattle.fl_tables.proofs.Apart.{stands-pages}
+use Rattle.fl_table.proofs.Apart.{stands-pages}
 use Rattle.fl_tables.proofs.Lying.{lies-on}
 use Rattle.fl_tables.proofs.TablesChanged.{tables-still}
 use Rattle.std.specs.Prelude.{◌+◌, ◌≤◌, length}

@@ -65,15 +65,22 @@ impl<const KNOTS: usize, const SLOTS: usize> LearnedIndex<KNOTS, SLOTS> {
 
     /// Adds a page with rows, with a greater first key and a greater number than all before it.
     ///
-    /// This takes a number of steps in the order of KNOTS and SLOTS, whatever the number of pages.
+    /// This takes a number of steps in the order of KNOTS and SLOTS at most, whatever the number of pages, and a few where it only
+    /// moves the last knot.
     pub fn add(&mut self, first_key: u64, number: u32)
         requires { IsFurther (knots_in self.old) (first_key, number) }
         ensures error { error_in self.new ≡ error_in self.old }
         ensures last { last_of (knots_in self.new) ≡ Some (first_key, number) }
         ensures points { (error : ℕ) (points : List (ℕ × ℕ)) → IndexOf error points self.old → IndexOf error (points ++ (first_key, number) ∷ []) self.new }
     {
+        let count = self.spline.knots();
+        let from = self.spline.covered_from();
         self.spline.add(first_key, number);
-        self.radix.follow(&self.spline);
+        if self.spline.knots() == count && self.spline.covered_from() == from {
+            self.radix.follow_last(&self.spline);
+        } else {
+            self.radix.follow(&self.spline);
+        }
     }
 
     /// Whether a page comes after all before it: its first key and its number are greater.

@@ -27,7 +27,8 @@ use Rattle.fl_table.proofs.Images.{pages-medium}
 use Rattle.fl_tables.specs.Repaired.{IsRepaired}
 use Rattle.fl_tables.specs.Tables.{first_of, AreNewTables, IsNamed, TablesStand}
 use Rattle.fl_tables.specs.declared.tables.Entry.{Entry}
-use Rattle.fl_tables.proofs.Apart.{PagesApart, blocks-apart, other-pages}
+use Rattle.fl_table.proofs.Apart.{PagesApart}
+use Rattle.fl_tables.proofs.Apart.{blocks-apart, other-pages}
 use Rattle.fl_tables.proofs.TablesChanged.{at-place, some-is}
 use Rattle.fl_words.specs.Config.{Lines}
 use Rattle.fl_words.specs.Medium.{IsImage}

@@ -2,3 +2,4 @@ pub mod Pieces
 pub mod Untouched
 pub mod Parts
 pub mod Reading
+pub mod Leaving

@@ -53,6 +53,15 @@ pub record GivesLong (old : LinesState) (rest : List ℕ) (new : LinesState) : T
   pub long : 4096 < length new.line
   pub fits : length new.line ≤ old.most
 
+-- what stands behind such a front is left, and fewer bytes may still be given
+pub record LeavesRest (most : ℕ) (rest : List ℕ) (new : LinesState) (left_now : Option (List ℕ)) : Type 0 where
+  pub left : List ℕ
+  pub left_is : left_now ≡ Some left
+  pub split : rest ≡ new.line ++ (new.ahead ++ left)
+  pub fits : length new.line ≤ most
+  pub most_now : new.most ≡ most - length new.line
+  pub open_now : new.closed ≡ false
+
 -- a part of a line was taken, and more bytes than that didn't come
 pub record TakesPart (old : LinesState) (rest : List ℕ) (new : LinesState) (left : List ℕ) : Type 0 where
   pub split : rest ≡ new.ahead ++ left

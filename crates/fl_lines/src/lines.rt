@@ -1,8 +1,8 @@
 // The lines of a text, as its source gives them.
-ghost use Rattle.std.specs.Prelude.{◌≡◌, ℕ, ◌+◌, ◌-◌, ◌^◌, ◌<◌, ◌≤◌, Bool, true, false, ◌==◌, List, [], ◌∷◌, ◌++◌, length, take, drop, Option, Some, All, MatchOption, IfOk, slice_get};
+ghost use Rattle.std.specs.Prelude.{◌≡◌, ℕ, ◌+◌, ◌-◌, ◌^◌, ◌<◌, ◌≤◌, Bool, true, false, ◌==◌, List, [], ◌∷◌, ◌++◌, length, take, drop, Option, Some, Ok, All, MatchOption, IfOk, slice_get};
 ghost use Rattle.std.specs.Bool.{OnTrue, OnFalse};
 ghost use Rattle.fl_base.specs.Causes.{HasCause};
-ghost use Rattle.fl_lines.specs.Stream.{LinesState, IsOneLine, NeedsNoMore, Advances, Fills, after_line, after_rest};
+ghost use Rattle.fl_lines.specs.Stream.{LinesState, IsOneLine, NeedsNoMore, Advances, Fills, LeavesRest, after_line, after_rest};
 
 use fl_base::{NoMemory, Source, SourceFailed};
 use memchr::memchr;
@@ -60,13 +60,20 @@ impl Lines {
     pub fn new(alloc: Global) -> Result<Lines, NoMemory>
         ensures { IfOk result (λ lines. lines ≡ record { line = []; ahead = []; most = 2 ^ 24; closed = false }) }
     {
+        Lines::of_most(alloc, MOST)
+    }
+
+    /// The same of a text of which at most so many bytes are read.
+    pub fn of_most(alloc: Global, most: usize) -> Result<Lines, NoMemory>
+        ensures { IfOk result (λ lines. lines ≡ record { line = []; ahead = []; most = most; closed = false }) }
+    {
         Ok(Lines {
             buf: vec![in alloc; 0; ROOM]?,
             line_from: 0,
             line_to: 0,
             from: 0,
             to: 0,
-            most: MOST,
+            most,
             closed: false,
         })
     }
@@ -152,6 +159,7 @@ impl Lines {
         requires is_open { self.old.closed ≡ false }
         ensures few { length self.new.ahead ≤ 4097 }
         ensures advances { Advances self.old (S.left script.old) (S.faults script.old) result self.new (S.left script.new) (S.faults script.new) }
+        ensures short { result ≡ Ok true → length self.new.line ≤ 4096 }
     {
         let mut byte = [0; 1];
         match script.read(&mut byte) {
@@ -167,6 +175,8 @@ impl Lines {
         ensures advances { Advances self.old (S.left script.old) (S.faults script.old) result self.new (S.left script.new) (S.faults script.new) }
         ensures few { length self.new.ahead ≤ 4097 }
         ensures alone { NeedsNoMore self.old → script.new ≡ script.old }
+        // A line that is too long is given by its front.
+        ensures behind { result ≡ Ok true → 4096 < length self.new.line → (left : List ℕ) → S.left script.old ≡ Some left → LeavesRest self.old.most (self.old.ahead ++ left) self.new (S.left script.new) }
     {
         if self.closed {
             return Ok(false);

@@ -9,7 +9,7 @@ use Rattle.fl_model.specs.Record.{Plan, Config, blocks_of}
 use Rattle.fl_words.specs.Command as command
 use Rattle.fl_words.specs.Command.{Command, TableLine}
 use Rattle.fl_words.specs.Grammar.{LineFault, command_of}
-use Rattle.fl_words.specs.Config.{Lines, no_lines, ConfigFault, configured, with_device, with_table_line, unless, first_fault, device_faults, table_faults, plan_of, whole_of, too_large, BlockSize, DataBlocks, ErrorBound, DeviceTooLarge}
+use Rattle.fl_words.specs.Config.{Lines, no_lines, ConfigFault, configured, with_device, with_table_line, unless, first_fault, device_faults, table_faults, plan_of, whole, whole_of, too_large, BlockSize, DataBlocks, ErrorBound, DeviceTooLarge}
 use Rattle.fl_machine.specs.Found.{HasRoom}
 use Rattle.fl_machine.specs.Small.{IsSmallPlan, IsSmall}
 use Rattle.fl_machine.specs.Script.{Start, Ready, Unended, BadLine, BadConfig, start_with, start_config, start_line, start_from, start_of, ended}
@@ -105,6 +105,15 @@ table-room lines now line (Some geometry) room e h =
     no_log : false ≡ true → ⊥
     no_log h = cc
 
+-- what a line leaves of it, if it isn't refused
+pub configured-room : (lines now : Lines) (c : Command) → LinesHaveRoom lines → configured lines c ≡ Ok now → LinesHaveRoom now
+configured-room lines now (command.Device page block) room h = device-room lines now (record { page = page; block = block }) lines.device room refl h
+configured-room lines now (command.Table line) room h = table-room lines now line lines.device room refl h
+configured-room lines now c room h = let same : lines ≡ now = cc in subst LinesHaveRoom same room
+
+pub no_lines-room : LinesHaveRoom no_lines
+no_lines-room = record { device = tt; plans = tt; small = refl }
+
 -- what a start that is ready says of its configuration
 abbrev pub StartIsAccepted : Start → Type 0
 StartIsAccepted (Ready config n lines) = IsAccepted config
@@ -121,6 +130,10 @@ unended-room : (knots : ℕ) (device : Option Geometry) (plans : List Plan) → 
 unended-room knots None plans h k = tt
 unended-room knots (Some geometry) [] h k = tt
 unended-room knots (Some geometry) (plan ∷ plans) h k = record { room = h; small = record { pages = k.0; plans = k.1 } }
+
+-- a whole configuration of such lines is accepted
+pub whole-accepted : (knots : ℕ) (lines : Lines) (config : Config) → LinesHaveRoom lines → whole knots lines ≡ Some config → IsAccepted config
+whole-accepted knots lines config room w = subst (λ o. IfSome o IsAccepted) w (unended-room knots lines.device lines.plans room.plans room.small)
 
 config-room : (n : ℕ) (r : Result Lines ConfigFault) (go : Lines → Start) → ((now : Lines) → r ≡ Ok now → StartIsAccepted (go now)) → StartIsAccepted (start_config n r go)
 config-room n (Ok now) go h = h now refl
@@ -142,7 +155,7 @@ from-room knots n before (line ∷ lines) room =
     line-room knots n before line lines (command_of line) (λ now. start_from knots (n + 1) now lines) room (λ now r. from-room knots (n + 1) now lines r)
 
 pub accepted-room : (knots : ℕ) (lines : List (List ℕ)) → StartIsAccepted (start_of knots lines)
-accepted-room knots lines = from-room knots 1 no_lines lines (record { device = tt; plans = tt; small = refl })
+accepted-room knots lines = from-room knots 1 no_lines lines no_lines-room
 
 -- .. also where the end of the script ends the configuration
 ended-room : (start : Start) → StartIsAccepted start → StartIsAccepted (ended start)

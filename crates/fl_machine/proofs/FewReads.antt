@@ -21,7 +21,7 @@ use Rattle.fl_words.specs.Command.{Command}
 use Rattle.fl_machine.specs.Found.{HasRoom}
 use Rattle.fl_machine.specs.Machine.{Machine, OpenCursor}
 use Rattle.fl_machine.specs.Step.{Moment, Located, located, located_from, cursor_at, no_column}
-use Rattle.fl_machine.specs.Reads.{none_read, pages_in, lowest_of, length_of, length_of_blob, blob_limit, OnTable, OnColumns, OnCursor, WithinScan, LimitOf}
+use Rattle.fl_machine.specs.Reads.{none_read, lowest_of, length_of, length_of_blob, blob_limit, OnTable, OnColumns, OnCursor, WithinScan, WithinMount, LimitOf}
 use Rattle.fl_machine.specs.Small.{IsSmallPlan, IsSmall, AreTables, most_of_a_command}
 
 -- a ring keeps no more pages than it has
@@ -300,9 +300,9 @@ module _ (config : Config) (old : Machine) (moment : Moment) (small : IsSmall co
       by_cases true (Some c) h = by_places c (slice_get config.plans c.table) (slice_get old.tables c.table) refl refl h
       by_cases false o h = none-few h
 
-  mount-few : (b : Bool) → MatchBool b (none_read moment) (moment.reads ≤ 4 * pages_in config) → Few
+  mount-few : (b : Bool) → MatchBool b (none_read moment) (WithinMount config old moment) → Few
   mount-few true h = none-few h
-  mount-few false h = omega (arith, h, small.pages)
+  mount-few false h = omega (arith, h.by_pages, small.pages)
 
   pub limit-few : (c : Command) → LimitOf config old moment c → Few
   limit-few command.Mount h = mount-few old.mounted h

@@ -197,7 +197,7 @@ located-by start (plan ∷ plans) (t ∷ list) name at e = by_name (bytes_equal 
         (zero, (let q : at.place ≡ start = ap (λ (a : Located). a.place) (sym same) in omega (arith, q)), record { plan = ap (λ (a : Located). Some a.plan) same; table = ap (λ (a : Located). Some a.table) same })
     by_name false e go = let r = go e in (suc r.0, (let q = r.1 in omega (arith, q)), record { plan = r.2.plan; table = r.2.table })
 
-located-is : (config : Config) (old : Machine) (name : List ℕ) (at : Located) → located config old name ≡ Some at → IsLocated config.plans old.tables at at.place
+pub located-is : (config : Config) (old : Machine) (name : List ℕ) (at : Located) → located config old name ≡ Some at → IsLocated config.plans old.tables at at.place
 located-is config old name at e =
     let r = located-by 0 config.plans old.tables name at e in
     let same : r.0 ≡ at.place = let q = r.1 in omega (arith, q) in

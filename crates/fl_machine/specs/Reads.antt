@@ -1,5 +1,5 @@
 -- How many pages a moment reads.
-use Rattle.std.specs.Prelude.{◌≡◌, ℕ, ◌+◌, ◌-◌, ◌*◌, ◌/◌, ◌^◌, ◌≤◌, min, Bool, true, false, not, ◌&&◌, Option, None, is_some, option_map, unwrap_or, List, [], ◌∷◌, length, sum_by, IsTrue, MatchBool, MatchOption, slice_get}
+use Rattle.std.specs.Prelude.{◌≡◌, ℕ, ◌+◌, ◌-◌, ◌*◌, ◌/◌, ◌^◌, ◌≤◌, min, Bool, true, false, not, ◌&&◌, Option, None, is_some, option_map, unwrap_or, List, [], ◌∷◌, length, sum_by, if◌then◌else◌, IsTrue, MatchBool, MatchOption, slice_get}
 use Rattle.std.specs.List.{last_or}
 use Rattle.fl_base.specs.declared.types.KeyRange.{KeyRange}
 use Rattle.fl_base.specs.declared.types.Span.{Span}
@@ -8,6 +8,7 @@ use Rattle.fl_model.specs.Table.{Table, Entry, written}
 use Rattle.fl_model.specs.Query.{Cursor, entry_at, BlobState, Without, Lost, Stands, blob_of}
 use Rattle.fl_model.specs.Spline.{retained, is_covered, is_pending_key, lookup_limit, lookup_reads}
 use Rattle.fl_model.specs.Limits.{scan_limit, least_reads}
+use Rattle.fl_model.specs.MountLimit.{mount_limit}
 use Rattle.fl_words.specs.Command as command
 use Rattle.fl_words.specs.Command.{Command}
 use Rattle.fl_words.specs.Reply as reply
@@ -80,10 +81,27 @@ abbrev pub blob_limit : ℕ → Plan → Table → ℕ → ℕ
 blob_limit knots plan table key =
     lookup_limit knots plan table key + length_of_blob table (entry_at key table.entries) / content_per_page plan + 2
 
+-- the greatest number of reads of a table's mount: by what its rings keep where its index entries are full, else four for
+-- each page of its rings
+abbrev pub most_of_mount : Plan → Table → ℕ
+most_of_mount plan table = if plan.full_index then mount_limit plan table else 4 * (blocks_of plan * plan.geometry.block)
+
+-- .. of the mounts of tables, each with its plan
+abbrev pub mounts_limit : List Plan → List Table → ℕ
+mounts_limit [] tables = 0
+mounts_limit (plan ∷ plans) [] = 0
+mounts_limit (plan ∷ plans) (table ∷ tables) = most_of_mount plan table + mounts_limit plans tables
+
+-- No more pages than a mount may read. It is said twice: by the configuration alone, whatever its tables are, and by what
+-- the tables keep, which is closer where index entries are full.
+pub record WithinMount (config : Config) (old : Machine) (moment : Moment) : Type 0 where
+  pub by_pages : moment.reads ≤ 4 * pages_in config
+  pub by_tables : moment.reads ≤ mounts_limit config.plans old.tables
+
 -- The greatest number of reads of a command. An operator reads no more than a scan of its range, and a join no more than
 -- two.
 abbrev pub LimitOf : Config → Machine → Moment → Command → Type 0
-LimitOf config old moment command.Mount = MatchBool old.mounted (none_read moment) (moment.reads ≤ 4 * pages_in config)
+LimitOf config old moment command.Mount = MatchBool old.mounted (none_read moment) (WithinMount config old moment)
 LimitOf config old moment (command.Get name key) = OnTable config old moment name (λ at. moment.reads ≤ lookup_limit config.knots at.plan at.table key)
 LimitOf config old moment (command.Blob name key) = OnTable config old moment name (λ at. moment.reads ≤ blob_limit config.knots at.plan at.table key)
 LimitOf config old moment (command.Scan name range span) = OnTable config old moment name (WithinScan config moment range span)

@@ -1,2 +1,3 @@
 pub mod Bits
 pub mod Rising
+pub mod Passing

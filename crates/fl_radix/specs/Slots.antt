@@ -1,5 +1,5 @@
 -- Slots of keys, from the first knot's key to the last one's.
-use Rattle.std.specs.Prelude.{ℕ, ◌-◌, ◌/◌, ◌^◌, ◌<◌, ◌≤◌, ◌≡◌, List, length, Bool, nat_le, ◌&&◌, ◌==◌, if◌then◌else◌}
+use Rattle.std.specs.Prelude.{ℕ, ◌-◌, ◌/◌, ◌^◌, ◌<◌, ◌≤◌, ◌≡◌, List, length, slice_index, Bool, nat_le, ◌&&◌, ◌==◌, if◌then◌else◌}
 use Rattle.std.specs.List.{count_by}
 use Rattle.fl_spline.specs.Segment.{point_at}
 
@@ -23,6 +23,17 @@ pub record IsStart (knots : List (ℕ × ℕ)) (shift slot start : ℕ) : Type 0
   pub within : start ≤ length knots
   pub before : (j : ℕ) → j < start → slot_of knots shift (point_at knots j).0 < slot
   pub after : (j : ℕ) → start ≤ j → j < length knots → slot ≤ slot_of knots shift (point_at knots j).0
+
+-- the starts after the last knot moved to this slot: up to some slot, and past this one, they are as they were, and between
+-- them all knots stood before a slot, and all but the last one do now
+pub record PassedBy (last slot : ℕ) (old new : List ℕ) : Type 0 where
+  pub count : length new ≡ length old
+  pub stood : ℕ
+  pub within : stood ≤ slot
+  pub kept : (s : ℕ) → s ≤ stood → slice_index new s ≡ slice_index old s
+  pub passed : (s : ℕ) → stood < s → s ≤ slot → (slice_index new s ≡ last) × (last < slice_index old s)
+  pub past : (s : ℕ) → slot < s → slice_index new s ≡ slice_index old s
+  pub stops : 0 < stood → slice_index old stood ≤ last
 
 -- the knots of a slot are those from one to before another
 pub record IsSlot (knots : List (ℕ × ℕ)) (shift slot from to : ℕ) : Type 0 where

@@ -2,7 +2,7 @@
 ghost use Rattle.std.specs.Prelude.{◌<◌, ◌≤◌};
 
 use crate::search::knots_up_to;
-use crate::slots::{shift_for, start_of};
+use crate::slots::{pass_last, shift_for, start_of};
 use arrayvec::ArrayVec;
 use fl_base::Steps;
 use fl_spline::Spline;
@@ -18,9 +18,9 @@ pub struct Radix<const SLOTS: usize> {
 }
 
 impl<const SLOTS: usize> Radix<SLOTS> {
-    ghost use Rattle.std.specs.Prelude.{◌≡◌, ◌+◌, ◌-◌, ◌^◌, ◌<◌, ◌≤◌, min, [], length, false, MatchOption};
+    ghost use Rattle.std.specs.Prelude.{◌≡◌, ◌+◌, ◌-◌, ◌^◌, ◌<◌, ◌≤◌, ℕ, min, List, [], length, false, MatchOption};
     ghost use Rattle.fl_model.specs.Spline.{bits, is_covered};
-    ghost use Rattle.fl_spline.specs.Points.{Rises};
+    ghost use Rattle.fl_spline.specs.Points.{Rises, LastMoved};
     ghost use Rattle.fl_spline.specs.Spline.{kept};
     ghost use Rattle.fl_spline.specs.Segment.{IsSegment};
     ghost use Rattle.fl_radix.specs.Radix.{Follows, IsTableOf, shift_of};
@@ -54,6 +54,24 @@ impl<const SLOTS: usize> Radix<SLOTS> {
             start = start_of(knots, self.shift, slot as u64, start);
             self.starts.push(start);
         }
+    }
+
+    /// Follows the spline after no knot of it but the last one changed, and that one moved to a later key: what `follow` does,
+    /// though only the slots that the knot passed are written, as long as they are wide enough.
+    pub fn follow_last<const KNOTS: usize>(&mut self, spline: &Spline<KNOTS>)
+        ensures { (knots : List (ℕ × ℕ)) → Follows knots self.old → LastMoved knots (kept spline.now) → Follows (kept spline.now) self.new }
+    {
+        let knots = spline.as_slice();
+        if knots.is_empty() {
+            return;
+        }
+        let last = knots.len() - 1;
+        let slot = ((knots[last].0 - knots[0].0) >> self.shift) as usize;
+        if slot >= self.starts.len() {
+            self.follow(spline);
+            return;
+        }
+        pass_last(self.starts.as_mut_slice(), last, slot);
     }
 
     /// The range of the knots in the slot of a key.

@@ -2,7 +2,7 @@
 ghost use Rattle.std.specs.Prelude.{◌≡◌, ◌-◌, ◌/◌, ◌^◌, ◌<◌, ◌≤◌, ℕ, length};
 ghost use Rattle.fl_spline.specs.Points.{Rises};
 ghost use Rattle.fl_spline.specs.Segment.{point_at};
-ghost use Rattle.fl_radix.specs.Slots.{IsLeastShift, IsStart, slot_of};
+ghost use Rattle.fl_radix.specs.Slots.{IsLeastShift, IsStart, PassedBy, slot_of};
 
 /// The least number of low bits without which `width` is below the number of slots.
 pub(crate) fn shift_for(width: u64, slots: usize) -> u32
@@ -30,4 +30,17 @@ pub(crate) fn start_of(knots: &[(u64, u32)], shift: u32, slot: u64, from: usize)
         start += 1;
     }
     start
+}
+
+/// Moves the last knot to this slot, from the slot in which these starts have it. Where all knots stood before a slot that it
+/// passed, all but the last one do now.
+pub(crate) fn pass_last(starts: &mut [usize], last: usize, slot: usize)
+    requires { slot < length starts.old }
+    ensures { PassedBy last slot starts.old starts.new }
+{
+    let mut passed = slot;
+    while passed > 0 && starts[passed] > last {
+        starts[passed] = last;
+        passed -= 1;
+    }
 }

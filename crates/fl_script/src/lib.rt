@@ -20,4 +20,6 @@ pub use read::read_line;
 pub use reply::{BlobNote, Reply};
 pub use room::LineRoom;
 pub use text_line::{LINE_BYTES, TextLine};
+pub use word::is;
+pub use words::{first_word, without_return};
 pub use write::{write_all, write_digits, write_reply};

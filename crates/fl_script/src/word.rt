@@ -10,7 +10,7 @@ use fl_base::{CutKind, Name, Op};
 
 /// Whether the word is this text.
 #[tactic(auto, using(crate::proofs::Texts::same_test))]
-pub(crate) fn is(word: &[u8], text: &[u8]) -> bool
+pub fn is(word: &[u8], text: &[u8]) -> bool
     ensures { result ≡ bytes_equal word.now text.now }
 {
     word == text

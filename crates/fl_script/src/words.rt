@@ -9,7 +9,7 @@ use memchr::memchr;
 pub(crate) const MOST_WORDS: usize = 22;
 
 /// A line without the carriage return at its end.
-pub(crate) fn without_return(line: &[u8]) -> &[u8]
+pub fn without_return(line: &[u8]) -> &[u8]
     ensures trimmed { result.now ≡ grammar.without_return line.now }
     ensures short { length result.now ≤ length line.now }
 {
@@ -34,8 +34,8 @@ fn word_len(line: &[u8]) -> usize
     memchr(b' ', line).unwrap_or(line.len())
 }
 
-/// The first word, and the rest of the line behind it.
-fn first_word(line: &[u8]) -> Option<(&[u8], &[u8])>
+/// The first word of a line, and the rest of it; none where it has no word.
+pub fn first_word(line: &[u8]) -> Option<(&[u8], &[u8])>
     ensures words { MatchOption result (grammar.words_in line.now ≡ []) (λ split. grammar.words_in line.now ≡ split.0.now ∷ grammar.words_in split.1.now) }
     ensures shorter { IfSome result (λ split. (length split.0.now ≤ length line.now) × (length split.1.now < length line.now)) }
 {

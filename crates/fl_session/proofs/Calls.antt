@@ -31,7 +31,7 @@ use Rattle.fl_session.specs.Notes.{without_cursors}
 use Rattle.fl_session.specs.declared.notes.Notes.{Notes}
 use Rattle.fl_session.specs.Standing.{SessionStands}
 use Rattle.fl_session.proofs.Answering.{answers-media}
-use Rattle.fl_session.proofs.MountsOf.{Repairs, stands-on, mount-watched, mount-answers, answers-already}
+use Rattle.fl_session.proofs.MountsOf.{Repairs, stands-powered, mount-watched, mount-answers, answers-already}
 use Rattle.fl_session.proofs.Owning.{own-of}
 use Rattle.fl_session.proofs.Stating.{stat-answers}
 use Rattle.fl_session.proofs.Working.{has_risen, session-watched, put-answers, flush-answers}
@@ -67,7 +67,7 @@ pub mount-call : (config : Config) (old : Machine) (entries now : List Entry) (n
     OnOk result (Repairs on g entries) → ok ≡ is_ok result → said ≡ text (mount_reply result) →
     Answers config old command.Mount (SessionStands config now g ok (without_cursors notes)) f g said
 mount-call config old entries now notes f on g mounted ok result said h off is goes ends repaired n e =
-    let h' = subst (λ x. SessionStands config entries x false notes old) (sym is) (stands-on config old entries notes f (subst (λ m. SessionStands config entries f m notes old) off h)) in
+    let h' = stands-powered config old entries notes f on mounted h off is in
     let power : on.is_on ≡ true = ap (λ (x : FlashState). x.is_on) is in
     let end = ends config.plans old.tables (has_risen on g) old.device (mount-watched config entries notes on g old h' power) h'.tables in
     let answers = mount-answers config old notes entries now on g h' goes result ok n end repaired in

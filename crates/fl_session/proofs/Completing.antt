@@ -32,22 +32,22 @@ new-unbegun config n lines told (inr e) = inr e
 
 pub completes : (knots : ℕ) (text : List ℕ) (config : Config) (commands : List Command) (told : Told) (status : Status) → Ends knots text told status → IsInPlace knots text config commands → IsOwn config told.content →
     (status ≡ Usage → ⊥) → (status ≡ ScriptRead → ⊥) → (status ≡ OutWrite → ⊥) → (status ≡ MediaMake → ⊥) → Completes config commands told status
-completes knots text config commands told Done h p own a b c d =
-    let done : EndsDone (effects_of told) (Ready config p.number p.lines) = subst (λ s. EndsDone (effects_of told) s) p.starts h.1 in
-    subst (λ cs. RunsAll config cs told) p.commands_are done.1
+completes knots text config commands told (Done pending) h p own a b c d =
+    let done : EndsDone (effects_of told (Done pending)) (Ready config p.number p.lines) = subst (λ s. EndsDone (effects_of told (Done pending)) s) p.starts h.1 in
+    subst (λ cs. RunsAll config cs told (Done pending)) p.commands_are done.1
 completes knots text config commands told NoMemory h p own a b c d =
     record { written = h.0.0; content = new-unbegun config p.number p.lines told (subst (λ s. (told.content_now ≡ told.content) ⊎ IsNew s told) p.starts h.0.1) }
 completes knots text config commands told Usage h p own a b c d = a refl
 completes knots text config commands told (Line n) h p own a b c d =
-    let line : EndsLine (effects_of told) (Ready config p.number p.lines) n = subst (λ s. EndsLine (effects_of told) s n) p.starts h.0 in none (sym p.accepts ∙ line.0)
+    let line : EndsLine (effects_of told (Line n)) (Ready config p.number p.lines) n = subst (λ s. EndsLine (effects_of told (Line n)) s n) p.starts h.0 in none (sym p.accepts ∙ line.0)
   where
     none : None ≡ Some n → ⊥
     none e = cc
 completes knots text config commands told ScriptRead h p own a b c d = b refl
 completes knots text config commands told OutWrite h p own a b c d = c refl
 completes knots text config commands told MediaMake h p own a b c d = d refl
-completes knots text config commands told (BadConfiguration n) h p own a b c d = subst (λ s. EndsConfig (effects_of told) s n) p.starts h.0
+completes knots text config commands told (BadConfiguration n) h p own a b c d = subst (λ s. EndsConfig (effects_of told (BadConfiguration n)) s n) p.starts h.0
 completes knots text config commands told (OtherConfig wanted found at) h p own a b c d =
-    let other : EndsOther (effects_of told) (Ready config p.number p.lines) wanted found at = subst (λ s. EndsOther (effects_of told) s wanted found at) p.starts h.0 in
+    let other : EndsOther (effects_of told (OtherConfig wanted found at)) (Ready config p.number p.lines) wanted found at = subst (λ s. EndsOther (effects_of told (OtherConfig wanted found at)) s wanted found at) p.starts h.0 in
     own-other config told.content wanted found at own other.0
 completes knots text config commands told ScriptLong h p own a b c d = absurd (omega (arith, p.short, h.0))

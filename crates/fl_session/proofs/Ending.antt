@@ -20,6 +20,8 @@ use Rattle.fl_script.specs.declared.command.Command as code
 use Rattle.fl_session.specs.Run.{tail_of, RunsFrom, IsOfCommands}
 use Rattle.fl_session.specs.Begin.{AtCommand, AtEnd, EndsBegin, BeginsAt}
 use Rattle.fl_session.specs.Ends.{Told, IsOwn, IsFormed, opened, RunsAll, RunsInto, effects_of, Ends, IsEarlyBy}
+use Rattle.fl_session.specs.Pending.{EndsAt}
+use Rattle.fl_session.specs.declared.pending.PendingRows.{PendingRows}
 use Rattle.fl_session.specs.ScriptEnds.{Effects, unsaid, start_in, EndsEarly, EndsDone, EndsLine, EndsInto, EndsConfig, EndsMaking, EndsOther, EndsWith, ScriptEnds}
 use Rattle.fl_session.specs.declared.status.Status.{Status}
 use Rattle.fl_session.specs.declared.status.Status.TheVariants.{Done, Line, ScriptRead, OutWrite, MediaMake, Config as BadConfiguration, OtherConfig, ScriptLong}
@@ -73,8 +75,8 @@ start-at_end knots text now number left_now config a w =
     ap (λ b. if b then start_of knots (lines_read text) else ended (start_of knots (lines_read text))) (le-ltb most_bytes (length text) a.short)
     ∙ (ap ended a.starts ∙ ap (λ x. start_with x number []) w)
 
--- what was run in the session is what was run over the medium
-pub record Over (config : Config) (told : Told) (around : Around) (stands stands_now : Machine → Type 0) : Type 0 where
+-- what was run in the session is what was run over the medium, and the status tells what is pending
+pub record Over (config : Config) (told : Told) (status : Status) (around : Around) (stands stands_now : Machine → Type 0) : Type 0 where
   pub config_is : around.config ≡ config
   pub content : around.content ≡ opened config told.content
   pub content_now : around.content_now ≡ told.content_now
@@ -85,13 +87,13 @@ pub record Over (config : Config) (told : Told) (around : Around) (stands stands
   pub own : IsOwn config told.content
   pub formed : IsFormed config told.content_now
   pub begins : (old : Machine) → StandsFor config told.content old → stands old × IsReady config old
-  pub ends : (m : Machine) → stands_now m → StandsAfter config (Some told.content_now) m
+  pub ends : (m : Machine) → stands_now m → EndsAt config status told.content_now m
 
-rose-earlier : (n before mid now : ℕ) → before ≤ mid → RoseBy n mid now → RoseBy n before now
+pub rose-earlier : (n before mid now : ℕ) → before ≤ mid → RoseBy n mid now → RoseBy n before now
 rose-earlier n before mid now h (inl k) = inl (omega arith)
 rose-earlier n before mid now h (inr k) = inr k
 
-ran-earlier : (config : Config) (old : Machine) (commands : List Command) (stands : Machine → Type 0) (content content_now : List ℕ) (before mid now : ℕ) (told told_now : Option (List ℕ)) → before ≤ mid →
+abbrev pub ran-earlier : (config : Config) (old : Machine) (commands : List Command) (stands : Machine → Type 0) (content content_now : List ℕ) (before mid now : ℕ) (told told_now : Option (List ℕ)) → before ≤ mid →
     Ran config old commands stands content content_now mid now told told_now → Ran config old commands stands content content_now before now told told_now
 ran-earlier config old commands stands content content_now before mid now told told_now e h = record {
   moments = h.moments;
@@ -127,39 +129,39 @@ ran_into-earlier config old commands stands content content_now before mid now t
 }
 
 -- where commands were run from each state, they were run as the plain machine does if nothing fails
-runs-with : (config : Config) (commands : List Command) (told : Told) → IsOwn config told.content → IsFormed config told.content_now →
-    ((old : Machine) → StandsFor config told.content old → Ran config old commands (StandsAfter config (Some told.content_now)) (opened config told.content) told.content_now told.faults told.faults_now told.written told.written_now) → RunsAll config commands told
-runs-with config commands told own formed runs = record {
+runs-with : (config : Config) (commands : List Command) (told : Told) (status : Status) → IsOwn config told.content → IsFormed config told.content_now →
+    ((old : Machine) → StandsFor config told.content old → Ran config old commands (EndsAt config status told.content_now) (opened config told.content) told.content_now told.faults told.faults_now told.written told.written_now) → RunsAll config commands told status
+runs-with config commands told status own formed runs = record {
   own = own;
   formed = formed;
   runs = runs;
-  plain = λ calm old s uncut. ran-plainly config old commands (opened config told.content) told.content_now told.faults told.faults_now told.written told.written_now calm uncut (runs old s);
+  plain = λ calm old s uncut. ran-plainly config old commands status (opened config told.content) told.content_now told.faults told.faults_now told.written told.written_now calm uncut (runs old s);
 }
 
-run-over : (config : Config) (told : Told) (around : Around) (stands stands_now : Machine → Type 0) (commands : List Command) → Over config told around stands stands_now → RanAll around stands stands_now commands →
-    (old : Machine) → StandsFor config told.content old → Ran config old commands (StandsAfter config (Some told.content_now)) (opened config told.content) told.content_now told.faults told.faults_now told.written told.written_now
-run-over config told around stands stands_now commands o h old s =
+run-over : (config : Config) (told : Told) (status : Status) (around : Around) (stands stands_now : Machine → Type 0) (commands : List Command) → Over config told status around stands stands_now → RanAll around stands stands_now commands →
+    (old : Machine) → StandsFor config told.content old → Ran config old commands (EndsAt config status told.content_now) (opened config told.content) told.content_now told.faults told.faults_now told.written told.written_now
+run-over config told status around stands stands_now commands o h old s =
     let b = o.begins old s in
     let ran = h old b.0 (subst (λ c. IsReady c old) (sym o.config_is) b.1) in
-    let seen = ran-seen around.config old commands stands_now (StandsAfter config (Some told.content_now)) around.content around.content_now around.faults around.faults_now around.told around.told_now o.ends ran in
-    let earlier = ran-earlier around.config old commands (StandsAfter config (Some told.content_now)) around.content around.content_now told.faults around.faults around.faults_now around.told around.told_now o.faults seen in
-    subst (λ c. Ran c old commands (StandsAfter config (Some told.content_now)) (opened config told.content) told.content_now told.faults told.faults_now told.written told.written_now) o.config_is
-    (subst (λ b. Ran around.config old commands (StandsAfter config (Some told.content_now)) b told.content_now told.faults told.faults_now told.written told.written_now) o.content
-    (subst (λ b. Ran around.config old commands (StandsAfter config (Some told.content_now)) around.content b told.faults told.faults_now told.written told.written_now) o.content_now
-    (subst (λ f. Ran around.config old commands (StandsAfter config (Some told.content_now)) around.content around.content_now told.faults f told.written told.written_now) o.faults_now
-    (subst (λ t. Ran around.config old commands (StandsAfter config (Some told.content_now)) around.content around.content_now told.faults around.faults_now t told.written_now) o.written
-    (subst (λ t. Ran around.config old commands (StandsAfter config (Some told.content_now)) around.content around.content_now told.faults around.faults_now around.told t) o.written_now earlier)))))
+    let seen = ran-seen around.config old commands stands_now (EndsAt config status told.content_now) around.content around.content_now around.faults around.faults_now around.told around.told_now o.ends ran in
+    let earlier = ran-earlier around.config old commands (EndsAt config status told.content_now) around.content around.content_now told.faults around.faults around.faults_now around.told around.told_now o.faults seen in
+    subst (λ c. Ran c old commands (EndsAt config status told.content_now) (opened config told.content) told.content_now told.faults told.faults_now told.written told.written_now) o.config_is
+    (subst (λ b. Ran around.config old commands (EndsAt config status told.content_now) b told.content_now told.faults told.faults_now told.written told.written_now) o.content
+    (subst (λ b. Ran around.config old commands (EndsAt config status told.content_now) around.content b told.faults told.faults_now told.written told.written_now) o.content_now
+    (subst (λ f. Ran around.config old commands (EndsAt config status told.content_now) around.content around.content_now told.faults f told.written told.written_now) o.faults_now
+    (subst (λ t. Ran around.config old commands (EndsAt config status told.content_now) around.content around.content_now told.faults around.faults_now t told.written_now) o.written
+    (subst (λ t. Ran around.config old commands (EndsAt config status told.content_now) around.content around.content_now told.faults around.faults_now around.told t) o.written_now earlier)))))
 
-pub runs-all : (config : Config) (told : Told) (around : Around) (stands stands_now : Machine → Type 0) (commands : List Command) → Over config told around stands stands_now → RanAll around stands stands_now commands → RunsAll config commands told
-runs-all config told around stands stands_now commands o h = runs-with config commands told o.own o.formed (run-over config told around stands stands_now commands o h)
+pub runs-all : (config : Config) (told : Told) (status : Status) (around : Around) (stands stands_now : Machine → Type 0) (commands : List Command) → Over config told status around stands stands_now → RanAll around stands stands_now commands → RunsAll config commands told status
+runs-all config told status around stands stands_now commands o h = runs-with config commands told status o.own o.formed (run-over config told status around stands stands_now commands o h)
 
-run-over_into : (config : Config) (told : Told) (around : Around) (stands stands_now : Machine → Type 0) (commands : List Command) → Over config told around stands stands_now → RanPart around stands stands_now commands →
+run-over_into : (config : Config) (told : Told) (status : Status) (around : Around) (stands stands_now : Machine → Type 0) (commands : List Command) → Over config told status around stands stands_now → RanPart around stands stands_now commands →
     (old : Machine) → StandsFor config told.content old → RanInto config old commands (StandsAfter config (Some told.content_now)) (opened config told.content) told.content_now told.faults told.faults_now told.written told.written_now
-run-over_into config told around stands stands_now commands o h old s =
+run-over_into config told status around stands stands_now commands o h old s =
     let b = o.begins old s in
     let ran = h old b.0 (subst (λ c. IsReady c old) (sym o.config_is) b.1) in
     let seen = ran_into-seen around.config old commands (StandsAlike stands_now) (StandsAfter config (Some told.content_now)) around.content around.content_now around.faults around.faults_now around.told around.told_now
-    (after-alike config (Some told.content_now) stands_now o.ends) ran in
+    (after-alike config (Some told.content_now) stands_now (λ m s. (o.ends m s).0)) ran in
     let earlier = ran_into-earlier around.config old commands (StandsAfter config (Some told.content_now)) around.content around.content_now told.faults around.faults around.faults_now around.told around.told_now o.faults seen in
     subst (λ c. RanInto c old commands (StandsAfter config (Some told.content_now)) (opened config told.content) told.content_now told.faults told.faults_now told.written told.written_now) o.config_is
     (subst (λ b. RanInto around.config old commands (StandsAfter config (Some told.content_now)) b told.content_now told.faults told.faults_now told.written told.written_now) o.content
@@ -168,12 +170,12 @@ run-over_into config told around stands stands_now commands o h old s =
     (subst (λ t. RanInto around.config old commands (StandsAfter config (Some told.content_now)) around.content around.content_now told.faults around.faults_now t told.written_now) o.written
     (subst (λ t. RanInto around.config old commands (StandsAfter config (Some told.content_now)) around.content around.content_now told.faults around.faults_now around.told t) o.written_now earlier)))))
 
-pub runs-into : (config : Config) (told : Told) (around : Around) (stands stands_now : Machine → Type 0) (commands : List Command) → Over config told around stands stands_now → RanPart around stands stands_now commands → RunsInto config commands told
-runs-into config told around stands stands_now commands o h = record {
+pub runs-into : (config : Config) (told : Told) (status : Status) (around : Around) (stands stands_now : Machine → Type 0) (commands : List Command) → Over config told status around stands stands_now → RanPart around stands stands_now commands → RunsInto config commands told
+runs-into config told status around stands stands_now commands o h = record {
   own = o.own;
   formed = o.formed;
-  runs = run-over_into config told around stands stands_now commands o h;
-  plain = λ calm old s uncut. ran_into-plainly config old commands (opened config told.content) told.content_now told.faults told.faults_now told.written told.written_now calm uncut (run-over_into config told around stands stands_now commands o h old s);
+  runs = run-over_into config told status around stands stands_now commands o h;
+  plain = λ calm old s uncut. ran_into-plainly config old commands (opened config told.content) told.content_now told.faults told.faults_now told.written told.written_now calm uncut (run-over_into config told status around stands stands_now commands o h old s);
 }
 
 -- the lines up to a place behind the command that ended the configuration
@@ -250,7 +252,7 @@ pub record Says (effects : Effects) (config : Config) (around : Around) (stands 
 ends-of_commands : (effects : Effects) (knots : ℕ) (text : List ℕ) (now : Lines) (number : ℕ) (state : LinesState) (left left_now : Option (List ℕ)) (config : Config) (around : Around) (stands stands_now : Machine → Type 0) (status : Status) →
     (a : AtCommand knots text now number state left) → whole knots now ≡ Some config → Says effects config around stands stands_now →
     EndsCommands (tail_of number state a.left) left_now around stands stands_now status → EndsWith effects knots text left_now status
-ends-of_commands effects knots text now number state left left_now config around stands stands_now Done a w s h = (
+ends-of_commands effects knots text now number state left left_now config around stands stands_now (Done pending) a w s h = (
   ltb-false most_bytes (length text) (a.given.long ∙ le-ltb state.most (length (state.ahead ++ a.left)) h.0),
   subst (λ x. EndsDone effects x) (sym (start-at_command knots text now number state left config a w)) (h.1.accepts, s.all _ h.1.runs),
   h.2,
@@ -293,18 +295,18 @@ ends-of_commands effects knots text now number state left left_now config around
 ends-of_commands effects knots text now number state left left_now config around stands stands_now status a w s h = absurd h
 
 -- a script without commands
-ends-empty : (effects : Effects) (knots : ℕ) (text : List ℕ) (now : Lines) (number : ℕ) (config : Config) (left : Option (List ℕ)) → AtEnd knots text now number left → whole knots now ≡ Some config → effects.all config [] → EndsWith effects knots text left Done
-ends-empty effects knots text now number config left a w none = (a.short, subst (λ x. EndsDone effects x) (sym (start-at_end knots text now number left config a w)) (refl, none), a.nothing)
+ends-empty : (effects : Effects) (knots : ℕ) (text : List ℕ) (now : Lines) (number : ℕ) (config : Config) (left : Option (List ℕ)) (pending : PendingRows) → AtEnd knots text now number left → whole knots now ≡ Some config → effects.all config [] → EndsWith effects knots text left (Done pending)
+ends-empty effects knots text now number config left pending a w none = (a.short, subst (λ x. EndsDone effects x) (sym (start-at_end knots text now number left config a w)) (refl, none), a.nothing)
 
 -- no command was run over the medium
-runs-none : (config : Config) (told : Told) → IsOwn config told.content → IsFormed config told.content_now → ((old : Machine) → StandsFor config told.content old → StandsAfter config (Some told.content_now) old) →
-    told.faults ≤ told.faults_now → told.written_now ≡ told.written → told.content_now ≡ opened config told.content → RunsAll config [] told
-runs-none config told own formed stands later written kept =
-    runs-with config [] told own formed (λ old s.
-    ran-earlier config old [] (StandsAfter config (Some told.content_now)) (opened config told.content) told.content_now told.faults told.faults_now told.faults_now told.written told.written_now later
-    (subst (λ c. Ran config old [] (StandsAfter config (Some told.content_now)) (opened config told.content) c told.faults_now told.faults_now told.written told.written_now) (sym kept)
-    (subst (λ t. Ran config old [] (StandsAfter config (Some told.content_now)) (opened config told.content) (opened config told.content) told.faults_now told.faults_now told.written t) (sym written)
-    (ran-none config old (StandsAfter config (Some told.content_now)) (opened config told.content) told.faults_now told.written (stands old s)))))
+runs-none : (config : Config) (told : Told) (status : Status) → IsOwn config told.content → IsFormed config told.content_now → ((old : Machine) → StandsFor config told.content old → EndsAt config status told.content_now old) →
+    told.faults ≤ told.faults_now → told.written_now ≡ told.written → told.content_now ≡ opened config told.content → RunsAll config [] told status
+runs-none config told status own formed stands later written kept =
+    runs-with config [] told status own formed (λ old s.
+    ran-earlier config old [] (EndsAt config status told.content_now) (opened config told.content) told.content_now told.faults told.faults_now told.faults_now told.written told.written_now later
+    (subst (λ c. Ran config old [] (EndsAt config status told.content_now) (opened config told.content) c told.faults_now told.faults_now told.written told.written_now) (sym kept)
+    (subst (λ t. Ran config old [] (EndsAt config status told.content_now) (opened config told.content) (opened config told.content) told.faults_now told.faults_now told.written t) (sym written)
+    (ran-none config old (EndsAt config status told.content_now) (opened config told.content) told.faults_now told.written (stands old s)))))
 
 all-seen : (around : Around) (s s' r r' : Machine → Type 0) (commands : List Command) → ((m : Machine) → r m → s m) → ((m : Machine) → s' m → r' m) → RanAll around s s' commands → RanAll around r r' commands
 all-seen around s s' r r' commands f g h old k ready =
@@ -313,7 +315,7 @@ all-seen around s s' r r' commands f g h old k ready =
 -- the same commands, seen through other relations to the states before and after them
 commands-seen : (tail : Tail) (left : Option (List ℕ)) (around : Around) (s s' r r' : Machine → Type 0) (status : Status) → ((m : Machine) → r m → s m) → ((m : Machine) → s' m → r' m) →
     EndsCommands tail left around s s' status → EndsCommands tail left around r r' status
-commands-seen tail left around s s' r r' Done f g h = (h.0, record { accepts = h.1.accepts; runs = all-seen around s s' r r' _ f g h.1.runs }, h.2)
+commands-seen tail left around s s' r r' (Done pending) f g h = (h.0, record { accepts = h.1.accepts; runs = all-seen around s s' r r' _ f g h.1.runs }, h.2)
 commands-seen tail left around s s' r r' (Line n) f g h = (record { refuses = h.0.refuses; runs = all-seen around s s' r r' _ f g h.0.runs }, h.1)
 commands-seen tail left around s s' r r' ScriptRead f g h =
     record { is_open = h.is_open; taken = h.taken; within = h.within; few = h.few; short = h.short; left = h.left; accepts = h.accepts; runs = all-seen around s s' r r' _ f g h.runs }
@@ -332,7 +334,7 @@ commands-seen tail left around s s' r r' status f g h = absurd h
 
 pub runs-seen : (first : Option code.Command) (number : ℕ) (state : LinesState) (left left_now : Option (List ℕ)) (around : Around) (s s' r r' : Machine → Type 0) (status : Status) → ((m : Machine) → r m → s m) → ((m : Machine) → s' m → r' m) →
     RunsFrom first number state left left_now around s s' status → RunsFrom first number state left left_now around r r' status
-runs-seen None number state left left_now around s s' r r' status f g h = record { done = h.done; untaken = h.untaken; written = h.written; content = h.content; goes_on = λ m k. g m (h.goes_on m (f m k)) }
+runs-seen None number state left left_now around s s' r r' status f g h = record { pending = h.pending; done = h.done; untaken = h.untaken; written = h.written; content = h.content; goes_on = λ m k. g m (h.goes_on m (f m k)) }
 runs-seen (Some first) number state left left_now around s s' r r' status f g h = λ l e ended. commands-seen (tail_of number state l) left_now around s s' r r' status f g (h l e ended)
 
 -- how a run ends over an image that was opened
@@ -341,22 +343,22 @@ ends-of_run : (effects : Effects) (knots : ℕ) (text : List ℕ) (now : Lines) 
     RunsFrom first number state left left_now around stands stands_now status → EndsWith effects knots text left_now status
 ends-of_run effects knots text now None number state left left_now config around stands stands_now status a w s h =
     subst (λ x. EndsWith effects knots text left_now x) (sym h.done)
-    (subst (λ l. EndsWith effects knots text l Done) (sym h.untaken)
-    (ends-empty effects knots text now number config left a w (s.none h.written h.content h.goes_on)))
+    (subst (λ l. EndsWith effects knots text l (Done h.pending)) (sym h.untaken)
+    (ends-empty effects knots text now number config left h.pending a w (s.none h.written h.content h.goes_on)))
 ends-of_run effects knots text now (Some first) number state left left_now config around stands stands_now status a w s h =
     ends-of_commands effects knots text now number state left left_now config around stands stands_now status a w s (h a.left a.left_is a.given.ended)
 
 -- .. over a medium that tells its content
 pub ends-over : (knots : ℕ) (text : List ℕ) (now : Lines) (first : Option code.Command) (number : ℕ) (state : LinesState) (left : Option (List ℕ)) (config : Config) (told : Told) (around : Around) (stands stands_now : Machine → Type 0) (status : Status) →
-    BeginsAt knots text now first number state left → whole knots now ≡ Some config → Over config told around stands stands_now → told.faults ≤ told.faults_now →
+    BeginsAt knots text now first number state left → whole knots now ≡ Some config → Over config told status around stands stands_now → told.faults ≤ told.faults_now →
     RunsFrom first number state left told.left_now around stands stands_now status → Ends knots text told status
 ends-over knots text now first number state left config told around stands stands_now status a w o later h =
-    ends-of_run (effects_of told) knots text now first number state left told.left_now config around stands stands_now status a w
+    ends-of_run (effects_of told status) knots text now first number state left told.left_now config around stands stands_now status a w
     (record {
-      all = λ commands ran. runs-all config told around stands stands_now commands o ran;
-      into = λ commands ran. runs-into config told around stands stands_now commands o ran;
+      all = λ commands ran. runs-all config told status around stands stands_now commands o ran;
+      into = λ commands ran. runs-into config told status around stands stands_now commands o ran;
       none = λ written content goes_on.
-          runs-none config told o.own o.formed (λ old s. o.ends old (goes_on old (o.begins old s).0)) later (sym o.written_now ∙ (written ∙ o.written)) (sym o.content_now ∙ (content ∙ o.content));
+          runs-none config told status o.own o.formed (λ old s. o.ends old (goes_on old (o.begins old s).0)) later (sym o.written_now ∙ (written ∙ o.written)) (sym o.content_now ∙ (content ∙ o.content));
     })
     h
 
@@ -394,7 +396,7 @@ some-of (Some x) e = (x, refl)
 
 -- the statuses of the commands aren't early
 pub commands-early : (old new : MediaState) (told told_now : Option (List ℕ)) (status : Status) → IsOfCommands status → IsEarlyBy old new told told_now status
-commands-early old new told told_now Done h = tt
+commands-early old new told told_now (Done pending) h = tt
 commands-early old new told told_now (Line n) h = tt
 commands-early old new told told_now ScriptRead h = tt
 commands-early old new told told_now OutWrite h = tt

@@ -15,7 +15,9 @@ pub mod Refusing
 pub mod StepsOf
 pub mod Working
 pub mod Stating
+pub mod Telling
 pub mod MountsOf
+pub mod Causing
 pub mod Calls
 pub mod Sound
 pub mod Rested

@@ -39,7 +39,7 @@ use Rattle.fl_session.proofs.Working.{medium-goes, has_risen, risen-rose}
 entry-on : (entry : Entry) (f : FlashState) (first : ℕ) (plan : Plan) (table : model.Table) → EntryStands entry f false first plan table → EntryStands entry (record f { is_on = true }) false first plan table
 entry-on entry f first plan table h = record { named = h.named; geometry = h.geometry; planned = h.planned; on_flash = record { settled = h.on_flash.settled; pages = h.on_flash.pages } }
 
-pub stands-on : (config : Config) (old : Machine) (entries : List Entry) (notes : Notes) (f : FlashState) → SessionStands config entries f false notes old → SessionStands config entries (record f { is_on = true }) false notes old
+stands-on : (config : Config) (old : Machine) (entries : List Entry) (notes : Notes) (f : FlashState) → SessionStands config entries f false notes old → SessionStands config entries (record f { is_on = true }) false notes old
 stands-on config old entries notes f h = record {
   knots = h.knots;
   medium = record { told = h.medium.told; len = h.medium.len; head = h.medium.head; start = h.medium.start; geometry = h.medium.geometry };
@@ -50,6 +50,11 @@ stands-on config old entries notes f h = record {
   cost_is = h.cost_is;
   power = λ t. refl;
 }
+
+pub stands-powered : (config : Config) (old : Machine) (entries : List Entry) (notes : Notes) (f on : FlashState) (mounted : Bool) → SessionStands config entries f mounted notes old → mounted ≡ false → on ≡ record f { is_on = true } →
+    SessionStands config entries on false notes old
+stands-powered config old entries notes f on mounted h off is =
+    subst (λ x. SessionStands config entries x false notes old) (sym is) (stands-on config old entries notes f (subst (λ m. SessionStands config entries f m notes old) off h))
 
 pub mount-watched : (config : Config) (entries : List Entry) (notes : Notes) (f g : FlashState) (m : Machine) → SessionStands config entries f false notes m → f.is_on ≡ true → IsWatched f g (has_risen f g) m.device
 mount-watched config entries notes f g m h on = record { told = h.medium.told; on = on; risen = λ r. le-leb (min (f.media.faults + 1) (2 ^ 64 - 1)) g.media.faults r; counts = h.device }

@@ -15,7 +15,7 @@ use Rattle.fl_model.specs.Image.{medium_len}
 use Rattle.fl_model.specs.Record.{Config, Plan, blocks_of}
 use Rattle.fl_words.specs.Config.{Lines, whole, whole_of, too_large}
 use Rattle.fl_machine.specs.Machine.{Machine}
-use Rattle.fl_machine.specs.Script.{StandsAfter, start_of, ended}
+use Rattle.fl_machine.specs.Script.{start_of, ended}
 use Rattle.fl_machine.proofs.Accepted.{StartIsAccepted, accepted-room, accepted-room-ended}
 use Rattle.fl_script.specs.declared.command.Command as code
 use Rattle.fl_tables.specs.Tables.{first_of, AreNewTables, LieOn}
@@ -37,6 +37,7 @@ use Rattle.fl_base.specs.Causes.{Rose}
 use Rattle.fl_lines.specs.Texts.{is_long, lines_read}
 use Rattle.fl_session.specs.Begin.{BeginsAt}
 use Rattle.fl_session.specs.Opening.{Opened, HalfOpened, Foreign, OpensAs, KeepsForm, MediaGoes}
+use Rattle.fl_session.specs.Pending.{TellsPending, EndsAt}
 use Rattle.fl_session.specs.Ends.{Ends, IsFormed, told_of, effects_of, IsEarlyBy, Differs}
 use Rattle.fl_session.specs.ScriptEnds.{unsaid, start_in, ScriptEnds}
 use Rattle.fl_words.specs.Medium.{header}
@@ -119,24 +120,32 @@ new-sound entries entries' lines f f' buf buf' notes entries_are f_is buf_is fre
     not_on : true ≡ false → ⊥
     not_on e = cc
 
+-- .. and stands for each state that the medium represents
+pub over-stands : (config : Config) (lines : Lines) (entries : List Entry) (notes : Notes) (f : FlashState) (old : MediaState) (mounted : Bool) (geometry : Geometry) (blocks : ℕ) (origin : GName) (m : Machine) →
+    f ≡ on_medium geometry blocks 1024 origin true None 0 (record { reads = 0; programs = 0; erases = 0 }) old → geometry ≡ config.geometry → lines.device ≡ Some config.geometry → lines.plans ≡ config.plans → AreNewTables entries lines → mounted ≡ false → notes ≡ no_notes → config.knots ≡ 64 →
+    RestsTold config old m → SessionStands config entries f mounted notes m
+over-stands config lines entries notes f old mounted geometry blocks origin m is g_is device plans made off fresh knots r =
+    subst (λ b. SessionStands config entries f b notes m) (sym off)
+    (subst (λ x. SessionStands config entries x false notes m) (sym is)
+    (session-begins config lines entries notes (on_medium geometry blocks 1024 origin true None 0 (record { reads = 0; programs = 0; erases = 0 }) old) m fresh r.0 refl g_is refl refl refl device plans made knots r.1))
+
 -- what was run in the session was run over the medium
 pub session-runs : (config : Config) (lines : Lines) (entries entries' : List Entry) (notes notes' : Notes) (f f' : FlashState) (old new : MediaState) (mounted mounted' : Bool) (geometry : Geometry) (blocks : ℕ) (origin : GName) →
     f ≡ on_medium geometry blocks 1024 origin true None 0 (record { reads = 0; programs = 0; erases = 0 }) old → geometry ≡ config.geometry → new ≡ f'.media →
     lines.device ≡ Some config.geometry → lines.plans ≡ config.plans → AreNewTables entries lines → mounted ≡ false → notes ≡ no_notes → config.knots ≡ 64 →
     (first : Option code.Command) (number : ℕ) (state : LinesState) (left left_now told told_now : Option (List ℕ)) (status : Status) →
+    ((m : Machine) → SessionStands config entries' f' mounted' notes' m → TellsPending config status m) →
     RunsFrom first number state left left_now (around_of config f.media f'.media told told_now) (SessionStands config entries f mounted notes) (SessionStands config entries' f' mounted' notes') status →
-    RunsFrom first number state left left_now (around_of config old new told told_now) (RestsTold config old) (StandsAfter config (Some new.content)) status
-session-runs config lines entries entries' notes notes' f f' old new mounted mounted' geometry blocks origin is g_is media device plans made off fresh knots first number state left left_now told told_now status h =
+    RunsFrom first number state left left_now (around_of config old new told told_now) (RestsTold config old) (EndsAt config status new.content) status
+session-runs config lines entries entries' notes notes' f f' old new mounted mounted' geometry blocks origin is g_is media device plans made off fresh knots first number state left left_now told told_now status tells h =
     let begin : (m : Machine) → RestsTold config old m → SessionStands config entries f mounted notes m =
-    λ m r. subst (λ b. SessionStands config entries f b notes m) (sym off)
-    (subst (λ x. SessionStands config entries x false notes m) (sym is)
-    (session-begins config lines entries notes (on_medium geometry blocks 1024 origin true None 0 (record { reads = 0; programs = 0; erases = 0 }) old) m fresh r.0 refl g_is refl refl refl device plans made knots r.1)) in
-    let end : (m : Machine) → SessionStands config entries' f' mounted' notes' m → StandsAfter config (Some f'.media.content) m = λ m s. session-ends config entries' notes' f' mounted' m s in
+    λ m r. over-stands config lines entries notes f old mounted geometry blocks origin m is g_is device plans made off fresh knots r in
+    let end : (m : Machine) → SessionStands config entries' f' mounted' notes' m → EndsAt config status f'.media.content m = λ m s. (session-ends config entries' notes' f' mounted' m s, tells m s) in
     let seen = runs-seen first number state left left_now (around_of config f.media f'.media told told_now) (SessionStands config entries f mounted notes) (SessionStands config entries' f' mounted' notes')
-    (RestsTold config old) (StandsAfter config (Some f'.media.content)) status begin end h in
-    let from : RunsFrom first number state left left_now (around_of config old f'.media told told_now) (RestsTold config old) (StandsAfter config (Some f'.media.content)) status =
-    subst (λ (x : FlashState). RunsFrom first number state left left_now (around_of config x.media f'.media told told_now) (RestsTold config old) (StandsAfter config (Some f'.media.content)) status) is seen in
-    subst (λ x. RunsFrom first number state left left_now (around_of config old x told told_now) (RestsTold config old) (StandsAfter config (Some x.content)) status) (sym media) from
+    (RestsTold config old) (EndsAt config status f'.media.content) status begin end h in
+    let from : RunsFrom first number state left left_now (around_of config old f'.media told told_now) (RestsTold config old) (EndsAt config status f'.media.content) status =
+    subst (λ (x : FlashState). RunsFrom first number state left left_now (around_of config x.media f'.media told told_now) (RestsTold config old) (EndsAt config status f'.media.content) status) is seen in
+    subst (λ x. RunsFrom first number state left left_now (around_of config old x told told_now) (RestsTold config old) (EndsAt config status x.content) status) (sym media) from
 
 -- the medium reaches to the end of the flash
 pub reach-of : (knots : ℕ) (lines : Lines) (config : Config) (len : ℕ) (geometry : Geometry) → AreParts knots lines config → lines.device ≡ Some geometry → len ≡ medium_len config → 1024 + extent geometry (sum_by blocks_of lines.plans) ≤ len
@@ -153,8 +162,12 @@ start-accepted knots text = by_test (is_long text)
     by_test false = accepted-room-ended knots (lines_read text)
 
 -- an image that was opened, and was run on, has the form of its configuration
-kept-formed : (config : Config) (mid new : MediaState) → IsFormed config mid.content → IsTrue mid.tells → KeepsForm mid new → IsFormed config new.content
+pub kept-formed : (config : Config) (mid new : MediaState) → IsFormed config mid.content → IsTrue mid.tells → KeepsForm mid new → IsFormed config new.content
 kept-formed config mid new formed tells kept = (kept.len ∙ formed.0, kept.head tells ∙ formed.1)
+
+-- .. as a flash on it goes
+pub flash-keeps : (f f' : FlashState) → f.start ≡ 1024 → Goes f f' → KeepsForm f.media f'.media
+flash-keeps f f' start goes = record { len = goes.size; head = λ tells. subst (λ n. take n f'.media.content ≡ take n f.media.content) start (goes.front tells) }
 
 pub session-keeps : (f f' : FlashState) (old new : MediaState) (geometry : Geometry) (blocks : ℕ) (origin : GName) →
     f ≡ on_medium geometry blocks 1024 origin true None 0 (record { reads = 0; programs = 0; erases = 0 }) old → new ≡ f'.media → Goes f f' → KeepsForm old new
@@ -165,13 +178,13 @@ session-keeps f f' old new geometry blocks origin is media goes =
 -- a run over an image that was opened
 pub ends-opened : (knots : ℕ) (text : List ℕ) (lines : Lines) (first : Option code.Command) (number : ℕ) (state : LinesState) (left left_now told told_now : Option (List ℕ)) (config : Config) (old mid new : MediaState) (origin : GName) (status : Status) →
     BeginsAt knots text lines first number state left → whole knots lines ≡ Some config → IsTrue old.tells → Opened config old mid → KeepsForm mid new → mid.tells ≡ old.tells → old.faults ≤ mid.faults → mid.faults ≤ new.faults →
-    RunsFrom first number state left left_now (around_of config mid new told told_now) (RestsTold config mid) (StandsAfter config (Some new.content)) status →
+    RunsFrom first number state left left_now (around_of config mid new told told_now) (RestsTold config mid) (EndsAt config status new.content) status →
     Ends knots text (told_of old new left_now told told_now) status
 ends-opened knots text lines first number state left left_now told told_now config old mid new origin status begins w tells opened kept same_tells later later' h =
     let ready = begins-ready knots text lines first number state left config begins w in
     let accepted = ready-accepted config ready.0 ready.1 (start_in knots text) (start-accepted knots text) ready.2 in
     let f : FlashState = record { geometry = config.geometry; blocks = 0; start = 1024; origin = origin; media = mid; is_on = true; armed = None; cuts = 0; work = record { reads = 0; programs = 0; erases = 0 } } in
-    ends-over knots text lines first number state left config (told_of old new left_now told told_now) (around_of config mid new told told_now) (RestsTold config mid) (StandsAfter config (Some new.content)) status begins w
+    ends-over knots text lines first number state left config (told_of old new left_now told told_now) (around_of config mid new told told_now) (RestsTold config mid) (EndsAt config status new.content) status begins w
     (record {
       config_is = refl;
       content = opened-content config old mid tells opened;
@@ -191,12 +204,12 @@ ends-opened knots text lines first number state left left_now told told_now conf
 pub ends-half : (knots : ℕ) (text : List ℕ) (lines : Lines) (first : Option code.Command) (number : ℕ) (state : LinesState) (left told : Option (List ℕ)) (config : Config) (old new : MediaState) →
     BeginsAt knots text lines first number state left → whole knots lines ≡ Some config → IsTrue old.tells → HalfOpened config old new → Ends knots text (told_of old new left told told) MediaMake
 ends-half knots text lines first number state left told config old new begins w tells h =
-    ends-making (effects_of (told_of old new left told told)) knots text lines first number state left config begins w (record { written = nothing-added told; kept = h.kept tells; part = h.part tells })
+    ends-making (effects_of (told_of old new left told told) MediaMake) knots text lines first number state left config begins w (record { written = nothing-added told; kept = h.kept tells; part = h.part tells })
 
 pub ends-foreign : (knots : ℕ) (text : List ℕ) (lines : Lines) (first : Option code.Command) (number : ℕ) (state : LinesState) (left told : Option (List ℕ)) (config : Config) (old new : MediaState) (wanted found at : ℕ) →
     BeginsAt knots text lines first number state left → whole knots lines ≡ Some config → IsTrue old.tells → Foreign config old new wanted found at → Ends knots text (told_of old new left told told) (OtherConfig wanted found at)
 ends-foreign knots text lines first number state left told config old new wanted found at begins w tells h =
-    ends-other (effects_of (told_of old new left told told)) knots text lines first number state left config wanted found at begins w (h.other tells, record { content = h.kept tells; written = nothing-added told })
+    ends-other (effects_of (told_of old new left told told) (OtherConfig wanted found at)) knots text lines first number state left config wanted found at begins w (h.other tells, record { content = h.kept tells; written = nothing-added told })
 
 -- the statuses of the commands
 pub commands-words : (status : Status) → IsOfCommands status → status ≡ Usage → ⊥

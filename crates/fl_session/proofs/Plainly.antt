@@ -1,10 +1,10 @@
 -- What was run where nothing fails is what the plain machine does.
 use Rattle.std.proofs.Common.{◌≡◌, ℕ, ◌+◌, ◌-◌, ◌^◌, Bool, true, false, cond, inl, inr, Option, Some, List, [], ◌∷◌, map, refl, sym, ap, subst, min, arith}
-use Rattle.std.specs.List.{AllByRecursion}
+use Rattle.std.specs.List.{AllByRecursion, slice_get}
 use Rattle.std.proofs.lemmas.Bool.{cases_lt}
 use Rattle.fl_base.specs.Causes.{Rose}
 use Rattle.fl_model.specs.Record.{Config}
-use Rattle.fl_model.specs.Table.{lose}
+use Rattle.fl_model.specs.Table.{Table, lose}
 use Rattle.fl_words.specs.Command.{Command}
 use Rattle.fl_words.specs.Medium.{IsImage}
 use Rattle.fl_machine.specs.Determined.{IsWhole, SameRuns, state_without_reads}
@@ -18,6 +18,9 @@ use Rattle.fl_machine.proofs.Determined.{determined}
 use Rattle.fl_machine.proofs.Faults.{faults-caused}
 use Rattle.fl_machine.proofs.Operations.{exact}
 use Rattle.fl_session.specs.Determined.{IsUncut, IsPlainRun, RanPlainly, RanPlainlyInto}
+use Rattle.fl_session.specs.Pending.{pending_of, TellsPending, EndsAt}
+use Rattle.fl_session.specs.declared.status.Status.{Status}
+use Rattle.fl_session.specs.declared.status.Status.TheVariants.{Done}
 
 -- a count that didn't rise
 none-risen : (n before now : ℕ) → (Rose before now → ⊥) → RoseBy n before now → n ≡ 0
@@ -53,14 +56,22 @@ plain-run config old commands moments e run risen uncut =
 stands-plain : (config : Config) (content : List ℕ) (a b : Machine) → state_without_reads a ≡ state_without_reads b → StandsAfter config (Some content) a → StandsAfter config (Some content) b
 stands-plain config content a b e h = subst (λ ts. IsImage config content (map lose ts)) (ap (λ (m : Machine). m.tables) e) h
 
-pub ran-plainly : (config : Config) (old : Machine) (commands : List Command) (content content_now : List ℕ) (faults faults_now : ℕ) (told told_now : Option (List ℕ)) →
-    (Rose faults faults_now → ⊥) → IsUncut config old commands → Ran config old commands (StandsAfter config (Some content_now)) content content_now faults faults_now told told_now → RanPlainly config old commands content content_now told told_now
-ran-plainly config old commands content content_now faults faults_now told told_now calm uncut h =
+-- .. of which a status tells what is pending
+tells-plain : (config : Config) (status : Status) (a b : Machine) → state_without_reads a ≡ state_without_reads b → TellsPending config status a → TellsPending config status b
+tells-plain config (Done pending) a b e h = subst (λ (ts : List Table). pending.tables ≡ map (λ place. pending_of (slice_get config.plans place) (slice_get ts place)) (0 ∷ 1 ∷ 2 ∷ 3 ∷ [])) (ap (λ (m : Machine). m.tables) e) h
+tells-plain config status a b e h = tt
+
+ends-plain : (config : Config) (status : Status) (content : List ℕ) (a b : Machine) → state_without_reads a ≡ state_without_reads b → EndsAt config status content a → EndsAt config status content b
+ends-plain config status content a b e h = (stands-plain config content a b e h.0, tells-plain config status a b e h.1)
+
+pub ran-plainly : (config : Config) (old : Machine) (commands : List Command) (status : Status) (content content_now : List ℕ) (faults faults_now : ℕ) (told told_now : Option (List ℕ)) →
+    (Rose faults faults_now → ⊥) → IsUncut config old commands → Ran config old commands (EndsAt config status content_now) content content_now faults faults_now told told_now → RanPlainly config old commands status content content_now told told_now
+ran-plainly config old commands status content content_now faults faults_now told told_now calm uncut h =
     let plain = plain-run config old commands h.moments h.commands_are h.run (none-risen (risen_in h.moments) faults faults_now calm h.rose) uncut in record {
       moments = h.moments;
       plain = plain;
       reads = h.reads;
-      stands_after = stands-plain config content_now (end_of old h.moments) (end_of old (plain_run config old commands)) plain.same.ends h.stands_after;
+      stands_after = ends-plain config status content_now (end_of old h.moments) (end_of old (plain_run config old commands)) plain.same.ends h.stands_after;
       stays = h.stays;
       told_all = h.told_all;
     }

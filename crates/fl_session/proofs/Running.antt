@@ -170,7 +170,7 @@ few-in : (moments : List Moment) → AllByRecursion IsFew moments → reads_in m
 few-in [] few = omega arith
 few-in (m ∷ moments) few = omega (arith, few.0, few-in moments few.1)
 
-counted-below : (moments : List Moment) (commands : List Command) (reads : ℕ) → commands_of moments ≡ commands → length commands < 2 ^ 32 → AllByRecursion IsFew moments → reads ≤ reads_in moments + 2 ^ 19 → reads < 2 ^ 64 - 1
+counted-below : (moments : List Moment) (commands : List Command) (reads : ℕ) → commands_of moments ≡ commands → length commands < 2 ^ 44 + 2 ^ 10 → AllByRecursion IsFew moments → reads ≤ reads_in moments + 2 ^ 19 → reads < 2 ^ 64 - 1
 counted-below moments commands reads are lines few counted =
     let as_many : length moments ≡ length commands = sym (length-map moments (λ (m : Moment). m.command)) ∙ ap length are in
     omega (arith, as_many, lines, few-in moments few, counted)
@@ -220,7 +220,7 @@ next-limit config old moments command stands mid now result moment ready run her
 
 -- the commands before, and one more
 pub ran-more : {E : Type 0} (config : Config) (old : Machine) (commands : List Command) (command : Command) (stands stands_now : Machine → Type 0) (content : List ℕ) (faults : ℕ) (mid now : FlashState) (told told_mid told_now : Option (List ℕ)) →
-    IsReady config old → length commands < 2 ^ 32 → ((m : Machine) → stands m → AreTables config.plans m.tables) →
+    IsReady config old → length commands < 2 ^ 44 + 2 ^ 10 → ((m : Machine) → stands m → AreTables config.plans m.tables) →
     RanSoFar config old commands stands content mid.media.content faults mid.media.faults mid.work.reads told told_mid → mid.media.faults ≤ now.media.faults →
     ((m : Machine) → stands m → Executes {E = E} config m command stands_now mid now told_mid told_now (Ok tt)) →
     RanSoFar config old (commands ++ command ∷ []) stands_now content now.media.content faults now.media.faults now.work.reads told told_now
@@ -248,6 +248,15 @@ ran-more {E} config old commands command stands stands_now content faults mid no
       },
       omega (arith, reads-more h.moments e.moment, counted, more),
     )
+
+-- .. of which the last moment is that of the command
+pub ran-more_moments : {E : Type 0} (config : Config) (old : Machine) (commands : List Command) (command : Command) (stands stands_now : Machine → Type 0) (content : List ℕ) (faults : ℕ) (mid now : FlashState) (told told_mid told_now : Option (List ℕ)) →
+    (ready : IsReady config old) → (lines : length commands < 2 ^ 44 + 2 ^ 10) → (hold : (m : Machine) → stands m → AreTables config.plans m.tables) →
+    (so_far : RanSoFar config old commands stands content mid.media.content faults mid.media.faults mid.work.reads told told_mid) → (later : mid.media.faults ≤ now.media.faults) →
+    (executes : (m : Machine) → stands m → Executes {E = E} config m command stands_now mid now told_mid told_now (Ok tt)) →
+    (ran-more config old commands command stands stands_now content faults mid now told told_mid told_now ready lines hold so_far later executes).0.moments ≡ so_far.0.moments ++ (executes (end_of old so_far.0.moments) so_far.0.stands_after).moment ∷ []
+unfolding ran-more
+ran-more_moments config old commands command stands stands_now content faults mid now told told_mid told_now ready lines hold so_far later executes = refl
 
 -- .. and into the reply of one more
 pub ran-into : {E : Type 0} (config : Config) (old : Machine) (commands : List Command) (command : Command) (stands stands_now : Machine → Type 0) (content : List ℕ) (faults : ℕ) (mid now : FlashState) (told told_mid told_now : Option (List ℕ)) (error : E) →

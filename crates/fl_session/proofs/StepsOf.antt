@@ -16,7 +16,7 @@ use Rattle.fl_script.specs.declared.command.Command as code
 use Rattle.fl_script.specs.CommandView.{command_view}
 use Rattle.fl_tables.specs.Tables.{first_of, EntryStands}
 use Rattle.fl_tables.specs.declared.tables.Entry.{Entry}
-use Rattle.fl_tables.proofs.Apart.{stands-pages}
+use Rattle.fl_table.proofs.Apart.{stands-pages}
 use Rattle.fl_tables.proofs.TablesChanged.{entry-off, tables-still, tables-become}
 use Rattle.fl_session.specs.Answer.{Answers}
 use Rattle.fl_session.specs.Runnable.{IsRunnable}

@@ -27,7 +27,7 @@ pub record IsUnbegun (config : Config) (told : Told) : Type 0 where
 
 -- All its commands are run, or memory was wanted before the first of them.
 abbrev pub Completes : Config → List Command → Told → Status → Type 0
-Completes config commands told Done = RunsAll config commands told
+Completes config commands told (Done pending) = RunsAll config commands told (Done pending)
 Completes config commands told NoMemory = IsUnbegun config told
 Completes config commands told Usage = ⊥
 Completes config commands told (Line n) = ⊥

@@ -16,6 +16,8 @@ use Rattle.fl_machine.specs.Script.{KeepsReads, StandsAfter}
 use Rattle.fl_machine.specs.Small.{most_of_a_command}
 use Rattle.fl_machine.specs.Stays.{StaysEach}
 use Rattle.fl_machine.specs.Step.{Moment}
+use Rattle.fl_session.specs.Pending.{EndsAt}
+use Rattle.fl_session.specs.declared.status.Status.{Status}
 
 -- no cut falls into an operation of the plain machine
 abbrev pub IsUncut : Config → Machine → List Command → Type 0
@@ -33,13 +35,13 @@ pub record IsPlainRun (config : Config) (old : Machine) (commands : List Command
   pub no_fault : faults_told moments ≡ 0
 
 -- These commands were run as the plain machine does, each of them whole, and their replies written. The medium stands for
--- the plain machine's state at the end.
-pub record RanPlainly (config : Config) (old : Machine) (commands : List Command) (content content_now : List ℕ) (told told_now : Option (List ℕ)) : Type 0 where
+-- the plain machine's state at the end, of which the status tells what is pending.
+pub record RanPlainly (config : Config) (old : Machine) (commands : List Command) (status : Status) (content content_now : List ℕ) (told told_now : Option (List ℕ)) : Type 0 where
   pub moments : List Moment
   pub plain : IsPlainRun config old commands moments
   -- the numbers of reads are as is promised
   pub reads : KeepsReads config old moments
-  pub stands_after : StandsAfter config (Some content_now) (end_of old (plain_run config old commands))
+  pub stands_after : EndsAt config status content_now (end_of old (plain_run config old commands))
   pub stays : StaysEach config old moments content content_now
   pub told_all : Appends told told_now (written_by moments)
 

@@ -9,6 +9,7 @@ use Rattle.fl_words.specs.Medium.{header}
 use Rattle.fl_machine.specs.Machine.{Machine}
 use Rattle.fl_machine.specs.Script.{Start, Ready, Unended, BadLine, BadConfig, StandsFor, StandsAfter, Ran, RanInto}
 use Rattle.fl_session.specs.Determined.{IsUncut, RanPlainly, RanPlainlyInto}
+use Rattle.fl_session.specs.Pending.{EndsAt}
 use Rattle.fl_session.specs.ScriptEnds.{Effects, EndsWith}
 use Rattle.fl_session.specs.declared.status.Status.{Status}
 use Rattle.fl_session.specs.declared.status.Status.TheVariants.{Usage, MediaMake, Config as BadConfiguration, OtherConfig, NoMemory}
@@ -50,16 +51,16 @@ abbrev pub opened : Config → List ℕ → List ℕ
 opened config [] = new_content config
 opened config (byte ∷ bytes) = byte ∷ bytes
 
--- From each state for which the medium stands these commands were run, and it stands for the state after them. Its length
--- and its header are those of the configuration, whatever stands behind them.
-pub record RunsAll (config : Config) (commands : List Command) (told : Told) : Type 0 where
+-- From each state for which the medium stands these commands were run, and it stands for the state after them, of which the
+-- status tells what is pending. Its length and its header are those of the configuration, whatever stands behind them.
+pub record RunsAll (config : Config) (commands : List Command) (told : Told) (status : Status) : Type 0 where
   pub own : IsOwn config told.content
   pub formed : IsFormed config told.content_now
   pub runs : (old : Machine) → StandsFor config told.content old →
-      Ran config old commands (StandsAfter config (Some told.content_now)) (opened config told.content) told.content_now told.faults told.faults_now told.written told.written_now
+      Ran config old commands (EndsAt config status told.content_now) (opened config told.content) told.content_now told.faults told.faults_now told.written told.written_now
   -- where the medium doesn't fail and no cut falls into an operation, as the plain machine runs them
   pub plain : IsCalm told → (old : Machine) → StandsFor config told.content old → IsUncut config old commands →
-      RanPlainly config old commands (opened config told.content) told.content_now told.written told.written_now
+      RanPlainly config old commands status (opened config told.content) told.content_now told.written told.written_now
 
 -- .. and in the reply of the last of them the sink failed
 pub record RunsInto (config : Config) (commands : List Command) (told : Told) : Type 0 where
@@ -96,10 +97,10 @@ pub record IsMakingFailed (config : Config) (told : Told) : Type 0 where
   pub kept : (told.content ≡ [] → ⊥) → told.content_now ≡ told.content
   pub part : (told.content ≡ []) → length told.content_now ≤ medium_len config
 
--- what is said of the medium and of the replies
-abbrev pub effects_of : Told → Effects
-effects_of told = record {
-  all = λ config commands. RunsAll config commands told;
+-- what is said of the medium, of the replies and of the status
+abbrev pub effects_of : Told → Status → Effects
+effects_of told status = record {
+  all = λ config commands. RunsAll config commands told status;
   into = λ config commands. RunsInto config commands told;
   untouched = IsUntouched told;
   making = λ config. IsMakingFailed config told;
@@ -109,7 +110,7 @@ effects_of told = record {
 
 -- `text` is the script
 abbrev pub Ends : ℕ → List ℕ → Told → Status → Type 0
-Ends knots text told status = EndsWith (effects_of told) knots text told.left_now status
+Ends knots text told status = EndsWith (effects_of told status) knots text told.left_now status
 
 -- what the outside told before and after
 abbrev pub told_of : MediaState → MediaState → Option (List ℕ) → Option (List ℕ) → Option (List ℕ) → Told

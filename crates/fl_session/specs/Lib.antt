@@ -13,7 +13,10 @@ pub mod Next
 pub mod Loop
 pub mod Begin
 pub mod Opening
+pub mod Held
+pub mod Pending
 pub mod Answer
+pub mod Caused
 pub mod Cost
 pub mod Notes
 pub mod Gives

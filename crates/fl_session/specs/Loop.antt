@@ -68,7 +68,7 @@ pub record EndsTaken (tail : Tail) (left_now : Option (List ℕ)) (around : Arou
   pub runs : RanAll around stands stands_now (accepted (tail.first ∷ whole_lines (take taken tail.text)))
 
 abbrev pub EndsCommands : Tail → Option (List ℕ) → Around → (Machine → Type 0) → (Machine → Type 0) → Status → Type 0
-EndsCommands tail left_now around stands stands_now Done = (length tail.text ≤ tail.most) × EndsAll tail around stands stands_now × (left_now ≡ Some [])
+EndsCommands tail left_now around stands stands_now (Done pending) = (length tail.text ≤ tail.most) × EndsAll tail around stands stands_now × (left_now ≡ Some [])
 EndsCommands tail left_now around stands stands_now (Line n) = EndsBad tail around stands stands_now n × TailTakes tail n left_now
 EndsCommands tail left_now around stands stands_now ScriptRead = EndsTaken tail left_now around stands stands_now
 EndsCommands tail left_now around stands stands_now OutWrite = EndsInReply tail left_now around stands stands_now

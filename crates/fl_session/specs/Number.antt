@@ -4,7 +4,7 @@ use Rattle.fl_session.specs.declared.status.Status.{Status}
 use Rattle.fl_session.specs.declared.status.Status.TheVariants.{Done, Usage, Line, ScriptRead, OutWrite, MediaMake, Config, OtherConfig, ScriptLong, NoMemory}
 
 abbrev pub number_of : Status → ℕ
-number_of Done = 0
+number_of (Done pending) = 0
 number_of Usage = 1
 number_of (Line n) = 2
 number_of ScriptRead = 3

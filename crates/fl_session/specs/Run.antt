@@ -6,6 +6,7 @@ use Rattle.fl_flash.specs.Room.{RoomSizes}
 use Rattle.fl_model.specs.Record.{Config}
 use Rattle.fl_machine.specs.Machine.{Machine}
 use Rattle.fl_script.specs.declared.command.Command as code
+use Rattle.fl_session.specs.declared.pending.PendingRows.{PendingRows}
 use Rattle.fl_session.specs.declared.status.Status.{Status}
 use Rattle.fl_session.specs.declared.status.Status.TheVariants.{Done, Line, ScriptRead, OutWrite, MediaMake, OtherConfig, ScriptLong}
 use Rattle.fl_config.specs.declared.image.ImageRefusal.{ImageRefusal}
@@ -23,7 +24,8 @@ around_of config old new told told_now = record { config = config; content = old
 
 -- nothing was run
 pub record RunsNothing (left left_now : Option (List ℕ)) (around : Around) (stands stands_now : Machine → Type 0) (status : Status) : Type 0 where
-  pub done : status ≡ Done
+  pub pending : PendingRows
+  pub done : status ≡ Done pending
   pub untaken : left_now ≡ left
   pub written : around.told_now ≡ around.told
   pub content : around.content_now ≡ around.content
@@ -37,7 +39,7 @@ RunsFrom (Some first) number state left left_now around stands stands_now status
 
 -- a status of the commands
 abbrev pub IsOfCommands : Status → Type 0
-IsOfCommands Done = Unit {0}
+IsOfCommands (Done pending) = Unit {0}
 IsOfCommands (Line n) = Unit {0}
 IsOfCommands ScriptRead = Unit {0}
 IsOfCommands OutWrite = Unit {0}

@@ -107,7 +107,7 @@ pub record EndsRead (effects : Effects) (knots : ℕ) (text : List ℕ) (left_no
 
 -- `text` is the script, and `left_now` what its source has left
 abbrev pub EndsWith : Effects → ℕ → List ℕ → Option (List ℕ) → Status → Type 0
-EndsWith effects knots text left_now Done = (length text ≤ most_bytes) × EndsDone effects (start_in knots text) × (left_now ≡ Some [])
+EndsWith effects knots text left_now (Done pending) = (length text ≤ most_bytes) × EndsDone effects (start_in knots text) × (left_now ≡ Some [])
 EndsWith effects knots text left_now Usage = effects.untouched × (left_now ≡ Some text)
 EndsWith effects knots text left_now (Line n) = EndsLine effects (start_in knots text) n × TakesLine text n left_now
 EndsWith effects knots text left_now ScriptRead = EndsRead effects knots text left_now

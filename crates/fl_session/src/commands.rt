@@ -6,7 +6,9 @@ ghost use Rattle.fl_flash.specs.Flash.{Goes};
 ghost use Rattle.fl_script.specs.CommandView.{command_view};
 ghost use Rattle.fl_session.specs.Next.{IsToRun};
 ghost use Rattle.fl_session.specs.Loop.{EndsCommands};
+ghost use Rattle.fl_session.specs.Pending.{TellsPending};
 ghost use Rattle.fl_session.specs.Run.{IsOfCommands};
+ghost use Rattle.fl_machine.specs.Machine.{Machine};
 
 use crate::Status;
 use crate::executor::Executor;
@@ -36,6 +38,7 @@ pub(crate) fn run_commands<T: Executor, S: Source, K: Sink>(
         (S.left script.new)
         (record { config = config; content = (T.flash session.old).media.content; content_now = (T.flash session.new).media.content; faults = (T.flash session.old).media.faults; faults_now = (T.flash session.new).media.faults; told = K.written out.old; told_now = K.written out.new })
         (T.stands session.old config) (T.stands session.new config) result }
+    ensures tells { (config : Config) (m : Machine) → T.stands session.new config m → TellsPending config result m }
     ensures read { result ≡ Status.ScriptRead → Rose (S.faults script.old) (S.faults script.new) }
     ensures write { result ≡ Status.OutWrite → Rose (K.faults out.old) (K.faults out.new) }
     ensures statuses { IsOfCommands result }
@@ -52,7 +55,11 @@ pub(crate) fn run_commands<T: Executor, S: Source, K: Sink>(
         line += 1;
         match next_run(lines, room, script, line) {
             Ok(Some(next)) => command = next,
-            Ok(None) => return Status::Done,
+            Ok(None) => {
+                return Status::Done {
+                    pending: session.pending(),
+                };
+            }
             Err(status) => return status,
         }
     }

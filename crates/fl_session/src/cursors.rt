@@ -11,6 +11,7 @@ ghost use Rattle.fl_script.specs.ReplyView.{reply_text};
 ghost use Rattle.fl_table.specs.Memory.{is_running, LiesOn};
 ghost use Rattle.fl_table.specs.Standing.{Stands};
 ghost use Rattle.fl_words.specs.Reply.{text};
+ghost use Rattle.fl_session.specs.Caused.{mark_on};
 ghost use Rattle.fl_session.specs.Nexts.{Nexts, ending_of};
 ghost use Rattle.fl_session.specs.Standing.{HasRooms};
 
@@ -31,6 +32,7 @@ pub(crate) fn open_cursor(
     buf: &mut Buffers,
 ) -> Bookmark
     requires { is_running table.now ≡ true }
+    ensures mark { result ≡ mark_on table.now range span }
     ensures begins { (f : FlashState) (first : ℕ) (plan : Plan) (t : model.Table) → Stands table.now f first plan t → asked_by result ≡ begin range span t }
     ensures rows { length buf.new.rows.bytes ≡ length buf.old.rows.bytes }
     ensures index { length buf.new.index.bytes ≡ length buf.old.index.bytes }

@@ -1,16 +1,21 @@
 // What executes commands.
-ghost use Rattle.std.specs.Prelude.{ℕ, List, Option};
+ghost use Rattle.std.specs.Prelude.{◌≡◌, ◌≤◌, ℕ, List, Option, Some, slice_get};
 ghost use Rattle.fl_base.specs.Causes.{HasCause};
 ghost use Rattle.fl_flash.specs.Flash.{FlashState, Goes};
-ghost use Rattle.fl_model.specs.Record.{Config};
+ghost use Rattle.fl_model.specs.Record.{Config, Plan};
 ghost use Rattle.fl_machine.specs.Machine.{Machine};
 ghost use Rattle.fl_machine.specs.Small.{AreTables};
 ghost use Rattle.fl_script.specs.CommandView.{command_view};
+ghost use Rattle.fl_session.specs.Caused.{Caused, State};
 ghost use Rattle.fl_session.specs.Execute.{Executes};
+ghost use Rattle.fl_session.specs.Held.{TellsTable, TellsCounts, TellsLast};
+ghost use Rattle.fl_session.specs.Pending.{pending_in};
 ghost use Rattle.fl_session.specs.Runnable.{IsRunnable};
 
-use fl_base::{Sink, SinkFailed};
-use fl_script::{Command, LineRoom};
+use crate::PendingRows;
+use fl_base::{Name, Sink, SinkFailed};
+use fl_script::{Command, LineRoom, Reply};
+use fl_table::TableCounts;
 
 /// What executes commands.
 pub trait Executor {
@@ -23,6 +28,12 @@ pub trait Executor {
     /// The flash on which it stands.
     ghost flash: { Self → FlashState };
 
+    /// What it has in memory, and its flash.
+    ghost state: { Self → State };
+
+    /// The flash of its state is the one on which it stands.
+    ghost state_flash: { (s : Self) → (state s).flash ≡ flash s };
+
     /// Executes a command and writes its replies.
     /// # Errors
     /// The sink failed: a first part of the replies is written, and all but the cursors is as it is after the command.
@@ -34,12 +45,32 @@ pub trait Executor {
     ) -> Result<(), SinkFailed>
         requires sound { sound self.old }
         requires runnable { IsRunnable (command_view command.now room.now) }
+        ensures cause { Caused (command_view command.now room.now) (state self.old) (state self.new) (K.written out.old) (K.written out.new) result }
         ensures sound { sound self.new }
         ensures goes { Goes (flash self.old) (flash self.new) }
         ensures sink { HasCause (K.faults out.old) (K.faults out.new) result }
         ensures step { (config : Config) (old : Machine) → stands self.old config old →
             Executes config old (command_view command.now room.now) (stands self.new config) (flash self.old) (flash self.new) (K.written out.old) (K.written out.new) result };
 
+    /// The last key of the table with this name, where it has a record; or why none is told. It is in memory: no page is read.
+    /// # Errors
+    /// `NotMounted` and `NoTable`, as a command on the table answers.
+    fn last_key(&self, name: Name) -> Result<Option<u64>, Reply>
+        ensures { (config : Config) (m : Machine) → stands self.now config m → TellsTable config m name TellsLast result };
+
+    /// How much the table with this name holds; or why nothing is told. No page is read.
+    /// # Errors
+    /// `NotMounted` and `NoTable`, as a command on the table answers.
+    fn counts(&self, name: Name) -> Result<TableCounts, Reply>
+        ensures { (config : Config) (m : Machine) → stands self.now config m → TellsTable config m name TellsCounts result };
+
+    /// The rows that no flush has written. They are in memory: no page is read.
+    fn pending(&self) -> PendingRows
+        ensures { (config : Config) (m : Machine) → stands self.now config m → result.tables ≡ pending_in config m };
+
     /// Each table of a state for which it stands is one of its plan.
     ghost tables_hold: { (s : Self) (config : Config) (m : Machine) → stands s config m → AreTables config.plans m.tables };
+
+    /// The keys of each of its tables have eight bytes at most.
+    ghost keys_fit: { (s : Self) (config : Config) (m : Machine) → stands s config m → (place : ℕ) (plan : Plan) → slice_get config.plans place ≡ Some plan → plan.key_bytes ≤ 8 };
 }

@@ -1,7 +1,7 @@
 // The puts of a load.
-ghost use Rattle.std.specs.Prelude.{◌≡◌, ◌≤◌, ℕ, ◌&&◌, List, not, true, Some, slice_get};
+ghost use Rattle.std.specs.Prelude.{◌≡◌, ◌≤◌, ℕ, ◌&&◌, List, not, true, IsTrue, IfErr, Some, slice_get};
 ghost use Rattle.fl_base.specs.Causes.{HasCause};
-ghost use Rattle.fl_flash.specs.Flash.{Goes};
+ghost use Rattle.fl_flash.specs.Flash.{Goes, page_at};
 ghost use Rattle.fl_model.specs.Record.{Config};
 ghost use Rattle.fl_words.specs.Command as words;
 ghost use Rattle.fl_words.specs.Reply.{texts};
@@ -9,9 +9,11 @@ ghost use Rattle.fl_machine.specs.Machine.{Machine};
 ghost use Rattle.fl_script.specs.Written.{Written};
 ghost use Rattle.fl_table.specs.Causes.{put_breaks};
 ghost use Rattle.fl_table.specs.Memory.{is_running, IsSamePlan, LiesOn};
+ghost use Rattle.fl_table.specs.Mounting.{OutsideStands};
 ghost use Rattle.fl_tables.specs.Tables.{IsNamed, entries_with};
 ghost use Rattle.fl_tables.specs.declared.tables.Entry.{Entry};
 ghost use Rattle.fl_session.specs.Answer.{Answers, load_replies};
+ghost use Rattle.fl_session.specs.Caused.{LoadCounts, LoadFails};
 ghost use Rattle.fl_session.specs.Standing.{SessionStands};
 ghost use Rattle.fl_session.specs.declared.notes.Notes.{Notes};
 
@@ -60,6 +62,9 @@ pub(crate) fn load<F: Flash>(
     ensures reads { (F.state flash.new).work.reads ≡ (F.state flash.old).work.reads }
     ensures running { is_running table.new ≡ (is_running table.old && not (put_breaks result.outcome)) }
     ensures same { IsSamePlan table.old table.new }
+    ensures counted { LoadCounts count result.count result.outcome }
+    ensures fails { IfErr result.outcome (LoadFails table.new (F.state flash.old) (F.state flash.new) step seed result.count) }
+    ensures outside { IsTrue (F.state flash.old).media.tells → OutsideStands table.old (page_at (F.state flash.old)) (page_at (F.state flash.new)) }
     ensures answers { (config : Config) → (entries : List Entry) → (at : ℕ) → (entry : Entry) → (name : List ℕ) → (notes : Notes) → (old : Machine) → SessionStands config entries (F.state flash.old) true notes old →
         slice_get entries at ≡ Some entry → entry.table ≡ table.old → IsNamed entries name at →
         Answers config old (words.Load name count step seed) (SessionStands config (entries_with entries at entry table.new) (F.state flash.new) (not (put_breaks result.outcome)) notes)

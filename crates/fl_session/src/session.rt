@@ -1,5 +1,5 @@
 // A session over a flash.
-ghost use Rattle.std.specs.Prelude.{◌≡◌, ◌≤◌, ◌<◌, ℕ, ◌*◌, false, Some, None, option_map, if◌then◌else◌, IsTrue};
+ghost use Rattle.std.specs.Prelude.{◌≡◌, ◌≤◌, ℕ, ◌*◌, false, Some, None, option_map, if◌then◌else◌, IsTrue};
 ghost use Rattle.fl_base.specs.Causes.{HasCause};
 ghost use Rattle.fl_flash.specs.Flash.{Goes};
 ghost use Rattle.fl_model.specs.Record.{Config};
@@ -7,32 +7,38 @@ ghost use Rattle.fl_words.specs.Command as words;
 ghost use Rattle.fl_words.specs.Reply.{text};
 ghost use Rattle.fl_words.specs.Reply as said;
 ghost use Rattle.fl_machine.specs.Machine.{Machine};
+ghost use Rattle.fl_machine.specs.Reads.{mounts_limit};
 ghost use Rattle.fl_script.specs.CommandView.{command_view};
 ghost use Rattle.fl_script.specs.ReplyView.{reply_text};
 ghost use Rattle.fl_tables.specs.Tables.{pages_of};
 ghost use Rattle.fl_session.specs.Answer.{Answers, Reaches};
+ghost use Rattle.fl_session.specs.Caused.{Caused, CostSays, FlushSays, MountSays, OnTable, PutSays, Says, StatSays};
 ghost use Rattle.fl_session.specs.Runnable.{IsRunnable};
 ghost use Rattle.fl_session.specs.Cost.{ReadsMount};
 ghost use Rattle.fl_session.specs.Execute.{Executes};
 ghost use Rattle.fl_session.specs.Notes.{no_notes};
 
+use crate::PendingRows;
 use crate::blob::show_blob;
 use crate::buffers::Buffers;
 use crate::cost::Cost;
-use crate::cursors::{next_rows, open_cursor};
 use crate::executor::Executor;
 use crate::load::load;
 use crate::lookup::look_up;
-use crate::notes::{NO_CURSORS, Notes, TableCursor};
+use crate::notes::{NO_CURSORS, Notes};
 use crate::operators::Comparison;
 use crate::replies::{cost_reply, flush_breaks, mount_reply, put_breaks};
 use crate::scans::list_rows;
-use fl_base::{CutKind, KeyRange, Name, Sink, SinkFailed, Span};
+use fl_base::{KeyRange, Name, Sink, SinkFailed, Span};
 use fl_flash::{Flash, Media, SimFlash};
 use fl_script::{Command, LineRoom, Reply, write_reply};
+use fl_table::TableCounts;
 use fl_tables::{Tables, flush_reply, put_reply};
 
+mod cursor;
 mod operate;
+mod pending;
+mod power;
 
 /// A session over a flash: it mounts the tables there and executes commands on them.
 pub struct Session<'m, M: Media> {
@@ -77,40 +83,10 @@ impl<'m, M: Media> Session<'m, M> {
 }
 
 impl<'m, M: Media> Session<'m, M> {
-    /// Ends the session: the power goes off, and what is in memory alone is lost.
-    fn off(&mut self) -> Reply
-        requires { ⟦<Self as Executor>⟧.sound self.old }
-        ensures sound { ⟦<Self as Executor>⟧.sound self.new }
-        ensures goes { Goes (⟦<Self as Executor>⟧.flash self.old) (⟦<Self as Executor>⟧.flash self.new) }
-        ensures reads { (⟦<Self as Executor>⟧.flash self.new).work.reads ≡ (⟦<Self as Executor>⟧.flash self.old).work.reads }
-        ensures step { (config : Config) (old : Machine) → ⟦<Self as Executor>⟧.stands self.old config old →
-            Answers config old words.Off (⟦<Self as Executor>⟧.stands self.new config)
-            (⟦<Self as Executor>⟧.flash self.old) (⟦<Self as Executor>⟧.flash self.new) (reply_text result) }
-    {
-        self.flash.power_off();
-        self.mounted = false;
-        self.buf.forget();
-        Reply::Done
-    }
-
-    /// The n-th program or erase from now on is torn.
-    fn cut(&mut self, n: u64, kind: CutKind) -> Reply
-        requires sound { ⟦<Self as Executor>⟧.sound self.old }
-        requires counted { 1 ≤ n }
-        ensures sound { ⟦<Self as Executor>⟧.sound self.new }
-        ensures goes { Goes (⟦<Self as Executor>⟧.flash self.old) (⟦<Self as Executor>⟧.flash self.new) }
-        ensures reads { (⟦<Self as Executor>⟧.flash self.new).work.reads ≡ (⟦<Self as Executor>⟧.flash self.old).work.reads }
-        ensures step { (config : Config) (old : Machine) → ⟦<Self as Executor>⟧.stands self.old config old →
-            Answers config old (words.Cut n kind) (⟦<Self as Executor>⟧.stands self.new config)
-            (⟦<Self as Executor>⟧.flash self.old) (⟦<Self as Executor>⟧.flash self.new) (reply_text result) }
-    {
-        self.flash.arm(n, kind);
-        Reply::Done
-    }
-
     /// Mounts the tables: the power goes on, and what stands on the flash is found and repaired.
     fn mount(&mut self) -> Reply
         requires sound { ⟦<Self as Executor>⟧.sound self.old }
+        ensures cause { Says (reply_text result) (MountSays (⟦<Self as Executor>⟧.state self.old) (⟦<Self as Executor>⟧.state self.new)) }
         ensures sound { ⟦<Self as Executor>⟧.sound self.new }
         ensures goes { Goes (⟦<Self as Executor>⟧.flash self.old) (⟦<Self as Executor>⟧.flash self.new) }
         ensures step { (config : Config) (old : Machine) → ⟦<Self as Executor>⟧.stands self.old config old →
@@ -118,6 +94,8 @@ impl<'m, M: Media> Session<'m, M> {
             (⟦<Self as Executor>⟧.flash self.old) (⟦<Self as Executor>⟧.flash self.new) (reply_text result) }
         ensures reads { IsTrue (⟦<Self as Executor>⟧.flash self.old).media.tells →
             ReadsMount self.old.mounted (⟦<Self as Executor>⟧.flash self.old) (⟦<Self as Executor>⟧.flash self.new) (4 * pages_of self.old.tables.entries.items) }
+        ensures limit { (config : Config) (old : Machine) → ⟦<Self as Executor>⟧.stands self.old config old →
+            ReadsMount self.old.mounted (⟦<Self as Executor>⟧.flash self.old) (⟦<Self as Executor>⟧.flash self.new) (mounts_limit config.plans old.tables) }
     {
         if self.mounted {
             return Reply::AlreadyMounted;
@@ -146,6 +124,7 @@ impl<'m, M: Media> Session<'m, M> {
     /// Puts a record.
     fn put(&mut self, name: Name, key: u64, values: &[i64], blob: Option<&[u8]>) -> Reply
         requires sound { ⟦<Self as Executor>⟧.sound self.old }
+        ensures cause { Says (reply_text result) (OnTable (⟦<Self as Executor>⟧.state self.old) (⟦<Self as Executor>⟧.state self.new) name (PutSays (⟦<Self as Executor>⟧.state self.old) (⟦<Self as Executor>⟧.state self.new) key values.now (option_map (λ b. b.now) blob.entry))) }
         ensures sound { ⟦<Self as Executor>⟧.sound self.new }
         ensures goes { Goes (⟦<Self as Executor>⟧.flash self.old) (⟦<Self as Executor>⟧.flash self.new) }
         ensures reads { (⟦<Self as Executor>⟧.flash self.new).work.reads ≡ (⟦<Self as Executor>⟧.flash self.old).work.reads }
@@ -167,6 +146,7 @@ impl<'m, M: Media> Session<'m, M> {
     /// Makes a page of the rows that wait in memory.
     fn flush(&mut self, name: Name) -> Reply
         requires sound { ⟦<Self as Executor>⟧.sound self.old }
+        ensures cause { Says (reply_text result) (OnTable (⟦<Self as Executor>⟧.state self.old) (⟦<Self as Executor>⟧.state self.new) name (FlushSays (⟦<Self as Executor>⟧.state self.old) (⟦<Self as Executor>⟧.state self.new))) }
         ensures sound { ⟦<Self as Executor>⟧.sound self.new }
         ensures goes { Goes (⟦<Self as Executor>⟧.flash self.old) (⟦<Self as Executor>⟧.flash self.new) }
         ensures reads { (⟦<Self as Executor>⟧.flash self.new).work.reads ≡ (⟦<Self as Executor>⟧.flash self.old).work.reads }
@@ -185,7 +165,8 @@ impl<'m, M: Media> Session<'m, M> {
 
     /// How much the table holds, and the programs and erases of the whole run.
     fn stat(&self, name: Name) -> Reply
-        ensures { (config : Config) (old : Machine) → ⟦<Self as Executor>⟧.stands self.now config old →
+        ensures cause { Says (reply_text result) (OnTable (⟦<Self as Executor>⟧.state self.now) (⟦<Self as Executor>⟧.state self.now) name (StatSays (⟦<Self as Executor>⟧.state self.now) (⟦<Self as Executor>⟧.state self.now))) }
+        ensures step { (config : Config) (old : Machine) → ⟦<Self as Executor>⟧.stands self.now config old →
             Answers config old (words.Stat name) (⟦<Self as Executor>⟧.stands self.now config)
             (⟦<Self as Executor>⟧.flash self.now) (⟦<Self as Executor>⟧.flash self.now) (reply_text result) }
     {
@@ -207,59 +188,19 @@ impl<'m, M: Media> Session<'m, M> {
 
     /// What the last get or scan cost.
     fn cost(&self) -> Reply
-        ensures { (config : Config) (old : Machine) → ⟦<Self as Executor>⟧.stands self.now config old →
+        ensures cause { Says (reply_text result) (CostSays (⟦<Self as Executor>⟧.state self.now) (⟦<Self as Executor>⟧.state self.now)) }
+        ensures step { (config : Config) (old : Machine) → ⟦<Self as Executor>⟧.stands self.now config old →
             Answers config old words.Cost (⟦<Self as Executor>⟧.stands self.now config)
             (⟦<Self as Executor>⟧.flash self.now) (⟦<Self as Executor>⟧.flash self.now) (reply_text result) }
     {
         cost_reply(self.notes.cost)
     }
 
-    /// Opens a cursor over the rows that are asked for.
-    fn open(&mut self, cursor: u64, name: Name, range: KeyRange, span: Option<Span>) -> Reply
-        requires sound { ⟦<Self as Executor>⟧.sound self.old }
-        requires cursor { cursor < 4 }
-        ensures sound { ⟦<Self as Executor>⟧.sound self.new }
-        ensures goes { Goes (⟦<Self as Executor>⟧.flash self.old) (⟦<Self as Executor>⟧.flash self.new) }
-        ensures reads { (⟦<Self as Executor>⟧.flash self.new).work.reads ≡ (⟦<Self as Executor>⟧.flash self.old).work.reads }
-        ensures step { (config : Config) (old : Machine) → ⟦<Self as Executor>⟧.stands self.old config old →
-            Answers config old (words.Open cursor name range span) (⟦<Self as Executor>⟧.stands self.new config)
-            (⟦<Self as Executor>⟧.flash self.old) (⟦<Self as Executor>⟧.flash self.new) (reply_text result) }
-    {
-        let at = match self.find(name) {
-            Ok(at) => at,
-            Err(refusal) => return refusal,
-        };
-        let table = &self.tables.entries[at].table;
-        let mark = open_cursor(table, range, span, &mut self.buf);
-        self.notes
-            .set_cursor(cursor, Some(TableCursor { table: at, mark }));
-        Reply::Done
-    }
-
-    /// Closes a cursor.
-    fn close(&mut self, cursor: u64) -> Reply
-        requires sound { ⟦<Self as Executor>⟧.sound self.old }
-        requires cursor { cursor < 4 }
-        ensures sound { ⟦<Self as Executor>⟧.sound self.new }
-        ensures goes { Goes (⟦<Self as Executor>⟧.flash self.old) (⟦<Self as Executor>⟧.flash self.new) }
-        ensures reads { (⟦<Self as Executor>⟧.flash self.new).work.reads ≡ (⟦<Self as Executor>⟧.flash self.old).work.reads }
-        ensures step { (config : Config) (old : Machine) → ⟦<Self as Executor>⟧.stands self.old config old →
-            Answers config old (words.Close cursor) (⟦<Self as Executor>⟧.stands self.new config)
-            (⟦<Self as Executor>⟧.flash self.old) (⟦<Self as Executor>⟧.flash self.new) (reply_text result) }
-    {
-        if !self.mounted {
-            return Reply::NotMounted;
-        }
-        if self.notes.cursor(cursor).is_none() {
-            return Reply::NoCursor;
-        }
-        self.notes.set_cursor(cursor, None);
-        Reply::Done
-    }
-
     /// Tells the record with the key. The pages that it reads, and how many they might have been, are its cost.
     fn get<K: Sink>(&mut self, name: Name, key: u64, out: &mut K) -> Result<(), SinkFailed>
         requires sound { ⟦<Self as Executor>⟧.sound self.old }
+        ensures cause { Caused (words.Get name key) (⟦<Self as Executor>⟧.state self.old) (⟦<Self as Executor>⟧.state self.new)
+            (K.written out.old) (K.written out.new) result }
         ensures sound { ⟦<Self as Executor>⟧.sound self.new }
         ensures goes { Goes (⟦<Self as Executor>⟧.flash self.old) (⟦<Self as Executor>⟧.flash self.new) }
         ensures sink { HasCause (K.faults out.old) (K.faults out.new) result }
@@ -283,6 +224,8 @@ impl<'m, M: Media> Session<'m, M> {
     /// Tells the blob of the record with the key.
     fn blob<K: Sink>(&mut self, name: Name, key: u64, out: &mut K) -> Result<(), SinkFailed>
         requires sound { ⟦<Self as Executor>⟧.sound self.old }
+        ensures cause { Caused (words.Blob name key) (⟦<Self as Executor>⟧.state self.old) (⟦<Self as Executor>⟧.state self.new)
+            (K.written out.old) (K.written out.new) result }
         ensures sound { ⟦<Self as Executor>⟧.sound self.new }
         ensures goes { Goes (⟦<Self as Executor>⟧.flash self.old) (⟦<Self as Executor>⟧.flash self.new) }
         ensures sink { HasCause (K.faults out.old) (K.faults out.new) result }
@@ -309,6 +252,8 @@ impl<'m, M: Media> Session<'m, M> {
         out: &mut K,
     ) -> Result<(), SinkFailed>
         requires sound { ⟦<Self as Executor>⟧.sound self.old }
+        ensures cause { Caused (words.Scan name range span) (⟦<Self as Executor>⟧.state self.old) (⟦<Self as Executor>⟧.state self.new)
+            (K.written out.old) (K.written out.new) result }
         ensures sound { ⟦<Self as Executor>⟧.sound self.new }
         ensures goes { Goes (⟦<Self as Executor>⟧.flash self.old) (⟦<Self as Executor>⟧.flash self.new) }
         ensures sink { HasCause (K.faults out.old) (K.faults out.new) result }
@@ -328,37 +273,6 @@ impl<'m, M: Media> Session<'m, M> {
         written
     }
 
-    /// Tells the next rows of a cursor, up to so many, and moves it behind those that it told.
-    fn next<K: Sink>(&mut self, cursor: u64, count: u64, out: &mut K) -> Result<(), SinkFailed>
-        requires sound { ⟦<Self as Executor>⟧.sound self.old }
-        requires cursor { cursor < 4 }
-        ensures sound { ⟦<Self as Executor>⟧.sound self.new }
-        ensures goes { Goes (⟦<Self as Executor>⟧.flash self.old) (⟦<Self as Executor>⟧.flash self.new) }
-        ensures sink { HasCause (K.faults out.old) (K.faults out.new) result }
-        ensures step { (config : Config) (old : Machine) → ⟦<Self as Executor>⟧.stands self.old config old →
-            Executes config old (words.Next cursor count) (⟦<Self as Executor>⟧.stands self.new config)
-            (⟦<Self as Executor>⟧.flash self.old) (⟦<Self as Executor>⟧.flash self.new) (K.written out.old) (K.written out.new) result }
-    {
-        if !self.mounted {
-            return write_reply(&Reply::NotMounted, out);
-        }
-        let Some(mut open) = self.notes.cursor(cursor) else {
-            return write_reply(&Reply::NoCursor, out);
-        };
-        // Its call tells the proof that the count of reads is within its bounds.
-        let _before = self.flash.work();
-        let written = next_rows(
-            &self.tables.entries[open.table].table,
-            &mut open.mark,
-            count,
-            &mut self.flash,
-            &mut self.buf,
-            out,
-        );
-        self.notes.set_cursor(cursor, Some(open));
-        written
-    }
-
     /// Puts generated records, up to the first one that is refused, and tells how many.
     fn load<K: Sink>(
         &mut self,
@@ -370,6 +284,8 @@ impl<'m, M: Media> Session<'m, M> {
     ) -> Result<(), SinkFailed>
         requires sound { ⟦<Self as Executor>⟧.sound self.old }
         requires steps { 1 ≤ step }
+        ensures cause { Caused (words.Load name count step seed) (⟦<Self as Executor>⟧.state self.old) (⟦<Self as Executor>⟧.state self.new)
+            (K.written out.old) (K.written out.new) result }
         ensures sound { ⟦<Self as Executor>⟧.sound self.new }
         ensures goes { Goes (⟦<Self as Executor>⟧.flash self.old) (⟦<Self as Executor>⟧.flash self.new) }
         ensures reads { (⟦<Self as Executor>⟧.flash self.new).work.reads ≡ (⟦<Self as Executor>⟧.flash self.old).work.reads }
@@ -397,8 +313,10 @@ fn blob_in(room: &LineRoom, blob: bool) -> Option<&[u8]>
 }
 
 impl<'m, M: Media> Executor for Session<'m, M> {
+    ghost use Rattle.std.proofs.Common.{refl};
+    ghost use Rattle.fl_session.specs.Caused.{state_of};
     ghost use Rattle.fl_session.specs.Standing.{SessionStands, IsSound};
-    ghost use Rattle.fl_session.specs.TablesHold.{tables-hold};
+    ghost use Rattle.fl_session.specs.TablesHold.{keys-fit, tables-hold};
 
     ghost stands = { λ s config. SessionStands config s.tables.entries.items (⟦<SimFlash<'m, M> as Flash>⟧.state s.flash) s.mounted s.notes };
 
@@ -406,7 +324,13 @@ impl<'m, M: Media> Executor for Session<'m, M> {
 
     ghost flash = { λ s. ⟦<SimFlash<'m, M> as Flash>⟧.state s.flash };
 
+    ghost state = { λ s. state_of s.tables.entries.items s.mounted s.notes (⟦<SimFlash<'m, M> as Flash>⟧.state s.flash) };
+
+    ghost state_flash = { λ s. refl };
+
     ghost tables_hold = { λ s config m h. tables-hold config s.tables.entries.items _ s.mounted s.notes m h };
+
+    ghost keys_fit = { λ s config m h. keys-fit config s.tables.entries.items _ s.mounted s.notes m h };
 
     fn execute<K: Sink>(
         &mut self,
@@ -475,5 +399,32 @@ impl<'m, M: Media> Executor for Session<'m, M> {
             _ => return Ok(()),
         };
         write_reply(&reply, out)
+    }
+
+    fn last_key(&self, name: Name) -> Result<Option<u64>, Reply> {
+        let at = match self.find(name) {
+            Ok(at) => at,
+            Err(refusal) => return Err(refusal),
+        };
+        Ok(self.tables.entries[at].table.last_key())
+    }
+
+    fn counts(&self, name: Name) -> Result<TableCounts, Reply> {
+        let at = match self.find(name) {
+            Ok(at) => at,
+            Err(refusal) => return Err(refusal),
+        };
+        Ok(self.tables.entries[at].table.counts())
+    }
+
+    fn pending(&self) -> PendingRows {
+        PendingRows {
+            tables: [
+                self.pending_at(0),
+                self.pending_at(1),
+                self.pending_at(2),
+                self.pending_at(3),
+            ],
+        }
     }
 }

@@ -2,11 +2,13 @@
 ghost use Rattle.std.specs.Prelude.{◌≡◌};
 ghost use Rattle.fl_session.specs.Number.{number_of};
 
+use crate::PendingRows;
+
 /// How a run ends. A line counts from 1.
 #[derive(Clone, Copy, Debug, PartialEq, Eq)]
 pub enum Status {
-    /// The script was read to its end, and every command line had its reply.
-    Done,
+    /// The script was read to its end, and every command line had its reply. These rows were pending then, and are lost.
+    Done { pending: PendingRows },
     /// The words don't name an image.
     Usage,
     /// The line isn't a command, or configures behind a command.
@@ -33,7 +35,7 @@ impl Status {
         ensures { result ≡ number_of self }
     {
         match self {
-            Status::Done => 0,
+            Status::Done { .. } => 0,
             Status::Usage => 1,
             Status::Line { .. } => 2,
             Status::ScriptRead => 3,

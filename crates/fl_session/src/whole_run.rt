@@ -1,9 +1,8 @@
 // The run of a script over an image.
-ghost use Rattle.std.specs.Prelude.{◌≡◌, ℕ, ◌+◌, ◌*◌, ◌^◌, ◌<◌, ◌≤◌, ◌↔◌, map, string_bytes, true, Bool, IsTrue, Some, None, [], List, ◌++◌, length, is_some, IfOk, vec_len, sum_by};
+ghost use Rattle.std.specs.Prelude.{◌≡◌, ℕ, ◌+◌, ◌*◌, ◌^◌, ◌<◌, ◌≤◌, ◌↔◌, map, string_bytes, true, Bool, IsTrue, Some, None, [], List, ◌++◌, length, is_some, vec_len, sum_by};
 ghost use Rattle.fl_base.specs.Causes.{Rose};
 ghost use Rattle.fl_flash.specs.Flash.{Goes};
-ghost use Rattle.fl_flash.specs.Places.{extent, IsGeometry};
-ghost use Rattle.fl_flash.specs.Sim.{on_medium};
+ghost use Rattle.fl_flash.specs.Places.{extent};
 ghost use Rattle.fl_base.specs.declared.types.Geometry.{Geometry};
 ghost use Rattle.fl_model.specs.Record.{Config as Configuration, blocks_of};
 ghost use Rattle.fl_words.specs.Command.{Command as Commanded};
@@ -16,48 +15,24 @@ ghost use Rattle.fl_session.specs.Complete.{IsInPlace, Completes};
 ghost use Rattle.fl_session.specs.Ends.{Ends, told_of, IsEarlyBy, IsOwn};
 ghost use Rattle.fl_session.specs.ScriptEnds.{ScriptEnds};
 ghost use Rattle.fl_session.specs.Opening.{MediaGoes, KeepsForm, IsBlankBehind};
+ghost use Rattle.fl_session.specs.Pending.{EndsAt, TellsPending};
 ghost use Rattle.fl_session.specs.Run.{RunsFrom, HasRoom, around_of, IsOfCommands, refused_status};
 ghost use Rattle.fl_session.specs.Standing.{RestsTold, HasRooms};
-ghost use Rattle.fl_machine.specs.Script.{StandsAfter};
+ghost use Rattle.fl_machine.specs.Machine.{Machine};
 
 use crate::begin::{Begun, read_config};
-use crate::buffers::Buffers;
 use crate::commands::run_commands;
 use crate::executor::Executor;
+use crate::opened::{Rooms, flash_on, make_rooms};
 use crate::session::Session;
 use crate::{Status, image_of};
-use fl_base::{Geometry, NoMemory, Sink, Source};
+use fl_base::{Sink, Source};
 use fl_config::{Config, ImageRefusal};
-use fl_flash::{Flash, FlashRoom, Media, SimFlash};
+use fl_flash::Media;
 use fl_lines::Lines;
 use fl_script::{Command, LineRoom};
-use fl_tables::{KNOTS, Tables};
+use fl_tables::KNOTS;
 use std::alloc::Global;
-
-/// The bytes of the medium before the first page.
-const HEADER: u64 = 1024;
-
-/// What a session needs, taken before its image is opened.
-#[derive(Drop)]
-struct Rooms {
-    tables: Tables,
-    buf: Buffers,
-    flash: FlashRoom,
-}
-
-fn make_rooms(alloc: Global, config: &Config) -> Result<Rooms, NoMemory>
-    requires whole { IsTrue (is_whole config.now) }
-    ensures tables { IfOk result (λ r. AreNewTables r.tables.entries.items config.now) }
-    ensures page { IfOk result (λ r. (g : Geometry) → config.now.device ≡ Some g → HasRooms r.buf g.page) }
-    ensures flash { IfOk result (λ r. (g : Geometry) → config.now.device ≡ Some g → HasRoom r.flash g (sum_by blocks_of config.now.plans)) }
-{
-    let geometry = config.geometry();
-    Ok(Rooms {
-        tables: Tables::plan(alloc, config)?,
-        buf: Buffers::new(alloc, geometry.page)?,
-        flash: FlashRoom::new(alloc, geometry, config.blocks())?,
-    })
-}
 
 // Runs the commands from the first on, if there is one.
 fn run_first<E: Executor, S: Source, K: Sink>(
@@ -74,6 +49,7 @@ fn run_first<E: Executor, S: Source, K: Sink>(
     requires in_hand { HoldsFirst first number room.old lines.old }
     ensures runs { (configured : Configuration) → RunsFrom first number lines.old (S.left script.old) (S.left script.new) (around_of configured (E.flash session.old).media (E.flash session.new).media (K.written out.old) (K.written out.new))
         (E.stands session.old configured) (E.stands session.new configured) result }
+    ensures tells { (configured : Configuration) (m : Machine) → E.stands session.new configured m → TellsPending configured result m }
     ensures goes { Goes (E.flash session.old) (E.flash session.new) }
     ensures read { result ≡ Status.ScriptRead → Rose (S.faults script.old) (S.faults script.new) }
     ensures write { result ≡ Status.OutWrite → Rose (K.faults out.old) (K.faults out.new) }
@@ -81,31 +57,11 @@ fn run_first<E: Executor, S: Source, K: Sink>(
     ensures later { (S.faults script.old ≤ S.faults script.new) × (K.faults out.old ≤ K.faults out.new) }
 {
     match first {
-        None => Status::Done,
+        None => Status::Done {
+            pending: session.pending(),
+        },
         Some(first) => run_commands(session, first, number, lines, room, script, out),
     }
-}
-
-/// The flash on an opened image. The pages of an image that was just made are known to be blank.
-fn flash_on<'m, M: Media>(
-    media: &'m mut M,
-    geometry: Geometry,
-    blocks: u32,
-    is_new: bool,
-    room: FlashRoom,
-) -> SimFlash<'m, M>
-    requires served { IsGeometry geometry }
-    requires reach { 1024 + extent geometry blocks ≤ length (M.state media.old).content }
-    requires room { HasRoom room geometry blocks }
-    requires blank { is_new ≡ true → IsTrue (M.state media.old).tells → IsBlankBehind geometry blocks (M.state media.old).content }
-    ensures { ⟦<SimFlash<'m, M> as Flash>⟧.state result
-        ≡ on_medium geometry blocks 1024 media.entry.ghost_name true None 0 (record { reads = 0; programs = 0; erases = 0 }) (M.state media.old) }
-{
-    let mut flash = SimFlash::with_room(media, geometry, blocks, HEADER, room);
-    if is_new {
-        flash.note_blank();
-    }
-    flash
 }
 
 /// Runs the commands of a script from the first on, over an image that was opened.
@@ -129,7 +85,7 @@ fn run_session<M: Media, S: Source, K: Sink>(
     requires flash { (g : Geometry) → config.now.device ≡ Some g → HasRoom rooms.flash g (sum_by blocks_of config.now.plans) }
     ensures runs { (configured : Configuration) → whole KNOTS config.now ≡ Some configured →
         RunsFrom begun.first begun.number lines.old (S.left script.old) (S.left script.new) (around_of configured (M.state media.old) (M.state media.new) (K.written out.old) (K.written out.new))
-        (RestsTold configured (M.state media.old)) (StandsAfter configured (Some (M.state media.new).content)) result }
+        (RestsTold configured (M.state media.old)) (EndsAt configured result (M.state media.new).content) result }
     ensures form { KeepsForm (M.state media.old) (M.state media.new) }
     ensures goes { MediaGoes (M.state media.old) (M.state media.new) }
     ensures read { result ≡ Status.ScriptRead → Rose (S.faults script.old) (S.faults script.new) }

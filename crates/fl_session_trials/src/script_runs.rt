@@ -13,14 +13,15 @@ fn words(alloc: Global) -> Result<Vec<String>, Fail> {
     Ok(words)
 }
 
-/// Runs the script that a source gives, and gives the status.
+/// Runs the script that a source gives, and gives the status, the source and the sink.
 pub(crate) fn run_source(
     alloc: Global,
     media: &mut MemMedia,
-    source: &mut MemSource,
-    sink: &mut MemSink,
-) -> Result<Status, Fail> {
-    Ok(run(alloc, &words(alloc)?, media, source, sink))
+    mut source: MemSource,
+    mut sink: MemSink,
+) -> Result<(Status, MemSource, MemSink), Fail> {
+    let status = run(alloc, &words(alloc)?, media, &mut source, &mut sink);
+    Ok((status, source, sink))
 }
 
 /// Runs a script over a medium, and gives the status and what was written.
@@ -29,8 +30,8 @@ pub(crate) fn run_script(
     media: &mut MemMedia,
     script: Vec<u8>,
 ) -> Result<(Status, MemSink), Fail> {
-    let mut source = MemSource::new(script, Vec::new(alloc));
-    let mut sink = MemSink::new(alloc, 10_000, Vec::new(alloc))?;
-    let status = run_source(alloc, media, &mut source, &mut sink)?;
+    let source = MemSource::new(script, Vec::new(alloc));
+    let sink = MemSink::new(alloc, 10_000, Vec::new(alloc))?;
+    let (status, _, sink) = run_source(alloc, media, source, sink)?;
     Ok((status, sink))
 }

@@ -3,9 +3,9 @@ mod loads;
 mod reads;
 
 use crate::script_runs::{run_script, run_source};
-use fl_base::{MemSink, MemSource};
+use fl_base::{MemSink, MemSource, Name};
 use fl_flash::MemMedia;
-use fl_session::{Status, run};
+use fl_session::{PendingRows, Status, TableRows, run};
 use std::alloc::Global;
 use std::test::Fail;
 
@@ -55,7 +55,7 @@ fn is_answered(
     add_talk(&mut script, &mut wanted, before)?;
     add_talk(&mut script, &mut wanted, after)?;
     let (status, sink) = run_script(alloc, media, script)?;
-    Ok(status == Status::Done && sink.bytes() == wanted.as_slice())
+    Ok(matches!(status, Status::Done { .. }) && sink.bytes() == wanted.as_slice())
 }
 
 /// A fault of the medium in a command is its reply, and the session goes on after a mount.
@@ -119,6 +119,9 @@ fn bad_image(rt: HostRuntime) -> Result<(), Fail> {
 #[test]
 fn statuses(rt: HostRuntime) -> Result<(), Fail> {
     let alloc = rt.alloc();
+    let done = Status::Done {
+        pending: PendingRows { tables: [None; 4] },
+    };
     let cases = [
         ("", "", Status::Config { line: 0 }),
         ("device 128 1\n", "", Status::Config { line: 1 }),
@@ -126,12 +129,8 @@ fn statuses(rt: HostRuntime) -> Result<(), Fail> {
         ("device 128 4\nfrob\n", "", Status::Line { line: 2 }),
         ("C\nmount\nfrob\nmount\n", "ok\n", Status::Line { line: 5 }),
         ("C\nmount\ndevice 128 4\n", "ok\n", Status::Line { line: 5 }),
-        ("C\nmount\nblob t 1\n", "ok\nnone\n", Status::Done),
-        (
-            "C\n# last\nmount\r\nmount",
-            "ok\nalready mounted\n",
-            Status::Done,
-        ),
+        ("C\nmount\nblob t 1\n", "ok\nnone\n", done),
+        ("C\n# last\nmount\r\nmount", "ok\nalready mounted\n", done),
     ];
     for (i, (script, replies, status)) in cases.iter().enumerate() {
         let mut bytes = Vec::new(alloc);
@@ -147,13 +146,48 @@ fn statuses(rt: HostRuntime) -> Result<(), Fail> {
     Ok(())
 }
 
+/// What no flush has written is told at the end, table by table.
+#[test]
+fn pending_rows(rt: HostRuntime) -> Result<(), Fail> {
+    let alloc = rt.alloc();
+    let tables = "device 128 4\ntable t 8 i32 3 0 0 0 0 1 1 0\ntable u 8 i32 3 0 0 0 0 1 1 0\n";
+    let cases = [
+        ("mount\nput t 1 0\nput u 1 0\nput u 2 0\n", 1, 2),
+        ("mount\nput t 2 0\nput u 3 0\nflush t\n", 0, 1),
+        ("mount\nput t 3 0\nput u 4 0\noff\n", 0, 0),
+    ];
+    let mut media = MemMedia::new(alloc, Vec::new(alloc), 4096)?;
+    for (i, (commands, first, second)) in cases.iter().enumerate() {
+        let (status, _) = run_script(alloc, &mut media, text(alloc, &[tables, commands])?)?;
+        let pending = PendingRows {
+            tables: [
+                table_rows(b"t", *first),
+                table_rows(b"u", *second),
+                None,
+                None,
+            ],
+        };
+        assert!(rt; status == Status::Done { pending }, "{i}");
+    }
+    Ok(())
+}
+
+/// The table with this name, if rows of it are pending.
+fn table_rows(name: &[u8], rows: u32) -> Option<TableRows> {
+    if rows == 0 {
+        return None;
+    }
+    let name = Name::of(name)?;
+    Some(TableRows { name, rows })
+}
+
 /// An image of another configuration.
 #[test]
 fn another_configuration(rt: HostRuntime) -> Result<(), Fail> {
     let alloc = rt.alloc();
     let mut media = empty_medium(alloc)?;
     let (status, _) = run_script(alloc, &mut media, text(alloc, &[CONFIG, "mount\n"])?)?;
-    assert!(rt; status == Status::Done);
+    assert!(rt; matches!(status, Status::Done { .. }));
     let other = text(
         alloc,
         &["device 128 4\ntable u 8 i32 3 0 0 0 0 1 1 0\nmount\n"],
@@ -186,14 +220,14 @@ fn failing_medium(rt: HostRuntime) -> Result<(), Fail> {
 fn failing_streams(rt: HostRuntime) -> Result<(), Fail> {
     let alloc = rt.alloc();
     let mut media = empty_medium(alloc)?;
-    let mut sink = MemSink::new(alloc, 100, vec![in alloc; 2]?)?;
-    let mut source = MemSource::new(
+    let sink = MemSink::new(alloc, 100, vec![in alloc; 2]?)?;
+    let source = MemSource::new(
         text(alloc, &[CONFIG, "mount\nmount\n"])?,
         vec![in alloc; 1]?,
     );
-    let status = run_source(alloc, &mut media, &mut source, &mut sink)?;
+    let (status, source, sink) = run_source(alloc, &mut media, source, sink)?;
     assert!(rt; status == Status::ScriptRead);
-    let status = run_source(alloc, &mut media, &mut source, &mut sink)?;
+    let (status, _, sink) = run_source(alloc, &mut media, source, sink)?;
     assert!(rt; status == Status::OutWrite);
     assert!(rt; sink.bytes() == "ok\n".as_bytes());
     Ok(())
@@ -224,7 +258,7 @@ fn long_scripts(rt: HostRuntime) -> Result<(), Fail> {
     }
     let mut media = empty_medium(alloc)?;
     let (status, sink) = run_script(alloc, &mut media, script.clone()?)?;
-    assert!(rt; status == Status::Done);
+    assert!(rt; matches!(status, Status::Done { .. }));
     assert!(rt; sink.bytes() == "ok\n".as_bytes());
     script.push(b'#')?;
     let (status, _) = run_script(alloc, &mut media, script)?;

@@ -56,7 +56,7 @@ pub end_or-push : (a : ℕ × ℕ) (xs : List (ℕ × ℕ)) (p : ℕ × ℕ) →
 end_or-push a [] p = refl
 end_or-push a (x ∷ xs) p = end_or-push x xs p
 
-last_of-at : (xs : List (ℕ × ℕ)) (d : ℕ × ℕ) → 0 < length xs → last_of xs ≡ Some (get_or xs (length xs - 1) d)
+pub last_of-at : (xs : List (ℕ × ℕ)) (d : ℕ × ℕ) → 0 < length xs → last_of xs ≡ Some (get_or xs (length xs - 1) d)
 last_of-at xs d some = slice_get-get_or xs (length xs - 1) d (omega arith)
 
 -- a later one still

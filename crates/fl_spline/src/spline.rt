@@ -22,9 +22,9 @@ pub struct Spline<const KNOTS: usize> {
 }
 
 impl<const KNOTS: usize> Spline<KNOTS> {
-    ghost use Rattle.std.specs.Prelude.{◌≡◌, ◌<◌, ◌+◌, ℕ, List, [], ◌∷◌, ◌++◌, length, false, Option, Some, None, IfSome, MatchOption, slice_get, option_map};
+    ghost use Rattle.std.specs.Prelude.{◌≡◌, ◌<◌, ◌+◌, ℕ, List, [], ◌∷◌, ◌++◌, length, false, Option, Some, None, IfSome, MatchOption};
     ghost use Rattle.fl_model.specs.Spline.{is_covered, estimate};
-    ghost use Rattle.fl_spline.specs.Points.{IsFurther, Rises};
+    ghost use Rattle.fl_spline.specs.Points.{IsFurther, Rises, LastMoved, oldest_key};
     ghost use Rattle.fl_spline.specs.Scan.{Scan, scan_step, Holds};
     ghost use Rattle.fl_spline.specs.Spline.{error_of, kept, SplineOf};
     ghost use Rattle.fl_spline.specs.Segment.{point_at, IsSegment, InWindow};
@@ -55,6 +55,7 @@ impl<const KNOTS: usize> Spline<KNOTS> {
         requires { IsFurther (kept self.old) (x, y) }
         ensures error { error_of self.new ≡ error_of self.old }
         ensures last { last_of (kept self.new) ≡ Some (x, y) }
+        ensures moved { length (kept self.new) ≡ length (kept self.old) → oldest_key (kept self.new) ≡ oldest_key (kept self.old) → LastMoved (kept self.old) (kept self.new) }
         ensures spline { (error : ℕ) (points : List (ℕ × ℕ)) → SplineOf error points self.old → SplineOf error (points ++ (x, y) ∷ []) self.new }
     {
         self.scan_one((x, y));
@@ -64,6 +65,8 @@ impl<const KNOTS: usize> Spline<KNOTS> {
         requires { IsFurther self.old.knots.items point }
         ensures error { self.new.error ≡ self.old.error }
         ensures last { last_of self.new.knots.items ≡ Some point }
+        ensures moved { length self.new.knots.items ≡ length self.old.knots.items → oldest_key self.new.knots.items ≡ oldest_key self.old.knots.items
+            → LastMoved self.old.knots.items self.new.knots.items }
         ensures scans { (s : Option Scan) → Holds KNOTS self.old.error s self.old.knots.items self.old.corridor
             → Holds KNOTS self.old.error (scan_step self.old.error s point) self.new.knots.items self.new.corridor }
     {
@@ -112,7 +115,7 @@ impl<const KNOTS: usize> Spline<KNOTS> {
 
     /// The least key that is covered: the key of the oldest kept knot.
     pub fn covered_from(&self) -> Option<u64>
-        ensures { result ≡ option_map (λ knot. knot.0) (slice_get (kept self.now) 0) }
+        ensures { result ≡ oldest_key (kept self.now) }
     {
         self.knots.as_slice().first().map(|knot| knot.0)
     }

@@ -1,5 +1,5 @@
 -- What a mount comes to as it reads.
-use Rattle.std.proofs.Common.{◌≡◌, ℕ, zero, suc, ◌+◌, ◌-◌, ◌<◌, ◌≤◌, Bool, true, false, cond, Option, Some, None, List, [], sym, ◌∙◌, ap, refl, arith}
+use Rattle.std.proofs.Common.{◌≡◌, ℕ, zero, suc, ◌+◌, ◌-◌, ◌<◌, ◌≤◌, Bool, true, false, cond, Option, Some, None, List, [], sym, ◌∙◌, ap, subst, refl, arith}
 use Rattle.std.specs.Option.{is_none}
 use Rattle.fl_flash.specs.Flash.{FlashState, page_at}
 use Rattle.fl_model.specs.Layout.{Full}
@@ -39,6 +39,21 @@ unlisted-more t n (suc m) none le =
     let one = more-unlisted t (n + m) (t.oldest + (n + m)) (n + suc m) refl (omega arith) in
     let bit : ◌≡◌ {A = ℕ} (cond (is_none (entry t (t.oldest + (n + m)))) 1 0) 1 = ap (λ (o : Option Full). cond (is_none o) 1 0) here in
     omega (arith, before, one, bit)
+
+-- .. and more pages don't have fewer
+pub unlisted-rises : (t : Come) (n m : ℕ) → n ≤ m → unlisted_of t t.oldest n ≤ unlisted_of t t.oldest m
+unlisted-rises t n m le = let e : n + (m - n) ≡ m = omega (arith, le) in omega (arith, by_more (m - n), ap (unlisted_of t t.oldest) e)
+  where
+    by_more : (k : ℕ) → unlisted_of t t.oldest n ≤ unlisted_of t t.oldest (n + k)
+    by_more zero = let e : n + 0 ≡ n = omega arith in omega (arith, ap (unlisted_of t t.oldest) e)
+    by_more (suc k) = omega (arith, by_more k, more-unlisted t (n + k) (t.oldest + (n + k)) (n + suc k) refl (omega arith))
+
+-- the pages that no index page lists are those before a number and all from there on, where none lists one from there on
+pub unlisted-behind : (t : Come) (from next : ℕ) → AreUnlisted t from → t.oldest ≤ from → from ≤ next → t.oldest + t.pages ≡ next → unlisted_of t t.oldest t.pages ≡ unlisted_of t t.oldest (from - t.oldest) + (next - from)
+unlisted-behind t from next none low high ends =
+    let at : t.oldest + (from - t.oldest) ≡ from = omega (arith, low) in
+    let all : (from - t.oldest) + (next - from) ≡ t.pages = omega (arith, low, high, ends) in
+    sym (ap (unlisted_of t t.oldest) all) ∙ unlisted-more t (from - t.oldest) (next - from) (subst (AreUnlisted t) (sym at) none) (omega (arith, all))
 
 pub fewer-reads : (f g : FlashState) (n m : ℕ) → n ≤ m → OnlyReads f n g → OnlyReads f m g
 fewer-reads f g n m le h = record {

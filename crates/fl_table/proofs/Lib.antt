@@ -17,6 +17,7 @@ pub mod Settled
 pub mod BlobStands
 pub mod Following
 pub mod PowerOff
+pub mod PowerOn
 pub mod Outsides
 pub mod Firsts
 pub mod FullEntries
@@ -29,6 +30,8 @@ pub mod Sealed
 pub mod Lifted
 pub mod Repaired
 pub mod MountLifted
+pub mod MountLimits
+pub mod KeptStart
 pub mod Images
 pub mod Misfits
 pub mod Memories
@@ -70,6 +73,7 @@ pub mod KeptPages
 pub mod Looks
 pub mod KeptRead
 pub mod StillStands
+pub mod Apart
 pub mod MountGood
 pub mod MountRead
 pub mod MountComes

@@ -1,15 +1,21 @@
 -- Where a flash stands for a table, the mount of its data ring comes to the pages of that table.
-use Rattle.std.proofs.Common.{◌≡◌, ℕ, ◌+◌, ◌-◌, ◌/◌, ◌<◌, ◌≤◌, Bool, true, false, Option, Some, None, length, sym, ◌∙◌, ap, subst, arith}
-use Rattle.std.specs.List.{slice_get}
+use Rattle.std.proofs.Common.{◌≡◌, ℕ, ◌+◌, ◌-◌, ◌/◌, ◌<◌, ◌≤◌, Bool, true, false, Option, Some, None, List, length, refl, sym, ◌∙◌, ap, subst, arith}
+use Rattle.std.specs.List.{count_by, slice_get}
+use Rattle.std.specs.Option.{is_none}
+use Rattle.std.specs.Prelude.{not}
 use Rattle.fl_flash.specs.Flash.{FlashState, page_at}
 use Rattle.fl_flash.specs.Places.{extent}
 use Rattle.fl_index.specs.declared.index.Index.{Index}
 use Rattle.fl_index.specs.Memory.{form_in, oldest_in}
 use Rattle.fl_index.specs.Memory as memory
 use Rattle.fl_index.specs.Standing.{HasIndex, RemembersBelow}
-use Rattle.fl_index.proofs.Sealings.{lies-size}
+use Rattle.fl_index.specs.declared.page.EntryForm.{EntryForm}
+use Rattle.fl_index.proofs.Sealings.{lies-size, planned-form}
 use Rattle.fl_model.specs.Image.{rows_at}
+use Rattle.fl_model.specs.Index.{IndexPage}
+use Rattle.fl_model.specs.Limits.{is_listed, numbers_from, numbers_of}
 use Rattle.fl_model.specs.Mount.{index_end}
+use Rattle.fl_model.specs.MountLimit.{kept_in}
 use Rattle.fl_model.specs.Record.{Plan, RowLayout, row_layout, row_len, rows_per_page, layout_len}
 use Rattle.fl_model.specs.Ring as model
 use Rattle.fl_model.specs.Table.{Table, lose}
@@ -21,23 +27,25 @@ use Rattle.fl_ring.specs.Ring.{OnRing, Shape}
 use Rattle.fl_ring.specs.Ring.{place as place_at}
 use Rattle.fl_ring.specs.declared.ring.Ring.{Ring}
 use Rattle.fl_schema.specs.Schema.{layout_of, types_of}
-use Rattle.fl_table.specs.Bitmaps.{LieOn}
-use Rattle.fl_table.specs.ByEntries.{Come, index_page, is_committed, end_before}
+use Rattle.fl_table.specs.Bitmaps.{ArePlanned, LieOn}
+use Rattle.fl_table.specs.ByEntries.{Come, entry, index_page, is_committed, end_before, unlisted_of}
 use Rattle.fl_table.specs.Coming.{ComesBy, ComesTo, StandFound, StandsFoundBy, most_in}
 use Rattle.fl_table.specs.Memory.{IsPlanned}
 use Rattle.fl_table.specs.Reading.{pages_of}
 use Rattle.fl_table.specs.declared.table.Table as code
 use Rattle.fl_table.proofs.Comings.{rows-come}
 use Rattle.fl_table.proofs.Entries.{fields-fit}
+use Rattle.fl_table.proofs.Indexing.{planned-none}
 use Rattle.fl_table.proofs.MountCalls.{OthersStill}
 use Rattle.fl_table.proofs.MountLifted.{RowsMount}
 use Rattle.fl_table.proofs.MountRead.{HoldRows, hold-rows, page-of}
 use Rattle.fl_table.proofs.Moved.{has-index, below-moved, ring-moved}
-use Rattle.fl_table.proofs.Plain.{table-facts}
+use Rattle.fl_table.proofs.Plain.{none-listed, table-facts}
 use Rattle.fl_table.proofs.Repaired.{idle-lost}
 use Rattle.fl_table.proofs.SealAnswers.{planned-large}
 use Rattle.fl_table.proofs.Standing.{IsOf, IsPageOf, IsIndexOf}
-use Rattle.fl_table.proofs.StandingIndex.{index-of, ends-within}
+use Rattle.fl_table.proofs.StandingIndex.{index-of, ends-within, few-kept, listed-told}
+use Rattle.fl_table.proofs.StandingTotals.{unlisted-counted, unlisted-few}
 use Rattle.fl_table.proofs.States.{shape_in, state_of, state-oldest, HaveSize}
 
 module _ {KNOTS SLOTS : ℕ} (t : code.Table KNOTS SLOTS) (first : ℕ) (plan : Plan) (table : Table) (rose : Bool) (device : Device) (ring : Ring) (old mid : FlashState) (planned : IsPlanned t first plan) (here : place.shape_of ring ≡ shape_in first plan)
@@ -86,29 +94,43 @@ module _ {KNOTS SLOTS : ℕ} (t : code.Table KNOTS SLOTS) (first : ℕ) (plan : 
       record IsIndexed : Type 0 where
         index : (k : ℕ) → k < c.index_pages → is_committed (index_page c k) ≡ true → IsIndexOf c k l.now.state
         ends : end_before c c.index_pages ≤ index_end plan l.now.state
+        listed : plan.full_index ≡ true → (number : ℕ) → is_listed plan l.now.state number ≡ true → is_none (entry c number) ≡ false
+        few : c.index_pages ≤ kept_in l.now.state.index
 
       index-comes : IsIndexed
-      index-comes = by_index t.bitmaps found-there comes lies
+      index-comes = by_index t.bitmaps refl found-there comes lies
         where
-          none : c.index_pages ≡ 0 → IsIndexed
-          none e = record {
+          not_both : true ≡ false → ⊥
+          not_both e = cc
+
+          none : c.index_pages ≡ 0 → (plan.full_index ≡ true → (number : ℕ) → is_listed plan l.now.state number ≡ false) → IsIndexed
+          none e unlisted = record {
             index = λ k lt is. absurd (omega (arith, lt, e));
             ends = let z : end_before c c.index_pages ≡ 0 = ap (end_before c) e in omega (arith, z);
+            listed = λ full number is. absurd (not_both (sym is ∙ unlisted full number));
+            few = omega (arith, e);
           }
 
-          by_form : (index : Index) (full : Bool) → StandsFoundBy full index mid (first + plan.data_blocks) plan l.now.state → ComesBy full c (layout_of t.schema) (most_in t.geometry.page (layout_of t.schema)) index ring mid → memory.LiesOn index mid → IsIndexed
-          by_form index false h k lie = none k.1
-          by_form index true h k lie =
+          bare : t.bitmaps ≡ None → (number : ℕ) → is_listed plan l.now.state number ≡ false
+          bare is number =
+              let has = planned-none (first + plan.data_blocks) plan (subst (λ (o : Option Index). ArePlanned o (first + plan.data_blocks) plan) is planned.index) in
+              ap (λ (pages : List IndexPage). is_listed plan (record l.now.state { index_pages = pages }) number) (none-listed plan l.now.state has l.facts)
+
+          by_form : (index : Index) (full : Bool) → (form_in index).full ≡ full → StandsFoundBy full index mid (first + plan.data_blocks) plan l.now.state → ComesBy full c (layout_of t.schema) (most_in t.geometry.page (layout_of t.schema)) index ring mid → memory.LiesOn index mid → IsIndexed
+          by_form index false e h k lie = none k.1 (λ full number. absurd (not_both (sym full ∙ (sym (ap (λ (form : EntryForm). form.full) (planned-form index (first + plan.data_blocks) plan h.planned)) ∙ e))))
+          by_form index true e h k lie =
               let size = lies-size index mid (first + plan.data_blocks) plan h.planned lie.geometry lie.within reaches in
               let fit = λ (n rows : ℕ) (e : slice_get l.now.state.rows.counts n ≡ Some rows). fields-fit t first plan l.now.state planned (table-facts plan l.now.state l.facts) n rows e in
               record {
                 index = λ j lt is. index-of (RemembersBelow (oldest_in index)) c (layout_of t.schema) (most_in t.geometry.page (layout_of t.schema)) index ring mid (first + plan.data_blocks) plan l.now.state k h size begin-is fit j lt is;
                 ends = ends-within (RemembersBelow (oldest_in index)) c (layout_of t.schema) (most_in t.geometry.page (layout_of t.schema)) index ring mid (first + plan.data_blocks) plan l.now.state k h size begin-is fit;
+                listed = λ full number is. listed-told (RemembersBelow (oldest_in index)) c (layout_of t.schema) (most_in t.geometry.page (layout_of t.schema)) index ring mid (first + plan.data_blocks) plan l.now.state k h size begin-is fit number is;
+                few = few-kept (RemembersBelow (oldest_in index)) c (layout_of t.schema) (most_in t.geometry.page (layout_of t.schema)) index ring mid (first + plan.data_blocks) plan l.now.state k h size begin-is fit;
               }
 
-          by_index : (o : Option Index) → StandFound o mid (first + plan.data_blocks) plan l.now.state → ComesTo c (layout_of t.schema) (most_in t.geometry.page (layout_of t.schema)) o ring mid → LieOn o mid → IsIndexed
-          by_index None h k lie = none k.1
-          by_index (Some index) h k lie = by_form index (form_in index).full h k lie
+          by_index : (o : Option Index) → t.bitmaps ≡ o → StandFound o mid (first + plan.data_blocks) plan l.now.state → ComesTo c (layout_of t.schema) (most_in t.geometry.page (layout_of t.schema)) o ring mid → LieOn o mid → IsIndexed
+          by_index None is h k lie = none k.1 (λ full. bare is)
+          by_index (Some index) is h k lie = by_form index (form_in index).full refl h k lie
 
       pub index-ends : end_before c c.index_pages ≤ index_end plan l.now.state
       index-ends = index-comes.ends
@@ -133,3 +155,22 @@ module _ {KNOTS SLOTS : ℕ} (t : code.Table KNOTS SLOTS) (first : ℕ) (plan : 
         where
           room : rows_per_page plan ≡ most_in t.geometry.page (layout_of t.schema)
           room = ap (λ g. (g.page - 24) / row_len plan) planned.geometry ∙ ap (λ (x : RowLayout). (t.geometry.page - 24) / layout_len x) planned.layout
+
+      -- where entries are full, no more data pages are read without an entry than those that the table's index doesn't list
+      pub few-come : c.index_pages ≤ kept_in l.now.state.index
+      few-come = index-comes.few
+
+      pub few-unlisted : plan.full_index ≡ true → unlisted_of c c.oldest c.pages ≤ count_by (λ number. not (is_listed plan l.now.state number)) (numbers_of l.now.state)
+      few-unlisted full =
+          let few = unlisted-few (λ number. is_none (entry c number)) (λ number. not (is_listed plan l.now.state number)) c.oldest c.pages (λ i lt none. by_test (c.oldest + i) (is_listed plan l.now.state (c.oldest + i)) refl (index-comes.listed full (c.oldest + i)) none) in
+          let counted = unlisted-counted c c.pages in
+          let same = ap (λ n. count_by (λ number. not (is_listed plan l.now.state number)) (numbers_from n c.pages)) begin-is in
+          let pages = ap (λ n. count_by (λ number. not (is_listed plan l.now.state number)) (numbers_from (model.oldest l.now.state.rows) n)) comes-to.pages in
+          omega (arith, few, counted, same, pages)
+        where
+          not_both : true ≡ false → ⊥
+          not_both e = cc
+
+          by_test : (number : ℕ) (b : Bool) → is_listed plan l.now.state number ≡ b → (is_listed plan l.now.state number ≡ true → is_none (entry c number) ≡ false) → is_none (entry c number) ≡ true → not b ≡ true
+          by_test number true e told none = absurd (not_both (sym none ∙ told e))
+          by_test number false e told none = refl

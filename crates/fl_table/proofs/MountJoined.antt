@@ -9,15 +9,16 @@ use Rattle.fl_index.specs.declared.index.Index.{Index}
 use Rattle.fl_index.specs.Memory as memory
 use Rattle.fl_index.specs.Outcomes as outcomes
 use Rattle.fl_index.proofs.Sealings.{planned-ring}
-use Rattle.fl_model.specs.Facts.{counts_in, is_some_ring}
+use Rattle.fl_model.specs.Facts.{is_some_ring}
 use Rattle.fl_model.specs.Image.{IsRingImage, HoldsEntries}
 use Rattle.fl_index.specs.Standing as standing
 use Rattle.fl_ring.specs.Mounting.{shape_at}
 use Rattle.fl_table.proofs.Moved.{has-index}
 use Rattle.fl_model.specs.Mount.{rings_of, index_end}
+use Rattle.fl_model.specs.MountLimit.{repaired, all_repaired, part_mount_limit, mount_limit}
 use Rattle.fl_model.specs.Record.{Plan, RowLayout, has_index}
 use Rattle.fl_model.specs.Ring as model
-use Rattle.fl_model.specs.Table.{Table, RingName, DataRing, IndexRing, VarRing, shape_of, full_pages}
+use Rattle.fl_model.specs.Table.{Table, RingName, DataRing, IndexRing, VarRing, shape_of}
 use Rattle.fl_model.specs.Work.{Device}
 use Rattle.fl_ring.specs.Device.{SameDevice}
 use Rattle.fl_ring.specs.Finding.{FoundFault}
@@ -50,25 +51,12 @@ use Rattle.fl_table.proofs.Following.{cause-later}
 use Rattle.fl_table.proofs.Indexing.{planned-none, planned-some}
 use Rattle.fl_table.proofs.IndexSeals.{rows-stand, var-stand}
 use Rattle.fl_var.specs.declared.var_data.VarData.{VarData}
+use Rattle.fl_table.specs.MountLimits.{IsIndexLimited, rows_mount_limit}
+use Rattle.fl_table.proofs.MountLimits.{done-repaired, index-within, limit-bare, limit-indexed}
 use Rattle.fl_table.proofs.MountIndexed.{index-fails, index-mounts, then-rows}
-use Rattle.fl_table.proofs.Plain.{IsPlainTable, table-parts}
+use Rattle.fl_table.proofs.Plain.{IsPlainTable, none-listed, table-parts}
 use Rattle.fl_table.proofs.Repaired.{lost-idle}
 use Rattle.fl_table.proofs.SealAnswers.{planned-shape}
-
--- a table without an index lists nothing
-none_listed : (plan : Plan) (table : Table) → has_index plan ≡ false → IsPlainTable plan table → index_end plan table ≡ 0
-none_listed plan table none facts = by_pages table.index_pages (by_ring table.index facts.index.has facts.index.each)
-  where
-    by_ring : (o : Option model.Ring) → is_some_ring o ≡ has_index plan → length table.index_pages ≡ full_pages (counts_in o) → length table.index_pages ≡ 0
-    by_ring None e k = k
-    by_ring (Some r) e k = absurd (no (e ∙ none))
-      where
-        no : true ≡ false → ⊥
-        no x = cc
-
-    by_pages : (pages : List IndexPage) → length pages ≡ 0 → index_end plan (record table { index_pages = pages }) ≡ 0
-    by_pages [] e = refl
-    by_pages (x ∷ xs) e = absurd (omega (arith, e))
 
 module _ {KNOTS SLOTS : ℕ} (t : code.Table KNOTS SLOTS) (old new : FlashState) (first : ℕ) (plan : Plan) (table : Table) (rose : Bool) (device : Device) (planned : IsPlanned t first plan) (rests : Rests old first plan table) (watched : IsWatched old new rose device) where
   facts : IsPlainTable plan table
@@ -112,6 +100,12 @@ module _ {KNOTS SLOTS : ℕ} (t : code.Table KNOTS SLOTS) (old new : FlashState)
           pages = subst (λ (o : Option model.Ring). IfSome o (λ x. IsRingImage (shape_of plan IndexRing) x (bytes_in (page_at old) first plan IndexRing) (HoldsEntries plan table x))) r.1 rests.pages.index;
         }
 
+  -- there is none, so it ends at 0
+  none-ends : (end : Option ℕ) → ◌≡◌ {A = Result (Option ℕ) RingFault} (Ok end) (Ok None) → has_index plan ≡ false → unwrap_or end 0 ≡ index_end plan table
+  none-ends end e none =
+      let k : end ≡ None = cc in
+      ap (λ (o : Option ℕ). unwrap_or o 0) k ∙ sym (ap (λ (pages : List IndexPage). index_end plan (record table { index_pages = pages })) (none-listed plan table none facts))
+
   -- the index failed
   pub mount-fails : (bitmaps now : Option Index) (e : RingFault) (t' : code.Table KNOTS SLOTS) → t.bitmaps ≡ bitmaps → StandOutside bitmaps (page_at old) (page_at new) → MountEndsOf bitmaps old (first + plan.data_blocks) plan table rose device (Err e) now new →
       MountEnds first plan table rose device (Err (of_ring e)) t' new
@@ -139,10 +133,7 @@ module _ {KNOTS SLOTS : ℕ} (t : code.Table KNOTS SLOTS) (old new : FlashState)
       let one : rings_of plan ≡ DataRing ∷ var_rings plan = ap (λ (b : Bool). (cond b (IndexRing ∷ []) []) ++ DataRing ∷ [] ++ var_rings plan) none in
       subst (λ (rings : List RingName). RingsEnd first plan rings table rose device result t' last) (sym one)
       (go table device (ap (λ (f : FlashState). f.is_on) h.2 ∙ watched.on) (subst (λ (f : FlashState). SameDevice f device) (sym h.2) watched.counts) (subst (λ (f : FlashState). Rests f first plan table) (sym h.2) rests)
-      (subst (λ (o : Option Index). StandFound o new (first + plan.data_blocks) plan table) (sym h.1) tt) (ends h.0 ∙ sym (none_listed plan table none facts)))
-    where
-      ends : ◌≡◌ {A = Result (Option ℕ) RingFault} (Ok end) (Ok None) → unwrap_or end 0 ≡ 0
-      ends e = let k : end ≡ None = cc in ap (λ (o : Option ℕ). unwrap_or o 0) k
+      (subst (λ (o : Option Index). StandFound o new (first + plan.data_blocks) plan table) (sym h.1) tt) (none-ends end h.0 none))
   mount-then (Some index) None end result t' last is same outside h go = absurd h
   mount-then (Some index) (Some now) end result t' last is same outside h go =
       let Remembers = RemembersFound (memory.form_in index).full now in
@@ -151,6 +142,33 @@ module _ {KNOTS SLOTS : ℕ} (t : code.Table KNOTS SLOTS) (old new : FlashState)
       let stands = subst (λ (full : Bool). StandsFoundBy full now new (first + plan.data_blocks) plan m.now.state) (sym same.full) m.stands in
       then-rows old new first plan table rose device (has index is outside) (some_pages index is outside) facts (lost-idle table rests.settled.lost) rests (same_rows index is outside) (same_var index is outside) Remembers end now m result t' last
       (go m.now.state m.now.device m.power m.counts at_rest stands (ap (λ (o : Option ℕ). unwrap_or o 0) m.answer))
+
+  -- what it reads at most, where entries are full
+  pub index-limit : (bitmaps : Option Index) → t.bitmaps ≡ bitmaps → StandOutside bitmaps (page_at old) (page_at new) → IsIndexLimited bitmaps old (first + plan.data_blocks) plan table new → plan.full_index ≡ true →
+      new.work.reads ≤ old.work.reads + mount_limit plan table
+  index-limit None is outside few full = omega (arith, few)
+  index-limit (Some index) is outside few full =
+      let part = few (planned_index index is outside) (rests_index index is outside) full in
+      omega (arith, part, index-within plan table (all_repaired plan (rings_of plan) table))
+
+  -- .. and both
+  pub limit-then : (bitmaps now : Option Index) (end : Option ℕ) (last : FlashState) → t.bitmaps ≡ bitmaps → AreSamePlan bitmaps now → StandOutside bitmaps (page_at old) (page_at new) → MountEndsOf bitmaps old (first + plan.data_blocks) plan table rose device (Ok end) now new →
+      IsIndexLimited bitmaps old (first + plan.data_blocks) plan table new → plan.full_index ≡ true →
+      ((x : Table) (later : Device) → new.is_on ≡ true → SameDevice new later → Rests new first plan x → StandFound now new (first + plan.data_blocks) plan x → unwrap_or end 0 ≡ index_end plan x →
+      last.work.reads ≤ new.work.reads + (rows_mount_limit plan x (repaired plan DataRing x) + part_mount_limit (shape_of plan VarRing) x.var)) → last.work.reads ≤ old.work.reads + mount_limit plan table
+  limit-then None now end last is same outside h few full go =
+      let none = planned-none (first + plan.data_blocks) plan (subst (λ (o : Option Index). ArePlanned o (first + plan.data_blocks) plan) is planned.index) in
+      limit-bare plan table old.work.reads new.work.reads last.work.reads none few
+      (go table device (ap (λ (f : FlashState). f.is_on) h.2 ∙ watched.on) (subst (λ (f : FlashState). SameDevice f device) (sym h.2) watched.counts) (subst (λ (f : FlashState). Rests f first plan table) (sym h.2) rests)
+      (subst (λ (o : Option Index). StandFound o new (first + plan.data_blocks) plan table) (sym h.1) tt) (none-ends end h.0 none))
+  limit-then (Some index) None end last is same outside h few full go = absurd h
+  limit-then (Some index) (Some now) end last is same outside h few full go =
+      let Remembers = RemembersFound (memory.form_in index).full now in
+      let m = h watched (planned_index index is outside) (rests_index index is outside) in
+      let at_rest = index-mounts old new first plan table rose device (has index is outside) (some_pages index is outside) facts (lost-idle table rests.settled.lost) rests (same_rows index is outside) (same_var index is outside) Remembers end now m in
+      let stands = subst (λ (full : Bool). StandsFoundBy full now new (first + plan.data_blocks) plan m.now.state) (sym same.full) m.stands in
+      limit-indexed plan table m.now.state old.work.reads new.work.reads last.work.reads (has index is outside) (done-repaired plan IndexRing table rose device m.now m.did m.whole)
+      (few (planned_index index is outside) (rests_index index is outside) full) (go m.now.state m.now.device m.power m.counts at_rest stands (ap (λ (o : Option ℕ). unwrap_or o 0) m.answer))
 
 -- Where entries aren't full, the index that was found is the same where its ring and what is remembered of its pages are.
 pub still-found : (was mid now : Option Index) (old new : FlashState) (end : Option ℕ) → FindsBitmaps was old end mid new → AreSamePlan was mid → AreStillFound mid now → IfSome was (λ index. (memory.form_in index).full ≡ false) →

@@ -1,29 +1,32 @@
 -- How the mount of a data ring ends that found its ring and read the kept pages.
-use Rattle.std.proofs.Common.{◌≡◌, ℕ, ◌+◌, ◌-◌, ◌≤◌, Bool, true, Some, None, Ok, Err, [], length, sym, ◌∙◌, subst, arith}
+use Rattle.std.proofs.Common.{◌≡◌, ℕ, ◌+◌, ◌-◌, ◌*◌, ◌≤◌, Bool, true, Some, None, Ok, Err, [], length, sym, ◌∙◌, ap, subst, arith}
 use Rattle.fl_find.specs.Index.{error_in}
+use Rattle.fl_base.specs.declared.types.Geometry.{Geometry}
 use Rattle.fl_flash.specs.Flash.{FlashState, Goes, page_at}
 use Rattle.fl_flash.specs.Places.{extent}
 use Rattle.fl_model.specs.Mount.{index_end}
 use Rattle.fl_model.specs.Record.{Plan, RowLayout}
-use Rattle.fl_model.specs.Table.{Table}
+use Rattle.fl_model.specs.MountLimit.{repaired, ring_mount_limit}
+use Rattle.fl_model.specs.Table.{Table, DataRing, shape_of as model_shape}
 use Rattle.fl_model.specs.Work.{Device}
 use Rattle.fl_page.specs.Writer.{Gathers}
 use Rattle.fl_ring.specs.Looking.{OnlyReads, ReadFails}
 use Rattle.fl_ring.specs.Mounting as ring_mount
 use Rattle.fl_ring.specs.Mounting.{shape_at}
-use Rattle.fl_ring.specs.Numbers.{renumbered}
+use Rattle.fl_ring.specs.Numbers.{renumbered, voids_at_end}
 use Rattle.fl_ring.specs.Place.{next_of, oldest_of}
 use Rattle.fl_ring.specs.Place as place
-use Rattle.fl_ring.specs.Ring.{RingState, OutsideStands}
+use Rattle.fl_ring.specs.Ring.{Shape, RingState, OnRing, OutsideStands}
 use Rattle.fl_ring.specs.Step.{IsWatched}
 use Rattle.fl_ring.specs.declared.ring.Ring.{Ring}
 use Rattle.fl_schema.specs.Schema.{layout_of}
 use Rattle.fl_table.specs.Bitmaps.{StandForRing}
-use Rattle.fl_table.specs.ByEntries.{Come, mount_fault}
+use Rattle.fl_table.specs.ByEntries.{Come, mount_fault, unlisted_of}
 use Rattle.fl_table.specs.Causes.{IfFlash, IfPage, is_of_pages}
 use Rattle.fl_table.specs.Coming.{StandFound, WaitUnlisted, most_in}
 use Rattle.fl_table.specs.Knowing.{KnowsWith}
 use Rattle.fl_table.specs.Memory.{IsPlanned, IsSamePlan, LiesOn}
+use Rattle.fl_table.specs.MountLimits.{rows_mount_limit}
 use Rattle.fl_table.specs.Mounting.{comes_in}
 use Rattle.fl_table.specs.Outcomes.{DataEnds, DataWell}
 use Rattle.fl_table.specs.Pages.{Rests}
@@ -35,17 +38,28 @@ use Rattle.fl_table.proofs.Comings.{come-most, come-rows, comes-of}
 use Rattle.fl_table.proofs.Following.{watched-front}
 use Rattle.fl_table.proofs.Indexing.{lies-goes}
 use Rattle.fl_table.proofs.MountCalls.{OthersStill, index-read, index-still, risen-later, same-shape}
-use Rattle.fl_table.proofs.MountComes.{comes-to, found-there, index-ends}
+use Rattle.fl_table.proofs.MountComes.{comes-to, few-come, few-unlisted, found-there, index-ends}
 use Rattle.fl_table.proofs.MountEnded.{IsMounting, mounting-of, mount-answer, reads-end, ready_facts, rests_now, ring-ends, ring-mounts, same_device, started-memory, started-stand}
 use Rattle.fl_table.proofs.MountLifted.{RowsMount}
+use Rattle.fl_table.proofs.MountLimits.{data-voids, mount-repaired}
 use Rattle.fl_table.proofs.SealAnswers.{lies-size, plan-self, planned-ring, planned-same}
 use Rattle.fl_table.proofs.Standing.{IsOf}
 use Rattle.fl_table.proofs.StandingKnown.{KnowsTable, knows-table}
-use Rattle.fl_table.proofs.States.{shape_in, HaveSize}
+use Rattle.fl_table.proofs.States.{shape_in, state_of, HaveSize}
 
 -- the medium reaches to the end of the flash
 abbrev Reaches : FlashState → Type 0
 Reaches f = f.start + extent f.geometry f.blocks ≤ length f.media.content
+
+-- the mount of the ring reads at most its limit
+pub ring-limit : {KNOTS SLOTS : ℕ} (t : code.Table KNOTS SLOTS) (first : ℕ) (plan : Plan) (table : Table) (old mid : FlashState) → IsPlanned t first plan → Rests old first plan table → LiesOn t old → Reaches old →
+    ((s : RingState) → OnRing (shape_at t.place old.geometry) (page_at old) s → mid.work.reads ≤ old.work.reads + (t.place.blocks + 2 * old.geometry.block + 1 + voids_at_end s.kept)) →
+    mid.work.reads ≤ old.work.reads + ring_mount_limit (model_shape plan DataRing) table.rows
+ring-limit t first plan table old mid planned rests lies reaches few =
+    let is = mounting-of t old first plan table planned lies.geometry lies.within reaches rests in
+    let at = same-shape t t old (plan-self t) lies.geometry ∙ planned-ring t first plan planned in
+    let h = few (state_of plan table) (subst (λ (r : Shape). OnRing r (page_at old) (state_of plan table)) (sym at) is.on) in
+    omega (arith, h, planned.blocks, ap (λ (x : Geometry). x.block) (lies.geometry ∙ sym planned.geometry), data-voids plan table)
 
 module _ {KNOTS SLOTS : ℕ} (t : code.Table KNOTS SLOTS) (first : ℕ) (plan : Plan) (table : Table) (rose : Bool) (device : Device) (old mid new : FlashState) (ring : Ring) (n end : ℕ) (watched : IsWatched old new rose device) (planned : IsPlanned t first plan)
     (rests : Rests old first plan table) (stands : StandFound t.bitmaps old (first + plan.data_blocks) plan table) (end_is : end ≡ index_end plan table) (lies : LiesOn t old) (reaches : Reaches old) (reaches_mid : Reaches mid) (reaches_new : Reaches new)
@@ -119,3 +133,14 @@ module _ {KNOTS SLOTS : ℕ} (t : code.Table KNOTS SLOTS) (first : ℕ) (plan : 
         answer = mount-answer first plan table rose device old is ring mid new n l reads sizes still come known now.counts.items now.index known_all;
         end_is = known_all.blob_end;
       }
+
+  -- what was read at most then, where entries are full
+  pub kept-limit : plan.full_index ≡ true → mid.work.reads ≤ old.work.reads + ring_mount_limit (model_shape plan DataRing) table.rows →
+      new.work.reads ≤ mid.work.reads + come.index_pages + unlisted_of come come.oldest come.pages + 1 → new.work.reads ≤ old.work.reads + rows_mount_limit plan table (repaired plan DataRing table)
+  kept-limit full found then =
+      let comes = comes-of (layout_of t.schema) (most_in t.geometry.page (layout_of t.schema)) t.bitmaps ring mid in
+      let on = lies-goes t.bitmaps old mid goes lies.bitmaps in
+      let index = few-come t first plan table rose device ring old mid planned here l mid_sizes mid_still stands come comes most on reaches_mid in
+      let rows = few-unlisted t first plan table rose device ring old mid planned here l mid_sizes mid_still stands come comes most on reaches_mid full in
+      subst (λ (x : Table). new.work.reads ≤ old.work.reads + rows_mount_limit plan table x) (mount-repaired plan DataRing table rose device l.now l.did)
+      (omega (arith, found, then, index, rows))

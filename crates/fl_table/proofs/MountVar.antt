@@ -9,7 +9,8 @@ use Rattle.fl_model.specs.Content.{ContentPage}
 use Rattle.fl_model.specs.Mount.{Turn, Of, renumber, ready}
 use Rattle.fl_model.specs.Record.{Plan, has_var}
 use Rattle.fl_model.specs.Ring.{Ring}
-use Rattle.fl_model.specs.Table.{Table, RingName, DataRing, VarRing, written, lose}
+use Rattle.fl_model.specs.MountLimit.{part_mount_limit}
+use Rattle.fl_model.specs.Table.{Table, RingName, DataRing, VarRing, shape_of, written, lose}
 use Rattle.fl_model.specs.Work.{Device, PartEnd, Whole, CutIn, FailedIn, PartProgress}
 use Rattle.fl_model.specs.Within.{repair_within, TablePerforms, TableUnreads, TableGoesOn, TableMounts, TableMountEnd, TableMounted, TableStopped, TableUnread}
 use Rattle.fl_ring.specs.Device.{SameDevice}
@@ -19,6 +20,8 @@ use Rattle.fl_table.specs.BlobMount as variable
 use Rattle.fl_var.specs.Mounting as mounting
 use Rattle.fl_table.specs.BlobMount.{WithinEndsOf, WithinEnds}
 use Rattle.fl_table.specs.Blobs.{ArePlanned, Stand, StandOutside, IsPlanned, IsStanding}
+use Rattle.fl_table.specs.MountLimits.{IsVarLimited}
+use Rattle.fl_table.proofs.MountLimits.{data-keeps, mount-repaired}
 use Rattle.fl_table.specs.Outcomes.{DataWell, DataEnds, FaultEnds, MountsBadly, RingsEnd, mounted_of, var_rings}
 use Rattle.fl_table.specs.Pages.{HoldsTable, Rests}
 use Rattle.fl_table.specs.Standing.{Stands}
@@ -299,6 +302,14 @@ module _ {KNOTS SLOTS : ℕ} (t : code.Table KNOTS SLOTS) (mid new : FlashState)
       }
   rows-mount (Some v) None u is outside h = absurd h
   rows-mount (Some v) (Some v') u is outside h = var-mounts v is outside v' (h watched (at_rest v is outside))
+
+  -- what it reads at most
+  pub var-limit : (blobs : Option VarData) → t.blobs ≡ blobs → StandOutside blobs (page_at mid) (page_at new) → IsVarLimited blobs mid (first + plan.data_blocks + plan.index_blocks) plan w.now.state new →
+      new.work.reads ≤ mid.work.reads + part_mount_limit (shape_of plan VarRing) table.var
+  var-limit None is outside few = omega (arith, few)
+  var-limit (Some v) is outside few =
+      let ring : w.now.state.var ≡ table.var = ap (λ (x : Table). x.var) (mount-repaired plan DataRing table rose device w.now w.did) ∙ data-keeps plan table in
+      subst (λ (o : Option Ring). new.work.reads ≤ mid.work.reads + part_mount_limit (shape_of plan VarRing) o) ring (few (at_rest v is outside))
 
 -- the table that was started
 pub mounted-ends : {KNOTS SLOTS : ℕ} (t t' : code.Table KNOTS SLOTS) (new : FlashState) (first : ℕ) (plan : Plan) (table was : Table) (rose : Bool) (device : Device) (found : FoundRows) (left : Option VarData) → (h : IsMountedAll t first plan table was rose device left new) → found.mounted ≡ mounted_of (ready plan was) →

@@ -57,6 +57,21 @@ pub record IsPlainTable (plan : Plan) (table : Table) : Type 0 where
   pub number : table.rows.next + (cond table.rows.torn 1 0) ≤ 4294967292
   pub number_pending : (table.pending ≡ 0 → ⊥) → table.rows.next ≤ spent_from
 
+-- a table without an index lists nothing
+pub none-listed : (plan : Plan) (table : Table) → has_index plan ≡ false → IsPlainTable plan table → table.index_pages ≡ []
+none-listed plan table none facts = by_pages table.index_pages (by_ring table.index facts.index.has facts.index.each)
+  where
+    by_ring : (o : Option Ring) → is_some_ring o ≡ has_index plan → length table.index_pages ≡ full_pages (counts_in o) → length table.index_pages ≡ 0
+    by_ring None e k = k
+    by_ring (Some r) e k = absurd (no (e ∙ none))
+      where
+        no : true ≡ false → ⊥
+        no x = cc
+
+    by_pages : (pages : List IndexPage) → length pages ≡ 0 → pages ≡ []
+    by_pages [] e = refl
+    by_pages (x ∷ xs) e = absurd (omega (arith, e))
+
 -- they are the facts of a table
 pub table-parts : (plan : Plan) (table : Table) → plan.log_blocks ≡ 0 → IsTable plan table → IsPlainTable plan table
 table-parts plan table plain h = record {

@@ -10,12 +10,12 @@ use Rattle.fl_table.specs.declared.faults.MountFault.{MountFault}
 use Rattle.fl_table.specs.declared.faults.MountFault.TheVariants.{Flash, Ring, BadPage, BadKeys, BadIndex, BadBlob, BadEntry}
 
 -- it is a fault of a page alone
-record IsPageFault (fault : MountFault) : Type 1 where
-  of_pages : is_of_pages fault ≡ true
-  refused : is_refused fault ≡ true
-  no_flash : (P : FlashFault → Type 0) → IfFlash P fault
+pub record IsPageFault (fault : MountFault) : Type 1 where
+  pub of_pages : is_of_pages fault ≡ true
+  pub refused : is_refused fault ≡ true
+  pub no_flash : (P : FlashFault → Type 0) → IfFlash P fault
 
-of_keys : (number : ℕ) (last : Option ℕ) (rows : List Row) (fault : MountFault) → keys_fault number last rows ≡ Some fault → IsPageFault fault
+pub of_keys : (number : ℕ) (last : Option ℕ) (rows : List Row) (fault : MountFault) → keys_fault number last rows ≡ Some fault → IsPageFault fault
 of_keys number last [] fault e = absurd (none e)
   where
     none : None ≡ Some fault → ⊥

@@ -1,8 +1,9 @@
 -- Where a flash stands for a table, the kept index pages that a mount comes to are fit, and their entries tell of its data pages.
-use Rattle.std.proofs.Common.{◌≡◌, inl, inr, ℕ, zero, suc, ◌+◌, ◌-◌, ◌<◌, ◌≤◌, max, Bool, true, false, cond, ◌&&◌, ◌||◌, nat_lt, IsTrue, Option, Some, None, IfSome, List, refl, sym, ◌∙◌, ap, subst, arith}
+use Rattle.std.proofs.Common.{◌≡◌, inl, inr, ℕ, zero, suc, ◌+◌, ◌-◌, ◌<◌, ◌≤◌, max, Bool, true, false, cond, ◌&&◌, ◌||◌, nat_lt, IsTrue, Option, Some, None, IfSome, List, [], ◌∷◌, length, refl, sym, ◌∙◌, ap, subst, arith, ◌⊎◌, nat_le}
 use Rattle.std.specs.Prelude.{option_map, unwrap_or}
-use Rattle.std.specs.List.{slice_get}
-use Rattle.std.proofs.lemmas.Bool.{cases_lt, eq-eqb, le-leb}
+use Rattle.std.specs.List.{list_any, slice_get}
+use Rattle.std.specs.Option.{is_none}
+use Rattle.std.proofs.lemmas.Bool.{cases_lt, eq-eqb, le-leb, leb-true, lt-ltb, ltb-true}
 use Rattle.fl_flash.specs.Flash.{FlashState, page_at}
 use Rattle.fl_index.specs.declared.index.Index.{Index}
 use Rattle.fl_index.specs.declared.page.EntryForm.{EntryForm}
@@ -11,24 +12,27 @@ use Rattle.fl_index.specs.Memory.{next_in, oldest_in}
 use Rattle.fl_index.specs.Page.{page_number, page_first, page_entries, found_at, full_view, fields_of}
 use Rattle.fl_index.specs.Standing.{StandsWith, bytes_in}
 use Rattle.fl_index.proofs.Gathering.{plan_form}
+use Rattle.fl_index.proofs.Lists.{firsts-length}
 use Rattle.fl_index.proofs.MountPages.{IsListed, is-listed, void-none}
 use Rattle.fl_index.proofs.Sealings.{planned-bits, planned-form, planned-large, planned-page, planned-ring}
 use Rattle.fl_index.proofs.Showing.{told-found}
 use Rattle.fl_index.proofs.State.{HaveSize}
 use Rattle.fl_model.specs.Agrees.{TellsAt, is_told, rows_at}
 use Rattle.fl_model.specs.Index.{full_of}
+use Rattle.fl_model.specs.Limits.{is_listed}
 use Rattle.fl_model.specs.Mount.{index_end}
+use Rattle.fl_model.specs.MountLimit.{kept_in}
 use Rattle.fl_model.specs.Record.{Plan, RowLayout, entries_per_page}
 use Rattle.fl_model.specs.Ring as model
-use Rattle.fl_model.specs.Table.{Table}
-use Rattle.fl_model.proofs.FullPages.{full-below}
-use Rattle.fl_model.proofs.Lists.{slice_get-some}
+use Rattle.fl_model.specs.Table.{Table, firsts}
+use Rattle.fl_model.proofs.FullPages.{full-below, full-page}
+use Rattle.fl_model.proofs.Lists.{slice_get-some, slice_get-short}
 use Rattle.fl_ring.specs.Newest.{commits}
 use Rattle.fl_ring.specs.Place.{next_of, oldest_of}
 use Rattle.fl_ring.specs.Ring as rings
 use Rattle.fl_ring.specs.Ring.{Shape}
 use Rattle.fl_ring.specs.declared.ring.Ring.{Ring}
-use Rattle.fl_table.specs.ByEntries.{Come, index_page, is_committed, end_before, told, no_rows}
+use Rattle.fl_table.specs.ByEntries.{Come, index_page, is_committed, is_fit, end_before, entry, lists, listing_among, told, told_at, no_rows}
 use Rattle.fl_table.specs.Coming.{IsComeTo}
 use Rattle.fl_table.proofs.Standing.{IsIndexOf}
 
@@ -40,6 +44,41 @@ ends-by c most (suc m) h = by_test (ends-by c most m (λ j lt is. h j (omega (ar
     by_test : end_before c m ≤ most → (b : Bool) → is_committed (index_page c m) ≡ b → cond b (max (end_before c m) (page_first (index_page c m) + page_entries (index_page c m))) (end_before c m) ≤ most
     by_test before true e = omega (arith, before, h m (omega arith) e)
     by_test before false e = before
+
+-- one of these passes a test
+any-at : (p : ℕ → Bool) (xs : List ℕ) → list_any p xs ≡ true → (k : ℕ) × (x : ℕ) × (slice_get xs k ≡ Some x) × (p x ≡ true)
+any-at p [] e = absurd (no e)
+  where
+    no : false ≡ true → ⊥
+    no e = cc
+any-at p (y ∷ ys) e = by_test (p y) refl e (λ h. any-at p ys h)
+  where
+    by_test : (b : Bool) → p y ≡ b → (b || list_any p ys) ≡ true → (list_any p ys ≡ true → (k : ℕ) × (x : ℕ) × (slice_get ys k ≡ Some x) × (p x ≡ true)) → (k : ℕ) × (x : ℕ) × (slice_get (y ∷ ys) k ≡ Some x) × (p x ≡ true)
+    by_test true t h rest = (0, y, refl, t)
+    by_test false t h rest = let at = rest h in (suc at.0, at.1, at.2, at.3)
+
+-- a page that lists a data page is found
+listed-some : (t : Come) (number m k : ℕ) → k < m → lists t number k ≡ true → is_none (option_map (told_at t number) (listing_among t number m)) ≡ false
+listed-some t number zero k lt here = absurd (omega (arith, lt))
+listed-some t number (suc m) k lt here = by_test (lists t number m) refl (λ less. listed-some t number m k less here)
+  where
+    not_both : true ≡ false → ⊥
+    not_both e = cc
+
+    less : lists t number m ≡ false → (k < m) ⊎ (m ≤ k) → k < m
+    less e (inl h) = h
+    less e (inr h) = let same : k ≡ m = omega (arith, h, lt) in absurd (not_both (sym here ∙ (ap (lists t number) same ∙ e)))
+
+    by_test : (b : Bool) → lists t number m ≡ b → (k < m → is_none (option_map (told_at t number) (listing_among t number m)) ≡ false) → is_none (option_map (told_at t number) (cond b (Some m) (listing_among t number m))) ≡ false
+    by_test true e go = refl
+    by_test false e go = go (less e (cases_lt k m))
+
+both_true : (a b : Bool) → (a && b) ≡ true → (a ≡ true) × (b ≡ true)
+both_true true b h = (refl, h)
+both_true false b h = cc
+
+all_true : (a b c d : Bool) → a ≡ true → b ≡ true → c ≡ true → d ≡ true → (((a && b) && c) && d) ≡ true
+all_true a b c d x y z w = rw (x, y, z, w) refl
 
 module _ (R : Index → Plan → Table → model.Ring → Type 0) (c : Come) (layout : RowLayout) (most : ℕ) (index : Index) (ring : Ring) (f : FlashState) (first : ℕ) (plan : Plan) (table : Table)
     (comes : IsComeTo c layout most index ring f) (stands : StandsWith R index f first plan table) (sizes : HaveSize first plan (page_at f)) (old : c.oldest ≡ model.oldest table.rows)
@@ -135,3 +174,24 @@ module _ (R : Index → Plan → Table → model.Ring → Type 0) (c : Come) (la
   -- they end where the table's index does, or before
   pub ends-within : end_before c c.index_pages ≤ index_end plan table
   ends-within = ends-by c (index_end plan table) c.index_pages (λ j lt is. let l = filled j lt is in omega (arith, first-is j l, entries-are j l, l.listed.before_end))
+
+  -- a data page that the table's index lists has an entry
+  pub listed-told : (number : ℕ) → is_listed plan table number ≡ true → is_none (entry c number) ≡ false
+  listed-told number is =
+      let at = any-at (λ first. nat_le first number && nat_lt number (first + entries_per_page plan)) (firsts table) is in
+      let k = full-page stands.ring.counts at.0 (omega (arith, slice_get-short (firsts table) at.0 at.1 at.2, firsts-length table.index_pages, stands.facts.index_each)) in
+      let l = is-listed (page_at f) first plan table stands.ring stands.facts stands.pages sizes large few k.i k.c k.here k.some in
+      let same = one l.first_page at.1 (sym l.listed ∙ (ap (slice_get (firsts table)) k.before ∙ at.2)) in
+      let tests = both_true _ _ at.3 in
+      let below : k.i < c.index_pages = omega (arith, slice_get-short stands.ring.counts k.i k.c k.here, comes.index_pages, old-is, next-is, stands.facts.is_ring.not_negative) in
+      let done : is_committed (index_page c k.i) ≡ true = ap is_committed (bytes-is k.i) ∙ ap commits l.is.committed_is in
+      let begins : page_first (index_page c k.i) ≡ at.1 = ap page_first (bytes-is k.i) ∙ (l.is.first_is ∙ same) in
+      listed-some c number c.index_pages k.i below
+      (all_true (is_committed (index_page c k.i)) (is_fit c k.i) _ _ done (index-of k.i below done).fit (le-leb _ _ (omega (arith, begins, leb-true at.1 number tests.0))) (lt-ltb _ _ (omega (arith, begins, per, ltb-true number (at.1 + entries_per_page plan) tests.1))))
+    where
+      one : (a b : ℕ) → ◌≡◌ {A = Option ℕ} (Some a) (Some b) → a ≡ b
+      one a b e = cc
+
+  -- no more index pages come than the table keeps
+  pub few-kept : c.index_pages ≤ kept_in table.index
+  few-kept = let many : kept_in table.index ≡ length stands.ring.counts = ap kept_in stands.facts.ring_is in omega (arith, many, comes.index_pages, old-is, next-is, stands.facts.is_ring.not_negative)

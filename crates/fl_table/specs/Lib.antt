@@ -16,6 +16,7 @@ pub mod ByEntries
 pub mod Coming
 pub mod Knowing
 pub mod Mounting
+pub mod MountLimits
 pub mod Look
 pub mod Kept
 pub mod BlobAt

@@ -1,5 +1,5 @@
 -- What clauses see of a table in memory.
-use Rattle.std.specs.Prelude.{◌≡◌, ℕ, ◌+◌, ◌*◌, ◌%◌, ◌^◌, ◌<◌, ◌≤◌, Bool, false, ◌||◌, Option, Some, None, [], ℤ, is_some, option_map, unwrap_or, map, length, slice_get, slice_index}
+use Rattle.std.specs.Prelude.{◌≡◌, ℕ, ◌+◌, ◌*◌, ◌%◌, ◌^◌, ◌<◌, ◌≤◌, Bool, false, ◌||◌, Option, Some, None, List, [], ℤ, is_some, option_map, unwrap_or, map, length, slice_get, slice_index}
 use Rattle.std.specs.Option.{ForSome}
 use Rattle.fl_bitmap.specs.Bucket.{AreBucketsOf, with_value}
 use Rattle.fl_bitmap.specs.declared.buckets.Buckets.{Buckets}
@@ -7,7 +7,7 @@ use Rattle.fl_find.specs.Index.{IndexOf, error_in}
 use Rattle.fl_flash.specs.Flash.{FlashState, pages}
 use Rattle.fl_model.specs.Record.{Plan, RowLayout, row_layout, layout_len}
 use Rattle.fl_model.specs.Ring as rings
-use Rattle.fl_model.specs.Row.{stored_row}
+use Rattle.fl_model.specs.Row.{Row, stored_row}
 use Rattle.fl_model.specs.Spline.{voids_of}
 use Rattle.fl_model.specs.Layout.{bitmap_of}
 use Rattle.fl_model.specs.Table as model
@@ -52,6 +52,10 @@ next_in t = unwrap_or (option_map (λ ring. next_of ring) t.ring) 0
 -- how many rows are pending
 abbrev pub pending_in : {KNOTS SLOTS : ℕ} → Table KNOTS SLOTS → ℕ
 pending_in t = t.writer.count
+
+-- these rows are pending, by their bytes in the page buffer
+abbrev pub PendingAre : {KNOTS SLOTS : ℕ} → Table KNOTS SLOTS → List Row → Type 0
+PendingAre t rows = Gathers (layout_of t.schema) rows t.writer
 
 -- the page buffer has room for one row more
 abbrev pub HasRoom : {KNOTS SLOTS : ℕ} → Table KNOTS SLOTS → Type 0

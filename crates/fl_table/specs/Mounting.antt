@@ -75,7 +75,7 @@ pub record Indexed {KNOTS SLOTS : ℕ} (t : Table KNOTS SLOTS) (old : FlashState
   pub same : AreSamePlan t.bitmaps now
   pub bitmaps : FindsBitmaps t.bitmaps old end now found
 
--- The data ring was found and repaired, whose void pages follow a number. Then kept pages were read, each at most once: those of
+-- The data ring was found and repaired, whose void pages follow a number. Then kept pages were read, no more than there are: those of
 -- the data ring, and where entries are full those of the index that was found.
 pub record ReadsRing {KNOTS SLOTS : ℕ} (t : Table KNOTS SLOTS) (bitmaps : Option Index) (old : FlashState) (least : ℕ) (ring : Ring) (new : FlashState) : Type 0 where
   pub repaired : FlashState

@@ -8,6 +8,7 @@ ghost use Rattle.fl_ring.specs.Causes.{CausedBy, IfFlash};
 ghost use Rattle.fl_table.specs.Bitmaps.{AreSamePlan, AreSameRing, LieOn, AreRunning, AreBroken, AreWaiting, AreIdle, HaveRoom, EndAt, NumberLeft, AreNoted, StandOutside, MountEndsOf, MakesRoomOf, RoomMade, first_to_wait, room_of, rings_of};
 ghost use Rattle.fl_table.specs.Causes.{OffFailsAs};
 ghost use Rattle.fl_table.specs.Coming.{index_pages_of};
+ghost use Rattle.fl_table.specs.MountLimits.{IsIndexLimited};
 ghost use Rattle.fl_table.specs.Mounting.{FewReads, FewRepairs, FindsBitmaps, RefusesBitmaps};
 
 use fl_flash::{Flash, FlashFault, PageBuf};
@@ -37,6 +38,7 @@ pub(crate) fn mount_bitmaps<F: Flash>(
     ensures outside { IsTrue (F.state flash.old).media.tells → StandOutside bitmaps.old (page_at (F.state flash.old)) (page_at (F.state flash.new)) }
     ensures reads { IsTrue (F.state flash.old).media.tells → FewReads (4 * room_of bitmaps.old) (F.state flash.old) (F.state flash.new) }
     ensures spared { OnOk result (IsTrue (F.state flash.old).media.tells → FewReads (4 * room_of bitmaps.old - index_pages_of bitmaps.new) (F.state flash.old) (F.state flash.new)) }
+    ensures limit { (first : ℕ) → (plan : Plan) → (table : model.Table) → IsTrue (F.state flash.old).media.tells → IsIndexLimited bitmaps.old (F.state flash.old) first plan table (F.state flash.new) }
     ensures repairs { FewRepairs (rings_of bitmaps.old) (F.state flash.old) (F.state flash.new) }
     ensures cause { IfErr result (λ e. IfFlash (λ fault. CausedBy (F.state flash.old) fault (F.state flash.new)) e) }
     ensures power { OnOk result ((F.state flash.old).is_on ≡ true → (F.state flash.new).is_on ≡ true) }

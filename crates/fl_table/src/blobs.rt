@@ -9,6 +9,7 @@ ghost use Rattle.fl_ring.specs.Causes.{CausedBy, IfFlash};
 ghost use Rattle.fl_table.specs.BlobEnds.{least_of};
 ghost use Rattle.fl_table.specs.BlobMount.{MountEndsOf, FindsBlobs, RefusesBlobs, WithinEndsOf, RefusesWithin, AreBelow};
 ghost use Rattle.fl_table.specs.Causes.{MountCausedBy, OffFailsAs};
+ghost use Rattle.fl_table.specs.MountLimits.{IsVarLimited};
 ghost use Rattle.fl_table.specs.Mounting.{FewReads, FewRepairs};
 ghost use Rattle.fl_table.specs.Blobs.{AreSamePlan, LieOn, AreRunning, AreEmpty, NumbersLeft, RestEndsOf, PlaceEndsOf, StandOutside, next_of, next_after, rings_of, room_of, HasFew, pages_for, FitsRow};
 
@@ -42,6 +43,7 @@ pub(crate) fn mount<F: Flash>(
     ensures found { OnOk result (FindsBlobs blobs.old (F.state flash.old) at_least blobs.new (F.state flash.new)) }
     ensures outside { IsTrue (F.state flash.old).media.tells → StandOutside blobs.old (page_at (F.state flash.old)) (page_at (F.state flash.new)) }
     ensures reads { FewReads (4 * room_of blobs.old) (F.state flash.old) (F.state flash.new) }
+    ensures limit { (first : ℕ) (plan : Plan) (table : model.Table) → IsTrue (F.state flash.old).media.tells → IsVarLimited blobs.old (F.state flash.old) first plan table (F.state flash.new) }
     ensures repairs { FewRepairs (rings_of blobs.old) (F.state flash.old) (F.state flash.new) }
     ensures refused { IfErr result (λ e. RefusesBlobs blobs.old (F.state flash.old) at_least e (F.state flash.new)) }
     ensures cause { IfErr result (λ e. IfFlash (λ fault. CausedBy (F.state flash.old) fault (F.state flash.new)) e) }
@@ -74,6 +76,7 @@ pub(crate) fn mount_within<F: Flash>(
     ensures below { OnOk result (AreBelow end blobs.new) }
     ensures outside { IsTrue (F.state flash.old).media.tells → StandOutside blobs.old (page_at (F.state flash.old)) (page_at (F.state flash.new)) }
     ensures reads { FewReads (4 * room_of blobs.old) (F.state flash.old) (F.state flash.new) }
+    ensures limit { (first : ℕ) (plan : Plan) (table : model.Table) → IsTrue (F.state flash.old).media.tells → IsVarLimited blobs.old (F.state flash.old) first plan table (F.state flash.new) }
     ensures repairs { FewRepairs (rings_of blobs.old) (F.state flash.old) (F.state flash.new) }
     ensures refused { IfErr result (λ e. RefusesWithin blobs.old (F.state flash.old) end e (F.state flash.new)) }
     ensures cause { IfErr result (λ e. MountCausedBy (F.state flash.old) e (F.state flash.new)) }
@@ -139,6 +142,7 @@ pub(crate) fn place<F: Flash>(
     ensures fits { IfOk result FitsRow }
     ensures next { OnOk result (next_of blobs.new ≡ next_of blobs.old + pages_for blobs.old (option_map (λ b. b.now) blob.entry)) }
     ensures quiet { pages_for blobs.old (option_map (λ b. b.now) blob.entry) ≡ 0 → (is_ok result ≡ true) × (F.state flash.new ≡ F.state flash.old) }
+    ensures power { OnOk result ((F.state flash.old).is_on ≡ true → (F.state flash.new).is_on ≡ true) }
     ensures off { 1 ≤ pages_for blobs.old (option_map (λ b. b.now) blob.entry) → OffChangesNothing (F.state flash.old) result (F.state flash.new) }
     ensures ends { (first : ℕ) (plan : Plan) (table : model.Table) (item : Record) (rose : Bool) (device : Device) → item.blob ≡ option_map (λ b. b.now) blob.entry →
         PlaceEndsOf blobs.old (F.state flash.old) first plan item table rose device result blobs.new (F.state flash.new) }

@@ -133,7 +133,7 @@ fn see_pages<F: Flash, const KNOTS: usize, const SLOTS: usize>(
         KnowsWith error t k (from - t.oldest) known.old counts.old index.old →
         IfOk result (λ to. KnowsWith error t k (to - t.oldest) known.new counts.new index.new) × IfErr result (IfPage (λ e. mount_fault t ≡ Some e)) }
     ensures few_reads { IsTrue (F.state flash.old).media.tells → (t : Come) → AreRowsOf t (layout_of schema.now) ring.now (F.state flash.old) → AreLoaded t from end bitmaps.now →
-        IfOk result (λ to. (F.state flash.new).work.reads + unlisted_of t t.oldest (from - t.oldest) ≤ (F.state flash.old).work.reads + unlisted_of t t.oldest (to - t.oldest)) }
+        (F.state flash.new).work.reads + unlisted_of t t.oldest (from - t.oldest) ≤ (F.state flash.old).work.reads + unlisted_of t t.oldest (max from (min end (next_of ring.now)) - t.oldest) }
     ensures within { IfOk result (λ to. IsWithin (oldest_of ring.now) (to - oldest_of ring.now) known.new) }
     ensures size { length counts.new ≡ length counts.old }
     ensures error { error_in index.new ≡ error_in index.old }
@@ -249,7 +249,8 @@ fn see_listed<F: Flash, const KNOTS: usize, const SLOTS: usize>(
     ensures knows { IsTrue (F.state flash.old).media.tells → next_of ring.now - oldest_of ring.now ≤ length counts.old → (error : ℕ) (t : Come) → IsComeTo t (layout_of schema.now) limit bitmaps.old ring.now (F.state flash.old) → KnowsWith error t 0 0 known.old counts.old index.old →
         IfOk result (λ number. KnowsWith error t t.index_pages (number - t.oldest) known.new counts.new index.new) × IfErr result (IfPage (λ e. mount_fault t ≡ Some e)) }
     ensures few_reads { IsTrue (F.state flash.old).media.tells → next_of ring.now - oldest_of ring.now ≤ length counts.old → (error : ℕ) (t : Come) → IsComeTo t (layout_of schema.now) limit bitmaps.old ring.now (F.state flash.old) → KnowsWith error t 0 0 known.old counts.old index.old →
-        IfOk result (λ number. (F.state flash.new).work.reads ≤ (F.state flash.old).work.reads + t.index_pages + unlisted_of t t.oldest (number - t.oldest)) }
+        IfOk result (λ number. (F.state flash.new).work.reads ≤ (F.state flash.old).work.reads + t.index_pages + unlisted_of t t.oldest (number - t.oldest))
+        × ((F.state flash.new).work.reads ≤ (F.state flash.old).work.reads + t.index_pages + unlisted_of t t.oldest t.pages) }
     ensures unlisted { IsTrue (F.state flash.old).media.tells → next_of ring.now - oldest_of ring.now ≤ length counts.old → (error : ℕ) (t : Come) → IsComeTo t (layout_of schema.now) limit bitmaps.old ring.now (F.state flash.old) → KnowsWith error t 0 0 known.old counts.old index.old →
         IfOk result (λ number. AreListedBefore t number) }
     ensures stands { (first : ℕ) → (plan : Plan) → (table : model.Table) → IsTrue (F.state flash.old).media.tells → StandsBelow (memory.oldest_in bitmaps.old) bitmaps.old (F.state flash.old) first plan table
@@ -312,7 +313,8 @@ pub(crate) fn read_listed<F: Flash, const KNOTS: usize, const SLOTS: usize>(
     ensures knows { IsTrue (F.state flash.old).media.tells → next_of ring.now - oldest_of ring.now ≤ length counts.old → (error : ℕ) (t : Come) → ComesTo t (layout_of schema.now) limit bitmaps.old ring.now (F.state flash.old) → KnowsWith error t 0 0 known.old counts.old index.old →
         IfOk result (λ from. KnowsWith error t t.index_pages (from - t.oldest) known.new counts.new index.new) × IfErr result (IfPage (λ e. mount_fault t ≡ Some e)) }
     ensures few_reads { IsTrue (F.state flash.old).media.tells → next_of ring.now - oldest_of ring.now ≤ length counts.old → (error : ℕ) (t : Come) → ComesTo t (layout_of schema.now) limit bitmaps.old ring.now (F.state flash.old) → KnowsWith error t 0 0 known.old counts.old index.old →
-        IfOk result (λ from. (F.state flash.new).work.reads ≤ (F.state flash.old).work.reads + t.index_pages + unlisted_of t t.oldest (from - t.oldest)) }
+        IfOk result (λ from. (F.state flash.new).work.reads ≤ (F.state flash.old).work.reads + t.index_pages + unlisted_of t t.oldest (from - t.oldest))
+        × ((F.state flash.new).work.reads ≤ (F.state flash.old).work.reads + t.index_pages + unlisted_of t t.oldest t.pages) }
     ensures unlisted { IsTrue (F.state flash.old).media.tells → next_of ring.now - oldest_of ring.now ≤ length counts.old → (error : ℕ) (t : Come) → ComesTo t (layout_of schema.now) limit bitmaps.old ring.now (F.state flash.old) → KnowsWith error t 0 0 known.old counts.old index.old →
         IfOk result (λ from. AreListedBefore t from) }
     ensures stands { (first : ℕ) → (plan : Plan) → (table : model.Table) → IsTrue (F.state flash.old).media.tells → StandFound bitmaps.old (F.state flash.old) first plan table →

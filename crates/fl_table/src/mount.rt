@@ -25,9 +25,10 @@ pub(crate) struct FoundRows {
 impl<const KNOTS: usize, const SLOTS: usize> Table<KNOTS, SLOTS> {
     ghost use Rattle.std.specs.Prelude.{ℕ, Bool};
     ghost use Rattle.fl_model.specs.Mount.{index_end};
+    ghost use Rattle.fl_model.specs.MountLimit.{mount_limit, part_mount_limit, repaired};
     ghost use Rattle.fl_model.specs.Record.{Plan};
     ghost use Rattle.fl_model.specs.Table as model;
-    ghost use Rattle.fl_model.specs.Table.{DataRing};
+    ghost use Rattle.fl_model.specs.Table.{DataRing, VarRing, shape_of as model_shape};
     ghost use Rattle.fl_ring.specs.Ring as rings;
     ghost use Rattle.fl_ring.specs.Ring.{room};
     ghost use Rattle.fl_ring.specs.Mounting.{shape_at};
@@ -44,13 +45,14 @@ impl<const KNOTS: usize, const SLOTS: usize> Table<KNOTS, SLOTS> {
     ghost use Rattle.fl_table.specs.Blobs as variable;
     ghost use Rattle.fl_model.specs.Work.{Device};
     ghost use Rattle.fl_ring.specs.Step.{IsWatched};
-    ghost use Rattle.fl_table.specs.Memory.{is_running, is_stopped, ring_shape, IsForgotten, IsPlanned, IsSamePlan, IsSameRest, LiesOn};
+    ghost use Rattle.fl_table.specs.Memory.{is_running, is_stopped, pending_in, ring_shape, IsForgotten, IsPlanned, IsSamePlan, IsSameRest, LiesOn};
     ghost use Rattle.fl_table.specs.Pages.{Rests};
     ghost use Rattle.fl_table.specs.Outcomes.{DataEnds, MountEnds, RingsEnd, var_rings};
+    ghost use Rattle.fl_table.specs.MountLimits.{rows_mount_limit};
     ghost use Rattle.fl_table.specs.Mounting.{FewReads, FewRepairs, FindsData, FindsPages, FindsRows, OutsideStands, RefusesData, RefusesPages, RefusesRows, RemembersKept, RowsStandOutside, comes_in, pages_in, rings_in};
 
     // As it was before its first mount.
-    fn forget(&mut self)
+    pub(crate) fn forget(&mut self)
         ensures same { IsSamePlan self.old self.new }
         ensures bitmaps { self.new.bitmaps ≡ self.old.bitmaps }
         ensures blobs { self.new.blobs ≡ self.old.blobs }
@@ -100,7 +102,7 @@ impl<const KNOTS: usize, const SLOTS: usize> Table<KNOTS, SLOTS> {
         ensures lies { LiesOn self.new (F.state flash.new) }
         ensures reads { OnlyReads (F.state flash.old) (index_pages_of self.old.bitmaps + (next_of ring.now - oldest_of ring.now)) (F.state flash.new) }
         ensures few_reads { IsTrue (F.state flash.old).media.tells → let t = comes_in self.old self.old.bitmaps ring.now (F.state flash.old) in
-            OnOk result ((F.state flash.new).work.reads ≤ (F.state flash.old).work.reads + t.index_pages + unlisted_of t t.oldest t.pages + 1) }
+            (F.state flash.new).work.reads ≤ (F.state flash.old).work.reads + t.index_pages + unlisted_of t t.oldest t.pages + 1 }
         ensures room { length buf.new.bytes ≡ length buf.old.bytes }
         ensures none { buf.new.holds ≡ None }
         ensures fails { IfErr result (IfFlash (λ e. ReadFails (F.state flash.old) e (F.state flash.new))) }
@@ -180,6 +182,9 @@ impl<const KNOTS: usize, const SLOTS: usize> Table<KNOTS, SLOTS> {
         ensures refused { IfErr result (λ e. IsTrue (F.state flash.old).media.tells → RefusesData self.old self.old.bitmaps (F.state flash.old) end e (F.state flash.new)) }
         ensures outside { IsTrue (F.state flash.old).media.tells → rings.OutsideStands (ring_shape self.old) (page_at (F.state flash.old)) (page_at (F.state flash.new)) }
         ensures reads { IsTrue (F.state flash.old).media.tells → FewReads (4 * room (ring_shape self.old) + index_pages_of self.old.bitmaps) (F.state flash.old) (F.state flash.new) }
+        ensures limit { (first : ℕ) → (plan : Plan) → (table : model.Table) → (rose : Bool) → (device : Device) → IsWatched (F.state flash.old) (F.state flash.new) rose device
+            → IsPlanned self.old first plan → Rests (F.state flash.old) first plan table → StandFound self.old.bitmaps (F.state flash.old) (first + plan.data_blocks) plan table → end ≡ index_end plan table → plan.full_index ≡ true
+            → (F.state flash.new).work.reads ≤ (F.state flash.old).work.reads + rows_mount_limit plan table (repaired plan DataRing table) }
         ensures repairs { FewRepairs 1 (F.state flash.old) (F.state flash.new) }
         ensures power { OnOk result ((F.state flash.old).is_on ≡ true → (F.state flash.new).is_on ≡ true) }
         ensures cause { IfErr result (λ e. MountCausedBy (F.state flash.old) e (F.state flash.new)) }
@@ -228,11 +233,16 @@ impl<const KNOTS: usize, const SLOTS: usize> Table<KNOTS, SLOTS> {
             → RingsEnd first plan (DataRing ∷ var_rings plan) table rose device result self.new (F.state flash.new) }
         ensures mounted { is_running self.new ≡ is_ok result }
         ensures calm { is_stopped self.new ≡ false }
+        ensures none { pending_in self.new ≡ 0 }
         ensures found { IfOk result (λ mounted. IsTrue (F.state flash.old).media.tells → FindsRows self.old self.old.bitmaps (F.state flash.old) end mounted self.new (F.state flash.new)) }
         ensures refused { IfErr result (λ e. IsTrue (F.state flash.old).media.tells → RefusesRows self.old self.old.bitmaps (F.state flash.old) end e (F.state flash.new)) }
         ensures outside { IsTrue (F.state flash.old).media.tells → RowsStandOutside self.old (page_at (F.state flash.old)) (page_at (F.state flash.new)) }
         ensures reads { IsTrue (F.state flash.old).media.tells → FewReads (4 * (room (ring_shape self.old) + variable.room_of self.old.blobs) + index_pages_of self.old.bitmaps) (F.state flash.old) (F.state flash.new) }
+        ensures limit { (first : ℕ) → (plan : Plan) → (table : model.Table) → (rose : Bool) → (device : Device) → IsWatched (F.state flash.old) (F.state flash.new) rose device
+            → IsPlanned self.old first plan → Rests (F.state flash.old) first plan table → StandFound self.old.bitmaps (F.state flash.old) (first + plan.data_blocks) plan table → end ≡ index_end plan table → plan.full_index ≡ true
+            → (F.state flash.new).work.reads ≤ (F.state flash.old).work.reads + (rows_mount_limit plan table (repaired plan DataRing table) + part_mount_limit (model_shape plan VarRing) table.var) }
         ensures repairs { FewRepairs (1 + variable.rings_of self.old.blobs) (F.state flash.old) (F.state flash.new) }
+        ensures power { OnOk result ((F.state flash.old).is_on ≡ true → (F.state flash.new).is_on ≡ true) }
         ensures cause { IfErr result (λ e. MountCausedBy (F.state flash.old) e (F.state flash.new)) }
         ensures off { (F.state flash.old).is_on ≡ false → (result ≡ Err (MountFault.Flash FlashFault.PowerLost)) × (F.state flash.new ≡ F.state flash.old) }
     {
@@ -261,11 +271,16 @@ impl<const KNOTS: usize, const SLOTS: usize> Table<KNOTS, SLOTS> {
             → IsPlanned self.old first plan → Rests (F.state flash.old) first plan table → MountEnds first plan table rose device result self.new (F.state flash.new) }
         ensures mounted { is_running self.new ≡ is_ok result }
         ensures calm { is_stopped self.new ≡ false }
+        ensures none { pending_in self.new ≡ 0 }
         ensures found { IfOk result (λ mounted. IsTrue (F.state flash.old).media.tells → FindsPages self.old (F.state flash.old) mounted self.new (F.state flash.new)) }
         ensures refused { IfErr result (λ e. IsTrue (F.state flash.old).media.tells → RefusesPages self.old (F.state flash.old) e (F.state flash.new)) }
         ensures outside { IsTrue (F.state flash.old).media.tells → OutsideStands self.old (page_at (F.state flash.old)) (page_at (F.state flash.new)) }
         ensures reads { IsTrue (F.state flash.old).media.tells → FewReads (4 * pages_in self.old) (F.state flash.old) (F.state flash.new) }
+        ensures limit { (first : ℕ) → (plan : Plan) → (table : model.Table) → (rose : Bool) → (device : Device) → IsWatched (F.state flash.old) (F.state flash.new) rose device
+            → IsPlanned self.old first plan → Rests (F.state flash.old) first plan table → plan.full_index ≡ true
+            → (F.state flash.new).work.reads ≤ (F.state flash.old).work.reads + mount_limit plan table }
         ensures repairs { FewRepairs (rings_in self.old) (F.state flash.old) (F.state flash.new) }
+        ensures power { OnOk result ((F.state flash.old).is_on ≡ true → (F.state flash.new).is_on ≡ true) }
         ensures cause { IfErr result (λ e. MountCausedBy (F.state flash.old) e (F.state flash.new)) }
         ensures off { (F.state flash.old).is_on ≡ false → (result ≡ Err (MountFault.Flash FlashFault.PowerLost)) × (F.state flash.new ≡ F.state flash.old) }
     {

@@ -9,8 +9,10 @@ ghost use Rattle.fl_model.specs.Record.{layout_len};
 ghost use Rattle.fl_schema.specs.Form.{layout_with};
 ghost use Rattle.fl_schema.specs.Schema.{layout_of, types_of};
 ghost use Rattle.fl_model.specs.Record.{Plan};
+ghost use Rattle.fl_table.specs.BlobAt.{has_blobs};
 ghost use Rattle.fl_table.specs.Bitmaps.{ArePlanned, AreIdle, LieOn, next_after};
 ghost use Rattle.fl_table.specs.Blobs as variable;
+ghost use Rattle.fl_table.specs.Look.{layout_in};
 ghost use Rattle.fl_table.specs.Memory.{is_running, is_stopped, IsPlanned, LiesOn};
 
 use crate::table::Table;
@@ -91,6 +93,7 @@ impl<const KNOTS: usize, const SLOTS: usize> Table<KNOTS, SLOTS> {
         ensures lies { IfOk result (λ t. (f : FlashState) → f.geometry ≡ config.now.geometry → config.now.rows.first_block + config.now.rows.blocks ≤ f.blocks
             → IfSome config.now.index (λ place. place.first_block + place.blocks ≤ f.blocks) → IfSome config.now.var (λ place. place.first_block + place.blocks ≤ f.blocks) → pages f < 2 ^ 32 → LiesOn t f) }
         ensures fresh { IfOk result (λ t. (is_running t ≡ false) × (is_stopped t ≡ false)) }
+        ensures shape { IfOk result (λ t. (has_blobs t ≡ nat_lt 0 (blocks_in config.now.var)) × (layout_len (layout_in t) + 24 ≤ config.now.geometry.page)) }
         ensures refused { IfErr result (λ refusal. ((refusal ≡ NoMemory) × (config_fault config.now ≡ None)) ⊎ Tells {A = Table KNOTS SLOTS} (Err refusal) (config_fault config.now)) }
     {
         config.check()?;

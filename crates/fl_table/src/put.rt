@@ -23,9 +23,9 @@ fn with_value(buckets: Option<Buckets>, bitmap: u64, value: i64) -> u64
 }
 
 impl<const KNOTS: usize, const SLOTS: usize> Table<KNOTS, SLOTS> {
-    ghost use Rattle.std.specs.Prelude.{ℕ, Bool, None, is_some, ◌||◌, ◌&&◌, not, nat_lt, ◌↔◌, Ok, Err};
+    ghost use Rattle.std.specs.Prelude.{ℕ, Bool, List, Some, None, is_some, ◌||◌, ◌&&◌, not, nat_lt, ◌↔◌, Ok, Err};
     ghost use Rattle.fl_model.specs.Record.{Plan, layout_len, rows_per_page};
-    ghost use Rattle.fl_model.specs.Row.{FitsRow, stored_row};
+    ghost use Rattle.fl_model.specs.Row.{Row, FitsRow, stored_row};
     ghost use Rattle.fl_model.specs.Table as model;
     ghost use Rattle.fl_model.specs.Table.{Entry, make_room_seals, spent_from};
     ghost use Rattle.fl_model.specs.Work.{Device};
@@ -34,7 +34,8 @@ impl<const KNOTS: usize, const SLOTS: usize> Table<KNOTS, SLOTS> {
     ghost use Rattle.fl_schema.specs.Schema.{layout_of};
     ghost use Rattle.fl_flash.specs.Flash.{FlashState};
     ghost use Rattle.fl_table.specs.Causes.{PutCausedBy, FlushCausedBy, RefusedSame, put_breaks, flush_breaks};
-    ghost use Rattle.fl_table.specs.Memory.{is_running, is_stopped, next_in, pending_in, HasBuckets, HasRoom, InMemory, IsSameBeside, IsSamePlan, LiesOn};
+    ghost use Rattle.fl_table.specs.Look.{last_key_in};
+    ghost use Rattle.fl_table.specs.Memory.{is_running, is_stopped, next_in, pending_in, HasBuckets, HasRoom, InMemory, IsSameBeside, IsSamePlan, LiesOn, PendingAre};
     ghost use Rattle.fl_table.specs.Refusal.{put_refusal, RefusesAs};
     ghost use Rattle.fl_table.specs.Standing.{Stands};
     ghost use Rattle.fl_table.specs.Bitmaps.{next_of as index_next};
@@ -95,6 +96,9 @@ impl<const KNOTS: usize, const SLOTS: usize> Table<KNOTS, SLOTS> {
         ensures blobs { self.new.blobs ≡ self.old.blobs }
         ensures lies { (f : FlashState) → LiesOn self.old f → LiesOn self.new f }
         ensures stopped { is_stopped self.new ≡ is_stopped self.old }
+        ensures pending { pending_in self.new ≡ pending_in self.old + 1 }
+        ensures last { last_key_in self.new ≡ Some key }
+        ensures rows { (rows : List Row) → PendingAre self.old rows → PendingAre self.new (rows ++ (record { key = key; values = values.now; blob = blob }) ∷ []) }
         ensures memory { (plan : Plan) → (table after : model.Table) → (entry : Entry) → InMemory self.old plan table → IsSameBeside table after → after.entries ≡ table.entries ++ entry ∷ [] → after.pending ≡ table.pending + 1 → table.pending ≤ length table.entries →
             HasBuckets plan self.old.buckets → stored_row entry ≡ record { key = key; values = values.now; blob = blob } → InMemory self.new plan after }
     {
@@ -127,7 +131,11 @@ impl<const KNOTS: usize, const SLOTS: usize> Table<KNOTS, SLOTS> {
             → Stands self.old (F.state flash.old) first plan table → IsAcceptedBy plan table key values.now (option_map (λ b. b.now) blob.entry)
             → JoinEnds first plan (record { key = key; values = values.now; blob = option_map (λ b. b.now) blob.entry }) table rose device result self.new (F.state flash.old) (F.state flash.new) }
         ensures quiet { variable.pages_for self.old.blobs (option_map (λ b. b.now) blob.entry) ≡ 0 → (result ≡ Ok tt) × (F.state flash.new ≡ F.state flash.old) }
+        ensures power { OnOk result ((F.state flash.old).is_on ≡ true → (F.state flash.new).is_on ≡ true) }
         ensures off { 1 ≤ variable.pages_for self.old.blobs (option_map (λ b. b.now) blob.entry) → OffChangesNothing (F.state flash.old) result (F.state flash.new) }
+        ensures pending { OnOk result (pending_in self.new ≡ pending_in self.old + 1) }
+        ensures last { OnOk result (last_key_in self.new ≡ Some key) }
+        ensures rows { OnOk result (option_map (λ b. b.now) blob.entry ≡ None → (rows : List Row) → PendingAre self.old rows → PendingAre self.new (rows ++ (record { key = key; values = values.now; blob = None }) ∷ [])) }
         ensures running { OnOk result (is_running self.new ≡ true) }
         ensures calm { OnOk result (is_stopped self.new ≡ is_stopped self.old) }
         ensures stopped { OnErr result ((is_running self.new ≡ false) × (is_stopped self.new ≡ true)) }
@@ -171,6 +179,10 @@ impl<const KNOTS: usize, const SLOTS: usize> Table<KNOTS, SLOTS> {
         ensures running { is_running self.new ≡ (is_running self.old && not (put_breaks result)) }
         ensures quiet { put_refusal self.old key values.now (option_map (λ b. length b.now) blob.entry) ≡ None → HasRoom self.old → variable.pages_for self.old.blobs (option_map (λ b. b.now) blob.entry) ≡ 0
             → (result ≡ Ok tt) × (F.state flash.new ≡ F.state flash.old) }
+        ensures pending { OnOk result (HasRoom self.old → pending_in self.new ≡ pending_in self.old + 1) }
+        ensures last { OnOk result (last_key_in self.new ≡ Some key) }
+        ensures rows { OnOk result (HasRoom self.old → option_map (λ b. b.now) blob.entry ≡ None → (rows : List Row) → PendingAre self.old rows → PendingAre self.new (rows ++ (record { key = key; values = values.now; blob = None }) ∷ [])) }
+        ensures power { OnOk result ((F.state flash.old).is_on ≡ true → (F.state flash.new).is_on ≡ true) }
         ensures off { put_refusal self.old key values.now (option_map (λ b. length b.now) blob.entry) ≡ None → (HasRoom self.old → variable.pages_for self.old.blobs (option_map (λ b. b.now) blob.entry) ≡ 0 → ⊥)
             → (F.state flash.old).is_on ≡ false → (result ≡ Err (PutRefusal.Flash FlashFault.PowerLost)) × (F.state flash.new ≡ F.state flash.old) }
         ensures reads { (F.state flash.new).work.reads ≡ (F.state flash.old).work.reads }
@@ -199,6 +211,9 @@ impl<const KNOTS: usize, const SLOTS: usize> Table<KNOTS, SLOTS> {
         ensures running { is_running self.new ≡ (is_running self.old && not (flush_breaks result)) }
         ensures refused { result ≡ Err FlushFault.Stopped → self.new ≡ self.old }
         ensures quiet { is_running self.old ≡ true → pending_in self.old ≡ 0 → (result ≡ Ok tt) × (self.new ≡ self.old) × (F.state flash.new ≡ F.state flash.old) }
+        ensures none { OnOk result (pending_in self.new ≡ 0) }
+        ensures seals { OnOk result (1 ≤ pending_in self.old → next_in self.new ≡ next_in self.old + 1) }
+        ensures power { OnOk result ((F.state flash.old).is_on ≡ true → (F.state flash.new).is_on ≡ true) }
         ensures off { is_running self.old ≡ true → 1 ≤ pending_in self.old → (F.state flash.old).is_on ≡ false → (result ≡ Err (FlushFault.Flash FlashFault.PowerLost)) × (F.state flash.new ≡ F.state flash.old) }
         ensures reads { (F.state flash.new).work.reads ≡ (F.state flash.old).work.reads }
         ensures media_reads { (F.state flash.new).media.reads ≤ (F.state flash.old).media.reads + rings_in self.old }

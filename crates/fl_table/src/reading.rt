@@ -20,6 +20,7 @@ ghost use Rattle.fl_table.specs.BlobEnds.{blobs_end, least_of};
 use crate::MountFault;
 use crate::bitmaps::note_entry;
 use crate::blob_end::{blobs_end, least_of};
+use crate::keys::last_key_after;
 use crate::known::{Known, PageFacts, count_page, count_void, settle};
 use fl_base::{get_u16, get_u32, get_u64};
 use fl_find::LearnedIndex;
@@ -80,25 +81,12 @@ fn rows_of_view(
     ensures blob_end { IfOk result (λ page. page.blob_end ≡ blobs_end 0 (rows_of view.entry)) }
     ensures fault { IfErr result (λ e. keys_fault number last (rows_of view.entry) ≡ Some e) }
 {
-    let mut so_far = last;
-    for i in 0..view.rows() {
-        let key = view.row(i).key();
-        if let Some(before) = so_far {
-            if key <= before {
-                return Err(MountFault::BadKeys {
-                    page: number,
-                    last: before,
-                    first: key,
-                });
-            }
-        }
-        so_far = Some(key);
-    }
+    let last = last_key_after(view, number, last)?;
     Ok(PageRows {
         rows: view.rows() as u32,
         bitmap,
         first: Some(view.row(0).key()),
-        last: so_far,
+        last,
         blob_end: blobs_end(&view),
     })
 }

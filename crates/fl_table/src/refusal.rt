@@ -74,12 +74,7 @@ impl<const KNOTS: usize, const SLOTS: usize> Table<KNOTS, SLOTS> {
     }
 
     /// The first refusal of a record that applies, if one does.
-    pub(crate) fn refusal(
-        &self,
-        key: u64,
-        values: &[i64],
-        blob: Option<&[u8]>,
-    ) -> Option<PutRefusal>
+    pub fn refusal(&self, key: u64, values: &[i64], blob: Option<&[u8]>) -> Option<PutRefusal>
         ensures { result ≡ put_refusal self.now key values.now (option_map (λ b. length b.now) blob.entry) }
     {
         if !self.is_running() {

@@ -1,10 +1,12 @@
 // Whether a table is mounted.
-ghost use Rattle.std.specs.Prelude.{◌≡◌};
+ghost use Rattle.std.specs.Prelude.{◌≡◌, false};
 
 use crate::table::Table;
 
 impl<const KNOTS: usize, const SLOTS: usize> Table<KNOTS, SLOTS> {
-    ghost use Rattle.fl_table.specs.Memory.{is_running, is_stopped, is_mounted};
+    ghost use Rattle.std.specs.Prelude.{◌||◌};
+    ghost use Rattle.fl_flash.specs.Flash.{FlashState};
+    ghost use Rattle.fl_table.specs.Memory.{is_running, is_stopped, is_mounted, IsForgotten, IsSamePlan, LiesOn};
 
     /// The last mount succeeded.
     pub fn is_mounted(&self) -> bool
@@ -25,5 +27,28 @@ impl<const KNOTS: usize, const SLOTS: usize> Table<KNOTS, SLOTS> {
         ensures { result ≡ is_running self.now }
     {
         self.ring.is_some()
+    }
+
+    /// Stops it as a failed operation does: it is to be mounted again. A table that isn't mounted, or is stopped, stays as it is.
+    pub fn stop(&mut self)
+        ensures stopped { is_stopped self.new ≡ (is_running self.old || is_stopped self.old) }
+        ensures running { is_running self.new ≡ false }
+        ensures still { is_running self.old ≡ false → self.new ≡ self.old }
+        ensures same { IsSamePlan self.old self.new }
+        ensures lies { (f : FlashState) → LiesOn self.old f → LiesOn self.new f }
+    {
+        if self.is_running() {
+            self.ring = None;
+            self.stopped = true;
+        }
+    }
+
+    /// Gives up what is in memory, as before its first mount: it is to be mounted again.
+    pub fn unmount(&mut self)
+        ensures forgotten { IsForgotten self.new }
+        ensures same { IsSamePlan self.old self.new }
+        ensures lies { (f : FlashState) → LiesOn self.old f → LiesOn self.new f }
+    {
+        self.forget();
     }
 }

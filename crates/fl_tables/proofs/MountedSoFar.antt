@@ -126,6 +126,7 @@ pub record MountedSoFar (plans : List Plan) (start : List model.Table) (rose : B
   pub all : length tables ≡ length plans
   pub shows : (i : ℕ) (plan : Plan) (table : model.Table) → slice_get plans i ≡ Some plan → slice_get tables i ≡ Some table → slice_get shown i ≡ Some (shown_so k i plan table)
   pub idle : (i : ℕ) (table : model.Table) → slice_get tables i ≡ Some table → table ≡ lose table
+  pub behind : (i : ℕ) → k ≤ i → slice_get tables i ≡ slice_get start i
   pub whole : (how : MountEnd) → Mounts plans rose (turns_from k (drop k plans)) now tables how → Mounts plans rose (turns_from 0 plans) device start how
 
 pub mounted-none : (plans : List Plan) (start : List model.Table) (rose : Bool) (device : Device) (entries : List Entry) (f : FlashState) → SameDevice f device → f.is_on ≡ true → TablesStand f (λ i. false) plans entries start →
@@ -144,6 +145,7 @@ mounted-none plans start rose device entries f counts power stand = record {
       let plan = slice_get-some plans i (omega (arith, within, stand.all)) in
       let entry = slice_get-some entries i (omega (arith, within, stand.all, stand.as_many)) in
       (stand.each i plan.0 entry.0 table plan.1 entry.1 t).on_flash.settled.lost;
+  behind = λ i le. refl;
   whole = λ how m. m;
 }
   where
@@ -167,6 +169,10 @@ module _ (plans : List Plan) (start : List model.Table) (rose : Bool) (device : 
 
   own_was : own.table ≡ was
   own_was = some-is (slice_get so_far.shown k) own.table was own.table_is (so_far.shows k own.plan was own.plan_is was_is ∙ ap (λ (b : Bool). Some (if b then ready own.plan was else was)) (le-ltb k k (omega arith)))
+
+  -- the mounts before it left the table as it was
+  pub was_at : slice_get start k ≡ Some was
+  was_at = sym (so_far.behind k (omega arith)) ∙ was_is
 
   -- what the mount of the table is told
   pub stood : EntryStands entry f false (first_of plans k) own.plan was
@@ -242,6 +248,7 @@ module _ (plans : List Plan) (start : List model.Table) (rose : Bool) (device : 
         all = length-changed k state so_far.tables ∙ so_far.all;
         shows = λ i plan table p t. shows-more state i plan table p t (eqb_tells k i);
         idle = left-idle state (mounted-idle own.plan rose so_far.now was w.now lost w.did);
+        behind = λ i le. changed-elsewhere k i state so_far.tables (λ is. absurd (omega (arith, le, is))) ∙ so_far.behind i (omega (arith, le));
         whole = λ how m. ended how (along (TableMounted w.now) w.did how m);
       }
     where

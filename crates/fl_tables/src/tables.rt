@@ -41,6 +41,7 @@ pub struct BadMount {
 }
 
 impl Tables {
+    ghost use Rattle.fl_machine.specs.Reads.{mounts_limit};
     ghost use Rattle.fl_table.specs.Mounting.{FewRepairs};
     ghost use Rattle.fl_tables.specs.Mounting.{MountsInTurn, OutsideStands, RefusesAt, rings_of, tried};
     ghost use Rattle.fl_tables.specs.Repaired.{IsRepaired};
@@ -93,6 +94,8 @@ impl Tables {
         ensures outside { IsTrue (F.state flash.old).media.tells →
             OutsideStands (tried result self.old.entries.items) (page_at (F.state flash.old)) (page_at (F.state flash.new)) }
         ensures reads { IsTrue (F.state flash.old).media.tells → (F.state flash.new).work.reads ≤ (F.state flash.old).work.reads + 4 * pages_of self.old.entries.items }
+        ensures limit { (plans : List Plan) → (tables : List model.Table) → (rose : Bool) → (device : Device) → IsWatched (F.state flash.old) (F.state flash.new) rose device
+            → TablesStand (F.state flash.old) (λ i. false) plans self.old.entries.items tables → (F.state flash.new).work.reads ≤ (F.state flash.old).work.reads + mounts_limit plans tables }
         ensures goes { Goes (F.state flash.old) (F.state flash.new) }
         ensures lie { LieOn self.new.entries.items (F.state flash.new) }
         ensures room { length buf.new.bytes ≡ length buf.old.bytes }

@@ -2,8 +2,8 @@
 //! `flashts check IMAGE` tells there whether each table of the image is sound, `flashts map IMAGE` draws its pages, `flashts export
 //! IMAGE NAME LOW HIGH` writes the records of a table whose keys are in the range, `flashts salvage IMAGE NAME` those that a damaged
 //! image still holds, and `flashts import IMAGE NAME` puts those that standard input has into a table. `flashts plan` tells what the
-//! tables of a configuration keep and take, without an image, and `flashts help` tells the jobs. `flashts run sync IMAGE` runs a script
-//! likewise, and has each write on the disk before it counts as done.
+//! tables of a configuration keep and take, without an image, and `flashts help` tells the jobs. `flashts shell IMAGE` answers commands
+//! one by one, and goes on after a line that is none.
 #![tactic(auto)]
 
 ghost use Rattle.std.specs.Prelude.{◌≤◌, IfSome};
@@ -11,42 +11,55 @@ ghost use Rattle.std.specs.Prelude.{◌≤◌, IfSome};
 use fl_base::{Sink, Source};
 use fl_command::{Ending, Exit, Help, plan, reason_of, tool};
 use fl_edge::{
-    Access, FileMedia, ReplyBuffer, StandardDescriptors, StandardInput, StandardOutput,
+    Access, FileMedia, Prompted, ReplyBuffer, StandardDescriptors, StandardInput, StandardOutput,
     SyncedMedia, is_missing, remove_empty,
 };
 use fl_flash::Media;
 use fl_jobs::{ToolJob, tool_of};
 use fl_reason::{Tail, TailSource};
 use fl_session::{Status, image_of, run};
+use fl_shell::{ShellEnd, ShellStatus, shell, shell_of};
 use fl_sizing::{PlanJob, plan_of};
 use std::alloc::Global;
 use std::cell::RefCell;
 use std::env::Env;
 use std::fs::File;
-use std::io::{self, Write};
+use std::io::{self, IsTerminal, Read, Write};
 use std::process::{ExitCode, Termination};
 use std::rt::Files;
 
 fn main(rt: HostRuntime) -> ExitCode {
     let _streams = StandardDescriptors::taken(&rt);
-    ending(&rt).report(&rt)
+    ending(&rt, prompts_on(&rt.stdin(), rt.stderr())).report(&rt)
+}
+
+/// Where a shell shows its prompts: on standard error, if that and standard input are terminals.
+fn prompts_on<I: IsTerminal, W: IsTerminal + Drop>(input: &I, error: W) -> Option<W> {
+    let is_typed = input.is_terminal() && error.is_terminal();
+    is_typed.then_some(error)
 }
 
 /// Does what the words of the command line say.
-fn ending<R: Alloc<A = Global> + Env + Files<File = File> + Input + Print>(rt: &R) -> Ending {
+fn ending<R, W>(rt: &R, prompts: Option<W>) -> Ending
+where
+    R: Alloc<A = Global> + Env + Files<File = File> + Input + Print,
+    W: Write + Drop,
+{
     match words_of(rt) {
         Some(mut words) => {
             let sync = take_sync(&mut words);
-            ending_of(rt, &words, sync)
+            ending_of(rt, &words, sync, prompts)
         }
         None => Ending::of(Exit::Run(Status::NoMemory)),
     }
 }
 
-/// Takes the word `sync` behind `run` away, if it stands there before the name of an image, and tells whether it did.
+/// Takes the word `sync` behind `run` or `shell` away, if it stands there before the name of an image, and tells whether it did.
 fn take_sync(words: &mut Vec<String>) -> bool {
     let is_there = match words.as_slice() {
-        [job, word, _] => job.as_str() == "run" && word.as_str() == "sync",
+        [job, word, _] => {
+            (job.as_str() == "run" || job.as_str() == "shell") && word.as_str() == "sync"
+        }
         _ => false,
     };
     if is_there {
@@ -94,19 +107,20 @@ fn access_of(job: Option<ToolJob>) -> Access {
     }
 }
 
-/// Does what the words say over the image that they name, and hands out what was written. Other words leave every file alone.
-fn ending_of<R: Alloc<A = Global> + Files<File = File> + Input + Print>(
-    rt: &R,
-    words: &[String],
-    sync: bool,
-) -> Ending {
+/// Does what the words say over the image that they name, and hands out what was written. Other words leave every file alone. A shell
+/// over a file that can't be used ends before somebody types the configuration of an image.
+fn ending_of<R, W>(rt: &R, words: &[String], sync: bool, prompts: Option<W>) -> Ending
+where
+    R: Alloc<A = Global> + Files<File = File> + Input + Print,
+    W: Write + Drop,
+{
     if let Some(job) = plan_of(words) {
         return plan_told(rt, job);
     }
     let job = tool_of(words);
     let named = match job {
         Some(_) => Some(words[1].as_str()),
-        None => image_of(words),
+        None => image_of(words).or(shell_of(words)),
     };
     let Some(image) = named else {
         return Ending::of(usage_of(rt, words));
@@ -118,29 +132,46 @@ fn ending_of<R: Alloc<A = Global> + Files<File = File> + Input + Print>(
     let Ok(media) = FileMedia::open_image(rt, image, access_of(job)) else {
         return Ending::of(Exit::InUse);
     };
+    let is_shell = shell_of(words).is_some();
+    if is_shell && !media.is_usable() {
+        return Ending::of(Exit::Shell(ShellEnd::of(ShellStatus::MediaMake)));
+    }
     let made = if was_missing { Some(image) } else { None };
+    let reader = Prompted::new(rt.reader(), if is_shell { prompts } else { None });
     if sync {
-        done_over(rt, words, &job, made, SyncedMedia::of(media), replies)
+        done_over(
+            rt,
+            words,
+            &job,
+            made,
+            reader,
+            SyncedMedia::of(media),
+            replies,
+        )
     } else {
-        done_over(rt, words, &job, made, media, replies)
+        done_over(rt, words, &job, made, reader, media, replies)
     }
 }
 
-/// Does the job, or the run where there is none, over the medium of the image, and hands out what was written. The file that was made
-/// doesn't stay if nothing was written into it: it goes while the medium still has the lock.
-fn done_over<R: Alloc<A = Global> + Files + Input, M: Media + Drop, W: Write + Drop>(
+/// Does the job, or the shell or the run where there is none, over the medium of the image, and hands out what was written. The file
+/// that was made doesn't stay if nothing was written into it: it goes while the medium still has the lock.
+fn done_over<R: Alloc<A = Global> + Files, I: Read + Drop, M: Media + Drop, W: Write + Drop>(
     rt: &R,
     words: &[String],
     job: &Option<ToolJob>,
     made: Option<&str>,
+    reader: I,
     mut media: M,
     replies: ReplyBuffer<W>,
 ) -> Ending {
     let replies = RefCell::new(replies);
-    let mut input = StandardInput::new(rt.reader(), &replies);
+    let mut input = StandardInput::new(reader, &replies);
     let mut out = StandardOutput::new(&replies);
     let ending = match job {
         Some(job) => Ending::of(tool(rt.alloc(), *job, &mut media, &mut input, &mut out)),
+        None if shell_of(words).is_some() => {
+            shell_told(rt.alloc(), &mut media, &mut input, &mut out)
+        }
         None => run_told(rt.alloc(), words, &mut media, input, &mut out),
     };
     if let Some(image) = made {
@@ -151,6 +182,22 @@ fn done_over<R: Alloc<A = Global> + Files + Input, M: Media + Drop, W: Write + D
     Ending {
         exit: ending.exit.behind(out.hand_out()),
         ..ending
+    }
+}
+
+/// Answers the lines of an input over the image, and tells whether the image was made.
+fn shell_told<M: Media, S: Source, K: Sink>(
+    alloc: Global,
+    media: &mut M,
+    input: &mut S,
+    out: &mut K,
+) -> Ending {
+    let was_empty = media.len() == 0;
+    let end = shell(alloc, media, input, out);
+    Ending {
+        exit: Exit::Shell(end),
+        reason: None,
+        made: was_empty && media.len() > 0 && end.status != ShellStatus::MediaMake,
     }
 }
 

@@ -1,5 +1,5 @@
-//! Tests of rings, lookups, indexes, variable data, tables and cursors, through public calls. They stand above all that they
-//! call, so that each crate below is proved once.
+//! Tests of rings, lookups, indexes, variable data, tables, tables with a log and cursors, through public calls. They stand
+//! above all that they call, so that each crate below is proved once.
 #![tactic(auto)]
 
 #[cfg(test)]
@@ -8,6 +8,8 @@ mod changed_pages;
 mod cursors;
 #[cfg(test)]
 mod indexes;
+#[cfg(test)]
+mod logged_tables;
 #[cfg(test)]
 mod lookups;
 #[cfg(test)]

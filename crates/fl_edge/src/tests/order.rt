@@ -1,7 +1,7 @@
 // The order of reads and hand-outs, by a reader and a writer that note what they do in one log.
 ghost use Rattle.std.specs.Prelude.{◌≤◌};
 
-use crate::{ReplyBuffer, StandardInput, StandardOutput};
+use crate::{Prompted, ReplyBuffer, StandardInput, StandardOutput};
 use fl_base::{Sink, SinkFailed, Source, SourceFailed};
 use std::cell::RefCell;
 use std::io::{self, ErrorKind, Read, Write};
@@ -132,6 +132,21 @@ fn each_reply_is_out_before_the_next_read(rt: HostRuntime) -> Result<(), Fail> {
     assert!(rt; log.is(b"?abcd?e?"));
     assert_eq!(rt; source.read(&mut into), Err(SourceFailed));
     assert_eq!(rt; sink.hand_out(), Ok(()));
+    Ok(())
+}
+
+#[test]
+fn a_prompt_stands_behind_the_replies(rt: HostRuntime) -> Result<(), Fail> {
+    let log = Log::new(&rt);
+    let replies = RefCell::new(ReplyBuffer::new(rt.alloc(), writer_on(&log, 8, 100))?);
+    let reader = Prompted::new(b"x".as_slice(), Some(writer_on(&log, 8, 100)));
+    let mut source = StandardInput::new(reader, &replies);
+    let mut sink = StandardOutput::new(&replies);
+    let mut into = [0; 4];
+    assert_eq!(rt; source.read(&mut into), Ok(1));
+    assert_eq!(rt; sink.write(b"ab"), Ok(2));
+    assert_eq!(rt; source.read(&mut into), Ok(0));
+    assert!(rt; log.is(b"> ab> \n"));
     Ok(())
 }
 

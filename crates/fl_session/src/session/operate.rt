@@ -5,6 +5,7 @@ ghost use Rattle.fl_flash.specs.Flash.{Goes};
 ghost use Rattle.fl_model.specs.Record.{Config};
 ghost use Rattle.fl_words.specs.Command as words;
 ghost use Rattle.fl_machine.specs.Machine.{Machine};
+ghost use Rattle.fl_session.specs.Caused.{Caused};
 ghost use Rattle.fl_session.specs.Execute.{Executes};
 
 use super::Session;
@@ -25,6 +26,8 @@ impl<'m, M: Media> Session<'m, M> {
         out: &mut K,
     ) -> Result<(), SinkFailed>
         requires sound { ⟦<Self as Executor>⟧.sound self.old }
+        ensures cause { Caused (words.Select name range comparison.column comparison.op comparison.value) (⟦<Self as Executor>⟧.state self.old) (⟦<Self as Executor>⟧.state self.new)
+            (K.written out.old) (K.written out.new) result }
         ensures sound { ⟦<Self as Executor>⟧.sound self.new }
         ensures goes { Goes (⟦<Self as Executor>⟧.flash self.old) (⟦<Self as Executor>⟧.flash self.new) }
         ensures sink { HasCause (K.faults out.old) (K.faults out.new) result }
@@ -62,6 +65,8 @@ impl<'m, M: Media> Session<'m, M> {
         out: &mut K,
     ) -> Result<(), SinkFailed>
         requires sound { ⟦<Self as Executor>⟧.sound self.old }
+        ensures cause { Caused (words.Project name range columns.now.items) (⟦<Self as Executor>⟧.state self.old) (⟦<Self as Executor>⟧.state self.new)
+            (K.written out.old) (K.written out.new) result }
         ensures sound { ⟦<Self as Executor>⟧.sound self.new }
         ensures goes { Goes (⟦<Self as Executor>⟧.flash self.old) (⟦<Self as Executor>⟧.flash self.new) }
         ensures sink { HasCause (K.faults out.old) (K.faults out.new) result }
@@ -94,6 +99,8 @@ impl<'m, M: Media> Session<'m, M> {
     ) -> Result<(), SinkFailed>
         requires sound { ⟦<Self as Executor>⟧.sound self.old }
         requires width { 1 ≤ width }
+        ensures cause { Caused (words.Agg name range column width) (⟦<Self as Executor>⟧.state self.old) (⟦<Self as Executor>⟧.state self.new)
+            (K.written out.old) (K.written out.new) result }
         ensures sound { ⟦<Self as Executor>⟧.sound self.new }
         ensures goes { Goes (⟦<Self as Executor>⟧.flash self.old) (⟦<Self as Executor>⟧.flash self.new) }
         ensures sink { HasCause (K.faults out.old) (K.faults out.new) result }
@@ -132,6 +139,8 @@ impl<'m, M: Media> Session<'m, M> {
         out: &mut K,
     ) -> Result<(), SinkFailed>
         requires sound { ⟦<Self as Executor>⟧.sound self.old }
+        ensures cause { Caused (words.Join left right range) (⟦<Self as Executor>⟧.state self.old) (⟦<Self as Executor>⟧.state self.new)
+            (K.written out.old) (K.written out.new) result }
         ensures sound { ⟦<Self as Executor>⟧.sound self.new }
         ensures goes { Goes (⟦<Self as Executor>⟧.flash self.old) (⟦<Self as Executor>⟧.flash self.new) }
         ensures sink { HasCause (K.faults out.old) (K.faults out.new) result }

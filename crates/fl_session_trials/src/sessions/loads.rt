@@ -45,9 +45,9 @@ fn lost_line(rt: HostRuntime) -> Result<(), Fail> {
     let alloc = rt.alloc();
     let commands = "mount\nput t 18446744073709551615 0\nload t 3 1 0\n";
     let mut media = empty_medium(alloc)?;
-    let mut sink = MemSink::new(alloc, 100, vec![in alloc; 4]?)?;
-    let mut source = MemSource::new(text(alloc, &[CONFIG, commands])?, Vec::new(alloc));
-    let status = run_source(alloc, &mut media, &mut source, &mut sink)?;
+    let sink = MemSink::new(alloc, 100, vec![in alloc; 4]?)?;
+    let source = MemSource::new(text(alloc, &[CONFIG, commands])?, Vec::new(alloc));
+    let (status, _, sink) = run_source(alloc, &mut media, source, sink)?;
     assert!(rt; status == Status::OutWrite);
     assert!(rt; sink.bytes() == "ok\nok\nloaded 0\n".as_bytes());
     Ok(())

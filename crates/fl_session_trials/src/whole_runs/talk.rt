@@ -74,5 +74,5 @@ impl Talk {
 pub(crate) fn is_answered(alloc: Global, talk: Talk) -> Result<bool, Fail> {
     let mut media = MemMedia::new(alloc, Vec::new(alloc), ROOM)?;
     let (status, sink) = run_script(alloc, &mut media, talk.script)?;
-    Ok(status == Status::Done && sink.bytes() == talk.wanted.as_slice())
+    Ok(matches!(status, Status::Done { .. }) && sink.bytes() == talk.wanted.as_slice())
 }

@@ -1,8 +1,10 @@
-use Rattle.std.proofs.Common.{◌≡◌, ◌+◌, not, ◌&&◌, refl, ap, sym, ◌∙◌, subst, arith}
+use Rattle.std.proofs.Common.{◌≡◌, ◌+◌, true, not, ◌&&◌, IsTrue, refl, ap, sym, ◌∙◌, subst, arith}
 use Rattle.std.specs.Prelude.{unwrap_or}
 use Rattle.fl_model.specs.Record.{RowLayout}
 use Rattle.fl_tables.proofs.Going.{goes-same, goes-on, rose-front, rose-back, same-plan, same-on}
 use Rattle.fl_session.specs.Load.{StandsBefore, load_key, random_of}
+use Rattle.fl_table.proofs.Outsides.{outside-then}
+use Rattle.fl_session.proofs.Causing.{load-counts, load-fails, when-ok}
 use Rattle.fl_session.proofs.Loading.{LoadedSoFar, loaded-none, loaded-more, ends-next, ends-done, load-finished, load-stopped, rose-risen}
 use Rattle.fl_session.proofs.Working.{has_risen}
 use Rattle.fl_session.proofs.LoadLines.{unbroken}
@@ -16,10 +18,12 @@ loop-loaded-init g c = record {
   lies = c.requires.lies;
   running = refl;
   goes = goes-same _;
+  power = λ on. on;
   unread = refl;
   makes = c.new-records.ensures.stands;
   step_is = c.new-records.ensures.step;
   same = same-plan c.args.table.now;
+  outside = λ told page ring index blobs. refl;
   so_far = λ config entries at entry asked notes old rose h here is named risen. loaded-none config entries at entry asked notes old _ _ rose _ _ _ _ c.new-records.ensures.random h here is;
 }
 
@@ -48,10 +52,12 @@ loop-loaded-preserved g c =
       lies = p.lies;
       running = p.running ∙ (ap (λ b. is_running c.loop-loaded.table && not b) (unbroken c.put-outcome.result (sym c.is_err.ensures.value ∙ c.if-is_err.false)) ∙ (and-true (is_running c.loop-loaded.table) ∙ i.running));
       goes = goes-on _ _ _ i.goes p.goes;
+      power = λ on. when-ok (m.is_on ≡ true → n.is_on ≡ true) c.put-outcome.result (sym c.is_err.ensures.value ∙ c.if-is_err.false) p.power (i.power on);
       unread = p.reads ∙ i.unread;
       makes = subst (λ (l : RowLayout). StandsBefore l.columns c.args.seed (c.loop-loaded.loaded + 1 + 1) c.next-record.new.self) (sym p.same.layout) (c.next-record.ensures.stands _ _ _ i.makes);
       step_is = c.next-record.ensures.step ∙ i.step_is;
       same = same-on _ _ _ i.same p.same;
+      outside = λ told. outside-then c.args.table.now c.loop-loaded.table _ _ _ i.same (i.outside told) (p.outside (subst IsTrue (sym i.goes.tells) told));
       so_far = λ config entries at entry asked notes old rose h here is named risen.
           let so_far = i.so_far config entries at entry asked notes old rose h here is named (λ r. risen (rose-front f.media.faults m.media.faults n.media.faults p.goes.faults r)) in
           let ends = ends-next config entries at entry asked notes old f.media.content _ _ m n rose _ _ _ _ _ here named so_far c.loop-loaded-test.true p.goes p.same p.outside c.put-outcome.result _ _ c.last_key.result
@@ -73,3 +79,24 @@ returns-clause-answers g c = λ config entries at entry asked notes old h here i
     let m = g.F.Flash.state c.loop-loaded.flash in
     let all : c.loop-loaded.loaded ≡ c.args.count = omega arith in
     load-finished config entries at entry asked notes old _ f m _ _ _ _ _ h here named all (c.loop-loaded.invariant.so_far config entries at entry asked notes old (has_risen f m) h here is named (λ r. rose-risen f m r))
+
+pub returns-then-is_err-clause-counted : goal.returns-then-is_err-clause-counted
+returns-then-is_err-clause-counted g c = load-counts _ _ c.put-outcome.result (sym c.is_err.ensures.value ∙ c.if-is_err.true) c.loop-loaded-test.true
+
+pub returns-clause-counted : goal.returns-clause-counted
+returns-clause-counted g c = refl
+
+pub returns-then-is_err-clause-fails : goal.returns-then-is_err-clause-fails
+returns-then-is_err-clause-fails g c =
+    let i = c.loop-loaded.invariant in
+    let key = c.next-record.ensures.key ∙ (ap (λ s. load_key (unwrap_or c.last_key.result 0) s (random_of c.loop-loaded.records)) i.step_is ∙ ap (λ last. load_key (unwrap_or last 0) c.args.step (random_of c.loop-loaded.records)) c.last_key.ensures.exact) in
+    load-fails c.loop-loaded.table c.put-outcome.new.self _ _ _ c.args.step c.args.seed c.loop-loaded.loaded (random_of c.loop-loaded.records) c.next-record.result.key _ key (c.as_slice.ensures.value ∙ c.next-record.ensures.values _ _ _ i.makes)
+    c.put-outcome.result i.power i.goes c.put-outcome.ensures.exact c.put-outcome.ensures.refused c.put-outcome.ensures.cause
+
+pub returns-then-is_err-clause-outside : goal.returns-then-is_err-clause-outside
+returns-then-is_err-clause-outside g c = λ told.
+    let i = c.loop-loaded.invariant in
+    outside-then c.args.table.now c.loop-loaded.table _ _ _ i.same (i.outside told) (c.put-outcome.ensures.outside (subst IsTrue (sym i.goes.tells) told))
+
+pub returns-clause-outside : goal.returns-clause-outside
+returns-clause-outside g c = c.loop-loaded.invariant.outside

@@ -1,11 +1,12 @@
 use Rattle.std.proofs.Common.{◌≡◌, ℕ, ◌+◌, Bool, true, IsTrue, Some, List}
 use Rattle.std.specs.List.{slice_get}
 use Rattle.fl_base.specs.Causes.{Rose}
-use Rattle.fl_flash.specs.Flash.{Goes}
+use Rattle.fl_flash.specs.Flash.{Goes, page_at}
 use Rattle.fl_model.specs.Record.{Config}
 use Rattle.fl_machine.specs.Machine.{Machine}
 use Rattle.fl_table.specs.Look.{layout_in}
 use Rattle.fl_table.specs.Memory.{is_running, IsSamePlan, LiesOn}
+use Rattle.fl_table.specs.Mounting.{OutsideStands}
 use Rattle.fl_tables.specs.Tables.{IsNamed}
 use Rattle.fl_tables.specs.declared.tables.Entry.{Entry}
 use Rattle.fl_session.specs.Load.{StandsBefore, random_of, step_of}
@@ -19,10 +20,12 @@ invariant-loop-loaded g l = record {
   lies : LiesOn l.table (g.F.Flash.state l.flash);
   running : is_running l.table ≡ is_running l.fn.table;
   goes : Goes (g.F.Flash.state l.fn.flash) (g.F.Flash.state l.flash);
+  power : (g.F.Flash.state l.fn.flash).is_on ≡ true → (g.F.Flash.state l.flash).is_on ≡ true;
   unread : (g.F.Flash.state l.flash).work.reads ≡ (g.F.Flash.state l.fn.flash).work.reads;
   makes : StandsBefore (layout_in l.table).columns l.seed (l.loaded + 1) l.records;
   step_is : step_of l.records ≡ l.step;
   same : IsSamePlan l.fn.table l.table;
+  outside : IsTrue (g.F.Flash.state l.fn.flash).media.tells → OutsideStands l.fn.table (page_at (g.F.Flash.state l.fn.flash)) (page_at (g.F.Flash.state l.flash));
   so_far : (config : Config) (entries : List Entry) (at : ℕ) (entry : Entry) (asked : List ℕ) (notes : Notes) (old : Machine) (rose : Bool) → SessionStands config entries (g.F.Flash.state l.fn.flash) true notes old →
       slice_get entries at ≡ Some entry → entry.table ≡ l.fn.table → IsNamed entries asked at → (Rose (g.F.Flash.state l.fn.flash).media.faults (g.F.Flash.state l.flash).media.faults → IsTrue rose) →
       LoadedSoFar config entries at entry asked notes old (g.F.Flash.state l.fn.flash).media.content l.table (g.F.Flash.state l.flash) rose l.count l.step l.seed l.loaded (random_of l.records);

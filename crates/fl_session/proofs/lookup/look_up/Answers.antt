@@ -2,6 +2,8 @@ use Rattle.std.proofs.Common.{◌∙◌, refl}
 use Rattle.fl_schema.specs.Schema.{row_of}
 use Rattle.fl_session.proofs.Lookups.{looks-absent, looks-found, looks-unread}
 use Rattle.fl_session.proofs.RowLines.{blobs-as}
+use Rattle.fl_session.specs.Rows.{row_reply}
+use Rattle.fl_words.specs.Reply as reply
 use Rattle.fl_session.proofs.lookup.look_up.Goals as goal
 
 pub returns-in-Ok-None-clause-looks : goal.returns-in-Ok-None-clause-looks
@@ -20,3 +22,19 @@ returns-in-Err-Flash-clause-looks g c = λ first plan t told on stands.
 
 pub returns-in-Err-BadPage-clause-looks : goal.returns-in-Err-BadPage-clause-looks
 returns-in-Err-BadPage-clause-looks g c = λ first plan t told on stands. absurd (rw c.in-Err-BadPage.field-0-is at (c.in-Err-BadPage.ensures.finds first plan t told stands))
+
+pub returns-in-Ok-None-clause-cause : goal.returns-in-Ok-None-clause-cause
+returns-in-Ok-None-clause-cause g c = record { reply = reply.Absent; said_is = refl; holds = tt }
+
+pub returns-in-Ok-Some-clause-cause : goal.returns-in-Ok-Some-clause-cause
+returns-in-Ok-Some-clause-cause g c = record { reply = row_reply c.form_of-form.result.blobs (row_of c.row_at.result); said_is = c.line_of.ensures; holds = tt }
+
+pub returns-in-Err-Flash-clause-cause : goal.returns-in-Err-Flash-clause-cause
+returns-in-Err-Flash-clause-cause g c = record { reply = reply.ReadFault; said_is = refl; holds = (c.in-Err-Flash.field-0-0, rw c.in-Err-Flash.field-0-is at c.in-Err-Flash.ensures.fails) }
+
+pub returns-in-Err-BadPage-clause-cause : goal.returns-in-Err-BadPage-clause-cause
+returns-in-Err-BadPage-clause-cause g c = rw c.in-Err-BadPage.field-0-is (record {
+  reply = reply.BadPage c.in-Err-BadPage.bad.wanted;
+  said_is = refl;
+  holds = (c.in-Err-BadPage.bad, refl, rw c.in-Err-BadPage.field-0-is at c.in-Err-BadPage.ensures.fails);
+})

@@ -11,7 +11,7 @@ use Rattle.fl_session.proofs.whole_run.run_script.Goals as goal
 
 pub returns-in-Err-clause-ends : goal.returns-in-Err-clause-ends
 returns-in-Err-clause-ends g c = λ text told l.
-    ends-in_begin (effects_of (told_of (g.M.Media.state c.args.media.now) (g.M.Media.state c.args.media.now) (g.S.Source.left c.read_config.new.script) (g.K.Sink.written c.args.out.now) (g.K.Sink.written c.args.out.now))) 64 text _ c.in-Err.status (c.in-Err.ensures.ends 64 text l) (record { content = refl; written = nothing-added _ })
+    ends-in_begin (effects_of (told_of (g.M.Media.state c.args.media.now) (g.M.Media.state c.args.media.now) (g.S.Source.left c.read_config.new.script) (g.K.Sink.written c.args.out.now) (g.K.Sink.written c.args.out.now)) c.in-Err.status) 64 text _ c.in-Err.status (c.in-Err.ensures.ends 64 text l) (record { content = refl; written = nothing-added _ })
 
 pub returns-in-Err-clause-script : goal.returns-in-Err-clause-script
 returns-in-Err-clause-script g c = λ text l. ends-in_begin unsaid 64 text _ c.in-Err.status (c.in-Err.ensures.ends 64 text l) tt

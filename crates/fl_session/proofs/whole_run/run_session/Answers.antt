@@ -15,7 +15,7 @@ returns-clause-runs g c = λ configured w.
     (rw c.new-session.ensures.rooms.0 c.requires.tables)
     c.new-session.ensures.off c.new-session.ensures.fresh parts.knots_are
     _ _ _ _ _ _ _ _
-    (c.run_first-status.ensures.runs configured)
+    (c.run_first-status.ensures.tells configured) (c.run_first-status.ensures.runs configured)
 
 pub run_first-status-requires-clause-sound : goal.run_first-status-requires-clause-sound
 run_first-status-requires-clause-sound g c =

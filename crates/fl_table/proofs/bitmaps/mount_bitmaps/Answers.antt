@@ -4,7 +4,11 @@ use Rattle.fl_index.specs.Finding.{FindsEnd}
 use Rattle.fl_index.specs.Memory.{form_in, next_in, oldest_in}
 use Rattle.fl_index.specs.Outcomes.{EndsAs}
 use Rattle.fl_table.specs.Bitmaps.{MountEndsOf, RemembersFound, room_of}
+use Rattle.fl_table.specs.MountLimits.{IsIndexLimited}
 use Rattle.fl_table.specs.Mounting.{FewReads}
+use Rattle.fl_index.specs.declared.page.EntryForm.{EntryForm}
+use Rattle.fl_index.proofs.Sealings.{planned-form}
+use Rattle.fl_table.proofs.MountLimits.{not-both}
 use Rattle.fl_table.proofs.FoundReads.{found-few, found-spared, ok-then}
 use Rattle.fl_table.proofs.bitmaps.mount_bitmaps.Goals as goal
 
@@ -39,3 +43,17 @@ returns-in-Some-2-clause-ends g c = λ first plan table rose device.
     let full : (form_in c.in-Some.index).full ≡ false = sym c.is_full.ensures ∙ c.if-is_full.false in
     subst (λ (o : Option Index). MountEndsOf o old first plan table rose device c.mount.result (Some now) new) (sym c.in-Some.is)
     (λ watched planned rests. subst (λ full. EndsAs (RemembersFound full now) first plan table rose device c.mount.result now new) (sym full) (c.mount.ensures.ends first plan table rose device watched planned rests))
+
+pub returns-in-Some-clause-limit : goal.returns-in-Some-clause-limit
+returns-in-Some-clause-limit g c = λ first plan table told.
+    let old = g.F.Flash.state c.args.flash.now in
+    let new = g.F.Flash.state c.find.new.flash in
+    subst (λ (o : Option Index). IsIndexLimited o old first plan table new) (sym c.in-Some.is) (λ planned rests full. c.find.ensures.reads first plan table told planned rests)
+
+pub returns-in-Some-2-clause-limit : goal.returns-in-Some-2-clause-limit
+returns-in-Some-2-clause-limit g c = λ first plan table told.
+    let old = g.F.Flash.state c.args.flash.now in
+    let new = g.F.Flash.state c.mount.new.flash in
+    let bare : (form_in c.in-Some.index).full ≡ false = sym c.is_full.ensures ∙ c.if-is_full.false in
+    subst (λ (o : Option Index). IsIndexLimited o old first plan table new) (sym c.in-Some.is)
+    (λ planned rests full. absurd (not-both (sym full ∙ (sym (ap (λ (form : EntryForm). form.full) (planned-form c.in-Some.index first plan planned)) ∙ bare))))

@@ -1,6 +1,7 @@
 use Rattle.std.proofs.Common.{rules, ◌≡◌, ◌*◌, Option, Some, sym, subst}
 use Rattle.fl_table.specs.BlobMount.{MountEndsOf}
 use Rattle.fl_table.specs.Blobs.{LieOn, room_of}
+use Rattle.fl_table.specs.MountLimits.{IsVarLimited}
 use Rattle.fl_table.specs.Mounting.{FewReads}
 use Rattle.fl_table.proofs.BlobMount.{mount-ends, few-reads}
 use Rattle.fl_table.proofs.blobs.mount.Goals as goal
@@ -22,3 +23,10 @@ returns-in-Some-clause-reads g c =
     let is : c.args.blobs.now ≡ Some c.in-Some.var = search rules in
     let lies : LieOn (Some c.in-Some.var) (g.F.Flash.state c.args.flash.now) = subst (λ (o : Option VarData). LieOn o (g.F.Flash.state c.args.flash.now)) is c.requires.lies in
     subst (λ (o : Option VarData). FewReads (4 * room_of o) f h) (sym is) (few-reads c.in-Some.var f h lies c.mount.ensures.beside)
+
+pub returns-in-Some-clause-limit : goal.returns-in-Some-clause-limit
+returns-in-Some-clause-limit g c = λ first plan table told.
+    let f = g.F.Flash.state c.args.flash.now in
+    let h = g.F.Flash.state c.mount.new.flash in
+    let is : c.args.blobs.now ≡ Some c.in-Some.var = search rules in
+    subst (λ (o : Option VarData). IsVarLimited o f first plan table h) (sym is) (λ rests. c.mount.ensures.reads plan table told rests.in_pages)

@@ -1,4 +1,4 @@
-use Rattle.std.proofs.Common.{rules, ◌≡◌, ℕ, Option, Some, None, Result, Ok, Err, List, sym, ◌∙◌, ap, subst, arith}
+use Rattle.std.proofs.Common.{rules, ◌≡◌, ℕ, Option, Some, None, Result, Ok, Err, List, sym, ◌∙◌, ap, subst, arith, true, ◌⊎◌, inl, inr}
 use Rattle.std.specs.Prelude.{option_map}
 use Rattle.std.specs.Borrow.{Bor}
 use Rattle.std.proofs.lemmas.Result.{err_from_is_err_and}
@@ -7,6 +7,7 @@ use Rattle.fl_flash.specs.declared.flash.FlashFault.{FlashFault}
 use Rattle.fl_table.specs.Blobs.{PlaceEndsOf, PlaceEnds, pages_for}
 use Rattle.fl_table.proofs.BlobSteps.{place-ok, place-none}
 use Rattle.fl_table.proofs.PowerOff.{off-ok, off-err}
+use Rattle.fl_flash.specs.Flash.{FlashState}
 use Rattle.fl_table.proofs.blobs.place.Goals as goal
 use Rattle.fl_var.specs.declared.var_data.VarData.{VarData}
 
@@ -67,3 +68,10 @@ returns-in_default-blob-clause-off g c = λ some.
     let none : c.args.blob ≡ None = search rules in
     let pages = ap (λ (o : Option VarData). pages_for o blob) is ∙ ap (λ (b : Option (Bor (List ℕ))). pages_for (Some c.in-Some.var) (option_map (λ (b : Bor (List ℕ)). b.now) b)) none in
     absurd (omega (arith, some, pages))
+
+pub returns-clause-power : goal.returns-clause-power
+returns-clause-power g c = λ on. by-calls on c.in_ok-at.ensures.power
+  where
+    by-calls : (g.F.Flash.state c.args.flash.now).is_on ≡ true → (g.F.Flash.state c.append.new.flash ≡ g.F.Flash.state c.args.flash.now) ⊎ ((g.F.Flash.state c.append.new.flash).is_on ≡ true) → (g.F.Flash.state c.append.new.flash).is_on ≡ true
+    by-calls on (inl same) = ap (λ (f : FlashState). f.is_on) same ∙ on
+    by-calls on (inr still) = still

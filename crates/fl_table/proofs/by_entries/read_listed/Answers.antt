@@ -22,6 +22,16 @@ returns-in_err-from-in-Some-clause-knows g c = λ told few error t comes h.
     let comes' = comes-full t layout c.args.limit entries c.args.ring.now f full (subst (λ (o : Option Index). ComesTo t layout c.args.limit o c.args.ring.now f) c.in-Some.is comes) in
     rw (p.1, p.2) (tt, (c.in_err-from-in-Some.ensures.knows told few error t comes' h).1)
 
+pub returns-in_err-from-in-Some-clause-few_reads : goal.returns-in_err-from-in-Some-clause-few_reads
+returns-in_err-from-in-Some-clause-few_reads g c = λ told few error t comes h.
+    let p = err_from_is_err_and c.from_residual.result c.from_residual.ensures.1 in
+    let f = g.F.Flash.state c.args.flash.now in
+    let layout = layout_of c.args.schema.now in
+    let entries = c.in-Some.entries in
+    let full : (form_in entries).full ≡ true = sym c.is_full.ensures ∙ c.if-is_full.true in
+    let comes' = comes-full t layout c.args.limit entries c.args.ring.now f full (subst (λ (o : Option Index). ComesTo t layout c.args.limit o c.args.ring.now f) c.in-Some.is comes) in
+    rw p.1 (tt, (c.in_err-from-in-Some.ensures.few_reads told few error t comes' h).1)
+
 pub returns-in_ok-from-in-Some-clause-few_reads : goal.returns-in_ok-from-in-Some-clause-few_reads
 returns-in_ok-from-in-Some-clause-few_reads g c = λ told few error t comes h.
     let f = g.F.Flash.state c.args.flash.now in

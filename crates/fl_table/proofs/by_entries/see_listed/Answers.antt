@@ -13,7 +13,7 @@ use Rattle.fl_table.specs.Coming.{AreListedBefore, AreRemembered}
 use Rattle.fl_table.specs.declared.faults.MountFault.{MountFault}
 use Rattle.fl_table.specs.Knowing.{KnowsWith, IsWithin, ReadsBut, is_waiting}
 use Rattle.fl_ring.proofs.Readings.{no_reads, more_reads, told_still}
-use Rattle.fl_table.proofs.Comings.{rows-still, fewer-reads}
+use Rattle.fl_table.proofs.Comings.{rows-still, unlisted-rises, fewer-reads}
 use Rattle.fl_table.proofs.Firsts.{remembers-more}
 use Rattle.fl_table.proofs.ListedPages.{HasPassed, passed-none, next-before, next-behind, listed-before, below-read, index-lies-read, come-still, seen-is, passed-page, fails-later, some-room, in-order, any-ok}
 use Rattle.fl_table.proofs.Sparing.{spared-none, spared-more, spared-reads, spared-within, ok-two}
@@ -83,6 +83,18 @@ returns-in_err-number-clause-knows g c = λ told few error t is h.
           (next-before t k c.loop-page.number c.loop-page.end (omega (arith, inv.from, lt, is.index_pages)) passed.end_is) passed.knows).1,
     )
 
+pub returns-in_err-number-clause-few_reads : goal.returns-in_err-number-clause-few_reads
+returns-in_err-number-clause-few_reads g c = λ told few error t is h.
+    let p = err_from_is_err_and c.from_residual.result c.from_residual.ensures.1 in
+    let inv = c.loop-page.invariant in
+    let old = g.F.Flash.state c.args.flash.now in
+    let flash = g.F.Flash.state c.loop-page.flash in
+    let lt : c.loop-page.page < next_in c.args.bitmaps.now = omega (arith, c.loop-page-test.true, c.next_number-next.ensures.exact) in
+    let passed = inv.passed told few error t is h in
+    let seen = c.in_err-number.ensures.few_reads (told_still old flash _ inv.reads told) t (rows-still t (layout_of c.args.schema.now) c.args.ring.now old flash _ inv.reads is.rows_are) passed.loaded in
+    let rest = unlisted-rises t (max c.loop-page.number (min c.loop-page.end (next_of c.args.ring.now)) - t.oldest) t.pages (omega (arith, is.rows_are.oldest, is.rows_are.pages, inv.high)) in
+    rw p.1 (tt, omega (arith, seen, passed.few, rest, inv.from, lt, is.index_pages))
+
 pub take_index_page-requires : goal.take_index_page-requires
 take_index_page-requires g c =
     let inv = c.loop-page.invariant in
@@ -147,6 +159,18 @@ returns-in_err-end-clause-knows g c = λ told few error t is h.
           (omega (arith, is.index_oldest, inv.from)) within passed.end_is here (omega (arith, ensures.to, ends, inv.high)) (omega (arith, is.rows_are.pages, few, inv.counts, ensures.size)) seen.0).1,
     )
 
+pub returns-in_err-end-clause-few_reads : goal.returns-in_err-end-clause-few_reads
+returns-in_err-end-clause-few_reads g c = λ told few error t is h.
+    let p = err_from_is_err_and c.from_residual-in_err-end.result c.from_residual-in_err-end.ensures.1 in
+    let inv = c.loop-page.invariant in
+    let old = g.F.Flash.state c.args.flash.now in
+    let flash = g.F.Flash.state c.loop-page.flash in
+    let lt : c.loop-page.page < next_in c.args.bitmaps.now = omega (arith, c.loop-page-test.true, c.next_number-next.ensures.exact) in
+    let passed = inv.passed told few error t is h in
+    let seen = c.in_ok-number.ensures.few_reads (told_still old flash _ inv.reads told) t (rows-still t (layout_of c.args.schema.now) c.args.ring.now old flash _ inv.reads is.rows_are) passed.loaded in
+    let rest = unlisted-rises t (max c.loop-page.number (min c.loop-page.end (next_of c.args.ring.now)) - t.oldest) t.pages (omega (arith, is.rows_are.oldest, is.rows_are.pages, inv.high)) in
+    rw p.1 (tt, omega (arith, seen, passed.few, rest, c.in_err-end.ensures.reads.reads, inv.from, lt, is.index_pages))
+
 pub loop-page-preserved : goal.loop-page-preserved
 loop-page-preserved g c =
     let inv = c.loop-page.invariant in
@@ -192,7 +216,8 @@ loop-page-preserved g c =
           let passed = inv.passed told few error t is h in
           let rows = rows-still t layout ring old flash _ inv.reads is.rows_are in
           let seen = ensures.knows (told_still old flash _ inv.reads told) (omega (arith, few, inv.counts)) error t k rows passed.loaded (next-before t k c.loop-page.number c.loop-page.end within passed.end_is) passed.knows in
-          let one_more = ensures.few_reads (told_still old flash _ inv.reads told) t rows passed.loaded in
+          let one_more = subst (λ n. mid.work.reads + unlisted_of t t.oldest (c.loop-page.number - t.oldest) ≤ flash.work.reads + unlisted_of t t.oldest (n - t.oldest)) (sym ensures.to)
+          (ensures.few_reads (told_still old flash _ inv.reads told) t rows passed.loaded) in
           let ends : t.oldest + t.pages ≡ next_of ring = omega (arith, is.rows_are.oldest, is.rows_are.pages, inv.low, inv.high) in
           let here = seen-is error t k c.loop-page.number c.loop-page.end number 0 old.work.reads flash.work.reads mid.work.reads 0 c.loop-page.known c.loop-page.known c.loop-page.counts c.loop-page.counts c.loop-page.index c.loop-page.index c.loop-page.bitmaps c.loop-page.bitmaps passed
           (omega (arith, is.rows_are.oldest, inv.low)) (omega (arith, ends, inv.high)) (omega (arith, ensures.to, ends)) in
@@ -225,9 +250,15 @@ returns-clause-few_reads g c = λ told few error t is h.
     let flash = g.F.Flash.state c.loop-page.flash in
     let last : c.loop-page.page ≡ next_in c.args.bitmaps.now = omega (arith, inv.most, c.loop-page-test.false, c.next_number-next.ensures.exact) in
     let passed = inv.passed told few error t is h in
-    let few = c.see_pages-2.ensures.few_reads (told_still old flash _ inv.reads told) t (rows-still t (layout_of c.args.schema.now) c.args.ring.now old flash _ inv.reads is.rows_are) passed.loaded in
-    IfOk-weaker c.see_pages-2.result _ (λ number. (g.F.Flash.state c.see_pages-2.new.flash).work.reads ≤ old.work.reads + t.index_pages + unlisted_of t t.oldest (number - t.oldest))
-    (λ to p. omega (arith, p, passed.few, last, is.index_pages)) few
+    let to = max c.loop-page.number (min c.loop-page.end (next_of c.args.ring.now)) in
+    let new = g.F.Flash.state c.see_pages-2.new.flash in
+    let seen = c.see_pages-2.ensures.few_reads (told_still old flash _ inv.reads told) t (rows-still t (layout_of c.args.schema.now) c.args.ring.now old flash _ inv.reads is.rows_are) passed.loaded in
+    let rest = unlisted-rises t (to - t.oldest) t.pages (omega (arith, is.rows_are.oldest, is.rows_are.pages, inv.high)) in
+    let all : new.work.reads ≤ old.work.reads + t.index_pages + unlisted_of t t.oldest (to - t.oldest) = omega (arith, seen, passed.few, last, is.index_pages) in (
+      IfOk-weaker c.see_pages-2.result _ (λ number. new.work.reads ≤ old.work.reads + t.index_pages + unlisted_of t t.oldest (number - t.oldest))
+          (λ number at. subst (λ n. new.work.reads ≤ old.work.reads + t.index_pages + unlisted_of t t.oldest (n - t.oldest)) (sym at) all) c.see_pages-2.ensures.to,
+      omega (arith, all, rest),
+    )
 
 pub returns-clause-unlisted : goal.returns-clause-unlisted
 returns-clause-unlisted g c = λ told few error t is h.

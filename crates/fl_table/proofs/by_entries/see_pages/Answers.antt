@@ -9,7 +9,7 @@ use Rattle.fl_table.specs.Coming.{AreRowsOf, AreLoaded, AreNext}
 use Rattle.fl_table.specs.Knowing.{KnowsWith, IsWithin, ReadsBut, is_waiting}
 use Rattle.fl_ring.proofs.Readings.{no_reads, more_reads, told_still, same_page}
 use Rattle.fl_table.proofs.Sparing.{spared-none, spared-more, spared-within}
-use Rattle.fl_table.proofs.Comings.{rows-still, more-unlisted, fewer-reads}
+use Rattle.fl_table.proofs.Comings.{rows-still, more-unlisted, unlisted-rises, fewer-reads}
 use Rattle.fl_table.proofs.by_entries.see_pages.Goals as goal
 
 pub returns-in_err-see_one-clause-knows : goal.returns-in_err-see_one-clause-knows
@@ -44,9 +44,26 @@ returns-clause-knows g c =
     λ told few error t k is loaded next h.
     (subst (λ n. KnowsWith error t k (n - t.oldest) c.loop-number.known c.loop-number.counts c.loop-number.index) last (c.loop-number.invariant.knows told few error t k is loaded next h), tt)
 
+pub returns-in_err-see_one-clause-few_reads : goal.returns-in_err-see_one-clause-few_reads
+returns-in_err-see_one-clause-few_reads g c =
+    let high : c.loop-number.number < next_of c.args.ring.now = search (rules, arith) in
+    let below : c.loop-number.number < c.args.end = search (rules, arith) in
+    λ told t is loaded.
+    let old = g.F.Flash.state c.args.flash.now in
+    let flash = g.F.Flash.state c.loop-number.flash in
+    let number = c.loop-number.number in
+    let n = number - t.oldest in
+    let inv = c.loop-number.invariant in
+    let at : number ≡ t.oldest + n = omega (arith, inv.from, c.requires.from.0, is.oldest) in
+    let lt : n < t.pages = omega (arith, inv.from, c.requires.from.0, is.oldest, is.pages, high) in
+    let one = c.in_err-see_one.ensures.few_reads (told_still old flash _ inv.reads told) t (loaded number inv.from below (omega (arith, inv.from, c.requires.from.0, is.oldest)) (omega (arith, at, lt))) in
+    let more = more-unlisted t n number (number + 1 - t.oldest) at (omega (arith, at)) in
+    let rest = unlisted-rises t (number + 1 - t.oldest) (max c.args.from (min c.args.end (next_of c.args.ring.now)) - t.oldest) (omega (arith, high, below)) in
+    omega (arith, inv.few_reads told t is loaded, one, more, rest)
+
 pub returns-clause-few_reads : goal.returns-clause-few_reads
 returns-clause-few_reads g c =
-    let last : c.loop-number.number ≡ c.max-to.result = search (rules, arith) in
+    let last : c.loop-number.number ≡ max c.args.from (min c.args.end (next_of c.args.ring.now)) = search (rules, arith) in
     λ told t is loaded.
     subst (λ n. (g.F.Flash.state c.loop-number.flash).work.reads + unlisted_of t t.oldest (c.args.from - t.oldest) ≤ (g.F.Flash.state c.args.flash.now).work.reads + unlisted_of t t.oldest (n - t.oldest)) last
     (c.loop-number.invariant.few_reads told t is loaded)

@@ -3,6 +3,7 @@ use Rattle.std.specs.Prelude.{slice_get}
 use Rattle.fl_base.specs.declared.stream.SourceFailed.{SourceFailed}
 use Rattle.fl_lines.specs.Stream.{LinesState, IsOneLine}
 use Rattle.fl_lines.proofs.Pieces.{advances-line}
+use Rattle.fl_lines.proofs.Leaving.{leaves-rest}
 use Rattle.fl_lines.proofs.Untouched.{untouched-first, untouched-source, untouched-more, needs-more, told-more}
 use Rattle.fl_lines.proofs.lines.Lines.advance.Goals as goal
 
@@ -64,3 +65,9 @@ bytes-preserved g c =
       later = omega (arith, h.cause.later, i.later);
       told = told-more SourceFailed _ _ _ _ _ _ _ i.told h.taken;
     }
+
+pub returns-then-len-eq-ROOM-clause-behind : goal.returns-then-len-eq-ROOM-clause-behind
+returns-then-len-eq-ROOM-clause-behind g c = λ given long left is.
+    let i = c.bytes.invariant in
+    let t = i.told left is in
+    leaves-rest _ _ _ c.bytes.self _ _ c.give_rest.ensures i.is_open i.most (subst (λ a. length a ≤ c.bytes.self.most) c.ahead-ahead.ensures.value c.ahead-ahead.ensures.few) t.1 t.2

@@ -1,4 +1,4 @@
-use Rattle.std.proofs.Common.{◌≡◌, ◌^◌, ◌<◌, ◌≤◌, length, Some, rules, refl, ap, map, [], ◌∷◌, arith}
+use Rattle.std.proofs.Common.{◌≡◌, ◌^◌, ◌<◌, ◌≤◌, length, Some, rules, refl, ap, map, [], ◌∷◌, arith, inl, inr}
 use Rattle.std.specs.List.{slice_get}
 use Rattle.fl_flash.specs.declared.flash.Work.{Work}
 use Rattle.fl_model.specs.Operators as operators
@@ -11,6 +11,7 @@ use Rattle.fl_session.proofs.Getting.{goes-reads}
 use Rattle.fl_session.proofs.Owning.{reached-here, reached-within}
 use Rattle.fl_session.proofs.Sound.{sound-roomed}
 use Rattle.fl_session.proofs.Operations.{operator-executes, operator-no_column, operator-refused, has-column, lacks-column}
+use Rattle.fl_session.proofs.Causing.{refusal-says, says-written, is-here, only-looks, lacks-one, lacks-says, has-one, has-says}
 use Rattle.fl_session.proofs.session.Session.aggregate.Goals as goal
 
 pub returns-in-Err-clause-step : goal.returns-in-Err-clause-step
@@ -61,3 +62,23 @@ aggregate-requires-clause-lies g c =
 
 pub returns-clause-sound : goal.returns-clause-sound
 returns-clause-sound g c = sound-roomed c.args.self.now.tables.entries.items _ _ _ _ _ _ (goes-reads _ _ c.aggregate.ensures.reads_only) c.aggregate.ensures.room c.requires.sound
+
+pub returns-in-Err-clause-cause : goal.returns-in-Err-clause-cause
+returns-in-Err-clause-cause g c = inl (says-written _ _ _ _ _ _ (refusal-says _ c.args.name c.in-Err.refusal c.in-Err.ensures) c.write_reply.ensures.text)
+
+pub returns-then-columns-column-clause-cause : goal.returns-then-columns-column-clause-cause
+returns-then-columns-column-clause-cause g c =
+    let here : slice_get c.args.self.now.tables.entries.items c.in-Ok.at ≡ Some c.index.result.now = reached-here c.args.self.now.tables.entries.items _ _ c.in-Ok.at c.index.result.now c.in-Ok.ensures c.index.ensures in
+    let beyond : length (layout_in c.index.result.now.table).columns < c.args.column = search rules in
+    inr (
+      c.in-Ok.at,
+      c.index.result.now,
+      is-here _ c.args.name c.in-Ok.at c.index.result.now c.in-Ok.ensures here,
+      lacks-says _ _ _ _ _ _ _ c.args.column (lacks-one (layout_in c.index.result.now.table) c.args.column beyond) refl c.write_reply-then-columns-column.ensures.text,
+    )
+
+pub returns-clause-cause : goal.returns-clause-cause
+returns-clause-cause g c =
+    let here : slice_get c.args.self.now.tables.entries.items c.in-Ok.at ≡ Some c.index.result.now = reached-here c.args.self.now.tables.entries.items _ _ c.in-Ok.at c.index.result.now c.in-Ok.ensures c.index.ensures in
+    let within : c.args.column ≤ length (layout_in c.index.result.now.table).columns = search rules in
+    inr (c.in-Ok.at, c.index.result.now, is-here _ c.args.name c.in-Ok.at c.index.result.now c.in-Ok.ensures here, has-says _ _ _ _ _ _ _ (has-one (layout_in c.index.result.now.table) c.args.column within) (only-looks _ _ _ _ _ _ _ refl c.aggregate.ensures.reads_only))

@@ -1,4 +1,4 @@
-use Rattle.std.proofs.Common.{◌≡◌, ◌-◌, ◌^◌, ◌<◌, Some, rules, refl, ap, arith}
+use Rattle.std.proofs.Common.{◌≡◌, ◌-◌, ◌^◌, ◌<◌, Some, rules, refl, ap, arith, inl, inr}
 use Rattle.std.specs.List.{slice_get}
 use Rattle.fl_flash.specs.declared.flash.Work.{Work}
 use Rattle.fl_session.proofs.Blobbing.{blob-executes, blob-refused}
@@ -6,6 +6,7 @@ use Rattle.fl_session.proofs.Costing.{has-read}
 use Rattle.fl_session.proofs.Getting.{goes-reads}
 use Rattle.fl_session.proofs.Owning.{reached-here, reached-within}
 use Rattle.fl_session.proofs.Sound.{sound-read}
+use Rattle.fl_session.proofs.Causing.{refusal-says, says-written, is-here, only-looks}
 use Rattle.fl_session.proofs.session.Session.blob.Goals as goal
 
 pub returns-in-Err-clause-step : goal.returns-in-Err-clause-step
@@ -38,3 +39,11 @@ returns-clause-step g c = λ config old h.
     let here : slice_get c.args.self.now.tables.entries.items c.in-Ok.at ≡ Some c.index.result.now = reached-here c.args.self.now.tables.entries.items _ _ c.in-Ok.at c.index.result.now c.in-Ok.ensures c.index.ensures in
     blob-executes _ config old _ c.in-Ok.at c.index.result.now c.args.name _ _ _ (c.show_blob.new.flash.work.reads - c.args.self.now.flash.work.reads) c.args.key _ _ _ _ h c.in-Ok.ensures here c.show_blob.ensures.counts
     (has-read _ _ c.show_blob.ensures.counts _ small refl) refl c.show_blob.ensures.shows
+
+pub returns-in-Err-clause-cause : goal.returns-in-Err-clause-cause
+returns-in-Err-clause-cause g c = inl (says-written _ _ _ _ _ _ (refusal-says _ c.args.name c.in-Err.refusal c.in-Err.ensures) c.write_reply.ensures.text)
+
+pub returns-clause-cause : goal.returns-clause-cause
+returns-clause-cause g c =
+    let here : slice_get c.args.self.now.tables.entries.items c.in-Ok.at ≡ Some c.index.result.now = reached-here c.args.self.now.tables.entries.items _ _ c.in-Ok.at c.index.result.now c.in-Ok.ensures c.index.ensures in
+    inr (c.in-Ok.at, c.index.result.now, is-here _ c.args.name c.in-Ok.at c.index.result.now c.in-Ok.ensures here, only-looks _ _ _ _ _ _ _ refl c.show_blob.ensures.counts)

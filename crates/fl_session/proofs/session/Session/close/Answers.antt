@@ -1,6 +1,8 @@
-use Rattle.std.proofs.Common.{rules, ◌≡◌, true, false}
+use Rattle.std.proofs.Common.{rules, ◌≡◌, true, false, refl, inl, inr}
 use Rattle.std.specs.Option.{is_none}
 use Rattle.fl_session.proofs.CursorsOf.{close-off, close-none, close-open}
+use Rattle.fl_session.proofs.Causing.{closed-as, noted, open-as}
+use Rattle.fl_words.specs.Reply as reply
 use Rattle.fl_session.proofs.session.Session.close.Goals as goal
 
 pub returns-then-not-self-clause-step : goal.returns-then-not-self-clause-step
@@ -15,3 +17,33 @@ pub returns-clause-step : goal.returns-clause-step
 returns-clause-step g c = λ config old h.
     let some : is_none c.cursor.result ≡ false = search rules in
     rw c.set_cursor.ensures (close-open config old _ _ _ c.args.cursor _ c.cursor.result c.if-not-self.false c.cursor.ensures some h)
+
+pub returns-then-not-self-clause-cause : goal.returns-then-not-self-clause-cause
+returns-then-not-self-clause-cause g c = record {
+  reply = reply.NotMounted;
+  said_is = refl;
+  holds = inl (c.if-not-self.true, refl, refl);
+}
+
+pub returns-then-is_none-clause-cause : goal.returns-then-is_none-clause-cause
+returns-then-is_none-clause-cause g c =
+    let none : is_none c.cursor.result ≡ true = search rules in
+    record {
+      reply = reply.NoCursor;
+      said_is = refl;
+      holds = inr (inl (c.if-not-self.false, closed-as _ c.args.cursor c.cursor.result c.cursor.ensures none, refl, refl));
+    }
+
+pub returns-clause-cause : goal.returns-clause-cause
+returns-clause-cause g c =
+    let some : is_none c.cursor.result ≡ false = search rules in
+    record {
+      reply = reply.Done;
+      said_is = refl;
+      holds = inr (inr (
+        c.if-not-self.false,
+        open-as _ c.args.cursor c.cursor.result c.cursor.ensures some,
+        refl,
+        noted _ _ _ _ _ c.set_cursor.ensures,
+      ));
+    }

@@ -1,9 +1,13 @@
-use Rattle.std.proofs.Common.{rules, ◌≡◌, Some}
+use Rattle.std.proofs.Common.{rules, ◌≡◌, ◌∙◌, true, Some, not, refl, sym, ap, inr}
 use Rattle.std.specs.List.{slice_get}
 use Rattle.fl_session.proofs.Calls.{flush-call}
 use Rattle.fl_session.proofs.Owning.{reached-here, reached-within}
 use Rattle.fl_session.proofs.Refusing.{flush-refused_so}
 use Rattle.fl_session.proofs.Sound.{sound-with, runs-after}
+use Rattle.fl_session.proofs.Causing.{on-refusal, is-here, flush-fails, kept-state}
+use Rattle.fl_table.specs.Causes.{flush_breaks}
+use Rattle.fl_table.specs.Memory.{is_running}
+use Rattle.fl_tables.specs.Replies.{flush_reply}
 use Rattle.fl_session.proofs.session.Session.flush.Goals as goal
 
 pub returns-in-Err-clause-step : goal.returns-in-Err-clause-step
@@ -28,3 +32,32 @@ returns-clause-step g c = λ config old h.
     let here : slice_get c.args.self.now.tables.entries.items c.in-Ok.at ≡ Some c.index_mut.result.now = reached-here c.args.self.now.tables.entries.items _ _ c.in-Ok.at c.index_mut.result.now c.in-Ok.ensures c.index_mut.ensures.value in
     flush-call config old _ c.in-Ok.at c.index_mut.result.now _ c.args.name _ _ _ _ c.flush-outcome.result c.flush_breaks.result _ h c.in-Ok.ensures here c.flush-outcome.ensures.goes c.flush-outcome.ensures.same
     c.flush-outcome.ensures.outside c.flush-outcome.ensures.ends c.flush_breaks.ensures c.flush_reply.ensures
+
+pub returns-in-Err-clause-cause : goal.returns-in-Err-clause-cause
+returns-in-Err-clause-cause g c = on-refusal _ c.args.name _ c.in-Err.refusal c.in-Err.ensures
+
+pub returns-clause-cause : goal.returns-clause-cause
+returns-clause-cause g c =
+    let here : slice_get c.args.self.now.tables.entries.items c.in-Ok.at ≡ Some c.index_mut.result.now = reached-here c.args.self.now.tables.entries.items _ _ c.in-Ok.at c.index_mut.result.now c.in-Ok.ensures c.index_mut.ensures.value in
+    let runs : is_running c.index_mut.result.now.table ≡ true = c.requires.sound.running c.in-Ok.ensures.mounted_is c.in-Ok.at c.index_mut.result.now here in
+    record {
+      reply = flush_reply c.flush-outcome.result;
+      said_is = c.flush_reply.ensures;
+      holds = inr (
+        c.in-Ok.at,
+        c.index_mut.result.now,
+        is-here _ c.args.name c.in-Ok.at c.index_mut.result.now c.in-Ok.ensures here,
+        record {
+          outcome = c.flush-outcome.result;
+          said_is = refl;
+          fails = flush-fails _ _ _ c.flush-outcome.result runs c.flush-outcome.ensures.exact c.flush-outcome.ensures.cause;
+          none = λ none. let still = c.flush-outcome.ensures.quiet runs none in
+              (still.0, kept-state _ c.in-Ok.at c.index_mut.result.now c.flush-outcome.new.self _ _ here still.1 (ap not (c.flush_breaks.ensures ∙ ap flush_breaks still.0) ∙ sym c.in-Ok.ensures.mounted_is) still.2);
+          leaves = record { now = c.flush-outcome.new.self; same = c.flush-outcome.ensures.same; entries = refl; mounted = ap not c.flush_breaks.ensures; notes = refl; unread = c.flush-outcome.ensures.reads; outside = c.flush-outcome.ensures.outside };
+          flushed = c.flush-outcome.ensures.none;
+          seals = c.flush-outcome.ensures.seals;
+          power = c.flush-outcome.ensures.power;
+          off = c.flush-outcome.ensures.off runs;
+        },
+      );
+    }

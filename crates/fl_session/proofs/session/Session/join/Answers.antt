@@ -1,4 +1,4 @@
-use Rattle.std.proofs.Common.{◌≡◌, ◌^◌, ◌<◌, Some, rules, refl, ap, arith}
+use Rattle.std.proofs.Common.{◌≡◌, ◌^◌, ◌<◌, Some, rules, refl, ap, arith, inl, inr}
 use Rattle.std.specs.List.{slice_get}
 use Rattle.fl_flash.specs.declared.flash.Work.{Work}
 use Rattle.fl_session.proofs.Costing.{has-read}
@@ -6,6 +6,7 @@ use Rattle.fl_session.proofs.Getting.{goes-reads}
 use Rattle.fl_session.proofs.Operations.{join-executes, join-refused, join-alone}
 use Rattle.fl_session.proofs.Owning.{reached-here, reached-within}
 use Rattle.fl_session.proofs.Sound.{sound-roomed}
+use Rattle.fl_session.proofs.Causing.{reached-entry, refusal-says, says-written, is-here, only-looks}
 use Rattle.fl_session.proofs.session.Session.join.Goals as goal
 
 pub returns-in-Err-clause-step : goal.returns-in-Err-clause-step
@@ -52,3 +53,27 @@ returns-clause-step g c = λ config old h.
     let right : slice_get c.args.self.now.tables.entries.items c.in-Ok-find.at ≡ Some c.index-2.result.now = reached-here c.args.self.now.tables.entries.items _ _ c.in-Ok-find.at c.index-2.result.now c.in-Ok-find.ensures c.index-2.ensures in
     join-executes _ config old _ c.args.left c.args.right _ _ _ c.args.range _ _ _ c.in-Ok.at c.in-Ok-find.at c.index.result.now c.index-2.result.now _ _ h c.in-Ok.ensures left c.in-Ok-find.ensures right c.join.ensures.reads_only
     (has-read _ _ c.join.ensures.reads_only _ small refl) c.join.ensures.counted
+
+pub returns-in-Err-clause-cause : goal.returns-in-Err-clause-cause
+returns-in-Err-clause-cause g c = inl (says-written _ _ _ _ _ _ (refusal-says _ c.args.left c.in-Err.refusal c.in-Err.ensures) c.write_reply.ensures.text)
+
+pub returns-in-Err-find-clause-cause : goal.returns-in-Err-find-clause-cause
+returns-in-Err-find-clause-cause g c =
+    let left = reached-entry c.args.self.now.tables.entries.items _ _ c.in-Ok.at c.in-Ok.ensures in
+    inr (
+      c.in-Ok.at,
+      left.0,
+      is-here _ c.args.left c.in-Ok.at left.0 c.in-Ok.ensures left.1,
+      inl (says-written _ _ _ _ _ _ (refusal-says _ c.args.right c.in-Err-find.refusal c.in-Err-find.ensures) c.write_reply-in-Err-find.ensures.text),
+    )
+
+pub returns-clause-cause : goal.returns-clause-cause
+returns-clause-cause g c =
+    let left : slice_get c.args.self.now.tables.entries.items c.in-Ok.at ≡ Some c.index.result.now = reached-here c.args.self.now.tables.entries.items _ _ c.in-Ok.at c.index.result.now c.in-Ok.ensures c.index.ensures in
+    let right : slice_get c.args.self.now.tables.entries.items c.in-Ok-find.at ≡ Some c.index-2.result.now = reached-here c.args.self.now.tables.entries.items _ _ c.in-Ok-find.at c.index-2.result.now c.in-Ok-find.ensures c.index-2.ensures in
+    inr (
+      c.in-Ok.at,
+      c.index.result.now,
+      is-here _ c.args.left c.in-Ok.at c.index.result.now c.in-Ok.ensures left,
+      inr (c.in-Ok-find.at, c.index-2.result.now, is-here _ c.args.right c.in-Ok-find.at c.index-2.result.now c.in-Ok-find.ensures right, only-looks _ _ _ _ _ _ _ refl c.join.ensures.reads_only),
+    )

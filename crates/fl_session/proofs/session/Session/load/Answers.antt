@@ -1,8 +1,9 @@
-use Rattle.std.proofs.Common.{◌≡◌, Some}
+use Rattle.std.proofs.Common.{◌≡◌, Some, not, refl, ap, inl, inr}
 use Rattle.std.specs.List.{slice_get}
 use Rattle.fl_session.proofs.LoadLines.{load-executes, load-refused}
 use Rattle.fl_session.proofs.Owning.{reached-here, reached-within}
 use Rattle.fl_session.proofs.Sound.{sound-with, runs-after}
+use Rattle.fl_session.proofs.Causing.{refusal-says, says-written, is-here}
 use Rattle.fl_session.proofs.session.Session.load.Goals as goal
 
 pub returns-in-Err-clause-step : goal.returns-in-Err-clause-step
@@ -26,3 +27,23 @@ pub returns-clause-step : goal.returns-clause-step
 returns-clause-step g c = λ config old h.
     let here : slice_get c.args.self.now.tables.entries.items c.in-Ok.at ≡ Some c.index_mut.result.now = reached-here c.args.self.now.tables.entries.items _ _ c.in-Ok.at c.index_mut.result.now c.in-Ok.ensures c.index_mut.ensures.value in
     load-executes _ config old _ c.in-Ok.at c.index_mut.result.now _ c.args.name _ _ _ _ _ c.args.count c.args.step c.args.seed _ _ _ _ _ h c.in-Ok.ensures here c.load-loaded.ensures.reads c.load-loaded.ensures.answers c.put_breaks.ensures c.write.ensures.text
+
+pub returns-in-Err-clause-cause : goal.returns-in-Err-clause-cause
+returns-in-Err-clause-cause g c = inl (says-written _ _ _ _ _ _ (refusal-says _ c.args.name c.in-Err.refusal c.in-Err.ensures) c.write_reply.ensures.text)
+
+pub returns-clause-cause : goal.returns-clause-cause
+returns-clause-cause g c =
+    let here : slice_get c.args.self.now.tables.entries.items c.in-Ok.at ≡ Some c.index_mut.result.now = reached-here c.args.self.now.tables.entries.items _ _ c.in-Ok.at c.index_mut.result.now c.in-Ok.ensures c.index_mut.ensures.value in
+    inr (
+      c.in-Ok.at,
+      c.index_mut.result.now,
+      is-here _ c.args.name c.in-Ok.at c.index_mut.result.now c.in-Ok.ensures here,
+      record {
+        count = c.load-loaded.result.count;
+        outcome = c.load-loaded.result.outcome;
+        written = c.write.ensures.text;
+        counted = c.load-loaded.ensures.counted;
+        leaves = record { now = c.load-loaded.new.table; same = c.load-loaded.ensures.same; entries = refl; mounted = ap not c.put_breaks.ensures; notes = refl; unread = c.load-loaded.ensures.reads; outside = c.load-loaded.ensures.outside };
+        fails = c.load-loaded.ensures.fails;
+      },
+    )

@@ -1,9 +1,13 @@
-use Rattle.std.proofs.Common.{◌≡◌, true, IsTrue, refl, sym, ap, subst, arith}
+use Rattle.std.proofs.Common.{◌≡◌, true, IsTrue, refl, sym, ap, subst, arith, inl, inr}
 use Rattle.fl_flash.specs.Flash.{FlashState}
 use Rattle.fl_tables.specs.Tables.{LieOn}
 use Rattle.fl_tables.proofs.Going.{goes-set}
 use Rattle.fl_tables.proofs.Lying.{lie-on}
 use Rattle.fl_session.proofs.Calls.{mount-call, already-call}
+use Rattle.fl_session.proofs.MountReads.{limit-call}
+use Rattle.fl_session.proofs.Causing.{mounts-on}
+use Rattle.fl_session.specs.Answer.{mount_reply}
+use Rattle.fl_words.specs.Reply as reply
 use Rattle.fl_session.proofs.session.Session.mount.Goals as goal
 
 pub mount-outcome-requires-clause-lie : goal.mount-outcome-requires-clause-lie
@@ -26,3 +30,29 @@ returns-clause-reads g c = λ tells.
     let few = c.mount-outcome.ensures.reads (subst (λ (x : FlashState). IsTrue x.media.tells) (sym c.power_on.ensures) tells) in
     let same : c.power_on.new.self.work.reads ≡ c.args.self.now.flash.work.reads = ap (λ (x : FlashState). x.work.reads) c.power_on.ensures in
     rw c.if-self.false (omega (arith, few, same))
+
+pub returns-then-self-clause-limit : goal.returns-then-self-clause-limit
+returns-then-self-clause-limit g c = λ config old h. rw c.if-self.true refl
+
+pub returns-clause-limit : goal.returns-clause-limit
+returns-clause-limit g c = λ config old h. limit-call config old _ _ _ _ _ _ h c.if-self.false c.power_on.ensures c.mount-outcome.ensures.limit
+
+pub returns-then-self-clause-cause : goal.returns-then-self-clause-cause
+returns-then-self-clause-cause g c = record { reply = reply.AlreadyMounted; said_is = refl; holds = inl (c.if-self.true, refl, refl) }
+
+pub returns-clause-cause : goal.returns-clause-cause
+returns-clause-cause g c =
+    let e = c.mount-outcome.ensures in
+    record {
+      reply = mount_reply c.mount-outcome.result;
+      said_is = c.mount_reply.ensures;
+      holds = inr (record {
+        down = c.if-self.false;
+        outcome = c.mount-outcome.result;
+        said_is = refl;
+        mounts = mounts-on _ _ _ _ _ c.mount-outcome.result c.power_on.ensures
+            (record { found = e.found; refused = e.refused; stops = e.stops; cause = e.cause; repairs = e.repairs; outside = e.outside });
+        mounted = c.is_ok-self.ensures.value;
+        notes = refl;
+      });
+    }

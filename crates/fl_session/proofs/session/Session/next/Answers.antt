@@ -1,4 +1,4 @@
-use Rattle.std.proofs.Common.{◌≡◌, ◌-◌, ◌^◌, ◌<◌, rules, Some, refl, ap, subst, arith}
+use Rattle.std.proofs.Common.{◌≡◌, ◌-◌, ◌^◌, ◌<◌, rules, Some, refl, ap, subst, arith, inl, inr}
 use Rattle.std.specs.Prelude.{IfSome, Option, option_map, unwrap_or, length}
 use Rattle.std.specs.List.{slice_get}
 use Rattle.fl_flash.specs.declared.flash.Work.{Work}
@@ -8,6 +8,8 @@ use Rattle.fl_session.proofs.Costing.{has-read}
 use Rattle.fl_session.proofs.CursorMoves.{next-executes, next-off, next-none}
 use Rattle.fl_session.proofs.Getting.{goes-reads}
 use Rattle.fl_session.proofs.Sound.{sound-read, cursors-set}
+use Rattle.fl_session.proofs.Causing.{only-looks}
+use Rattle.fl_words.specs.Reply as reply
 use Rattle.fl_session.proofs.session.Session.next.Goals as goal
 
 pub returns-then-not-self-clause-step : goal.returns-then-not-self-clause-step
@@ -45,3 +47,12 @@ returns-clause-step g c = λ config old h.
     let fits_after : IfSome c.in-Some.open.mark.after (λ after. after < 2 ^ 64) = search rules in
     rw c.set_cursor.ensures (next-executes _ config old _ c.index.result.now _ _ _ (c.next_rows-written.new.flash.work.reads - c.args.self.now.flash.work.reads) c.args.cursor c.args.count _ c.in-Some.open c.next_rows-written.new.mark _ _ _ h c.if-not-self.false
     c.in-Some.ensures here fits_after c.next_rows-written.ensures.counts (has-read _ _ c.next_rows-written.ensures.counts _ small refl) refl c.next_rows-written.ensures.nexts)
+
+pub returns-then-not-self-clause-cause : goal.returns-then-not-self-clause-cause
+returns-then-not-self-clause-cause g c = inl (c.if-not-self.true, record { reply = reply.NotMounted; written = c.write_reply.ensures.text; holds = (refl, refl) })
+
+pub returns-in_default-clause-cause : goal.returns-in_default-clause-cause
+returns-in_default-clause-cause g c = inr (inl (c.if-not-self.false, c.in_default.ensures, record { reply = reply.NoCursor; written = c.write_reply-in_default.ensures.text; holds = (refl, refl) }))
+
+pub returns-clause-cause : goal.returns-clause-cause
+returns-clause-cause g c = inr (inr (c.if-not-self.false, (c.in-Some.open, c.in-Some.ensures, (c.next_rows-written.new.mark, only-looks _ _ _ _ _ _ _ c.set_cursor.ensures c.next_rows-written.ensures.counts))))

@@ -1,4 +1,4 @@
-use Rattle.std.proofs.Common.{◌≡◌, ◌<◌, Some, Option, length, refl, ap, subst}
+use Rattle.std.proofs.Common.{◌≡◌, ◌<◌, Some, Option, length, refl, ap, subst, inr}
 use Rattle.std.specs.List.{slice_get}
 use Rattle.std.specs.Prelude.{option_map, unwrap_or}
 use Rattle.fl_tables.proofs.Going.{goes-same}
@@ -6,6 +6,8 @@ use Rattle.fl_session.specs.declared.notes.TableCursor.{TableCursor}
 use Rattle.fl_session.proofs.CursorsOf.{open-call, open-refused}
 use Rattle.fl_session.proofs.Owning.{reached-here, reached-within}
 use Rattle.fl_session.proofs.Sound.{sound-read, cursors-set}
+use Rattle.fl_session.proofs.Causing.{on-refusal, is-here, opened}
+use Rattle.fl_words.specs.Reply as reply
 use Rattle.fl_session.proofs.session.Session.open.Goals as goal
 
 pub returns-in-Err-clause-step : goal.returns-in-Err-clause-step
@@ -31,3 +33,15 @@ pub returns-clause-step : goal.returns-clause-step
 returns-clause-step g c = λ config old h.
     let here : slice_get c.args.self.now.tables.entries.items c.in-Ok.at ≡ Some c.index.result.now = reached-here c.args.self.now.tables.entries.items _ _ c.in-Ok.at c.index.result.now c.in-Ok.ensures c.index.ensures in
     rw c.set_cursor.ensures (open-call config old _ c.in-Ok.at c.index.result.now c.args.name _ _ _ c.args.cursor c.args.range c.args.span c.open_cursor-mark.result h c.in-Ok.ensures here c.open_cursor-mark.ensures.begins)
+
+pub returns-in-Err-clause-cause : goal.returns-in-Err-clause-cause
+returns-in-Err-clause-cause g c = on-refusal _ c.args.name _ c.in-Err.refusal c.in-Err.ensures
+
+pub returns-clause-cause : goal.returns-clause-cause
+returns-clause-cause g c =
+    let here : slice_get c.args.self.now.tables.entries.items c.in-Ok.at ≡ Some c.index.result.now = reached-here c.args.self.now.tables.entries.items _ _ c.in-Ok.at c.index.result.now c.in-Ok.ensures c.index.ensures in
+    record {
+      reply = reply.Done;
+      said_is = refl;
+      holds = inr (c.in-Ok.at, c.index.result.now, is-here _ c.args.name c.in-Ok.at c.index.result.now c.in-Ok.ensures here, (refl, opened _ _ _ _ _ c.args.cursor c.in-Ok.at _ _ c.set_cursor.ensures c.open_cursor-mark.ensures.mark));
+    }

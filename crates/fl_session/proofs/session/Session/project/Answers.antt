@@ -1,4 +1,4 @@
-use Rattle.std.proofs.Common.{◌≡◌, ◌^◌, ◌<◌, Some, None, rules, refl, ◌∙◌, ap, map, arith}
+use Rattle.std.proofs.Common.{◌≡◌, ◌^◌, ◌<◌, Some, None, rules, refl, sym, ◌∙◌, ap, map, arith, inl, inr}
 use Rattle.std.specs.List.{slice_get}
 use Rattle.fl_flash.specs.declared.flash.Work.{Work}
 use Rattle.fl_model.specs.Operators as operators
@@ -13,6 +13,8 @@ use Rattle.fl_session.proofs.Getting.{goes-reads}
 use Rattle.fl_session.proofs.Owning.{reached-here, reached-within}
 use Rattle.fl_session.proofs.Sound.{sound-roomed}
 use Rattle.fl_session.proofs.Operations.{operator-executes, operator-no_column, operator-refused, lacked-column}
+use Rattle.fl_session.proofs.Causing.{refusal-says, says-written, is-here, only-looks, lacks-says, has-says}
+use Rattle.fl_words.specs.Reply as reply
 use Rattle.fl_session.proofs.session.Session.project.Goals as goal
 
 pub returns-in-Err-clause-step : goal.returns-in-Err-clause-step
@@ -64,3 +66,23 @@ project-requires-clause-lies g c =
 
 pub returns-clause-sound : goal.returns-clause-sound
 returns-clause-sound g c = sound-roomed c.args.self.now.tables.entries.items _ _ _ _ _ _ (goes-reads _ _ c.project.ensures.reads_only) c.project.ensures.room c.requires.sound
+
+pub returns-in-Err-clause-cause : goal.returns-in-Err-clause-cause
+returns-in-Err-clause-cause g c = inl (says-written _ _ _ _ _ _ (refusal-says _ c.args.name c.in-Err.refusal c.in-Err.ensures) c.write_reply.ensures.text)
+
+pub returns-in-Some-clause-cause : goal.returns-in-Some-clause-cause
+returns-in-Some-clause-cause g c =
+    let here : slice_get c.args.self.now.tables.entries.items c.in-Ok.at ≡ Some c.index.result.now = reached-here c.args.self.now.tables.entries.items _ _ c.in-Ok.at c.index.result.now c.in-Ok.ensures c.index.ensures in
+    let lacks : Some c.in-Some.column ≡ lacked_column (layout_in c.index.result.now.table) c.args.columns.now.items = c.in-Some.ensures ∙ ap (lacked_column (layout_in c.index.result.now.table)) c.as_slice.ensures.value in
+    inr (
+      c.in-Ok.at,
+      c.index.result.now,
+      is-here _ c.args.name c.in-Ok.at c.index.result.now c.in-Ok.ensures here,
+      lacks-says _ _ _ _ _ _ _ c.in-Some.column (sym lacks) refl c.write_reply-in-Some.ensures.text,
+    )
+
+pub returns-clause-cause : goal.returns-clause-cause
+returns-clause-cause g c =
+    let here : slice_get c.args.self.now.tables.entries.items c.in-Ok.at ≡ Some c.index.result.now = reached-here c.args.self.now.tables.entries.items _ _ c.in-Ok.at c.index.result.now c.in-Ok.ensures c.index.ensures in
+    let none : None ≡ lacked_column (layout_in c.index.result.now.table) c.args.columns.now.items = c.in_default.ensures ∙ ap (lacked_column (layout_in c.index.result.now.table)) c.as_slice.ensures.value in
+    inr (c.in-Ok.at, c.index.result.now, is-here _ c.args.name c.in-Ok.at c.index.result.now c.in-Ok.ensures here, has-says _ _ _ _ _ _ _ (sym none) (only-looks _ _ _ _ _ _ _ refl c.project.ensures.reads_only))

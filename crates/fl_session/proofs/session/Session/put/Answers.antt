@@ -1,9 +1,15 @@
-use Rattle.std.proofs.Common.{rules, ◌≡◌, Some}
+use Rattle.std.proofs.Common.{rules, ◌≡◌, ◌∙◌, Some, ℕ, List, not, refl, ap, subst, sym, inr}
 use Rattle.std.specs.List.{slice_get}
 use Rattle.fl_session.proofs.Calls.{put-call}
 use Rattle.fl_session.proofs.Owning.{reached-here, reached-within}
 use Rattle.fl_session.proofs.Refusing.{put-refused_so}
 use Rattle.fl_session.proofs.Sound.{sound-with, runs-after}
+use Rattle.fl_session.proofs.Causing.{on-refusal, is-here, put-fails-so}
+use Rattle.fl_tables.specs.Replies.{put_reply}
+use Rattle.fl_table.specs.Refusal.{RefusesAs, put_refusal}
+use Rattle.fl_table.proofs.PutAnswers.{map-twice}
+use Rattle.std.specs.Borrow.{Bor}
+use Rattle.std.specs.Prelude.{length}
 use Rattle.fl_session.proofs.session.Session.put.Goals as goal
 
 pub returns-in-Err-clause-step : goal.returns-in-Err-clause-step
@@ -28,3 +34,32 @@ returns-clause-step g c = λ config old h.
     let here : slice_get c.args.self.now.tables.entries.items c.in-Ok.at ≡ Some c.index_mut.result.now = reached-here c.args.self.now.tables.entries.items _ _ c.in-Ok.at c.index_mut.result.now c.in-Ok.ensures c.index_mut.ensures.value in
     put-call config old _ c.in-Ok.at c.index_mut.result.now _ c.args.name _ _ _ _ c.args.key c.args.values.now _ c.put-outcome.result c.put_breaks.result _ h c.in-Ok.ensures here c.put-outcome.ensures.goes c.put-outcome.ensures.same
     c.put-outcome.ensures.outside c.put-outcome.ensures.ends c.put-outcome.ensures.refused c.put_breaks.ensures c.put_reply.ensures
+
+pub returns-in-Err-clause-cause : goal.returns-in-Err-clause-cause
+returns-in-Err-clause-cause g c = on-refusal _ c.args.name _ c.in-Err.refusal c.in-Err.ensures
+
+pub returns-clause-cause : goal.returns-clause-cause
+returns-clause-cause g c =
+    let here : slice_get c.args.self.now.tables.entries.items c.in-Ok.at ≡ Some c.index_mut.result.now = reached-here c.args.self.now.tables.entries.items _ _ c.in-Ok.at c.index_mut.result.now c.in-Ok.ensures c.index_mut.ensures.value in
+    record {
+      reply = put_reply c.put-outcome.result;
+      said_is = c.put_reply.ensures;
+      holds = inr (
+        c.in-Ok.at,
+        c.index_mut.result.now,
+        is-here _ c.args.name c.in-Ok.at c.index_mut.result.now c.in-Ok.ensures here,
+        record {
+          outcome = c.put-outcome.result;
+          said_is = refl;
+          exact = subst (λ n. RefusesAs (put_refusal c.index_mut.result.now.table c.args.key c.args.values.now n) c.put-outcome.result) (sym (map-twice (λ (b : Bor (List ℕ)). b.now) (λ (xs : List ℕ). length xs) c.args.blob)) c.put-outcome.ensures.exact;
+          fails = rw c.put_breaks.ensures (put-fails-so _ c.in-Ok.at c.index_mut.result.now c.put-outcome.new.self _ c.put-outcome.result here c.in-Ok.ensures.mounted_is c.put-outcome.ensures.refused c.put-outcome.ensures.cause);
+          leaves = record { now = c.put-outcome.new.self; same = c.put-outcome.ensures.same; entries = refl; mounted = ap not c.put_breaks.ensures; notes = refl; unread = c.put-outcome.ensures.reads; outside = c.put-outcome.ensures.outside };
+          last = c.put-outcome.ensures.last;
+          pending = c.put-outcome.ensures.pending;
+          rows = c.put-outcome.ensures.rows;
+          power = c.put-outcome.ensures.power;
+          quiet = λ none. c.put-outcome.ensures.quiet (ap (λ n. put_refusal c.index_mut.result.now.table c.args.key c.args.values.now n) (sym (map-twice (λ (b : Bor (List ℕ)). b.now) (λ (xs : List ℕ). length xs) c.args.blob)) ∙ none);
+          off = λ none. c.put-outcome.ensures.off (ap (λ n. put_refusal c.index_mut.result.now.table c.args.key c.args.values.now n) (sym (map-twice (λ (b : Bor (List ℕ)). b.now) (λ (xs : List ℕ). length xs) c.args.blob)) ∙ none);
+        },
+      );
+    }

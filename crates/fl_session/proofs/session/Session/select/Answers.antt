@@ -1,4 +1,4 @@
-use Rattle.std.proofs.Common.{◌≡◌, ◌^◌, ◌<◌, ◌≤◌, length, Some, rules, refl, ap, map, [], ◌∷◌, arith}
+use Rattle.std.proofs.Common.{◌≡◌, ◌^◌, ◌<◌, ◌≤◌, length, Some, rules, refl, ap, map, [], ◌∷◌, arith, inl, inr}
 use Rattle.std.specs.List.{slice_get}
 use Rattle.fl_flash.specs.declared.flash.Work.{Work}
 use Rattle.fl_model.specs.Operators as operators
@@ -11,6 +11,7 @@ use Rattle.fl_session.proofs.Getting.{goes-reads}
 use Rattle.fl_session.proofs.Owning.{reached-here, reached-within}
 use Rattle.fl_session.proofs.Sound.{sound-roomed}
 use Rattle.fl_session.proofs.Operations.{operator-executes, operator-no_column, operator-refused, has-column, lacks-column}
+use Rattle.fl_session.proofs.Causing.{refusal-says, says-written, is-here, only-looks, lacks-one, lacks-says, has-one, has-says}
 use Rattle.fl_session.proofs.session.Session.select.Goals as goal
 
 pub returns-in-Err-clause-step : goal.returns-in-Err-clause-step
@@ -61,3 +62,23 @@ select-requires-clause-lies g c =
 
 pub returns-clause-sound : goal.returns-clause-sound
 returns-clause-sound g c = sound-roomed c.args.self.now.tables.entries.items _ _ _ _ _ _ (goes-reads _ _ c.select.ensures.reads_only) c.select.ensures.room c.requires.sound
+
+pub returns-in-Err-clause-cause : goal.returns-in-Err-clause-cause
+returns-in-Err-clause-cause g c = inl (says-written _ _ _ _ _ _ (refusal-says _ c.args.name c.in-Err.refusal c.in-Err.ensures) c.write_reply.ensures.text)
+
+pub returns-then-columns-comparison-clause-cause : goal.returns-then-columns-comparison-clause-cause
+returns-then-columns-comparison-clause-cause g c =
+    let here : slice_get c.args.self.now.tables.entries.items c.in-Ok.at ≡ Some c.index.result.now = reached-here c.args.self.now.tables.entries.items _ _ c.in-Ok.at c.index.result.now c.in-Ok.ensures c.index.ensures in
+    let beyond : length (layout_in c.index.result.now.table).columns < c.args.comparison.column = search rules in
+    inr (
+      c.in-Ok.at,
+      c.index.result.now,
+      is-here _ c.args.name c.in-Ok.at c.index.result.now c.in-Ok.ensures here,
+      lacks-says _ _ _ _ _ _ _ c.args.comparison.column (lacks-one (layout_in c.index.result.now.table) c.args.comparison.column beyond) refl c.write_reply-then-columns-comparison.ensures.text,
+    )
+
+pub returns-clause-cause : goal.returns-clause-cause
+returns-clause-cause g c =
+    let here : slice_get c.args.self.now.tables.entries.items c.in-Ok.at ≡ Some c.index.result.now = reached-here c.args.self.now.tables.entries.items _ _ c.in-Ok.at c.index.result.now c.in-Ok.ensures c.index.ensures in
+    let within : c.args.comparison.column ≤ length (layout_in c.index.result.now.table).columns = search rules in
+    inr (c.in-Ok.at, c.index.result.now, is-here _ c.args.name c.in-Ok.at c.index.result.now c.in-Ok.ensures here, has-says _ _ _ _ _ _ _ (has-one (layout_in c.index.result.now.table) c.args.comparison.column within) (only-looks _ _ _ _ _ _ _ refl c.select.ensures.reads_only))

@@ -1,4 +1,4 @@
-use Rattle.std.proofs.Common.{FitsSigned, rules, sym, arith}
+use Rattle.std.proofs.Common.{FitsSigned, rules, refl, sym, arith}
 use Rattle.std.proofs.lemmas.Int.{to_z-of_z}
 use Rattle.std.specs.Int.{w64}
 use Rattle.fl_base.specs.declared.stream.SinkFailed.{SinkFailed}
@@ -7,11 +7,15 @@ use Rattle.fl_session.proofs.StepsOf.{default-view, executes-nothing}
 use Rattle.fl_session.proofs.Answering.{executes-answered}
 use Rattle.fl_session.proofs.Operations.{select-by}
 use Rattle.fl_session.proofs.MountReads.{executes-mounted}
+use Rattle.fl_session.proofs.Causing.{caused-nothing, says-written}
 use Rattle.fl_session.proofs.session.SessionExecutor.execute.Goals as goal
 use Rattle.fl_session.proofs.session.SessionExecutor.execute.Goals.{in-Mount, in-Off, in-Cut, in-Put, in-Flush, in-Stat, in-Open, in-Close, in-Cost}
 
 pub returns-in_default : goal.returns-in_default
 returns-in_default g c = record {
+  cause = caused-nothing SinkFailed _ _ _ _ (default-view c.args.command.now c.args.room.now c.requires.runnable c.in_default.not-Mount c.in_default.not-Off (λ n kind e. c.in_default.not-Cut n kind e)
+      (λ name key values blob e. c.in_default.not-Put name key values blob e) (λ name e. c.in_default.not-Flush name e) (λ name e. c.in_default.not-Stat name e) (λ name key e. c.in_default.not-Get name key e) (λ name range span e. c.in_default.not-Scan name range span e)
+      (λ name count step seed e. c.in_default.not-Load name count step seed e) (λ cursor name range span e. c.in_default.not-Open cursor name range span e) (λ cursor e. c.in_default.not-Close cursor e) (λ cursor count e. c.in_default.not-Next cursor count e) c.in_default.not-Cost (λ name range column op value e. c.in_default.not-Select name range column op value e) (λ name range columns e. c.in_default.not-Project name range columns e) (λ name range column width e. c.in_default.not-Agg name range column width e) (λ left right range e. c.in_default.not-Join left right range e) (λ name key e. c.in_default.not-Blob name key e)) refl;
   sound = c.requires.sound;
   goes = goes-same _;
   sink = record { later = omega arith; failed = tt };
@@ -23,15 +27,15 @@ returns-in_default g c = record {
 
 pub returns-clause-step : goal.returns-clause-step
 returns-clause-step g c = λ config old h. elim c.match-command.branch [
-  | in-Mount w ↦ rw (w.self-is, w.in-Mount.is) (executes-mounted config old _ _ _ _ _ h SinkFailed _ _ _ _ c.write_reply.result (w.mount-reply.ensures.step config old h) (w.mount-reply.ensures.reads h.medium.told) (rw w.reply-is at c.write_reply.ensures.text))
+  | in-Mount w ↦ rw (w.self-is, w.in-Mount.is) (executes-mounted config old _ _ _ _ _ h SinkFailed _ _ _ _ c.write_reply.result (w.mount-reply.ensures.step config old h) (w.mount-reply.ensures.reads h.medium.told) (w.mount-reply.ensures.limit config old h) (rw w.reply-is at c.write_reply.ensures.text))
   | in-Off w ↦ rw (w.self-is, w.in-Off.is) (executes-answered SinkFailed config old _ _ _ _ _ _ _ c.write_reply.result (w.off-reply.ensures.step config old h) (λ moment none. (none, omega (arith, w.off-reply.ensures.reads))) (λ moment none. tt) (rw w.reply-is at c.write_reply.ensures.text))
   | in-Cut w ↦ rw (w.self-is, w.in-Cut.is) (executes-answered SinkFailed config old _ _ _ _ _ _ _ c.write_reply.result (w.cut-reply.ensures.step config old h) (λ moment none. (none, omega (arith, w.cut-reply.ensures.reads))) (λ moment none. tt) (rw w.reply-is at c.write_reply.ensures.text))
   | in-Put w ↦ rw (w.self-is, w.in-Put.is, sym w.as_slice.ensures.value, sym w.blob_in.ensures) (executes-answered SinkFailed config old _ _ _ _ _ _ _ c.write_reply.result (w.put-reply.ensures.step config old h) (λ moment none. (none, omega (arith, w.put-reply.ensures.reads))) (λ moment none. tt) (rw w.reply-is at c.write_reply.ensures.text))
   | in-Flush w ↦ rw (w.self-is, w.in-Flush.is) (executes-answered SinkFailed config old _ _ _ _ _ _ _ c.write_reply.result (w.flush-reply.ensures.step config old h) (λ moment none. (none, omega (arith, w.flush-reply.ensures.reads))) (λ moment none. tt) (rw w.reply-is at c.write_reply.ensures.text))
-  | in-Stat w ↦ rw (w.self-is, w.in-Stat.is) (executes-answered SinkFailed config old _ _ _ _ _ _ _ c.write_reply.result (w.stat-reply.ensures config old h) (λ moment none. (none, omega arith)) (λ moment none. tt) (rw w.reply-is at c.write_reply.ensures.text))
+  | in-Stat w ↦ rw (w.self-is, w.in-Stat.is) (executes-answered SinkFailed config old _ _ _ _ _ _ _ c.write_reply.result (w.stat-reply.ensures.step config old h) (λ moment none. (none, omega arith)) (λ moment none. tt) (rw w.reply-is at c.write_reply.ensures.text))
   | in-Open w ↦ rw (w.self-is, w.in-Open.is) (executes-answered SinkFailed config old _ _ _ _ _ _ _ c.write_reply.result (w.open-reply.ensures.step config old h) (λ moment none. (none, omega (arith, w.open-reply.ensures.reads))) (λ moment none. tt) (rw w.reply-is at c.write_reply.ensures.text))
   | in-Close w ↦ rw (w.self-is, w.in-Close.is) (executes-answered SinkFailed config old _ _ _ _ _ _ _ c.write_reply.result (w.close-reply.ensures.step config old h) (λ moment none. (none, omega (arith, w.close-reply.ensures.reads))) (λ moment none. tt) (rw w.reply-is at c.write_reply.ensures.text))
-  | in-Cost w ↦ rw (w.self-is, w.in-Cost.is) (executes-answered SinkFailed config old _ _ _ _ _ _ _ c.write_reply.result (w.cost-reply.ensures config old h) (λ moment none. (none, omega arith)) (λ moment none. tt) (rw w.reply-is at c.write_reply.ensures.text))
+  | in-Cost w ↦ rw (w.self-is, w.in-Cost.is) (executes-answered SinkFailed config old _ _ _ _ _ _ _ c.write_reply.result (w.cost-reply.ensures.step config old h) (λ moment none. (none, omega arith)) (λ moment none. tt) (rw w.reply-is at c.write_reply.ensures.text))
 ]
 
 pub returns-clause-sound : goal.returns-clause-sound
@@ -79,3 +83,43 @@ returns-in-Load-clause-step g c = λ config old h. rw c.in-Load.is (c.load.ensur
 
 pub returns-in-Blob-clause-step : goal.returns-in-Blob-clause-step
 returns-in-Blob-clause-step g c = λ config old h. rw c.in-Blob.is (c.blob.ensures.step config old h)
+
+pub returns-clause-cause : goal.returns-clause-cause
+returns-clause-cause g c = elim c.match-command.branch [
+  | in-Mount w ↦ rw (w.self-is, w.in-Mount.is) (says-written SinkFailed _ _ c.write_reply.result _ _ w.mount-reply.ensures.cause (rw w.reply-is at c.write_reply.ensures.text))
+  | in-Off w ↦ rw (w.self-is, w.in-Off.is) (says-written SinkFailed _ _ c.write_reply.result _ _ w.off-reply.ensures.cause (rw w.reply-is at c.write_reply.ensures.text))
+  | in-Cut w ↦ rw (w.self-is, w.in-Cut.is) (says-written SinkFailed _ _ c.write_reply.result _ _ w.cut-reply.ensures.cause (rw w.reply-is at c.write_reply.ensures.text))
+  | in-Put w ↦ rw (w.self-is, w.in-Put.is, sym w.as_slice.ensures.value, sym w.blob_in.ensures) (says-written SinkFailed _ _ c.write_reply.result _ _ w.put-reply.ensures.cause (rw w.reply-is at c.write_reply.ensures.text))
+  | in-Flush w ↦ rw (w.self-is, w.in-Flush.is) (says-written SinkFailed _ _ c.write_reply.result _ _ w.flush-reply.ensures.cause (rw w.reply-is at c.write_reply.ensures.text))
+  | in-Stat w ↦ rw (w.self-is, w.in-Stat.is) (says-written SinkFailed _ _ c.write_reply.result _ _ w.stat-reply.ensures.cause (rw w.reply-is at c.write_reply.ensures.text))
+  | in-Open w ↦ rw (w.self-is, w.in-Open.is) (says-written SinkFailed _ _ c.write_reply.result _ _ w.open-reply.ensures.cause (rw w.reply-is at c.write_reply.ensures.text))
+  | in-Close w ↦ rw (w.self-is, w.in-Close.is) (says-written SinkFailed _ _ c.write_reply.result _ _ w.close-reply.ensures.cause (rw w.reply-is at c.write_reply.ensures.text))
+  | in-Cost w ↦ rw (w.self-is, w.in-Cost.is) (says-written SinkFailed _ _ c.write_reply.result _ _ w.cost-reply.ensures.cause (rw w.reply-is at c.write_reply.ensures.text))
+]
+
+pub returns-in-Select-clause-cause : goal.returns-in-Select-clause-cause
+returns-in-Select-clause-cause g c = rw c.in-Select.is (c.select.ensures.cause)
+
+pub returns-in-Project-clause-cause : goal.returns-in-Project-clause-cause
+returns-in-Project-clause-cause g c = rw c.in-Project.is (c.project.ensures.cause)
+
+pub returns-in-Agg-clause-cause : goal.returns-in-Agg-clause-cause
+returns-in-Agg-clause-cause g c = rw c.in-Agg.is (c.aggregate.ensures.cause)
+
+pub returns-in-Join-clause-cause : goal.returns-in-Join-clause-cause
+returns-in-Join-clause-cause g c = rw c.in-Join.is (c.join.ensures.cause)
+
+pub returns-in-Load-clause-cause : goal.returns-in-Load-clause-cause
+returns-in-Load-clause-cause g c = rw c.in-Load.is (c.load.ensures.cause)
+
+pub returns-in-Blob-clause-cause : goal.returns-in-Blob-clause-cause
+returns-in-Blob-clause-cause g c = rw c.in-Blob.is (c.blob.ensures.cause)
+
+pub returns-in-Get-clause-cause : goal.returns-in-Get-clause-cause
+returns-in-Get-clause-cause g c = rw c.in-Get.is (c.get.ensures.cause)
+
+pub returns-in-Scan-clause-cause : goal.returns-in-Scan-clause-cause
+returns-in-Scan-clause-cause g c = rw c.in-Scan.is (c.scan.ensures.cause)
+
+pub returns-in-Next-clause-cause : goal.returns-in-Next-clause-cause
+returns-in-Next-clause-cause g c = rw c.in-Next.is (c.next.ensures.cause)

@@ -1,5 +1,6 @@
-use Rattle.std.proofs.Common.{arith, rules, ◌≡◌, Some, None}
+use Rattle.std.proofs.Common.{arith, rules, ap, ◌≡◌, ◌∷◌, [], length, Some, None, length-append}
 use Rattle.fl_spline.proofs.Scans.{scan-first, scan-break, scan-second, scan-more}
+use Rattle.fl_spline.proofs.Moved.{moved-push, moved-replace}
 use Rattle.fl_spline.specs.Points.{IsPast, Rises, last_of}
 use Rattle.fl_spline.proofs.spline.Spline.scan_one.Goals as goal
 
@@ -38,3 +39,23 @@ invariant_of-self-then-not-admits g c =
       base_key = λ x e. let same : c.args.point ≡ x = cc in rw (base, ← same) (omega (arith, further.0));
       base_page = λ x e. let same : c.args.point ≡ x = cc in rw (base, ← same) (omega (arith, further.1));
     }
+
+pub returns-in_default-clause-moved : goal.returns-in_default-clause-moved
+returns-in_default-clause-moved g c = λ count oldest.
+    absurd (omega (arith, count, ap length c.push.ensures.items, length-append c.args.self.now.knots.items (c.args.point ∷ [])))
+
+pub returns-then-not-admits-clause-moved : goal.returns-then-not-admits-clause-moved
+returns-then-not-admits-clause-moved g c = λ count oldest.
+    let up : Rises c.args.self.now.knots.items = search rules in
+    let new = c.push_newest.ensures.items in
+    rw new (moved-push g.row.KNOTS c.args.self.now.knots.items c.args.point (omega arith) up (rw new at count) (rw new at oldest))
+
+pub returns-then-len-gt1-clause-moved : goal.returns-then-len-gt1-clause-moved
+returns-then-len-gt1-clause-moved g c = λ count oldest.
+    rw c.replace_last.ensures.items (moved-replace c.args.self.now.knots.items c.args.point c.requires (omega arith))
+
+pub returns-else-len-gt1-clause-moved : goal.returns-else-len-gt1-clause-moved
+returns-else-len-gt1-clause-moved g c = λ count oldest.
+    let up : Rises c.args.self.now.knots.items = search rules in
+    let new = c.push_newest-else-len-gt1.ensures.items in
+    rw new (moved-push g.row.KNOTS c.args.self.now.knots.items c.args.point (omega arith) up (rw new at count) (rw new at oldest))

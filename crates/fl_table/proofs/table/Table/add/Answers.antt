@@ -113,6 +113,12 @@ invariant_of-self g c =
       blobs_left = λ is some. c.requires.blobs_left;
     }
 
+pub returns-clause-last : goal.returns-clause-last
+returns-clause-last g c = refl
+
+pub returns-clause-rows : goal.returns-clause-rows
+returns-clause-rows g c = λ rows h. c.push_row.ensures.rows rows h
+
 pub returns-clause-ring : goal.returns-clause-ring
 returns-clause-ring g c = refl
 

@@ -40,5 +40,14 @@ returns-in_err-seal-clause-off g c = λ running some down.
 pub returns-clause-off : goal.returns-clause-off
 returns-clause-off g c = λ running some down. absurd (off-ok (g.F.Flash.state c.args.flash.now) (g.F.Flash.state c.seal.new.flash) c.in_ok-seal.field-0 c.in_ok-seal.ensures.off down)
 
+pub returns-then-count-eq0-clause-none : goal.returns-then-count-eq0-clause-none
+returns-then-count-eq0-clause-none g c = omega (arith, c.if-count-eq0.true, c.count.ensures)
+
+pub returns-then-count-eq0-clause-seals : goal.returns-then-count-eq0-clause-seals
+returns-then-count-eq0-clause-seals g c = λ some. absurd (omega (arith, some, c.if-count-eq0.true, c.count.ensures))
+
 pub is_running-requires : goal.is_running-requires
 is_running-requires g c = table-fits g.row.KNOTS g.row.SLOTS c.args.self.now.few_knots c.args.self.now.few_slots
+
+pub returns-clause-power : goal.returns-clause-power
+returns-clause-power g c = c.in_ok-seal.ensures.power

@@ -1,12 +1,13 @@
-use Rattle.std.proofs.Common.{true, false, Bool, None, is_some, ◌&&◌, ◌==◌, cond, IfSome, ◌≡◌, ℕ, ◌+◌, ◌^◌, ◌<◌, ◌≤◌, Bor, List, Some, option_map, arith, refl, sym, ◌∙◌, ap, subst, Option}
+use Rattle.std.proofs.Common.{true, false, Bool, None, is_some, ◌&&◌, ◌==◌, cond, IfSome, ◌≡◌, ℕ, ◌+◌, ◌^◌, ◌<◌, ◌≤◌, Bor, List, [], ◌∷◌, ◌++◌, Some, option_map, arith, refl, sym, ◌∙◌, ap, subst, Option}
 use Rattle.fl_base.specs.declared.types.BlobRef.{BlobRef}
-use Rattle.fl_model.specs.Record.{Record}
-use Rattle.fl_model.specs.Row.{stored_row}
+use Rattle.fl_model.specs.Record.{Record, RowLayout}
+use Rattle.fl_model.specs.Row.{stored_row, FitsReference}
 use Rattle.fl_model.specs.Table as model
 use Rattle.fl_index.specs.declared.index.Index.{Index}
 use Rattle.fl_table.specs.Bitmaps as bitmaps
 use Rattle.fl_table.specs.BlobEnds.{reference_end}
 use Rattle.fl_table.specs.Blobs as variable
+use Rattle.fl_table.specs.Memory.{PendingAre}
 use Rattle.fl_table.specs.Standing.{Stands}
 use Rattle.fl_flash.specs.Flash.{page_at}
 use Rattle.fl_table.proofs.Blobbing.{after-most, pages-few, same-some, still-planned}
@@ -18,8 +19,6 @@ use Rattle.fl_table.proofs.Pointed.{points-added}
 use Rattle.fl_table.proofs.SealAnswers.{planned-same}
 use Rattle.fl_table.proofs.PowerOff.{off-ok, off-err}
 use Rattle.fl_table.proofs.StillStands.{lies-moved}
-use Rattle.fl_model.specs.Record.{RowLayout}
-use Rattle.fl_model.specs.Row.{FitsReference}
 use Rattle.fl_schema.specs.Schema.{layout_of}
 use Rattle.fl_ring.specs.declared.ring.Ring.{Ring}
 use Rattle.fl_table.proofs.Sizes.{table-fits}
@@ -91,6 +90,21 @@ returns-clause-ends g c = λ first plan table rose device watched stands ok.
       });
       stand = h.stand;
     }
+
+-- no place is given for no blob
+no-place : (has : Bool) (blob : Option (Bor (List ℕ))) (at : Option BlobRef) → is_some at ≡ (has && is_some blob) → option_map (λ (b : Bor (List ℕ)). b.now) blob ≡ None → at ≡ None
+no-place has None None given none = refl
+no-place true None (Some at) given none = cc
+no-place false None (Some at) given none = cc
+no-place has (Some b) at given none = cc
+
+pub returns-clause-last : goal.returns-clause-last
+returns-clause-last g c = c.add.ensures.last
+
+pub returns-clause-rows : goal.returns-clause-rows
+returns-clause-rows g c = λ none rows h.
+    let at = no-place (is_some c.args.self.now.blobs) c.args.blob c.in-Ok.at c.in-Ok.ensures.given none in
+    subst (λ (o : Option BlobRef). PendingAre c.add.new.self (rows ++ (record { key = c.args.key; values = c.args.values.now; blob = o }) ∷ [])) at (c.add.ensures.rows rows h)
 
 pub returns-clause-lies : goal.returns-clause-lies
 returns-clause-lies g c =
@@ -250,6 +264,12 @@ returns-in-Err-clause-same g c = record {
 pub returns-in-Err-clause-running : goal.returns-in-Err-clause-running
 returns-in-Err-clause-running g c = tt
 
+pub returns-in-Err-clause-last : goal.returns-in-Err-clause-last
+returns-in-Err-clause-last g c = tt
+
+pub returns-in-Err-clause-rows : goal.returns-in-Err-clause-rows
+returns-in-Err-clause-rows g c = tt
+
 pub returns-in-Err-clause-calm : goal.returns-in-Err-clause-calm
 returns-in-Err-clause-calm g c = tt
 
@@ -306,3 +326,6 @@ place-requires-clause-lies g c = c.requires.lies.blobs
 
 pub place-requires-clause-few : goal.place-requires-clause-few
 place-requires-clause-few g c = c.requires.few
+
+pub returns-clause-power : goal.returns-clause-power
+returns-clause-power g c = c.in-Ok.ensures.power

@@ -13,7 +13,7 @@ use Rattle.fl_table.specs.Mounting.{FewReads, FindsBitmaps}
 use Rattle.fl_table.proofs.Firsts.{room-same}
 use Rattle.fl_table.proofs.FoundReads.{index-within, reads-joined}
 use Rattle.fl_table.proofs.Following.{watched-front, watched-then}
-use Rattle.fl_table.proofs.MountJoined.{mount-cause-later, mount-fails, mount-then, finds-as, refuses-by, stand-outside}
+use Rattle.fl_table.proofs.MountJoined.{index-limit, limit-then, mount-cause-later, mount-fails, mount-then, finds-as, refuses-by, stand-outside}
 use Rattle.fl_table.proofs.Outsides.{blobs-outside}
 use Rattle.fl_table.proofs.SealAnswers.{planned-same, same-then}
 use Rattle.fl_ring.specs.declared.fault.RingFault.{RingFault}
@@ -24,6 +24,7 @@ use Rattle.fl_table.proofs.Blobbing as blobbing
 use Rattle.fl_table.proofs.Indexing.{few-goes, none-is, none-there, still-few}
 use Rattle.fl_var.specs.declared.var_data.VarData.{VarData}
 use Rattle.fl_table.proofs.Sizes.{table-fits}
+use Rattle.fl_table.proofs.PowerOn.{on-then}
 use Rattle.fl_table.proofs.table.Table.mount.Goals as goal
 
 pub returns-in_err-end-clause-ends : goal.returns-in_err-end-clause-ends
@@ -54,6 +55,31 @@ returns-clause-ends g c = λ first plan table rose device watched planned rests.
       blobs = c.forget.ensures.same.blobs;
       limit = c.forget.ensures.same.limit;
     })) at_rest stands (c.unwrap_or.ensures ∙ end))
+
+pub returns-in_err-end-clause-limit : goal.returns-in_err-end-clause-limit
+returns-in_err-end-clause-limit g c = λ first plan table rose device watched planned rests full.
+    index-limit c.args.self.now (g.F.Flash.state c.args.flash.now) (g.F.Flash.state c.mount_bitmaps.new.flash) first plan table rose device planned rests watched c.forget.new.self.bitmaps (sym c.forget.ensures.bitmaps)
+    (c.in_err-end.ensures.outside watched.told) (c.in_err-end.ensures.limit (first + plan.data_blocks) plan table watched.told) full
+
+pub returns-clause-limit : goal.returns-clause-limit
+returns-clause-limit g c = λ first plan table rose device watched planned rests full.
+    let t = c.args.self.now in
+    let old = g.F.Flash.state c.args.flash.now in
+    let mid = g.F.Flash.state c.mount_bitmaps.new.flash in
+    let new = g.F.Flash.state c.mount_rows.new.flash in
+    let goes = c.in_ok-end.ensures.goes in
+    limit-then t old mid first plan table rose device planned rests (watched-front old mid new rose device watched c.mount_rows.ensures.goes) c.forget.new.self.bitmaps c.mount_bitmaps.new.bitmaps c.in_ok-end.end new (sym c.forget.ensures.bitmaps)
+    c.in_ok-end.ensures.same (c.in_ok-end.ensures.outside watched.told) (c.in_ok-end.ensures.ends (first + plan.data_blocks) plan table rose device) (c.in_ok-end.ensures.limit (first + plan.data_blocks) plan table watched.told) full
+    (λ x later on counts at_rest stands end. c.mount_rows.ensures.limit first plan x rose later (watched-then old mid new rose device later watched goes on counts) (planned-same t _ first plan planned (record {
+      geometry = c.forget.ensures.same.geometry;
+      layout = c.forget.ensures.same.layout;
+      place = c.forget.ensures.same.place;
+      buckets = c.forget.ensures.same.buckets;
+      error = c.forget.ensures.same.error;
+      bitmaps = subst (λ (o : Option Index). AreSamePlan o c.mount_bitmaps.new.bitmaps) c.forget.ensures.bitmaps c.in_ok-end.ensures.same;
+      blobs = c.forget.ensures.same.blobs;
+      limit = c.forget.ensures.same.limit;
+    })) at_rest stands (c.unwrap_or.ensures ∙ end) full)
 
 pub returns-clause-found : goal.returns-clause-found
 returns-clause-found g c =
@@ -273,3 +299,6 @@ invariant_of-self g c =
 
 pub forget-requires : goal.forget-requires
 forget-requires g c = table-fits g.row.KNOTS g.row.SLOTS c.args.self.now.few_knots c.args.self.now.few_slots
+
+pub returns-clause-power : goal.returns-clause-power
+returns-clause-power g c = on-then (g.F.Flash.state c.args.flash.now) (g.F.Flash.state c.mount_bitmaps.new.flash) (g.F.Flash.state c.mount_rows.new.flash) c.mount_rows.result c.in_ok-end.ensures.power c.mount_rows.ensures.power

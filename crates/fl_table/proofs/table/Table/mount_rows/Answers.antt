@@ -14,7 +14,7 @@ use Rattle.fl_table.proofs.Blobbing as blobbing
 use Rattle.fl_table.proofs.Following.{watched-front, watched-then}
 use Rattle.fl_table.proofs.MountJoined.{mount-cause-later}
 use Rattle.fl_table.proofs.BlobSeals.{with_var}
-use Rattle.fl_table.proofs.MountVar.{data-fails, mounted-ends, rows-fail, rows-mount}
+use Rattle.fl_table.proofs.MountVar.{data-fails, mounted-ends, rows-fail, rows-mount, var-limit}
 use Rattle.fl_table.proofs.Plain.{table-facts}
 use Rattle.fl_base.specs.declared.types.Geometry.{Geometry}
 use Rattle.fl_base.specs.declared.types.RingPlace.{RingPlace}
@@ -25,6 +25,7 @@ use Rattle.fl_ring.specs.declared.ring.Ring.{Ring}
 use Rattle.fl_table.proofs.Indexing.{none-is}
 use Rattle.fl_table.proofs.StillStands.{lies-moved}
 use Rattle.fl_table.proofs.Sizes.{table-fits}
+use Rattle.fl_table.proofs.PowerOn.{blobs-on}
 use Rattle.fl_table.proofs.table.Table.mount_rows.Goals as goal
 use Rattle.fl_var.specs.declared.var_data.VarData.{VarData}
 
@@ -291,3 +292,41 @@ invariant_of-self-2 g c =
 
 pub read_rows-requires : goal.read_rows-requires
 read_rows-requires g c = (table-fits g.row.KNOTS g.row.SLOTS c.args.self.now.few_knots c.args.self.now.few_slots, (c.requires.forgotten, (c.requires.running, (c.requires.idle, (c.requires.lies, (c.requires.room, c.requires.few))))))
+
+pub returns-in_err-rows-clause-limit : goal.returns-in_err-rows-clause-limit
+returns-in_err-rows-clause-limit g c = λ first plan table rose device watched planned rests stands end full.
+    let few = c.in_err-rows.ensures.limit first plan table rose device watched planned rests stands end full in
+    omega (arith, few)
+
+pub returns-in_err-mount_within-clause-limit : goal.returns-in_err-mount_within-clause-limit
+returns-in_err-mount_within-clause-limit g c = λ first plan table rose device watched planned rests stands end full.
+    let t = c.read_rows.new.self in
+    let old = g.F.Flash.state c.args.flash.now in
+    let mid = g.F.Flash.state c.read_rows.new.flash in
+    let new = g.F.Flash.state c.mount_within.new.flash in
+    let goes = c.in_ok-rows.ensures.goes in
+    let front = watched-front old mid new rose device watched c.mount_within.ensures.goes in
+    let w = c.in_ok-rows.ensures.ends first plan table rose device front planned rests stands end in
+    let then = watched-then old mid new rose device w.now.device watched goes w.power w.counts in
+    let rows = c.in_ok-rows.ensures.limit first plan table rose device front planned rests stands end full in
+    let var = var-limit t mid new first plan table rose device c.in_ok-rows.rows w then t.blobs refl (c.in_err-mount_within.ensures.outside then.told)
+    (c.in_err-mount_within.ensures.limit (first + plan.data_blocks + plan.index_blocks) plan w.now.state then.told) in
+    omega (arith, rows, var)
+
+pub returns-clause-limit : goal.returns-clause-limit
+returns-clause-limit g c = λ first plan table rose device watched planned rests stands end full.
+    let t = c.read_rows.new.self in
+    let old = g.F.Flash.state c.args.flash.now in
+    let mid = g.F.Flash.state c.read_rows.new.flash in
+    let new = g.F.Flash.state c.mount_within.new.flash in
+    let goes = c.in_ok-rows.ensures.goes in
+    let front = watched-front old mid new rose device watched c.mount_within.ensures.goes in
+    let w = c.in_ok-rows.ensures.ends first plan table rose device front planned rests stands end in
+    let then = watched-then old mid new rose device w.now.device watched goes w.power w.counts in
+    let rows = c.in_ok-rows.ensures.limit first plan table rose device front planned rests stands end full in
+    let var = var-limit t mid new first plan table rose device c.in_ok-rows.rows w then t.blobs refl (c.in_ok-mount_within.ensures.outside then.told)
+    (c.in_ok-mount_within.ensures.limit (first + plan.data_blocks + plan.index_blocks) plan w.now.state then.told) in
+    omega (arith, rows, var)
+
+pub returns-clause-power : goal.returns-clause-power
+returns-clause-power g c = λ on. blobs-on _ _ (g.F.Flash.state c.read_rows.new.flash) (g.F.Flash.state c.mount_within.new.flash) _ c.in_ok-mount_within.ensures.found (c.in_ok-rows.ensures.power on)

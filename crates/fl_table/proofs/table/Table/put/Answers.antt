@@ -1,8 +1,9 @@
-use Rattle.std.proofs.Common.{Bool, true, false, refl, ◌≡◌, ℕ, Bor, List, Option, Some, None, Result, Ok, Err, length, option_map, not, ◌&&◌, ◌||◌, IsTrue, arith, sym, ◌∙◌, ap, subst}
+use Rattle.std.proofs.Common.{Bool, true, false, refl, ◌≡◌, ℕ, Bor, List, [], ◌∷◌, ◌++◌, Option, Some, None, Result, Ok, Err, length, option_map, not, ◌&&◌, ◌||◌, IsTrue, arith, sym, ◌∙◌, ap, subst}
 use Rattle.std.proofs.lemmas.Result.{err_from_is_err_and}
 use Rattle.fl_model.specs.Table.{after_seals, make_room_seals}
 use Rattle.fl_table.specs.Refusal.{put_refusal}
-use Rattle.fl_table.specs.Memory.{is_running, is_stopped}
+use Rattle.fl_table.specs.Memory.{is_running, is_stopped, PendingAre}
+use Rattle.fl_table.specs.declared.table.Table.{Table}
 use Rattle.fl_table.proofs.Refusals.{fits-row, told-running, calm-cause, few-blob, not-spent, refusal-calm}
 use Rattle.fl_flash.specs.Flash.{page_at}
 use Rattle.fl_table.proofs.Blobbing.{pages-most}
@@ -211,3 +212,11 @@ make_room-requires g c =
     let t = c.args.self.now in
     let none : put_refusal t c.args.key c.args.values.now (option_map (λ (b : Bor (List ℕ)). length b.now) c.args.blob) ≡ None = sym c.refusal.ensures ∙ c.in_default.is in
     (table-fits g.row.KNOTS g.row.SLOTS c.args.self.now.few_knots c.args.self.now.few_slots, (told-running t c.args.key c.args.values.now _ none, c.requires.lies))
+
+pub returns-clause-power : goal.returns-clause-power
+returns-clause-power g c = λ on. c.in_ok-join.ensures.power (c.in_ok-make_room.ensures.power on)
+
+pub returns-clause-rows : goal.returns-clause-rows
+returns-clause-rows g c = λ room none rows h.
+    let same = (c.in_ok-make_room.ensures.quiet room).1 in
+    subst (λ (x : Table g.row.KNOTS g.row.SLOTS). PendingAre x rows → PendingAre c.join.new.self (rows ++ (record { key = c.args.key; values = c.args.values.now; blob = None }) ∷ [])) same (c.in_ok-join.ensures.rows none rows) h

@@ -1,23 +1,23 @@
-use Rattle.std.proofs.Common.{rules, ◌≡◌, ◌+◌, ◌-◌, ◌*◌, ◌/◌, ◌<◌, ◌≤◌, ℕ, List, length, arith, refl, sym, ◌∙◌, ap, subst}
+use Rattle.std.proofs.Common.{rules, ◌≡◌, ◌+◌, ◌-◌, ◌*◌, ◌<◌, ◌≤◌, ℕ, List, length, arith, refl, sym, ◌∙◌, ap, subst}
 use Rattle.std.proofs.lemmas.Result.{err_from_is_err_and}
 use Rattle.fl_find.specs.Index.{error_in}
 use Rattle.fl_flash.specs.Flash.{page_at}
 use Rattle.fl_ring.specs.Place.{next_of, oldest_of, shape_of}
 use Rattle.fl_ring.specs.Ring.{place, room}
 use Rattle.fl_schema.specs.Schema.{layout_of}
-use Rattle.fl_table.specs.ByEntries.{unlisted_of}
 use Rattle.fl_model.specs.Record.{RowLayout}
 use Rattle.fl_table.specs.Bitmaps.{first_to_wait}
-use Rattle.fl_table.specs.Coming.{ComesTo, AreUnlisted, WaitBetween, index_pages_of, most_in}
+use Rattle.fl_table.specs.Coming.{WaitBetween, index_pages_of, most_in}
 use Rattle.fl_table.specs.Knowing.{KnowsWith, IsWithin, ReadsBut, is_waiting}
 use Rattle.fl_table.specs.Mounting.{comes_in}
 use Rattle.fl_table.specs.Reading.{WaitFrom}
 use Rattle.fl_table.specs.declared.known.Known.{Known}
 use Rattle.fl_ring.proofs.Founds.{same_pages}
 use Rattle.fl_ring.proofs.Readings.{goes_more, more_reads, told_still}
-use Rattle.fl_table.proofs.Comings.{unlisted-more, come-rows, comes-of, knows-nothing, nothing-within, rows-still}
+use Rattle.fl_table.proofs.Comings.{unlisted-behind, come-rows, nothing-within, rows-still}
 use Rattle.fl_table.proofs.Firsts.{firsts-then}
 use Rattle.fl_table.proofs.Gathering.{first-same, gathers-end, wait-between, wait-for, waits-from}
+use Rattle.fl_table.proofs.KeptStart.{kept-start}
 use Rattle.fl_table.proofs.Indexing.{few-goes, found-then, lies-goes, none-is, none-there, plan-then, ring-then, still-few, still-lies, still-running}
 use Rattle.fl_table.proofs.ListedPages.{data-lies, fails-later, ring-read, ring-stays, some-room}
 use Rattle.fl_table.proofs.Blobbing as blobbing
@@ -31,15 +31,9 @@ returns-in_err-from-clause-knows g c = λ told.
     let t = c.args.self.now in
     let f = g.F.Flash.state c.args.flash.now in
     let ring = c.args.ring.now in
-    let layout = layout_of t.schema in
     let u = comes_in t t.bitmaps ring f in
-    let start = subst (λ (k : Known). KnowsWith (error_in t.index) u 0 0 k c.deref_mut.result.now t.index) (sym c.nothing-known.ensures) (knows-nothing (error_in t.index) u c.deref_mut.result.now t.index c.requires.forgotten.index) in
-    let comes = subst (λ n. ComesTo u layout ((t.geometry.page - 24) / n) t.bitmaps ring f) (sym c.row_len.ensures) (comes-of layout (most_in t.geometry.page layout) t.bitmaps ring f) in
-    let large : t.counts.len ≡ t.place.blocks * t.geometry.block = t.counted in
-    let begin : length c.deref_mut.result.now ≡ t.place.blocks * t.geometry.block = ap length c.deref_mut.ensures.value ∙ (sym t.counts.ok.0 ∙ large) in
-    let kept : next_of ring - oldest_of ring ≤ t.place.blocks * t.geometry.block = c.requires.few told in
-    let few : next_of ring - oldest_of ring ≤ length c.deref_mut.result.now = omega (arith, begin, kept) in
-    rw (p.1, p.2) (tt, (c.in_err-from.ensures.knows told few (error_in t.index) u comes start).1)
+    let begin = kept-start t ring f _ _ _ c.nothing-known.ensures c.row_len.ensures c.deref_mut.ensures.value c.requires.forgotten.index (c.requires.few told) in
+    rw (p.1, p.2) (tt, (c.in_err-from.ensures.knows told begin.few (error_in t.index) u begin.comes begin.knows).1)
 
 pub returns-in_err-read_pages-clause-knows : goal.returns-in_err-read_pages-clause-knows
 returns-in_err-read_pages-clause-knows g c = λ told.
@@ -49,22 +43,17 @@ returns-in_err-read_pages-clause-knows g c = λ told.
     let ring = c.args.ring.now in
     let layout = layout_of t.schema in
     let u = comes_in t t.bitmaps ring f in
-    let start = subst (λ (k : Known). KnowsWith (error_in t.index) u 0 0 k c.deref_mut.result.now t.index) (sym c.nothing-known.ensures) (knows-nothing (error_in t.index) u c.deref_mut.result.now t.index c.requires.forgotten.index) in
-    let comes = subst (λ n. ComesTo u layout ((t.geometry.page - 24) / n) t.bitmaps ring f) (sym c.row_len.ensures) (comes-of layout (most_in t.geometry.page layout) t.bitmaps ring f) in
-    let large : t.counts.len ≡ t.place.blocks * t.geometry.block = t.counted in
-    let begin : length c.deref_mut.result.now ≡ t.place.blocks * t.geometry.block = ap length c.deref_mut.ensures.value ∙ (sym t.counts.ok.0 ∙ large) in
-    let kept : next_of ring - oldest_of ring ≤ t.place.blocks * t.geometry.block = c.requires.few told in
-    let few : next_of ring - oldest_of ring ≤ length c.deref_mut.result.now = omega (arith, begin, kept) in
+    let begin = kept-start t ring f _ _ _ c.nothing-known.ensures c.row_len.ensures c.deref_mut.ensures.value c.requires.forgotten.index (c.requires.few told) in
     let first = g.F.Flash.state c.read_listed.new.flash in
     let listed = c.in_ok-from.ensures in
     let from = c.in_ok-from.from in
     let told' = told_still f first _ listed.reads told in
     let rows = rows-still u layout ring f first _ listed.reads (come-rows layout (most_in t.geometry.page layout) t.bitmaps ring f) in
-    let before = listed.unlisted told few (error_in t.index) u comes start in
+    let before = listed.unlisted told begin.few (error_in t.index) u begin.comes begin.knows in
     let back = written-back t.counts.items c.read_listed.new.counts t.counts.len (listed.size ∙ ap length c.deref_mut.ensures.value) t.counts.ok.0 in
-    let knows = subst (λ (cs : List ℕ). KnowsWith (error_in t.index) u u.index_pages (from - u.oldest) c.read_listed.new.known cs c.read_listed.new.index) (sym (c.deref_mut-2.ensures.value ∙ back)) (listed.knows told few (error_in t.index) u comes start).0 in
+    let knows = subst (λ (cs : List ℕ). KnowsWith (error_in t.index) u u.index_pages (from - u.oldest) c.read_listed.new.known cs c.read_listed.new.index) (sym (c.deref_mut-2.ensures.value ∙ back)) (listed.knows told begin.few (error_in t.index) u begin.comes begin.knows).0 in
     let size : length c.deref_mut-2.result.now ≡ length c.deref_mut.result.now = ap length (c.deref_mut-2.ensures.value ∙ back) ∙ listed.size in
-    let few' : next_of ring - oldest_of ring ≤ length c.deref_mut-2.result.now = omega (arith, size, few) in
+    let few' : next_of ring - oldest_of ring ≤ length c.deref_mut-2.result.now = omega (arith, size, begin.few) in
     rw (p.1, p.2) (tt, (c.in_err-read_pages.ensures.knows told' few' (error_in t.index) u rows before.unlisted knows).1)
 
 pub returns-in_err-read_newest-clause-knows : goal.returns-in_err-read_newest-clause-knows
@@ -75,22 +64,17 @@ returns-in_err-read_newest-clause-knows g c = λ told.
     let ring = c.args.ring.now in
     let layout = layout_of t.schema in
     let u = comes_in t t.bitmaps ring f in
-    let start = subst (λ (k : Known). KnowsWith (error_in t.index) u 0 0 k c.deref_mut.result.now t.index) (sym c.nothing-known.ensures) (knows-nothing (error_in t.index) u c.deref_mut.result.now t.index c.requires.forgotten.index) in
-    let comes = subst (λ n. ComesTo u layout ((t.geometry.page - 24) / n) t.bitmaps ring f) (sym c.row_len.ensures) (comes-of layout (most_in t.geometry.page layout) t.bitmaps ring f) in
-    let large : t.counts.len ≡ t.place.blocks * t.geometry.block = t.counted in
-    let begin : length c.deref_mut.result.now ≡ t.place.blocks * t.geometry.block = ap length c.deref_mut.ensures.value ∙ (sym t.counts.ok.0 ∙ large) in
-    let kept : next_of ring - oldest_of ring ≤ t.place.blocks * t.geometry.block = c.requires.few told in
-    let few : next_of ring - oldest_of ring ≤ length c.deref_mut.result.now = omega (arith, begin, kept) in
+    let begin = kept-start t ring f _ _ _ c.nothing-known.ensures c.row_len.ensures c.deref_mut.ensures.value c.requires.forgotten.index (c.requires.few told) in
     let first = g.F.Flash.state c.read_listed.new.flash in
     let listed = c.in_ok-from.ensures in
     let from = c.in_ok-from.from in
     let told' = told_still f first _ listed.reads told in
     let rows = rows-still u layout ring f first _ listed.reads (come-rows layout (most_in t.geometry.page layout) t.bitmaps ring f) in
-    let before = listed.unlisted told few (error_in t.index) u comes start in
+    let before = listed.unlisted told begin.few (error_in t.index) u begin.comes begin.knows in
     let back = written-back t.counts.items c.read_listed.new.counts t.counts.len (listed.size ∙ ap length c.deref_mut.ensures.value) t.counts.ok.0 in
-    let knows = subst (λ (cs : List ℕ). KnowsWith (error_in t.index) u u.index_pages (from - u.oldest) c.read_listed.new.known cs c.read_listed.new.index) (sym (c.deref_mut-2.ensures.value ∙ back)) (listed.knows told few (error_in t.index) u comes start).0 in
+    let knows = subst (λ (cs : List ℕ). KnowsWith (error_in t.index) u u.index_pages (from - u.oldest) c.read_listed.new.known cs c.read_listed.new.index) (sym (c.deref_mut-2.ensures.value ∙ back)) (listed.knows told begin.few (error_in t.index) u begin.comes begin.knows).0 in
     let size : length c.deref_mut-2.result.now ≡ length c.deref_mut.result.now = ap length (c.deref_mut-2.ensures.value ∙ back) ∙ listed.size in
-    let few' : next_of ring - oldest_of ring ≤ length c.deref_mut-2.result.now = omega (arith, size, few) in
+    let few' : next_of ring - oldest_of ring ≤ length c.deref_mut-2.result.now = omega (arith, size, begin.few) in
     let then = g.F.Flash.state c.read_pages.new.flash in
     let read = c.in_ok-read_pages.ensures in
     let reads = more_reads f first then _ _ listed.reads read.reads in
@@ -107,22 +91,17 @@ returns-clause-knows g c = λ told.
     let ring = c.args.ring.now in
     let layout = layout_of t.schema in
     let u = comes_in t t.bitmaps ring f in
-    let start = subst (λ (k : Known). KnowsWith (error_in t.index) u 0 0 k c.deref_mut.result.now t.index) (sym c.nothing-known.ensures) (knows-nothing (error_in t.index) u c.deref_mut.result.now t.index c.requires.forgotten.index) in
-    let comes = subst (λ n. ComesTo u layout ((t.geometry.page - 24) / n) t.bitmaps ring f) (sym c.row_len.ensures) (comes-of layout (most_in t.geometry.page layout) t.bitmaps ring f) in
-    let large : t.counts.len ≡ t.place.blocks * t.geometry.block = t.counted in
-    let begin : length c.deref_mut.result.now ≡ t.place.blocks * t.geometry.block = ap length c.deref_mut.ensures.value ∙ (sym t.counts.ok.0 ∙ large) in
-    let kept : next_of ring - oldest_of ring ≤ t.place.blocks * t.geometry.block = c.requires.few told in
-    let few : next_of ring - oldest_of ring ≤ length c.deref_mut.result.now = omega (arith, begin, kept) in
+    let begin = kept-start t ring f _ _ _ c.nothing-known.ensures c.row_len.ensures c.deref_mut.ensures.value c.requires.forgotten.index (c.requires.few told) in
     let first = g.F.Flash.state c.read_listed.new.flash in
     let listed = c.in_ok-from.ensures in
     let from = c.in_ok-from.from in
     let told' = told_still f first _ listed.reads told in
     let rows = rows-still u layout ring f first _ listed.reads (come-rows layout (most_in t.geometry.page layout) t.bitmaps ring f) in
-    let before = listed.unlisted told few (error_in t.index) u comes start in
+    let before = listed.unlisted told begin.few (error_in t.index) u begin.comes begin.knows in
     let back = written-back t.counts.items c.read_listed.new.counts t.counts.len (listed.size ∙ ap length c.deref_mut.ensures.value) t.counts.ok.0 in
-    let knows = subst (λ (cs : List ℕ). KnowsWith (error_in t.index) u u.index_pages (from - u.oldest) c.read_listed.new.known cs c.read_listed.new.index) (sym (c.deref_mut-2.ensures.value ∙ back)) (listed.knows told few (error_in t.index) u comes start).0 in
+    let knows = subst (λ (cs : List ℕ). KnowsWith (error_in t.index) u u.index_pages (from - u.oldest) c.read_listed.new.known cs c.read_listed.new.index) (sym (c.deref_mut-2.ensures.value ∙ back)) (listed.knows told begin.few (error_in t.index) u begin.comes begin.knows).0 in
     let size : length c.deref_mut-2.result.now ≡ length c.deref_mut.result.now = ap length (c.deref_mut-2.ensures.value ∙ back) ∙ listed.size in
-    let few' : next_of ring - oldest_of ring ≤ length c.deref_mut-2.result.now = omega (arith, size, few) in
+    let few' : next_of ring - oldest_of ring ≤ length c.deref_mut-2.result.now = omega (arith, size, begin.few) in
     let then = g.F.Flash.state c.read_pages.new.flash in
     let read = c.in_ok-read_pages.ensures in
     let reads = more_reads f first then _ _ listed.reads read.reads in
@@ -193,12 +172,7 @@ returns-clause-waits g c = λ told.
     let ring = c.args.ring.now in
     let layout = layout_of t.schema in
     let u = comes_in t t.bitmaps ring f in
-    let start = subst (λ (k : Known). KnowsWith (error_in t.index) u 0 0 k c.deref_mut.result.now t.index) (sym c.nothing-known.ensures) (knows-nothing (error_in t.index) u c.deref_mut.result.now t.index c.requires.forgotten.index) in
-    let comes = subst (λ n. ComesTo u layout ((t.geometry.page - 24) / n) t.bitmaps ring f) (sym c.row_len.ensures) (comes-of layout (most_in t.geometry.page layout) t.bitmaps ring f) in
-    let large : t.counts.len ≡ t.place.blocks * t.geometry.block = t.counted in
-    let begin : length c.deref_mut.result.now ≡ t.place.blocks * t.geometry.block = ap length c.deref_mut.ensures.value ∙ (sym t.counts.ok.0 ∙ large) in
-    let kept : next_of ring - oldest_of ring ≤ t.place.blocks * t.geometry.block = c.requires.few told in
-    let few : next_of ring - oldest_of ring ≤ length c.deref_mut.result.now = omega (arith, begin, kept) in
+    let begin = kept-start t ring f _ _ _ c.nothing-known.ensures c.row_len.ensures c.deref_mut.ensures.value c.requires.forgotten.index (c.requires.few told) in
     let f' = g.F.Flash.state c.read_listed.new.flash in
     let listed = c.in_ok-from.ensures in
     let from = c.in_ok-from.from in
@@ -212,7 +186,7 @@ returns-clause-waits g c = λ told.
     record {
       from = from;
       low = omega (arith, listed.end.0, is.oldest);
-      listed = listed.unlisted told few (error_in t.index) u comes start;
+      listed = listed.unlisted told begin.few (error_in t.index) u begin.comes begin.knows;
       many = subst (λ k. WaitBetween k (next_of ring) now) at (wait-between c.restart.new.bitmaps now (next_of ring) there begun.idle begun.next c.in_ok-read_pages.ensures.gathered);
       waits = subst (λ (l : RowLayout). WaitFrom l (λ number. page_at f (place (shape_of ring) number)) (first_to_wait t.bitmaps c.args.end from (next_of ring)) (next_of ring) now) (sym is.layout_is)
           (subst (λ n. WaitFrom layout (λ number. page_at f (place (shape_of ring) number)) n (next_of ring) now) at
@@ -556,6 +530,45 @@ returns-clause-remembers g c = λ told.
     firsts-then c.args.self.now.bitmaps c.read_listed.new.bitmaps c.read_pages.new.bitmaps (g.F.Flash.state c.args.flash.now) (c.in_ok-from.ensures.remembers told)
     (ring-then c.read_listed.new.bitmaps c.restart.new.bitmaps c.read_pages.new.bitmaps c.restart.ensures.still c.in_ok-read_pages.ensures.still)
 
+pub returns-in_err-from-clause-few_reads : goal.returns-in_err-from-clause-few_reads
+returns-in_err-from-clause-few_reads g c = λ told.
+    let t = c.args.self.now in
+    let f = g.F.Flash.state c.args.flash.now in
+    let ring = c.args.ring.now in
+    let u = comes_in t t.bitmaps ring f in
+    let begin = kept-start t ring f _ _ _ c.nothing-known.ensures c.row_len.ensures c.deref_mut.ensures.value c.requires.forgotten.index (c.requires.few told) in
+    omega (arith, (c.in_err-from.ensures.few_reads told begin.few (error_in t.index) u begin.comes begin.knows).1)
+
+pub returns-in_err-read_pages-clause-few_reads : goal.returns-in_err-read_pages-clause-few_reads
+returns-in_err-read_pages-clause-few_reads g c = λ told.
+    let t = c.args.self.now in
+    let f = g.F.Flash.state c.args.flash.now in
+    let ring = c.args.ring.now in
+    let layout = layout_of t.schema in
+    let u = comes_in t t.bitmaps ring f in
+    let begin = kept-start t ring f _ _ _ c.nothing-known.ensures c.row_len.ensures c.deref_mut.ensures.value c.requires.forgotten.index (c.requires.few told) in
+    let listed = c.in_ok-from.ensures in
+    let is = come-rows layout (most_in t.geometry.page layout) t.bitmaps ring f in
+    let first = (listed.few_reads told begin.few (error_in t.index) u begin.comes begin.knows).0 in
+    let before = listed.unlisted told begin.few (error_in t.index) u begin.comes begin.knows in
+    let behind = unlisted-behind u c.in_ok-from.from (next_of ring) before.unlisted (omega (arith, is.oldest, listed.end.0)) listed.end.1 (omega (arith, is.oldest, is.pages, listed.end.0, listed.end.1)) in
+    omega (arith, first, behind, c.in_err-read_pages.ensures.reads.reads)
+
+pub returns-in_err-read_newest-clause-few_reads : goal.returns-in_err-read_newest-clause-few_reads
+returns-in_err-read_newest-clause-few_reads g c = λ told.
+    let t = c.args.self.now in
+    let f = g.F.Flash.state c.args.flash.now in
+    let ring = c.args.ring.now in
+    let layout = layout_of t.schema in
+    let u = comes_in t t.bitmaps ring f in
+    let begin = kept-start t ring f _ _ _ c.nothing-known.ensures c.row_len.ensures c.deref_mut.ensures.value c.requires.forgotten.index (c.requires.few told) in
+    let listed = c.in_ok-from.ensures in
+    let is = come-rows layout (most_in t.geometry.page layout) t.bitmaps ring f in
+    let first = (listed.few_reads told begin.few (error_in t.index) u begin.comes begin.knows).0 in
+    let before = listed.unlisted told begin.few (error_in t.index) u begin.comes begin.knows in
+    let behind = unlisted-behind u c.in_ok-from.from (next_of ring) before.unlisted (omega (arith, is.oldest, listed.end.0)) listed.end.1 (omega (arith, is.oldest, is.pages, listed.end.0, listed.end.1)) in
+    omega (arith, first, behind, c.in_ok-read_pages.ensures.reads.reads, c.in_err-read_newest.ensures.reads.reads, waiting-few c.read_pages.new.known.newest)
+
 pub returns-clause-few_reads : goal.returns-clause-few_reads
 returns-clause-few_reads g c = λ told.
     let t = c.args.self.now in
@@ -563,18 +576,10 @@ returns-clause-few_reads g c = λ told.
     let ring = c.args.ring.now in
     let layout = layout_of t.schema in
     let u = comes_in t t.bitmaps ring f in
-    let start = subst (λ (k : Known). KnowsWith (error_in t.index) u 0 0 k c.deref_mut.result.now t.index) (sym c.nothing-known.ensures) (knows-nothing (error_in t.index) u c.deref_mut.result.now t.index c.requires.forgotten.index) in
-    let comes = subst (λ n. ComesTo u layout ((t.geometry.page - 24) / n) t.bitmaps ring f) (sym c.row_len.ensures) (comes-of layout (most_in t.geometry.page layout) t.bitmaps ring f) in
-    let large : t.counts.len ≡ t.place.blocks * t.geometry.block = t.counted in
-    let begin : length c.deref_mut.result.now ≡ t.place.blocks * t.geometry.block = ap length c.deref_mut.ensures.value ∙ (sym t.counts.ok.0 ∙ large) in
-    let kept : next_of ring - oldest_of ring ≤ t.place.blocks * t.geometry.block = c.requires.few told in
-    let few : next_of ring - oldest_of ring ≤ length c.deref_mut.result.now = omega (arith, begin, kept) in
+    let begin = kept-start t ring f _ _ _ c.nothing-known.ensures c.row_len.ensures c.deref_mut.ensures.value c.requires.forgotten.index (c.requires.few told) in
     let listed = c.in_ok-from.ensures in
-    let from = c.in_ok-from.from in
     let is = come-rows layout (most_in t.geometry.page layout) t.bitmaps ring f in
-    let first = listed.few_reads told few (error_in t.index) u comes start in
-    let before = listed.unlisted told few (error_in t.index) u comes start in
-    let at : u.oldest + (from - u.oldest) ≡ from = omega (arith, is.oldest, listed.end.0) in
-    let all : (from - u.oldest) + (next_of ring - from) ≡ u.pages = omega (arith, is.oldest, is.pages, listed.end.0, listed.end.1) in
-    let more = unlisted-more u (from - u.oldest) (next_of ring - from) (subst (AreUnlisted u) (sym at) before.unlisted) (omega (arith, all)) in
-    omega (arith, first, more, ap (unlisted_of u u.oldest) all, c.in_ok-read_pages.ensures.reads.reads, c.in_ok-read_newest.ensures.reads.reads, waiting-few c.read_pages.new.known.newest)
+    let first = (listed.few_reads told begin.few (error_in t.index) u begin.comes begin.knows).0 in
+    let before = listed.unlisted told begin.few (error_in t.index) u begin.comes begin.knows in
+    let behind = unlisted-behind u c.in_ok-from.from (next_of ring) before.unlisted (omega (arith, is.oldest, listed.end.0)) listed.end.1 (omega (arith, is.oldest, is.pages, listed.end.0, listed.end.1)) in
+    omega (arith, first, behind, c.in_ok-read_pages.ensures.reads.reads, c.in_ok-read_newest.ensures.reads.reads, waiting-few c.read_pages.new.known.newest)

@@ -1,6 +1,8 @@
 use Rattle.std.proofs.Common.{rules, ◌≡◌, ◌+◌, ◌*◌, ◌-◌, ◌≤◌, ℕ, List, [], Ok, Err, length, arith, refl, sym, ◌∙◌, ap, subst, IsTrue}
 use Rattle.std.proofs.lemmas.Result.{err_from_is_err_and}
 use Rattle.fl_flash.specs.Flash.{page_at}
+use Rattle.fl_model.specs.MountLimit.{repaired}
+use Rattle.fl_model.specs.Table.{DataRing}
 use Rattle.fl_page.specs.Writer.{Gathers}
 use Rattle.fl_ring.specs.Mounting.{shape_at}
 use Rattle.fl_ring.specs.Place.{next_of, oldest_of}
@@ -11,7 +13,8 @@ use Rattle.fl_table.proofs.Following.{watched-front}
 use Rattle.fl_table.proofs.Indexing.{found-same, none-is, none-there}
 use Rattle.fl_table.proofs.MountCalls.{same-shape, outside-stands, index-still, refuses-ring, refuses-end, refuses-page, finds-data, finds-firsts, same-waits, ring-cause, pages-cause}
 use Rattle.fl_table.proofs.MountEnded.{mounting-of, ring-fails, ring-ends, ring-mounts, ends-within}
-use Rattle.fl_table.proofs.MountKept.{kept-fails, kept-well}
+use Rattle.fl_table.proofs.MountKept.{kept-fails, kept-limit, kept-well, ring-limit}
+use Rattle.fl_table.proofs.MountLimits.{rows-within}
 use Rattle.fl_table.proofs.MountReads.{few-first, few-all, kept-room}
 use Rattle.fl_table.proofs.SealAnswers.{plan-self, planned-ring, lies-size}
 use Rattle.fl_table.proofs.StillStands.{lies-moved}
@@ -246,3 +249,43 @@ returns-clause-reads g c = λ told.
 pub returns-clause-goes : goal.returns-clause-goes
 returns-clause-goes g c =
     goes_more (g.F.Flash.state c.args.flash.now) (g.F.Flash.state c.mount.new.flash) (g.F.Flash.state c.read_kept.new.flash) c.in_ok-ring.ensures.beside.goes c.in_ok-known.ensures.reads.goes
+
+pub returns-in_err-ring-clause-limit : goal.returns-in_err-ring-clause-limit
+returns-in_err-ring-clause-limit g c = λ first plan table rose device watched planned rests stands end full.
+    let t = c.args.self.now in
+    let old = g.F.Flash.state c.args.flash.now in
+    let few = ring-limit t first plan table old (g.F.Flash.state c.mount.new.flash) planned rests c.requires.lies (g.met.F.Flash.reaches c.args.flash.now) (λ s on. c.in_err-ring.ensures.reads s watched.told on) in
+    omega (arith, few, rows-within plan table (repaired plan DataRing table))
+
+pub returns-then-end-next-clause-limit : goal.returns-then-end-next-clause-limit
+returns-then-end-next-clause-limit g c = λ first plan table rose device watched planned rests stands end full.
+    let t = c.args.self.now in
+    let old = g.F.Flash.state c.args.flash.now in
+    let few = ring-limit t first plan table old (g.F.Flash.state c.mount.new.flash) planned rests c.requires.lies (g.met.F.Flash.reaches c.args.flash.now) (λ s on. c.in_ok-ring.ensures.reads s watched.told on) in
+    omega (arith, few, rows-within plan table (repaired plan DataRing table))
+
+pub returns-in_err-known-clause-limit : goal.returns-in_err-known-clause-limit
+returns-in_err-known-clause-limit g c = λ first plan table rose device watched planned rests stands end full.
+    let t = c.args.self.now in
+    let old = g.F.Flash.state c.args.flash.now in
+    let mid = g.F.Flash.state c.mount.new.flash in
+    let new = g.F.Flash.state c.read_kept.new.flash in
+    let ensures = c.in_ok-ring.ensures in
+    let kept = c.in_err-known.ensures in
+    let told = subst IsTrue (sym ensures.beside.goes.tells) watched.told in
+    kept-limit t first plan table rose device old mid new c.in_ok-ring.ring _ c.args.end watched planned rests stands end c.requires.lies
+    (g.met.F.Flash.reaches c.args.flash.now) (g.met.F.Flash.reaches c.mount.new.flash) (g.met.F.Flash.reaches c.read_kept.new.flash) ensures.beside.goes (ensures.beside.outside watched.told) ensures.shape ensures.ends kept.reads
+    full (ring-limit t first plan table old mid planned rests c.requires.lies (g.met.F.Flash.reaches c.args.flash.now) (λ s on. ensures.reads s watched.told on)) (kept.few_reads told)
+
+pub returns-clause-limit : goal.returns-clause-limit
+returns-clause-limit g c = λ first plan table rose device watched planned rests stands end full.
+    let t = c.args.self.now in
+    let old = g.F.Flash.state c.args.flash.now in
+    let mid = g.F.Flash.state c.mount.new.flash in
+    let new = g.F.Flash.state c.read_kept.new.flash in
+    let ensures = c.in_ok-ring.ensures in
+    let kept = c.in_ok-known.ensures in
+    let told = subst IsTrue (sym ensures.beside.goes.tells) watched.told in
+    kept-limit t first plan table rose device old mid new c.in_ok-ring.ring _ c.args.end watched planned rests stands end c.requires.lies
+    (g.met.F.Flash.reaches c.args.flash.now) (g.met.F.Flash.reaches c.mount.new.flash) (g.met.F.Flash.reaches c.read_kept.new.flash) ensures.beside.goes (ensures.beside.outside watched.told) ensures.shape ensures.ends kept.reads
+    full (ring-limit t first plan table old mid planned rests c.requires.lies (g.met.F.Flash.reaches c.args.flash.now) (λ s on. ensures.reads s watched.told on)) (kept.few_reads told)

@@ -12,9 +12,9 @@ use Rattle.fl_tables.specs.declared.tables.Entry.{Entry}
 use Rattle.fl_tables.proofs.InTurn.{turn-before, turn-more, turn-on, repairs-none, repairs-more, outside-none, outside-more}
 use Rattle.fl_tables.proofs.Going.{goes-same, goes-on, rose-front, rose-back}
 use Rattle.fl_tables.proofs.Lying.{lie-with, running-more}
-use Rattle.fl_tables.proofs.MountedSoFar.{mounted-none, mounted-more, mounted-err, mounted-all, own, was, stood}
+use Rattle.fl_tables.proofs.MountedSoFar.{mounted-none, mounted-more, mounted-err, mounted-all, own, was, was_at, stood}
 use Rattle.fl_tables.proofs.TableRepairs.{repaired-none, repaired-more}
-use Rattle.fl_tables.proofs.TablesReads.{reads-more, reads-most}
+use Rattle.fl_tables.proofs.TablesReads.{reads-more, reads-most, limit-more, limit-most}
 use Rattle.fl_tables.proofs.Stopping.{name-after, stops-at, fails-for}
 use Rattle.fl_tables.proofs.TablesChanged.{item-there, set-elsewhere}
 use Rattle.fl_tables.proofs.tables.Tables.mount.Goals as goal
@@ -33,7 +33,7 @@ loop-i-init g c = record {
   repairs = repairs-none c.args.self.now.entries.items (g.F.Flash.state c.args.flash.now);
   outside = λ told. outside-none c.args.self.now.entries.items (page_at (g.F.Flash.state c.args.flash.now));
   repaired = λ told plans tables stand. repaired-none plans (g.F.Flash.state c.args.flash.now);
-  so_far = λ plans tables rose device told on counts stand risen. mounted-none plans tables rose device c.args.self.now.entries.items (g.F.Flash.state c.args.flash.now) counts on stand;
+  so_far = λ plans tables rose device told on counts stand risen. (mounted-none plans tables rose device c.args.self.now.entries.items (g.F.Flash.state c.args.flash.now) counts on stand, omega arith);
 }
 
 pub mount-requires : goal.mount-requires
@@ -58,13 +58,34 @@ returns-in-Err-clause-ends g c = λ plans tables rose device watched stand.
     let here : slice_get c.loop-i.self.entries.items c.loop-i.i ≡ Some c.index_mut.result.now =
     item-there c.loop-i.self.entries.items (length c.loop-i.self.entries.items) c.loop-i.i c.index_mut.result.now refl (omega (arith, c.loop-i-test.true, c.len-i-end.ensures, c.args.self.now.entries.ok.0, c.loop-i.invariant.as_many)) c.index_mut.ensures.value in
     let told : IsTrue m.media.tells = subst IsTrue (sym i.goes.tells) watched.told in
-    let so_far = i.so_far plans tables rose device watched.told watched.on watched.counts stand (λ r. watched.risen (rose-front f.media.faults m.media.faults n.media.faults p.goes.faults r)) in
+    let so_far = (i.so_far plans tables rose device watched.told watched.on watched.counts stand (λ r. watched.risen (rose-front f.media.faults m.media.faults n.media.faults p.goes.faults r))).0 in
     let sees : IsWatched m n rose so_far.now = record { told = told; on = so_far.power; risen = λ r. watched.risen (rose-back f.media.faults m.media.faults n.media.faults i.goes.faults r); counts = so_far.counts } in
     let at = own plans tables rose device c.loop-i.i c.loop-i.self.entries.items c.index_mut.result.now c.mount.new.self m n so_far here p.goes p.same (p.outside told) in
     let before = was plans tables rose device c.loop-i.i c.loop-i.self.entries.items c.index_mut.result.now c.mount.new.self m n so_far here p.goes p.same (p.outside told) in
     let stands = stood plans tables rose device c.loop-i.i c.loop-i.self.entries.items c.index_mut.result.now c.mount.new.self m n so_far here p.goes p.same (p.outside told) in
     mounted-err plans tables rose device c.loop-i.i c.loop-i.self.entries.items c.index_mut.result.now c.mount.new.self m n so_far here p.goes p.same (p.outside told) c.in-Err.fault
     (c.in-Err.ensures.ends (first_of plans c.loop-i.i) at.plan before rose so_far.now sees stands.planned stands.on_flash)
+
+pub returns-in-Err-clause-limit : goal.returns-in-Err-clause-limit
+returns-in-Err-clause-limit g c = λ plans tables rose device watched stand.
+    let f = g.F.Flash.state c.args.flash.now in
+    let m = g.F.Flash.state c.loop-i.flash in
+    let n = g.F.Flash.state c.mount.new.flash in
+    let i = c.loop-i.invariant in
+    let p = c.mount.ensures in
+    let here : slice_get c.loop-i.self.entries.items c.loop-i.i ≡ Some c.index_mut.result.now =
+    item-there c.loop-i.self.entries.items (length c.loop-i.self.entries.items) c.loop-i.i c.index_mut.result.now refl (omega (arith, c.loop-i-test.true, c.len-i-end.ensures, c.args.self.now.entries.ok.0, c.loop-i.invariant.as_many)) c.index_mut.ensures.value in
+    let told : IsTrue m.media.tells = subst IsTrue (sym i.goes.tells) watched.told in
+    let first = i.so_far plans tables rose device watched.told watched.on watched.counts stand (λ r. watched.risen (rose-front f.media.faults m.media.faults n.media.faults p.goes.faults r)) in
+    let so_far = first.0 in
+    let sees : IsWatched m n rose so_far.now = record { told = told; on = so_far.power; risen = λ r. watched.risen (rose-back f.media.faults m.media.faults n.media.faults i.goes.faults r); counts = so_far.counts } in
+    let at = own plans tables rose device c.loop-i.i c.loop-i.self.entries.items c.index_mut.result.now c.mount.new.self m n so_far here p.goes p.same (p.outside told) in
+    let before = was plans tables rose device c.loop-i.i c.loop-i.self.entries.items c.index_mut.result.now c.mount.new.self m n so_far here p.goes p.same (p.outside told) in
+    let stands = stood plans tables rose device c.loop-i.i c.loop-i.self.entries.items c.index_mut.result.now c.mount.new.self m n so_far here p.goes p.same (p.outside told) in
+    let here_was = was_at plans tables rose device c.loop-i.i c.loop-i.self.entries.items c.index_mut.result.now c.mount.new.self m n so_far here p.goes p.same (p.outside told) in
+    limit-most plans tables (c.loop-i.i + 1) f n
+    (limit-more plans tables c.loop-i.i at.plan before c.index_mut.result.now.table (first_of plans c.loop-i.i) f m n at.plan_is here_was stands.planned first.1 (p.reads told)
+    (p.limit (first_of plans c.loop-i.i) at.plan before rose so_far.now sees stands.planned stands.on_flash))
 
 pub returns-in-Err-clause-stops : goal.returns-in-Err-clause-stops
 returns-in-Err-clause-stops g c =
@@ -139,13 +160,18 @@ loop-i-preserved g c =
           (c.in_default.ensures.found (subst IsTrue (sym i.goes.tells) told)) (i.repaired told plans tables stand);
       so_far = λ plans tables rose device told on counts stand risen.
           let told' : IsTrue m.media.tells = subst IsTrue (sym i.goes.tells) told in
-          let so_far = i.so_far plans tables rose device told on counts stand (λ r. risen (rose-front f.media.faults m.media.faults n.media.faults p.goes.faults r)) in
+          let first = i.so_far plans tables rose device told on counts stand (λ r. risen (rose-front f.media.faults m.media.faults n.media.faults p.goes.faults r)) in
+          let so_far = first.0 in
           let sees : IsWatched m n rose so_far.now = record { told = told'; on = so_far.power; risen = λ r. risen (rose-back f.media.faults m.media.faults n.media.faults i.goes.faults r); counts = so_far.counts } in
           let at = own plans tables rose device c.loop-i.i c.loop-i.self.entries.items c.index_mut.result.now c.mount.new.self m n so_far here p.goes p.same (p.outside told') in
           let before = was plans tables rose device c.loop-i.i c.loop-i.self.entries.items c.index_mut.result.now c.mount.new.self m n so_far here p.goes p.same (p.outside told') in
           let stands = stood plans tables rose device c.loop-i.i c.loop-i.self.entries.items c.index_mut.result.now c.mount.new.self m n so_far here p.goes p.same (p.outside told') in
-          mounted-more plans tables rose device c.loop-i.i c.loop-i.self.entries.items c.index_mut.result.now c.mount.new.self m n so_far here p.goes p.same (p.outside told') c.in_default.field-0
-          (c.in_default.ensures.ends (first_of plans c.loop-i.i) at.plan before rose so_far.now sees stands.planned stands.on_flash);
+          let here_was = was_at plans tables rose device c.loop-i.i c.loop-i.self.entries.items c.index_mut.result.now c.mount.new.self m n so_far here p.goes p.same (p.outside told') in (
+            mounted-more plans tables rose device c.loop-i.i c.loop-i.self.entries.items c.index_mut.result.now c.mount.new.self m n so_far here p.goes p.same (p.outside told') c.in_default.field-0
+                (c.in_default.ensures.ends (first_of plans c.loop-i.i) at.plan before rose so_far.now sees stands.planned stands.on_flash),
+            limit-more plans tables c.loop-i.i at.plan before c.index_mut.result.now.table (first_of plans c.loop-i.i) f m n at.plan_is here_was stands.planned first.1 (p.reads told')
+                (p.limit (first_of plans c.loop-i.i) at.plan before rose so_far.now sees stands.planned stands.on_flash),
+          );
     }
 
 pub returns-clause-running : goal.returns-clause-running
@@ -155,7 +181,11 @@ returns-clause-running g c = λ j entry e.
 pub returns-clause-ends : goal.returns-clause-ends
 returns-clause-ends g c = λ plans tables rose device watched stand.
     let all : c.loop-i.i ≡ length c.loop-i.self.entries.items = omega (arith, c.loop-i-test.false, c.loop-i.auto.i-end, c.len-i-end.ensures, c.args.self.now.entries.ok.0, c.loop-i.invariant.as_many) in
-    mounted-all plans tables rose device c.loop-i.i c.loop-i.self.entries.items (g.F.Flash.state c.loop-i.flash) all (c.loop-i.invariant.so_far plans tables rose device watched.told watched.on watched.counts stand watched.risen)
+    mounted-all plans tables rose device c.loop-i.i c.loop-i.self.entries.items (g.F.Flash.state c.loop-i.flash) all (c.loop-i.invariant.so_far plans tables rose device watched.told watched.on watched.counts stand watched.risen).0
+
+pub returns-clause-limit : goal.returns-clause-limit
+returns-clause-limit g c = λ plans tables rose device watched stand.
+    limit-most plans tables c.loop-i.i (g.F.Flash.state c.args.flash.now) (g.F.Flash.state c.loop-i.flash) (c.loop-i.invariant.so_far plans tables rose device watched.told watched.on watched.counts stand watched.risen).1
 
 pub returns-clause-found : goal.returns-clause-found
 returns-clause-found g c = λ told.

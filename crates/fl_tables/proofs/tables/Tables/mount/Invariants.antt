@@ -2,6 +2,7 @@ use Rattle.std.proofs.Common.{◌≡◌, ℕ, Bool, false, true, IsTrue, ◌+◌
 use Rattle.std.specs.List.{slice_get}
 use Rattle.fl_base.specs.Causes.{Rose}
 use Rattle.fl_flash.specs.Flash.{Goes, page_at}
+use Rattle.fl_machine.specs.Reads.{mounts_limit}
 use Rattle.fl_model.specs.Record.{Plan}
 use Rattle.fl_model.specs.Table as model
 use Rattle.fl_model.specs.Work.{Device}
@@ -32,5 +33,6 @@ invariant-loop-i g l = record {
       RepairsFirst plans l.i (g.F.Flash.state l.fn.flash) (g.F.Flash.state l.flash);
   so_far : (plans : List Plan) (tables : List model.Table) (rose : Bool) (device : Device) → IsTrue (g.F.Flash.state l.fn.flash).media.tells → (g.F.Flash.state l.fn.flash).is_on ≡ true → SameDevice (g.F.Flash.state l.fn.flash) device →
       TablesStand (g.F.Flash.state l.fn.flash) (λ i. false) plans l.fn.self.entries.items tables → (Rose (g.F.Flash.state l.fn.flash).media.faults (g.F.Flash.state l.flash).media.faults → IsTrue rose) →
-      MountedSoFar plans tables rose device l.i l.self.entries.items (g.F.Flash.state l.flash);
+      MountedSoFar plans tables rose device l.i l.self.entries.items (g.F.Flash.state l.flash)
+      × ((g.F.Flash.state l.flash).work.reads ≤ (g.F.Flash.state l.fn.flash).work.reads + mounts_limit (take l.i plans) tables);
 }

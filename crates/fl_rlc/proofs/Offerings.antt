@@ -1,0 +1,35 @@
+-- Records that are offered to a table, one after another.
+use Rattle.std.proofs.Common.{◌≡◌, ℕ, suc, ◌+◌, ◌<◌, ◌≤◌, ◌⊎◌, inl, inr, zero, None, IsSomeAnd, List, [], ◌∷◌, drop, subst, arith}
+use Rattle.std.specs.List.{slice_get}
+use Rattle.std.proofs.Math.IntN.{ℤ}
+use Rattle.std.proofs.lemmas.Bool.{cases_lt}
+use Rattle.fl_model.specs.Row.{Row}
+use Rattle.fl_table.specs.declared.table.Table.{Table}
+use Rattle.fl_rlc.specs.Offering.{IsOffered, AreOffered}
+
+-- a record is offered by its key and its values
+by-key : {KNOTS SLOTS : ℕ} (t u : Table KNOTS SLOTS) (key : ℕ) (values : List ℤ) (row : Row) → (key ≡ row.key) × (values ≡ row.values) → IsOffered t (record { key = key; values = values; blob = None }) u → IsOffered t row u
+by-key t u key values row same h =
+    let k = subst (λ (n : ℕ). IsOffered t (record { key = n; values = values; blob = None }) u) same.0 h in
+    let o = subst (λ (vs : List ℤ). IsOffered t (record { key = row.key; values = vs; blob = None }) u) same.1 k in
+    record { refused = o.refused; last = o.last; pending = o.pending; rows = o.rows }
+
+-- the next of a list
+offered-first : {KNOTS SLOTS : ℕ} (i : ℕ) (rows : List Row) (t u after : Table KNOTS SLOTS) (key : ℕ) (values : List ℤ) → IsSomeAnd (slice_get rows i) (λ row. (key ≡ row.key) × (values ≡ row.values)) →
+    IsOffered t (record { key = key; values = values; blob = None }) u → AreOffered u (drop (suc i) rows) after → AreOffered t (drop i rows) after
+offered-first i [] t u after key values is h more = absurd is
+offered-first zero (row ∷ rows) t u after key values is h more = (u, (by-key t u key values row is h, more))
+offered-first (suc i) (row ∷ rows) t u after key values is h more = offered-first i rows t u after key values is h more
+
+pub offered-next : {KNOTS SLOTS : ℕ} (i : ℕ) (rows : List Row) (t u after : Table KNOTS SLOTS) (key : ℕ) (values : List ℤ) → IsSomeAnd (slice_get rows i) (λ row. (key ≡ row.key) × (values ≡ row.values)) →
+    IsOffered t (record { key = key; values = values; blob = None }) u → AreOffered u (drop (i + 1) rows) after → AreOffered t (drop i rows) after
+offered-next i rows t u after key values is h more =
+    offered-first i rows t u after key values is h (subst (λ (n : ℕ). AreOffered u (drop n rows) after) (let k : i + 1 ≡ suc i = omega arith in k) more)
+
+-- a call that would have done nothing where there are none has some
+pub some-there : (n : ℕ) → (n ≡ 0 → ⊥) → 1 ≤ n
+some-there n none = by-case (cases_lt 0 n)
+  where
+    by-case : (0 < n) ⊎ (n ≤ 0) → 1 ≤ n
+    by-case (inl some) = omega (arith, some)
+    by-case (inr few) = absurd (none (omega (arith, few)))

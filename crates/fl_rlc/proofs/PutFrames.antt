@@ -1,0 +1,168 @@
+-- What a put of a table with a log leaves as it was.
+use Rattle.std.proofs.Common.{◌≡◌, ℕ, ◌+◌, ◌*◌, ◌^◌, ◌<◌, ◌≤◌, Bool, true, false, ◌&&◌, is_some, Option, Some, None, Err, List, refl, sym, ◌∙◌, ap, subst, arith}
+use Rattle.std.proofs.Math.IntN.{ℤ}
+use Rattle.std.specs.Prelude.{IfSome}
+use Rattle.std.specs.Option.{ForSome}
+use Rattle.fl_flash.specs.Flash.{FlashState, Goes}
+use Rattle.fl_model.specs.Record.{RowLayout, layout_len}
+use Rattle.fl_base.specs.declared.types.RingPlace.{RingPlace}
+use Rattle.fl_ring.specs.Place as place
+use Rattle.fl_ring.specs.declared.ring.Ring.{Ring}
+use Rattle.fl_table.specs.BlobAt.{has_blobs}
+use Rattle.fl_table.specs.Blobs as variable
+use Rattle.fl_table.specs.Causes.{put_breaks}
+use Rattle.fl_table.specs.Look.{layout_in}
+use Rattle.fl_table.specs.Memory as table_words
+use Rattle.fl_table.specs.Bitmaps.{IsOutside}
+use Rattle.fl_table.specs.Refusal.{or_else, refused_if, RefusesAs, put_refusal as table_refusal}
+use Rattle.fl_table.specs.declared.faults.PutRefusal.{PutRefusal}
+use Rattle.fl_table.specs.declared.faults.PutRefusal.TheVariants as put
+use Rattle.fl_table.specs.declared.table.Table as code
+use Rattle.fl_table.proofs.Refusals.{refusal-calm}
+use Rattle.fl_var.specs.declared.var_data.VarData.{VarData}
+use Rattle.fl_rlc.specs.Memory.{is_mounted, page_len, log_shape, LiesOn}
+use Rattle.fl_rlc.specs.Refusal.{log_refused, put_refusal, RefusedSame}
+use Rattle.fl_rlc.specs.Rows.{StandOutside, AreBegun}
+use Rattle.fl_rlc.specs.Table.{AreSameLog}
+use Rattle.fl_rlc.specs.declared.log.RecordLog.{RecordLog}
+use Rattle.fl_rlc.specs.declared.table.LoggedTable.{LoggedTable}
+
+pub log-self : (o : Option RecordLog) → AreSameLog o o
+log-self None = tt
+log-self (Some l) = record { geometry = refl; place = refl }
+
+-- a log lies on a flash after a call of another
+pub log-moved : (l : RecordLog) (f g : FlashState) → Goes f g → LiesOn l f → LiesOn l g
+log-moved l f g goes h = record {
+  geometry = goes.geometry ∙ h.geometry;
+  within = omega (arith, h.within, goes.blocks);
+  few = subst (λ k. k < 2 ^ 32) (sym (ap (λ k. k * g.geometry.block) goes.blocks ∙ ap (λ x. f.blocks * x.block) goes.geometry)) h.few;
+  ring = λ ring is.
+      let r = h.ring ring is in
+      record { page = ap (λ x. x.page) goes.geometry ∙ r.page; block = ap (λ x. x.block) goes.geometry ∙ r.block; within = omega (arith, r.within, goes.blocks) };
+}
+
+pub log-lies : (o : Option RecordLog) (f g : FlashState) → Goes f g → ForSome o (λ l. LiesOn l f) → ForSome o (λ l. LiesOn l g)
+log-lies o f g goes lies = λ l is. log-moved l f g goes (lies l is)
+
+pub blobs-same : {KNOTS SLOTS : ℕ} (t u : code.Table KNOTS SLOTS) → table_words.IsSamePlan t u → has_blobs u ≡ has_blobs t
+blobs-same t u same = by-blobs t.blobs u.blobs same.blobs
+  where
+    by-blobs : (a b : Option VarData) → variable.AreSamePlan a b → is_some b ≡ is_some a
+    by-blobs None None h = refl
+    by-blobs None (Some w) h = absurd h
+    by-blobs (Some v) None h = absurd h
+    by-blobs (Some v) (Some w) h = refl
+
+-- a row has room in the log's page as before
+pub room-same : {KNOTS SLOTS : ℕ} (t u : code.Table KNOTS SLOTS) (a b : Option RecordLog) → table_words.IsSamePlan t u → AreSameLog a b → ForSome a (λ l. layout_len (layout_in t) + 24 ≤ page_len l) → ForSome b (λ l. layout_len (layout_in u) + 24 ≤ page_len l)
+room-same t u None None same logs h = λ l is. absurd (none l is)
+  where
+    none : (l : RecordLog) → None ≡ Some l → ⊥
+    none l e = cc
+room-same t u None (Some w) same logs h = absurd logs
+room-same t u (Some v) None same logs h = absurd logs
+room-same t u (Some v) (Some w) same logs h = λ l is.
+    subst (λ (x : RecordLog). layout_len (layout_in u) + 24 ≤ page_len x) (one is)
+    (subst (λ (r : RowLayout). layout_len r + 24 ≤ page_len w) (sym same.layout) (let k = h v refl in omega (arith, k, ap (λ g. g.page) logs.geometry)))
+  where
+    one : {x y : RecordLog} → Some x ≡ Some y → x ≡ y
+    one e = cc
+
+-- no refusal is a fault of the flash
+pub logged-calm : {KNOTS SLOTS : ℕ} (t : LoggedTable KNOTS SLOTS) (key : ℕ) (values : List ℤ) (blob : Option ℕ) (refusal : PutRefusal) → put_refusal t key values blob ≡ Some refusal → put_breaks (Err refusal) ≡ false
+logged-calm t key values blob refusal e = by-first (table_refusal t.table key values blob) refl e
+  where
+    some-is : {x y : PutRefusal} → Some x ≡ Some y → x ≡ y
+    some-is k = cc
+
+    spent : (b : Bool) → refused_if b put.Spent ≡ Some refusal → put_breaks (Err refusal) ≡ false
+    spent true k = subst (λ (r : PutRefusal). put_breaks (Err r) ≡ false) (some-is k) refl
+    spent false k = cc
+
+    by-log : (o : Option RecordLog) → log_refused o ≡ Some refusal → put_breaks (Err refusal) ≡ false
+    by-log None k = cc
+    by-log (Some l) k = spent _ k
+
+    by-first : (o : Option PutRefusal) → table_refusal t.table key values blob ≡ o → or_else o (log_refused t.log) ≡ Some refusal → put_breaks (Err refusal) ≡ false
+    by-first None is k = by-log t.log k
+    by-first (Some r) is k = refusal-calm t.table key values blob refusal (is ∙ k)
+
+pub refused-same : {KNOTS SLOTS : ℕ} (t : LoggedTable KNOTS SLOTS) (f : FlashState) (refusal : PutRefusal) → RefusedSame t f refusal t f
+refused-same t f (put.Flash fault) = tt
+refused-same t f (put.Key last) = (refl, refl)
+refused-same t f (put.Columns wanted) = (refl, refl)
+refused-same t f (put.Value column) = (refl, refl)
+refused-same t f (put.Blob limit) = (refl, refl)
+refused-same t f put.Spent = (refl, refl)
+refused-same t f put.Stopped = (refl, refl)
+
+-- an answer that isn't a refusal is a fault of the flash
+pub flash-alone : {KNOTS SLOTS : ℕ} (t u : LoggedTable KNOTS SLOTS) (f g : FlashState) (e : PutRefusal) → RefusesAs None (Err e) → RefusedSame t f e u g
+flash-alone t u f g (put.Flash fault) h = tt
+flash-alone t u f g (put.Key last) h = absurd h
+flash-alone t u f g (put.Columns wanted) h = absurd h
+flash-alone t u f g (put.Value column) h = absurd h
+flash-alone t u f g (put.Blob limit) h = absurd h
+flash-alone t u f g put.Spent h = absurd h
+flash-alone t u f g put.Stopped h = absurd h
+
+-- a page outside the log's ring stands
+pub log-outside : (o : Option RecordLog) (old new : ℕ → List ℕ) (page : ℕ) → StandOutside o old new → IfSome o (λ l. IsOutside (log_shape l) page) → new page ≡ old page
+log-outside None old new page h out = h page
+log-outside (Some l) old new page h out = h page out
+
+-- there is a log as before
+pub some-same : (a b : Option RecordLog) → AreSameLog a b → is_some b ≡ true → is_some a ≡ true
+some-same None None same h = h
+some-same None (Some w) same h = absurd same
+some-same (Some v) None same h = absurd same
+some-same (Some v) (Some w) same h = refl
+
+pub and-left : (a b : Bool) → (a && b) ≡ true → a ≡ true
+and-left true b e = refl
+and-left false b e = cc
+
+pub and-false : (b : Bool) → (b && false) ≡ false
+and-false true = refl
+and-false false = refl
+
+pub not-both : (b : Bool) → b ≡ true → b ≡ false → ⊥
+not-both true e k = cc
+not-both false e k = cc
+
+-- a log whose next page has begun anew
+pub begun-same : (a b : Option RecordLog) → AreBegun a b → AreSameLog a b
+begun-same None b h = subst (λ (o : Option RecordLog). AreSameLog None o) (sym h) tt
+begun-same (Some v) None h = absurd h
+begun-same (Some v) (Some w) h = h.same
+
+pub begun-lies : (a b : Option RecordLog) (f : FlashState) → AreBegun a b → ForSome a (λ l. LiesOn l f) → ForSome b (λ l. LiesOn l f)
+begun-lies None b f h lies = λ l is. absurd (none l (sym h ∙ is))
+  where
+    none : (l : RecordLog) → None ≡ Some l → ⊥
+    none l e = cc
+begun-lies (Some v) None f h lies = absurd h
+begun-lies (Some v) (Some w) f h lies = λ l is. subst (λ (x : RecordLog). LiesOn x f) (one is) (moved (lies v refl))
+  where
+    one : {x y : RecordLog} → Some x ≡ Some y → x ≡ y
+    one e = cc
+
+    moved : LiesOn v f → LiesOn w f
+    moved k = record {
+      geometry = k.geometry ∙ sym h.same.geometry;
+      within = subst (λ (p : RingPlace). p.first_block + p.blocks ≤ f.blocks) (sym h.same.place) k.within;
+      few = k.few;
+      ring = subst (λ (o : Option Ring). ForSome o (λ r. place.LiesOn r f)) (sym h.ring) k.ring;
+    }
+
+pub begun-mounted : (a b : Option RecordLog) (B : Type 0) → AreBegun a b → ForSome a (λ l. B → is_mounted l ≡ true) → ForSome b (λ l. B → is_mounted l ≡ true)
+begun-mounted None b B h k = λ l is. absurd (none l (sym h ∙ is))
+  where
+    none : (l : RecordLog) → None ≡ Some l → ⊥
+    none l e = cc
+begun-mounted (Some v) None B h k = absurd h
+begun-mounted (Some v) (Some w) B h k = λ l is up. subst (λ (x : RecordLog). is_mounted x ≡ true) (one is) (ap (λ (o : Option Ring). is_some o) h.ring ∙ k v refl up)
+  where
+    one : {x y : RecordLog} → Some x ≡ Some y → x ≡ y
+    one e = cc

@@ -1,0 +1,45 @@
+use Rattle.std.proofs.Common.{◌≡◌, ◌+◌, ◌≤◌, Bool, true, not, ◌&&◌, ◌||◌, None, List, Result, sym, ◌∙◌, ap, subst, arith}
+use Rattle.std.proofs.Math.IntN.{ℤ}
+use Rattle.std.specs.Prelude.{OnOk}
+use Rattle.fl_table.specs.Memory.{is_running, is_stopped, pending_in, HasRoom}
+use Rattle.fl_table.specs.declared.faults.PutRefusal.{PutRefusal}
+use Rattle.fl_table.specs.declared.table.Table.{Table}
+use Rattle.fl_rlc.specs.Offering.{IsOffered}
+use Rattle.fl_rlc.proofs.Taking.{Ends, Done, Refused, ends, calm, still, offers, takes}
+use Rattle.fl_rlc.proofs.join.take_record.Goals as goal
+
+pub returns-clause-still : goal.returns-clause-still
+returns-clause-still g c =
+    still c.args.table.now c.put-refused.new.self (g.F.Flash.state c.args.flash.now) (g.F.Flash.state c.put-refused.new.flash) c.args.item.now.key c.as_slice.result.now c.put-refused.result c.requires.no_blobs c.requires.room c.put-refused.ensures.exact c.put-refused.ensures.refused c.put-refused.ensures.quiet
+
+pub returns-clause-running : goal.returns-clause-running
+returns-clause-running g c =
+    let calm_is = calm c.args.table.now c.put-refused.new.self (g.F.Flash.state c.args.flash.now) (g.F.Flash.state c.put-refused.new.flash) c.args.item.now.key c.as_slice.result.now c.put-refused.result c.requires.no_blobs c.requires.room c.put-refused.ensures.exact c.put-refused.ensures.refused c.put-refused.ensures.quiet in
+    c.put-refused.ensures.running ∙ (ap (λ (b : Bool). is_running c.args.table.now && not b) calm_is ∙ ap (λ (b : Bool). b && true) c.requires.running)
+
+pub returns-clause-calm : goal.returns-clause-calm
+returns-clause-calm g c =
+    let calm_is = calm c.args.table.now c.put-refused.new.self (g.F.Flash.state c.args.flash.now) (g.F.Flash.state c.put-refused.new.flash) c.args.item.now.key c.as_slice.result.now c.put-refused.result c.requires.no_blobs c.requires.room c.put-refused.ensures.exact c.put-refused.ensures.refused c.put-refused.ensures.quiet in
+    c.put-refused.ensures.stopped ∙ ap (λ (b : Bool). b || is_stopped c.args.table.now) calm_is
+
+pub returns-clause-pending : goal.returns-clause-pending
+returns-clause-pending g c = by-end
+    (ends c.args.table.now c.put-refused.new.self (g.F.Flash.state c.args.flash.now) (g.F.Flash.state c.put-refused.new.flash) c.args.item.now.key c.as_slice.result.now c.put-refused.result c.requires.no_blobs c.requires.room c.put-refused.ensures.exact c.put-refused.ensures.refused c.put-refused.ensures.quiet)
+  where
+    by-end : Ends c.args.table.now c.put-refused.new.self (g.F.Flash.state c.args.flash.now) (g.F.Flash.state c.put-refused.new.flash) c.args.item.now.key c.as_slice.result.now c.put-refused.result c.requires.no_blobs c.requires.room c.put-refused.ensures.exact c.put-refused.ensures.refused c.put-refused.ensures.quiet →
+        pending_in c.put-refused.new.self ≤ pending_in c.args.table.now + 1
+    by-end (Done is same) =
+        let one = subst (λ (x : Result (Unit {0}) PutRefusal). OnOk x (HasRoom c.args.table.now → pending_in c.put-refused.new.self ≡ pending_in c.args.table.now + 1)) is c.put-refused.ensures.pending c.requires.room in
+        omega (arith, one)
+    by-end (Refused e is kept u_is same) = let k = ap (λ (x : Table g.row.KNOTS g.row.SLOTS). pending_in x) u_is in omega (arith, k)
+
+pub returns-clause-offers : goal.returns-clause-offers
+returns-clause-offers g c =
+    subst (λ (vs : List ℤ). IsOffered c.args.table.now (record { key = c.args.item.now.key; values = vs; blob = None }) c.put-refused.new.self) c.as_slice.ensures.value
+    (offers c.args.table.now c.put-refused.new.self (g.F.Flash.state c.args.flash.now) (g.F.Flash.state c.put-refused.new.flash) c.args.item.now.key c.as_slice.result.now c.put-refused.result c.requires.no_blobs c.requires.room c.put-refused.ensures.exact c.put-refused.ensures.refused c.put-refused.ensures.quiet
+    c.put-refused.ensures.last c.put-refused.ensures.pending c.put-refused.ensures.rows)
+
+pub returns-clause-takes : goal.returns-clause-takes
+returns-clause-takes g c = λ first plan b rose device entry watched s fits key_is values_is.
+    takes c.args.table.now c.put-refused.new.self (g.F.Flash.state c.args.flash.now) (g.F.Flash.state c.put-refused.new.flash) c.args.item.now.key c.as_slice.result.now c.put-refused.result c.requires.no_blobs c.requires.room c.put-refused.ensures.exact c.put-refused.ensures.refused c.put-refused.ensures.quiet
+    first plan b rose device entry s fits key_is (values_is ∙ sym c.as_slice.ensures.value) (c.put-refused.ensures.ends first plan b rose device watched s)

@@ -1,0 +1,360 @@
+use Rattle.std.proofs.Common.{ℕ, ◌+◌, Some, None, inl, inr, IsTrue, refl, sym, ◌∙◌, ap, subst, arith}
+use Rattle.std.proofs.lemmas.Result.{err_from_is_err_and}
+use Rattle.std.specs.Prelude.{Option, List}
+use Rattle.fl_flash.specs.Flash.{page_at}
+use Rattle.fl_model.specs.Bare.{bare, bare_table}
+use Rattle.fl_model.specs.Mount.{ready, joined}
+use Rattle.fl_model.specs.Record.{blocks_of}
+use Rattle.fl_ring.specs.declared.newest.NewestPage.{NewestPage}
+use Rattle.fl_ring.proofs.Founds.{same_pages}
+use Rattle.fl_ring.proofs.Readings.{goes_more}
+use Rattle.fl_table.specs.Causes.{IfPage}
+use Rattle.fl_table.specs.Look.{layout_in}
+use Rattle.fl_table.proofs.Following.{watched-front, watched-then, cause-later}
+use Rattle.fl_table.proofs.MountCalls.{pages-cause}
+use Rattle.fl_table.proofs.Outsides.{outside-same}
+use Rattle.fl_table.proofs.SealAnswers.{plan-self, same-then}
+use Rattle.fl_table.proofs.Sizes.{table-fits}
+use Rattle.fl_table.proofs.StillStands.{lies-moved}
+use Rattle.fl_rlc.specs.Memory.{page_in}
+use Rattle.fl_rlc.specs.Repairing.{Finds}
+use Rattle.fl_rlc.specs.Finding.{OffersNewest}
+use Rattle.fl_rlc.specs.Replaying.{IsBad}
+use Rattle.fl_rlc.proofs.JoinedRow.{same-pages}
+use Rattle.fl_rlc.proofs.LogReads.{log-reads, few-rings, found-none, found-some}
+use Rattle.fl_rlc.proofs.NewestRead.{if-told, device-reads}
+use Rattle.fl_rlc.proofs.PutFrames.{log-moved}
+use Rattle.fl_rlc.proofs.Replays.{begun-stands, begun-none, begun-ring, log-fault, none-well, page-fault, seal-well, seal-badly}
+use Rattle.fl_rlc.proofs.Sealings.{pages-size}
+use Rattle.fl_rlc.proofs.replay.replay.Goals as goal
+
+-- ---- the ring is refused
+
+pub returns-in_err-newest-clause-table_lies : goal.returns-in_err-newest-clause-table_lies
+returns-in_err-newest-clause-table_lies g c = lies-moved c.args.table.now (g.F.Flash.state c.args.flash.now) (g.F.Flash.state c.mount.new.flash) c.in_err-newest.ensures.beside.goes c.requires.table_lies
+
+pub returns-in_err-newest-clause-ends : goal.returns-in_err-newest-clause-ends
+returns-in_err-newest-clause-ends g c = λ first plan table rose device watched s none rests.
+    let p = err_from_is_err_and c.from_residual.result c.from_residual.ensures.1 in
+    rw (p.1, p.2) (log-fault c.args.table.now c.args.log.now (g.F.Flash.state c.args.flash.now) first plan table rose device s none rests.planned c.in_err-newest.field-0.0 c.mount.new.self c.mount.new.self c.args.table.now (g.F.Flash.state c.mount.new.flash)
+    (c.in_err-newest.ensures.beside.outside watched.told) (c.in_err-newest.ensures.ends (first + blocks_of (bare plan)) plan table rose device watched rests))
+
+pub returns-in_err-newest-clause-outside : goal.returns-in_err-newest-clause-outside
+returns-in_err-newest-clause-outside g c = λ told page rows index var log. c.in_err-newest.ensures.beside.outside told page log
+
+pub returns-in_err-newest-clause-reads : goal.returns-in_err-newest-clause-reads
+returns-in_err-newest-clause-reads g c =
+    let all = log-reads c.args.log.now in
+    let block = ap (λ x. x.block) c.requires.lies.geometry in
+    record { reads = omega (arith, c.in_err-newest.ensures.beside.few_reads, all, block); media_reads = omega (arith, c.in_err-newest.ensures.beside.media_reads, all, block) }
+
+-- ---- it keeps no page with records
+
+pub returns-in_default-clause-table_same : goal.returns-in_default-clause-table_same
+returns-in_default-clause-table_same g c = plan-self c.args.table.now
+
+pub returns-in_default-clause-table_lies : goal.returns-in_default-clause-table_lies
+returns-in_default-clause-table_lies g c = lies-moved c.args.table.now (g.F.Flash.state c.args.flash.now) (g.F.Flash.state c.mount.new.flash) c.in_ok-newest.ensures.beside.goes c.requires.table_lies
+
+pub returns-in_default-clause-ends : goal.returns-in_default-clause-ends
+returns-in_default-clause-ends g c = λ first plan table rose device watched s none rests.
+    let l = c.args.log.now in
+    let l1 = c.mount.new.self in
+    let old = g.F.Flash.state c.args.flash.now in
+    let f1 = g.F.Flash.state c.mount.new.flash in
+    let k = c.in_ok-newest.ensures in
+    let m = k.ends (first + blocks_of (bare plan)) plan table rose device watched rests in
+    let sizes = pages-size l1 f1 (g.met.F.Flash.reaches c.mount.new.flash) k.lies.geometry k.lies.within in
+    let empty = found-none l l1 old f1 (first + blocks_of (bare plan)) plan m.now.state k.same m.ring sizes watched.told c.in_ok-newest.field-0 k.found c.in_default.is in
+    none-well c.args.table.now l old first plan table rose device s none rests.planned l1 k.same f1 (k.beside.outside watched.told) m empty
+
+pub returns-in_default-clause-table_none : goal.returns-in_default-clause-table_none
+returns-in_default-clause-table_none g c = c.requires.none
+
+pub returns-in_default-clause-found : goal.returns-in_default-clause-found
+returns-in_default-clause-found g c = λ told.
+    let l = c.args.log.now in
+    let l1 = c.mount.new.self in
+    let f1 = g.F.Flash.state c.mount.new.flash in
+    record {
+      newest = None;
+      repaired = f1;
+      finds = subst (λ (o : Option NewestPage). Finds l (g.F.Flash.state c.args.flash.now) o l1 f1) c.in_default.is c.in_ok-newest.ensures.found;
+      replays = (refl, refl);
+    }
+
+pub returns-in_default-clause-outside : goal.returns-in_default-clause-outside
+returns-in_default-clause-outside g c = λ told page rows index var log. c.in_ok-newest.ensures.beside.outside told page log
+
+pub returns-in_default-clause-reads : goal.returns-in_default-clause-reads
+returns-in_default-clause-reads g c =
+    let all = log-reads c.args.log.now in
+    let block = ap (λ x. x.block) c.requires.lies.geometry in
+    record { reads = omega (arith, c.in_ok-newest.ensures.beside.few_reads, all, block); media_reads = omega (arith, c.in_ok-newest.ensures.beside.media_reads, all, block) }
+
+-- ---- its newest page
+
+pub join_newest-joined-requires : goal.join_newest-joined-requires
+join_newest-joined-requires g c =
+    let goes = c.in_ok-newest.ensures.beside.goes in (
+      table-fits g.row.KNOTS g.row.SLOTS c.args.table.now.few_knots c.args.table.now.few_slots,
+      (
+        c.in_ok-newest.ensures.mounted,
+        (
+          c.requires.running,
+          (
+            c.requires.none,
+            (
+              c.requires.no_blobs,
+              (
+                c.in_ok-newest.ensures.lies,
+                (
+                  lies-moved c.args.table.now (g.F.Flash.state c.args.flash.now) (g.F.Flash.state c.mount.new.flash) c.in_ok-newest.ensures.beside.goes c.requires.table_lies,
+                  c.in_ok-newest.ensures.room ∙ (c.requires.room ∙ sym (ap (λ x. x.page) goes.geometry)),
+                ),
+              ),
+            ),
+          ),
+        ),
+      ),
+    )
+
+-- ---- its newest page is refused
+
+pub returns-in_err-joined-clause-goes : goal.returns-in_err-joined-clause-goes
+returns-in_err-joined-clause-goes g c =
+    goes_more (g.F.Flash.state c.args.flash.now) (g.F.Flash.state c.mount.new.flash) (g.F.Flash.state c.join_newest-joined.new.flash) c.in_ok-newest.ensures.beside.goes c.in_err-joined.ensures.reads.goes
+
+pub returns-in_err-joined-clause-lies : goal.returns-in_err-joined-clause-lies
+returns-in_err-joined-clause-lies g c = log-moved c.mount.new.self (g.F.Flash.state c.mount.new.flash) (g.F.Flash.state c.join_newest-joined.new.flash) c.in_err-joined.ensures.reads.goes c.in_ok-newest.ensures.lies
+
+pub returns-in_err-joined-clause-ends : goal.returns-in_err-joined-clause-ends
+returns-in_err-joined-clause-ends g c = λ first plan table rose device watched s none rests.
+    let t = c.args.table.now in
+    let l = c.args.log.now in
+    let l1 = c.mount.new.self in
+    let old = g.F.Flash.state c.args.flash.now in
+    let f1 = g.F.Flash.state c.mount.new.flash in
+    let f2 = g.F.Flash.state c.join_newest-joined.new.flash in
+    let k = c.in_ok-newest.ensures in
+    let reads = c.in_err-joined.ensures.reads in
+    let m = k.ends (first + blocks_of (bare plan)) plan table rose device (watched-front old f1 f2 rose device watched reads.goes) rests in
+    let outside = k.beside.outside watched.told in
+    let sizes = pages-size l1 f1 (g.met.F.Flash.reaches c.mount.new.flash) k.lies.geometry k.lies.within in
+    let ring = begun-ring t l old first plan table rose device s none rests.planned l1 k.same f1 outside m in
+    let newest = found-some l l1 old f1 (first + blocks_of (bare plan)) plan (ready plan m.now.state) k.same ring sizes watched.told c.in_ok-newest.field-0 k.found c.in-Some.newest c.in-Some.is in
+    let joins = c.in_err-joined.ensures.joins first plan (ready plan m.now.state) rose m.now.device (watched-then old f1 f2 rose device m.now.device watched k.beside.goes m.power m.counts)
+    (begun-stands t l old first plan table rose device s none rests.planned l1 k.same f1 outside m) (begun-none t l old first plan table rose device s none rests.planned l1 k.same f1 outside m) newest in
+    let p = err_from_is_err_and c.from_residual-in_err-joined.result c.from_residual-in_err-joined.ensures.1 in
+    rw (p.1, p.2) (page-fault t l old first plan table rose device s none rests.planned l1 k.same f1 outside m c.in_err-joined.field-0.0 l1 c.join_newest-joined.new.table c.join_newest-joined.new.table f2 (same_pages f1 f2 1 reads) (device-reads f1 f2 1 m.now.device reads m.counts) joins)
+
+pub returns-in_err-joined-clause-refused : goal.returns-in_err-joined-clause-refused
+returns-in_err-joined-clause-refused g c =
+    let p = err_from_is_err_and c.from_residual-in_err-joined.result c.from_residual-in_err-joined.ensures.1 in
+    rw (p.1, p.2) (λ told.
+    let l = c.args.log.now in
+    let l1 = c.mount.new.self in
+    let f1 = g.F.Flash.state c.mount.new.flash in
+    let old = g.F.Flash.state c.args.flash.now in
+    let here = subst IsTrue (sym c.in_ok-newest.ensures.beside.goes.tells) told in
+    inr (inl (record {
+      newest = c.in-Some.newest;
+      repaired = f1;
+      found = record { log = l1; finds = subst (λ (o : Option NewestPage). Finds l old o l1 f1) c.in-Some.is c.in_ok-newest.ensures.found };
+      reads = c.in_err-joined.ensures.reads;
+      only = c.in_err-joined.ensures.only;
+      bad = subst (λ (at : ℕ → List ℕ). IfPage (λ e. IsBad (layout_in c.args.table.now) c.in-Some.newest.number (at c.in-Some.newest.number) e) c.in_err-joined.field-0.0) (same-pages l l1 f1 c.in_ok-newest.ensures.same)
+          (if-told (IsTrue f1.media.tells) (λ e. IsBad (layout_in c.args.table.now) c.in-Some.newest.number (page_in l1 f1 c.in-Some.newest.number) e) c.in_err-joined.field-0.0 here c.in_err-joined.ensures.bad);
+      fails = c.in_err-joined.ensures.fails;
+    })))
+
+pub returns-in_err-joined-clause-outside : goal.returns-in_err-joined-clause-outside
+returns-in_err-joined-clause-outside g c = λ told page rows index var log.
+    ap (λ (at : ℕ → List ℕ). at page) (same_pages (g.F.Flash.state c.mount.new.flash) (g.F.Flash.state c.join_newest-joined.new.flash) 1 c.in_err-joined.ensures.reads) ∙ c.in_ok-newest.ensures.beside.outside told page log
+
+pub returns-in_err-joined-clause-reads : goal.returns-in_err-joined-clause-reads
+returns-in_err-joined-clause-reads g c =
+    let all = log-reads c.args.log.now in
+    let block = ap (λ x. x.block) c.requires.lies.geometry in
+    record {
+      reads = omega (arith, c.in_ok-newest.ensures.beside.few_reads, c.in_err-joined.ensures.reads.reads, all, block);
+      media_reads = omega (arith, c.in_ok-newest.ensures.beside.media_reads, c.in_err-joined.ensures.reads.media_reads, all, block);
+    }
+
+pub returns-in_err-joined-clause-cause : goal.returns-in_err-joined-clause-cause
+returns-in_err-joined-clause-cause g c =
+    let p = err_from_is_err_and c.from_residual-in_err-joined.result c.from_residual-in_err-joined.ensures.1 in
+    rw (p.1, p.2) (pages-cause (g.F.Flash.state c.args.flash.now) (g.F.Flash.state c.mount.new.flash) (g.F.Flash.state c.join_newest-joined.new.flash) c.in_ok-newest.ensures.beside.goes c.in_ok-newest.ensures.power c.in_err-joined.field-0.0
+    c.in_err-joined.ensures.only c.in_err-joined.ensures.fails)
+
+-- ---- the seal fails
+
+pub returns-in_err-seal_rows-clause-goes : goal.returns-in_err-seal_rows-clause-goes
+returns-in_err-seal_rows-clause-goes g c =
+    goes_more (g.F.Flash.state c.args.flash.now) (g.F.Flash.state c.join_newest-joined.new.flash) (g.F.Flash.state c.seal_rows.new.flash)
+    (goes_more (g.F.Flash.state c.args.flash.now) (g.F.Flash.state c.mount.new.flash) (g.F.Flash.state c.join_newest-joined.new.flash) c.in_ok-newest.ensures.beside.goes c.in_ok-joined.ensures.reads.goes) c.in_err-seal_rows.ensures.goes
+
+pub returns-in_err-seal_rows-clause-table_same : goal.returns-in_err-seal_rows-clause-table_same
+returns-in_err-seal_rows-clause-table_same g c = same-then c.args.table.now c.join_newest-joined.new.table c.seal_rows.new.table c.in_ok-joined.ensures.same c.in_err-seal_rows.ensures.same
+
+pub returns-in_err-seal_rows-clause-lies : goal.returns-in_err-seal_rows-clause-lies
+returns-in_err-seal_rows-clause-lies g c =
+    log-moved c.mount.new.self (g.F.Flash.state c.mount.new.flash) (g.F.Flash.state c.seal_rows.new.flash)
+    (goes_more (g.F.Flash.state c.mount.new.flash) (g.F.Flash.state c.join_newest-joined.new.flash) (g.F.Flash.state c.seal_rows.new.flash) c.in_ok-joined.ensures.reads.goes c.in_err-seal_rows.ensures.goes) c.in_ok-newest.ensures.lies
+
+pub returns-in_err-seal_rows-clause-ends : goal.returns-in_err-seal_rows-clause-ends
+returns-in_err-seal_rows-clause-ends g c = λ first plan table rose device watched s none rests.
+    let t = c.args.table.now in
+    let l = c.args.log.now in
+    let l1 = c.mount.new.self in
+    let old = g.F.Flash.state c.args.flash.now in
+    let f1 = g.F.Flash.state c.mount.new.flash in
+    let f2 = g.F.Flash.state c.join_newest-joined.new.flash in
+    let f3 = g.F.Flash.state c.seal_rows.new.flash in
+    let k = c.in_ok-newest.ensures in
+    let reads = c.in_ok-joined.ensures.reads in
+    let watched2 = watched-front old f2 f3 rose device watched c.in_err-seal_rows.ensures.goes in
+    let m = k.ends (first + blocks_of (bare plan)) plan table rose device (watched-front old f1 f2 rose device watched2 reads.goes) rests in
+    let outside = k.beside.outside watched.told in
+    let sizes = pages-size l1 f1 (g.met.F.Flash.reaches c.mount.new.flash) k.lies.geometry k.lies.within in
+    let ring = begun-ring t l old first plan table rose device s none rests.planned l1 k.same f1 outside m in
+    let newest = found-some l l1 old f1 (first + blocks_of (bare plan)) plan (ready plan m.now.state) k.same ring sizes watched.told c.in_ok-newest.field-0 k.found c.in-Some.newest c.in-Some.is in
+    let joins = c.in_ok-joined.ensures.joins first plan (ready plan m.now.state) rose m.now.device (watched-then old f1 f2 rose device m.now.device watched2 k.beside.goes m.power m.counts)
+    (begun-stands t l old first plan table rose device s none rests.planned l1 k.same f1 outside m) (begun-none t l old first plan table rose device s none rests.planned l1 k.same f1 outside m) newest in
+    let later = watched-then old f2 f3 rose device m.now.device watched (goes_more old f1 f2 k.beside.goes reads.goes) c.in_ok-joined.ensures.power (device-reads f1 f2 1 m.now.device reads m.counts) in
+    let p = err_from_is_err_and c.from_residual-in_err-seal_rows.result c.from_residual-in_err-seal_rows.ensures.1 in
+    rw (p.1, p.2) (seal-badly t l old first plan table rose device s none rests.planned l1 k.same f1 outside m c.join_newest-joined.new.table f2 f3 (same_pages f1 f2 1 reads) joins.planned (c.in_err-seal_rows.ensures.outside later.told)
+    c.seal_rows.new.table c.in_err-seal_rows.field-0.0 (c.in_err-seal_rows.ensures.ends first (bare plan) (bare_table (joined (ready plan m.now.state))) rose m.now.device later joins))
+
+pub returns-in_err-seal_rows-clause-refused : goal.returns-in_err-seal_rows-clause-refused
+returns-in_err-seal_rows-clause-refused g c =
+    let p = err_from_is_err_and c.from_residual-in_err-seal_rows.result c.from_residual-in_err-seal_rows.ensures.1 in
+    rw (p.1, p.2) (λ told.
+    let l = c.args.log.now in
+    let l1 = c.mount.new.self in
+    let f1 = g.F.Flash.state c.mount.new.flash in
+    let here = subst IsTrue (sym c.in_ok-newest.ensures.beside.goes.tells) told in
+    inr (inr (record {
+      newest = c.in-Some.newest;
+      repaired = f1;
+      found = record { log = l1; finds = subst (λ (o : Option NewestPage). Finds l (g.F.Flash.state c.args.flash.now) o l1 f1) c.in-Some.is c.in_ok-newest.ensures.found };
+      read = g.F.Flash.state c.join_newest-joined.new.flash;
+      joined = c.join_newest-joined.new.table;
+      offers = subst (λ (at : ℕ → List ℕ). OffersNewest (layout_in c.args.table.now) c.in-Some.newest.number (at c.in-Some.newest.number) f1 c.args.table.now (g.F.Flash.state c.join_newest-joined.new.flash) c.join_newest-joined.new.table) (same-pages l l1 f1 c.in_ok-newest.ensures.same)
+          (record { stands = c.in_ok-joined.ensures.stands here; reads = c.in_ok-joined.ensures.reads; offers = c.in_ok-joined.ensures.offers here });
+      some = c.in_err-seal_rows.ensures.some;
+      why = c.in_err-seal_rows.field-0.0;
+      fault_is = refl;
+      cause = c.in_err-seal_rows.ensures.cause;
+    })))
+
+pub returns-in_err-seal_rows-clause-outside : goal.returns-in_err-seal_rows-clause-outside
+returns-in_err-seal_rows-clause-outside g c = λ told page rows index var log.
+    let f1 = g.F.Flash.state c.mount.new.flash in
+    let f2 = g.F.Flash.state c.join_newest-joined.new.flash in
+    let f3 = g.F.Flash.state c.seal_rows.new.flash in
+    let here = subst IsTrue (sym c.in_ok-newest.ensures.beside.goes.tells) told in
+    let then = subst IsTrue (sym c.in_ok-joined.ensures.reads.goes.tells) here in
+    outside-same c.args.table.now c.join_newest-joined.new.table (page_at f2) (page_at f3) c.in_ok-joined.ensures.same (c.in_err-seal_rows.ensures.outside then) page rows index var
+    ∙ (ap (λ (at : ℕ → List ℕ). at page) (same_pages f1 f2 1 c.in_ok-joined.ensures.reads) ∙ c.in_ok-newest.ensures.beside.outside told page log)
+
+pub returns-in_err-seal_rows-clause-reads : goal.returns-in_err-seal_rows-clause-reads
+returns-in_err-seal_rows-clause-reads g c =
+    let all = log-reads c.args.log.now in
+    let rings = few-rings c.join_newest-joined.new.table in
+    let block = ap (λ x. x.block) c.requires.lies.geometry in
+    record {
+      reads = omega (arith, c.in_ok-newest.ensures.beside.few_reads, c.in_ok-joined.ensures.reads.reads, c.in_err-seal_rows.ensures.reads, all, block);
+      media_reads = omega (arith, c.in_ok-newest.ensures.beside.media_reads, c.in_ok-joined.ensures.reads.media_reads, c.in_err-seal_rows.ensures.media_reads, all, block, rings);
+    }
+
+pub returns-in_err-seal_rows-clause-cause : goal.returns-in_err-seal_rows-clause-cause
+returns-in_err-seal_rows-clause-cause g c =
+    let old = g.F.Flash.state c.args.flash.now in
+    let f1 = g.F.Flash.state c.mount.new.flash in
+    let f2 = g.F.Flash.state c.join_newest-joined.new.flash in
+    let f3 = g.F.Flash.state c.seal_rows.new.flash in
+    let p = err_from_is_err_and c.from_residual-in_err-seal_rows.result c.from_residual-in_err-seal_rows.ensures.1 in
+    rw (p.1, p.2) (cause-later old f2 f3 (goes_more old f1 f2 c.in_ok-newest.ensures.beside.goes c.in_ok-joined.ensures.reads.goes) (λ on. c.in_ok-joined.ensures.power) c.in_err-seal_rows.field-0.0 c.in_err-seal_rows.ensures.cause)
+
+-- ---- all is done
+
+pub returns-clause-goes : goal.returns-clause-goes
+returns-clause-goes g c =
+    goes_more (g.F.Flash.state c.args.flash.now) (g.F.Flash.state c.join_newest-joined.new.flash) (g.F.Flash.state c.seal_rows.new.flash)
+    (goes_more (g.F.Flash.state c.args.flash.now) (g.F.Flash.state c.mount.new.flash) (g.F.Flash.state c.join_newest-joined.new.flash) c.in_ok-newest.ensures.beside.goes c.in_ok-joined.ensures.reads.goes) c.in_ok-seal_rows.ensures.goes
+
+pub returns-clause-table_same : goal.returns-clause-table_same
+returns-clause-table_same g c = same-then c.args.table.now c.join_newest-joined.new.table c.seal_rows.new.table c.in_ok-joined.ensures.same c.in_ok-seal_rows.ensures.same
+
+pub returns-clause-lies : goal.returns-clause-lies
+returns-clause-lies g c =
+    log-moved c.mount.new.self (g.F.Flash.state c.mount.new.flash) (g.F.Flash.state c.seal_rows.new.flash)
+    (goes_more (g.F.Flash.state c.mount.new.flash) (g.F.Flash.state c.join_newest-joined.new.flash) (g.F.Flash.state c.seal_rows.new.flash) c.in_ok-joined.ensures.reads.goes c.in_ok-seal_rows.ensures.goes) c.in_ok-newest.ensures.lies
+
+pub returns-clause-ends : goal.returns-clause-ends
+returns-clause-ends g c = λ first plan table rose device watched s none rests.
+    let t = c.args.table.now in
+    let l = c.args.log.now in
+    let l1 = c.mount.new.self in
+    let old = g.F.Flash.state c.args.flash.now in
+    let f1 = g.F.Flash.state c.mount.new.flash in
+    let f2 = g.F.Flash.state c.join_newest-joined.new.flash in
+    let f3 = g.F.Flash.state c.seal_rows.new.flash in
+    let k = c.in_ok-newest.ensures in
+    let reads = c.in_ok-joined.ensures.reads in
+    let watched2 = watched-front old f2 f3 rose device watched c.in_ok-seal_rows.ensures.goes in
+    let m = k.ends (first + blocks_of (bare plan)) plan table rose device (watched-front old f1 f2 rose device watched2 reads.goes) rests in
+    let outside = k.beside.outside watched.told in
+    let sizes = pages-size l1 f1 (g.met.F.Flash.reaches c.mount.new.flash) k.lies.geometry k.lies.within in
+    let ring = begun-ring t l old first plan table rose device s none rests.planned l1 k.same f1 outside m in
+    let newest = found-some l l1 old f1 (first + blocks_of (bare plan)) plan (ready plan m.now.state) k.same ring sizes watched.told c.in_ok-newest.field-0 k.found c.in-Some.newest c.in-Some.is in
+    let joins = c.in_ok-joined.ensures.joins first plan (ready plan m.now.state) rose m.now.device (watched-then old f1 f2 rose device m.now.device watched2 k.beside.goes m.power m.counts)
+    (begun-stands t l old first plan table rose device s none rests.planned l1 k.same f1 outside m) (begun-none t l old first plan table rose device s none rests.planned l1 k.same f1 outside m) newest in
+    let later = watched-then old f2 f3 rose device m.now.device watched (goes_more old f1 f2 k.beside.goes reads.goes) c.in_ok-joined.ensures.power (device-reads f1 f2 1 m.now.device reads m.counts) in
+    seal-well t l old first plan table rose device s none rests.planned l1 k.same f1 outside m c.join_newest-joined.new.table f2 f3 (same_pages f1 f2 1 reads) joins.planned (c.in_ok-seal_rows.ensures.outside later.told)
+    c.seal_rows.new.table (c.in_ok-seal_rows.ensures.ends first (bare plan) (bare_table (joined (ready plan m.now.state))) rose m.now.device later joins)
+
+pub returns-clause-table_none : goal.returns-clause-table_none
+returns-clause-table_none g c = c.in_ok-seal_rows.ensures.sealed.none
+
+pub returns-clause-found : goal.returns-clause-found
+returns-clause-found g c = λ told.
+    let l = c.args.log.now in
+    let l1 = c.mount.new.self in
+    let f1 = g.F.Flash.state c.mount.new.flash in
+    let here = subst IsTrue (sym c.in_ok-newest.ensures.beside.goes.tells) told in
+    record {
+      newest = Some c.in-Some.newest;
+      repaired = f1;
+      finds = subst (λ (o : Option NewestPage). Finds l (g.F.Flash.state c.args.flash.now) o l1 f1) c.in-Some.is c.in_ok-newest.ensures.found;
+      replays = (
+        g.F.Flash.state c.join_newest-joined.new.flash,
+        c.join_newest-joined.new.table,
+        (
+          subst (λ (at : ℕ → List ℕ). OffersNewest (layout_in c.args.table.now) c.in-Some.newest.number (at c.in-Some.newest.number) f1 c.args.table.now (g.F.Flash.state c.join_newest-joined.new.flash) c.join_newest-joined.new.table) (same-pages l l1 f1 c.in_ok-newest.ensures.same)
+              (record { stands = c.in_ok-joined.ensures.stands here; reads = c.in_ok-joined.ensures.reads; offers = c.in_ok-joined.ensures.offers here }),
+          c.in_ok-seal_rows.ensures.sealed,
+        ),
+      );
+    }
+
+pub returns-clause-outside : goal.returns-clause-outside
+returns-clause-outside g c = λ told page rows index var log.
+    let f1 = g.F.Flash.state c.mount.new.flash in
+    let f2 = g.F.Flash.state c.join_newest-joined.new.flash in
+    let f3 = g.F.Flash.state c.seal_rows.new.flash in
+    let here = subst IsTrue (sym c.in_ok-newest.ensures.beside.goes.tells) told in
+    let then = subst IsTrue (sym c.in_ok-joined.ensures.reads.goes.tells) here in
+    outside-same c.args.table.now c.join_newest-joined.new.table (page_at f2) (page_at f3) c.in_ok-joined.ensures.same (c.in_ok-seal_rows.ensures.outside then) page rows index var
+    ∙ (ap (λ (at : ℕ → List ℕ). at page) (same_pages f1 f2 1 c.in_ok-joined.ensures.reads) ∙ c.in_ok-newest.ensures.beside.outside told page log)
+
+pub returns-clause-reads : goal.returns-clause-reads
+returns-clause-reads g c =
+    let all = log-reads c.args.log.now in
+    let rings = few-rings c.join_newest-joined.new.table in
+    let block = ap (λ x. x.block) c.requires.lies.geometry in
+    record {
+      reads = omega (arith, c.in_ok-newest.ensures.beside.few_reads, c.in_ok-joined.ensures.reads.reads, c.in_ok-seal_rows.ensures.reads, all, block);
+      media_reads = omega (arith, c.in_ok-newest.ensures.beside.media_reads, c.in_ok-joined.ensures.reads.media_reads, c.in_ok-seal_rows.ensures.media_reads, all, block, rings);
+    }

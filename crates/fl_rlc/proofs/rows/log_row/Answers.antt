@@ -1,0 +1,18 @@
+use Rattle.std.proofs.Common.{Option, Some, sym, subst}
+use Rattle.fl_rlc.specs.Rows.{RowEnds}
+use Rattle.fl_rlc.specs.declared.log.RecordLog.{RecordLog}
+use Rattle.fl_rlc.proofs.JoinedRow.{joined-ready, seal-moved}
+use Rattle.fl_rlc.proofs.rows.log_row.Goals as goal
+use Rattle.fl_schema.specs.Schema.{layout_of}
+use Rattle.std.specs.Prelude.{None}
+
+pub returns-in-Some-clause-ends : goal.returns-in-Some-clause-ends
+returns-in-Some-clause-ends g c = λ first plan table rose device.
+    let f = g.F.Flash.state c.args.flash.now in
+    let new = g.F.Flash.state c.seal.new.flash in
+    let l = c.in-Some.log in
+    let layout = layout_of c.args.schema.now in
+    subst (λ (o : Option RecordLog). RowEnds o f first plan table (layout_of c.args.schema.now) (record { key = c.args.key; values = c.args.values.now; blob = None }) rose device c.seal.result (Some c.seal.new.self) new) (sym c.in-Some.is)
+    (λ watched joins. seal-moved l c.add.new.self f first plan table rose device c.seal.result c.seal.new.self new c.add.ensures.same
+    (c.seal.ensures.ends first plan table rose device watched
+    (joined-ready l c.add.new.self f first plan table layout (record { key = c.args.key; values = c.args.values.now; blob = None }) c.add.ensures.same c.add.ensures.ring joins (c.add.ensures.joins joins.rows joins.gathers))))

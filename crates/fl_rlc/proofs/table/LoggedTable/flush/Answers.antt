@@ -1,0 +1,146 @@
+use Rattle.std.proofs.Common.{◌≡◌, true, Result, Ok, Err, refl, sym, ◌∙◌, arith}
+use Rattle.std.proofs.lemmas.Result.{err_from_is_err_and}
+use Rattle.fl_model.specs.Bare.{bare, bare_table}
+use Rattle.fl_table.proofs.Sizes.{table-fits}
+use Rattle.fl_flash.specs.declared.flash.FlashFault.TheVariants.{PowerLost}
+use Rattle.fl_table.specs.Memory as table_words
+use Rattle.fl_table.specs.declared.faults.FlushFault.{FlushFault}
+use Rattle.fl_table.specs.declared.faults.FlushFault.TheVariants as flush
+use Rattle.fl_rlc.proofs.FlushEnded.{flush-done, flush-failed}
+use Rattle.fl_rlc.proofs.PutFrames.{log-self, log-lies, blobs-same, room-same, some-same, and-left, begun-same, begun-lies, begun-mounted}
+use Rattle.fl_rlc.proofs.table.LoggedTable.flush.Goals as goal
+
+-- ---- it fails
+
+pub returns-in_err-flush-clause-ends : goal.returns-in_err-flush-clause-ends
+returns-in_err-flush-clause-ends g c = λ first plan table rose device watched h.
+    let t = c.args.self.now in
+    let f = g.F.Flash.state c.args.flash.now in
+    let new = g.F.Flash.state c.flush.new.flash in
+    let p = err_from_is_err_and c.from_residual.result c.from_residual.ensures.1 in
+    rw (p.1, p.2) (flush-failed t f first plan table h rose device new (c.in_err-flush.ensures.outside watched.told) _ c.flush.new.self c.in_err-flush.field-0.0
+    (c.in_err-flush.ensures.ends first (bare plan) (bare_table table) rose device watched h.unlogged))
+
+pub returns-in_err-flush-clause-exact : goal.returns-in_err-flush-clause-exact
+returns-in_err-flush-clause-exact g c = let p = err_from_is_err_and c.from_residual.result c.from_residual.ensures.1 in rw (p.1, p.2) c.in_err-flush.ensures.exact
+
+pub returns-in_err-flush-clause-stopped : goal.returns-in_err-flush-clause-stopped
+returns-in_err-flush-clause-stopped g c = let p = err_from_is_err_and c.from_residual.result c.from_residual.ensures.1 in rw (p.1, p.2) c.in_err-flush.ensures.stopped
+
+pub returns-in_err-flush-clause-running : goal.returns-in_err-flush-clause-running
+returns-in_err-flush-clause-running g c = let p = err_from_is_err_and c.from_residual.result c.from_residual.ensures.1 in rw (p.1, p.2) c.in_err-flush.ensures.running
+
+pub returns-in_err-flush-clause-cause : goal.returns-in_err-flush-clause-cause
+returns-in_err-flush-clause-cause g c = let p = err_from_is_err_and c.from_residual.result c.from_residual.ensures.1 in rw (p.1, p.2) c.in_err-flush.ensures.cause
+
+pub returns-in_err-flush-clause-goes : goal.returns-in_err-flush-clause-goes
+returns-in_err-flush-clause-goes g c = c.in_err-flush.ensures.goes
+
+pub returns-in_err-flush-clause-same : goal.returns-in_err-flush-clause-same
+returns-in_err-flush-clause-same g c = record { table = c.in_err-flush.ensures.same; log = log-self c.args.self.now.log }
+
+pub returns-in_err-flush-clause-lies : goal.returns-in_err-flush-clause-lies
+returns-in_err-flush-clause-lies g c = record {
+  table = c.in_err-flush.ensures.lies;
+  log = log-lies c.args.self.now.log (g.F.Flash.state c.args.flash.now) (g.F.Flash.state c.flush.new.flash) c.in_err-flush.ensures.goes c.requires.lies.log;
+}
+
+pub returns-in_err-flush-clause-outside : goal.returns-in_err-flush-clause-outside
+returns-in_err-flush-clause-outside g c = λ told page rows index var log. c.in_err-flush.ensures.outside told page rows index var
+
+pub returns-in_err-flush-clause-reads : goal.returns-in_err-flush-clause-reads
+returns-in_err-flush-clause-reads g c = c.in_err-flush.ensures.reads
+
+pub returns-in_err-flush-clause-media_reads : goal.returns-in_err-flush-clause-media_reads
+returns-in_err-flush-clause-media_reads g c = omega (arith, c.in_err-flush.ensures.media_reads)
+
+pub returns-in_err-flush-clause-refused : goal.returns-in_err-flush-clause-refused
+returns-in_err-flush-clause-refused g c = let p = err_from_is_err_and c.from_residual.result c.from_residual.ensures.1 in rw (p.1, p.2) (λ stopped. (c.in_err-flush.ensures.refused stopped, refl))
+
+not-done : (e : FlushFault) → ◌≡◌ {A = Result (Unit {0}) FlushFault} (Err e) (Ok tt) → ⊥
+not-done e k = cc
+
+pub returns-in_err-flush-clause-quiet : goal.returns-in_err-flush-clause-quiet
+returns-in_err-flush-clause-quiet g c = λ running none. absurd (not-done c.in_err-flush.field-0.0 (c.in_err-flush.ensures.quiet running none).0)
+
+pub returns-in_err-flush-clause-off : goal.returns-in_err-flush-clause-off
+returns-in_err-flush-clause-off g c = λ running some down.
+    let p = err_from_is_err_and c.from_residual.result c.from_residual.ensures.1 in
+    rw (p.1, p.2) (c.in_err-flush.ensures.off running some down)
+
+pub invariant_of-self : goal.invariant_of-self
+invariant_of-self g c = record {
+  running = λ l is up. c.args.self.now.running l is (and-left (table_words.is_running c.args.self.now.table) _ (sym c.in_err-flush.ensures.running ∙ up));
+  no_blobs = λ some. blobs-same c.args.self.now.table c.flush.new.self c.in_err-flush.ensures.same ∙ c.args.self.now.no_blobs some;
+  room = room-same c.args.self.now.table c.flush.new.self c.args.self.now.log c.args.self.now.log c.in_err-flush.ensures.same (log-self c.args.self.now.log) c.args.self.now.room;
+}
+
+-- ---- it is done
+
+pub returns-clause-ends : goal.returns-clause-ends
+returns-clause-ends g c = λ first plan table rose device watched h.
+    let t = c.args.self.now in
+    let f = g.F.Flash.state c.args.flash.now in
+    let new = g.F.Flash.state c.flush.new.flash in
+    flush-done t f first plan table h rose device new (c.in_ok-flush.ensures.outside watched.told) _ c.flush.new.self refl c.begin_anew.ensures.begun (c.in_ok-flush.ensures.ends first (bare plan) (bare_table table) rose device watched h.unlogged)
+
+pub returns-clause-exact : goal.returns-clause-exact
+returns-clause-exact g c = c.in_ok-flush.ensures.exact
+
+pub returns-clause-stopped : goal.returns-clause-stopped
+returns-clause-stopped g c = c.in_ok-flush.ensures.stopped
+
+pub returns-clause-running : goal.returns-clause-running
+returns-clause-running g c = c.in_ok-flush.ensures.running
+
+pub returns-clause-refused : goal.returns-clause-refused
+returns-clause-refused g c = λ stopped. absurd (no stopped)
+  where
+    no : ◌≡◌ {A = Result (Unit {0}) FlushFault} (Ok tt) (Err flush.Stopped) → ⊥
+    no e = cc
+
+pub returns-clause-none : goal.returns-clause-none
+returns-clause-none g c = c.in_ok-flush.ensures.none
+
+pub returns-clause-quiet : goal.returns-clause-quiet
+returns-clause-quiet g c = λ running none. let h = c.in_ok-flush.ensures.quiet running none in (refl, h.1, h.2)
+
+pub returns-clause-off : goal.returns-clause-off
+returns-clause-off g c = λ running some down. absurd (no (c.in_ok-flush.ensures.off running some down).0)
+  where
+    no : ◌≡◌ {A = Result (Unit {0}) FlushFault} (Ok c.in_ok-flush.field-0) (Err (flush.Flash PowerLost)) → ⊥
+    no e = cc
+
+pub returns-clause-goes : goal.returns-clause-goes
+returns-clause-goes g c = c.in_ok-flush.ensures.goes
+
+pub returns-clause-same : goal.returns-clause-same
+returns-clause-same g c = record { table = c.in_ok-flush.ensures.same; log = begun-same c.args.self.now.log c.begin_anew.new.log c.begin_anew.ensures.begun }
+
+pub returns-clause-lies : goal.returns-clause-lies
+returns-clause-lies g c = record {
+  table = c.in_ok-flush.ensures.lies;
+  log = begun-lies c.args.self.now.log c.begin_anew.new.log (g.F.Flash.state c.flush.new.flash) c.begin_anew.ensures.begun (log-lies c.args.self.now.log (g.F.Flash.state c.args.flash.now) (g.F.Flash.state c.flush.new.flash) c.in_ok-flush.ensures.goes c.requires.lies.log);
+}
+
+pub returns-clause-outside : goal.returns-clause-outside
+returns-clause-outside g c = λ told page rows index var log. c.in_ok-flush.ensures.outside told page rows index var
+
+pub returns-clause-reads : goal.returns-clause-reads
+returns-clause-reads g c = c.in_ok-flush.ensures.reads
+
+pub returns-clause-media_reads : goal.returns-clause-media_reads
+returns-clause-media_reads g c = omega (arith, c.in_ok-flush.ensures.media_reads)
+
+pub invariant_of-self-2 : goal.invariant_of-self-2
+invariant_of-self-2 g c = record {
+  running = begun-mounted c.args.self.now.log c.begin_anew.new.log (table_words.is_running c.flush.new.self ≡ true) c.begin_anew.ensures.begun
+      (λ l is up. c.args.self.now.running l is (and-left (table_words.is_running c.args.self.now.table) _ (sym c.in_ok-flush.ensures.running ∙ up)));
+  no_blobs = λ some.
+      blobs-same c.args.self.now.table c.flush.new.self c.in_ok-flush.ensures.same
+      ∙ c.args.self.now.no_blobs (some-same c.args.self.now.log c.begin_anew.new.log (begun-same c.args.self.now.log c.begin_anew.new.log c.begin_anew.ensures.begun) some);
+  room = room-same c.args.self.now.table c.flush.new.self c.args.self.now.log c.begin_anew.new.log c.in_ok-flush.ensures.same (begun-same c.args.self.now.log c.begin_anew.new.log c.begin_anew.ensures.begun) c.args.self.now.room;
+}
+
+pub flush-requires : goal.flush-requires
+flush-requires g c = (table-fits g.row.KNOTS g.row.SLOTS c.args.self.now.table.few_knots c.args.self.now.table.few_slots, c.requires.lies.table)

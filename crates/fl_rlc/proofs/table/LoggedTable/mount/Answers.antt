@@ -1,0 +1,254 @@
+use Rattle.std.proofs.Common.{◌≡◌, ◌+◌, Bool, Option, Some, Ok, Err, IsTrue, is_some, inl, refl, sym, ◌∙◌, ap, subst}
+use Rattle.std.proofs.lemmas.Result.{err_from_is_err_and}
+use Rattle.fl_flash.specs.Flash.{page_at}
+use Rattle.fl_model.specs.Bare.{bare, bare_table, log_of, beside}
+use Rattle.fl_model.specs.Record.{row_layout, blocks_of}
+use Rattle.fl_ring.specs.declared.ring.Ring.{Ring}
+use Rattle.fl_ring.proofs.Readings.{goes_more}
+use Rattle.fl_table.proofs.Following.{watched-front, watched-then}
+use Rattle.fl_table.proofs.MountJoined.{mount-cause-later}
+use Rattle.fl_table.proofs.SealAnswers.{same-then}
+use Rattle.fl_table.proofs.Sizes.{table-fits}
+use Rattle.fl_rlc.specs.Repairing.{Rests}
+use Rattle.fl_rlc.specs.Replaying.{ReplayEnds}
+use Rattle.fl_rlc.specs.Table.{AreSameLog}
+use Rattle.fl_rlc.specs.declared.log.RecordLog.{RecordLog}
+use Rattle.fl_rlc.proofs.MountApart.{table-ends, between-stands, between-none, between-rests, replay-ends, replayed}
+use Rattle.fl_rlc.proofs.MountEnded.{bare-rests, fails, mounts-alone, apart-of, badly-of, well-of}
+use Rattle.fl_rlc.proofs.MountFound.{finds-alone, finds-behind, refuses-behind, outside-both, few-both, log-here}
+use Rattle.fl_rlc.proofs.Planned.{none-some, one-log}
+use Rattle.fl_rlc.proofs.PutFrames.{log-lies, log-moved, blobs-same}
+use Rattle.fl_rlc.proofs.table.LoggedTable.mount.Goals as goal
+
+-- ---- the table's mount fails
+
+pub returns-in_err-mounted-clause-lies : goal.returns-in_err-mounted-clause-lies
+returns-in_err-mounted-clause-lies g c = record {
+  table = c.in_err-mounted.ensures.lies;
+  log = log-lies c.args.self.now.log (g.F.Flash.state c.args.flash.now) (g.F.Flash.state c.mount.new.flash) c.in_err-mounted.ensures.goes c.requires.lies.log;
+}
+
+pub returns-in_err-mounted-clause-ends : goal.returns-in_err-mounted-clause-ends
+returns-in_err-mounted-clause-ends g c = λ first plan table rose device watched planned rests.
+    let t = c.args.self.now in
+    let old = g.F.Flash.state c.args.flash.now in
+    let new = g.F.Flash.state c.mount.new.flash in
+    let p = err_from_is_err_and c.from_residual.result c.from_residual.ensures.1 in
+    rw (p.1, p.2) (fails t old first plan table planned rests rose device c.in_err-mounted.field-0.0 c.mount.new.self _ refl refl new (c.in_err-mounted.ensures.outside watched.told)
+    (c.in_err-mounted.ensures.ends first (bare plan) (bare_table table) rose device watched planned.table (bare-rests t old first plan table planned rests)))
+
+pub returns-in_err-mounted-clause-apart : goal.returns-in_err-mounted-clause-apart
+returns-in_err-mounted-clause-apart g c = λ first plan table rose device l watched planned is apart.
+    let p = err_from_is_err_and c.from_residual.result c.from_residual.ensures.1 in
+    rw (p.1, p.2) (table-ends c.args.self.now (g.F.Flash.state c.args.flash.now) first plan table planned l apart rose device c.in_err-mounted.field-0.0 c.mount.new.self _ (g.F.Flash.state c.mount.new.flash) (c.in_err-mounted.ensures.outside watched.told)
+    (c.in_err-mounted.ensures.ends first (bare plan) (bare_table table) rose device watched planned.table apart.unlogged))
+
+pub returns-in_err-mounted-clause-refused : goal.returns-in_err-mounted-clause-refused
+returns-in_err-mounted-clause-refused g c =
+    let p = err_from_is_err_and c.from_residual.result c.from_residual.ensures.1 in
+    rw (p.1, p.2) (λ told. inl (c.in_err-mounted.ensures.refused told))
+
+pub returns-in_err-mounted-clause-outside : goal.returns-in_err-mounted-clause-outside
+returns-in_err-mounted-clause-outside g c = λ told page rows index var log. c.in_err-mounted.ensures.outside told page rows index var
+
+-- ---- it has no log
+
+pub returns-in_default-clause-ends : goal.returns-in_default-clause-ends
+returns-in_default-clause-ends g c = λ first plan table rose device watched planned rests.
+    let t = c.args.self.now in
+    let old = g.F.Flash.state c.args.flash.now in
+    let new = g.F.Flash.state c.mount.new.flash in
+    mounts-alone t old first plan table planned rests rose device (Ok c.in_ok-mounted.mounted) _ new c.in_default.is c.in_default.is
+    (c.in_ok-mounted.ensures.ends first (bare plan) (bare_table table) rose device watched planned.table (bare-rests t old first plan table planned rests))
+
+pub returns-in_default-clause-apart : goal.returns-in_default-clause-apart
+returns-in_default-clause-apart g c = λ first plan table rose device l watched planned is apart. absurd (none-some l (sym c.in_default.is ∙ is))
+
+pub returns-in_default-clause-found : goal.returns-in_default-clause-found
+returns-in_default-clause-found g c = λ told.
+    finds-alone c.args.self.now (g.F.Flash.state c.args.flash.now) c.in_ok-mounted.mounted _ (g.F.Flash.state c.mount.new.flash) c.in_default.is c.in_default.is (c.in_ok-mounted.ensures.found told)
+
+pub returns-in_default-clause-outside : goal.returns-in_default-clause-outside
+returns-in_default-clause-outside g c = λ told page rows index var log. c.in_ok-mounted.ensures.outside told page rows index var
+
+pub returns-in_default-clause-none : goal.returns-in_default-clause-none
+returns-in_default-clause-none g c = c.in_ok-mounted.ensures.none
+
+-- ---- the replay
+
+pub replay-requires : goal.replay-requires
+replay-requires g c =
+    let t = c.args.self.now in
+    let goes = c.in_ok-mounted.ensures.goes in (
+      table-fits g.row.KNOTS g.row.SLOTS t.table.few_knots t.table.few_slots,
+      (
+        c.in_ok-mounted.ensures.mounted,
+        (
+          c.in_ok-mounted.ensures.none,
+          (
+            blobs-same t.table c.mount.new.self c.in_ok-mounted.ensures.same ∙ t.no_blobs (ap {B = Bool} (λ (o : Option RecordLog). is_some o) c.in-Some.is),
+            (
+              log-moved c.in-Some.log (g.F.Flash.state c.args.flash.now) (g.F.Flash.state c.mount.new.flash) goes (c.requires.lies.log c.in-Some.log c.in-Some.is),
+              (c.in_ok-mounted.ensures.lies, c.in_ok-mounted.ensures.room ∙ (c.requires.room ∙ sym (ap (λ x. x.page) goes.geometry))),
+            ),
+          ),
+        ),
+      ),
+    )
+
+-- ---- it fails
+
+pub returns-in-Err-clause-mounted : goal.returns-in-Err-clause-mounted
+returns-in-Err-clause-mounted g c = ap (λ (o : Option Ring). is_some o) c.unmount.ensures.forgotten.down
+
+pub returns-in-Err-clause-calm : goal.returns-in-Err-clause-calm
+returns-in-Err-clause-calm g c = c.unmount.ensures.forgotten.calm
+
+pub returns-in-Err-clause-goes : goal.returns-in-Err-clause-goes
+returns-in-Err-clause-goes g c = goes_more (g.F.Flash.state c.args.flash.now) (g.F.Flash.state c.mount.new.flash) (g.F.Flash.state c.replay.new.flash) c.in_ok-mounted.ensures.goes c.in-Err.ensures.goes
+
+pub returns-in-Err-clause-same : goal.returns-in-Err-clause-same
+returns-in-Err-clause-same g c = record {
+  table = same-then c.args.self.now.table c.mount.new.self c.unmount.new.self c.in_ok-mounted.ensures.same (same-then c.mount.new.self c.replay.new.table c.unmount.new.self c.in-Err.ensures.table_same c.unmount.ensures.same);
+  log = subst (λ (o : Option RecordLog). AreSameLog o (Some c.replay.new.log)) (sym c.in-Some.is) c.in-Err.ensures.same;
+}
+
+pub returns-in-Err-clause-lies : goal.returns-in-Err-clause-lies
+returns-in-Err-clause-lies g c = record {
+  table = c.unmount.ensures.lies (g.F.Flash.state c.replay.new.flash) c.in-Err.ensures.table_lies;
+  log = log-here c.replay.new.log (g.F.Flash.state c.replay.new.flash) c.in-Err.ensures.lies;
+}
+
+pub returns-in-Err-clause-apart : goal.returns-in-Err-clause-apart
+returns-in-Err-clause-apart g c = λ first plan table rose device l watched planned is apart.
+    let t = c.args.self.now in
+    let old = g.F.Flash.state c.args.flash.now in
+    let f1 = g.F.Flash.state c.mount.new.flash in
+    let f2 = g.F.Flash.state c.replay.new.flash in
+    let k = c.in_ok-mounted.ensures in
+    let here : c.in-Some.log ≡ l = one-log (sym c.in-Some.is ∙ is) in
+    let outside = k.outside watched.told in
+    let w = k.ends first (bare plan) (bare_table table) rose device (watched-front old f1 f2 rose device watched c.in-Err.ensures.goes) planned.table apart.unlogged in
+    replay-ends t old first plan table planned l apart rose device c.in_ok-mounted.mounted c.mount.new.self f1 outside w k.none c.in-Err.fault c.replay.new.log c.replay.new.table _ f2
+    (subst (λ (x : RecordLog). ReplayEnds first plan (beside (log_of table) w.now.state) rose w.now.device x (Err c.in-Err.fault) c.replay.new.log c.replay.new.table f2) here
+    (c.in-Err.ensures.ends first plan (beside (log_of table) w.now.state) rose w.now.device (watched-then old f1 f2 rose device w.now.device watched k.goes w.power w.counts)
+    (between-stands t old first plan table planned l apart rose device c.in_ok-mounted.mounted c.mount.new.self f1 outside w k.none) (between-none t old first plan table planned l apart rose device c.in_ok-mounted.mounted c.mount.new.self f1 outside w k.none)
+    (subst (λ (x : RecordLog). Rests x f1 (first + blocks_of (bare plan)) plan (beside (log_of table) w.now.state)) (sym here)
+    (between-rests t old first plan table planned l apart rose device c.in_ok-mounted.mounted c.mount.new.self f1 outside w k.none))))
+
+pub returns-in-Err-clause-ends : goal.returns-in-Err-clause-ends
+returns-in-Err-clause-ends g c = λ first plan table rose device watched planned rests.
+    let t = c.args.self.now in
+    let l = c.in-Some.log in
+    let is = c.in-Some.is in
+    let old = g.F.Flash.state c.args.flash.now in
+    let f1 = g.F.Flash.state c.mount.new.flash in
+    let f2 = g.F.Flash.state c.replay.new.flash in
+    let k = c.in_ok-mounted.ensures in
+    let apart = apart-of t old first plan table planned rests l is in
+    let outside = k.outside watched.told in
+    let w = k.ends first (bare plan) (bare_table table) rose device (watched-front old f1 f2 rose device watched c.in-Err.ensures.goes) planned.table apart.unlogged in
+    badly-of t old first plan table planned rests l is rose device c.in-Err.fault _ f2
+    (replay-ends t old first plan table planned l apart rose device c.in_ok-mounted.mounted c.mount.new.self f1 outside w k.none c.in-Err.fault c.replay.new.log c.replay.new.table _ f2
+    (c.in-Err.ensures.ends first plan (beside (log_of table) w.now.state) rose w.now.device (watched-then old f1 f2 rose device w.now.device watched k.goes w.power w.counts)
+    (between-stands t old first plan table planned l apart rose device c.in_ok-mounted.mounted c.mount.new.self f1 outside w k.none) (between-none t old first plan table planned l apart rose device c.in_ok-mounted.mounted c.mount.new.self f1 outside w k.none)
+    (between-rests t old first plan table planned l apart rose device c.in_ok-mounted.mounted c.mount.new.self f1 outside w k.none)))
+
+pub returns-in-Err-clause-refused : goal.returns-in-Err-clause-refused
+returns-in-Err-clause-refused g c = λ told.
+    let k = c.in_ok-mounted.ensures in
+    refuses-behind c.args.self.now (g.F.Flash.state c.args.flash.now) c.in-Some.log c.in-Some.is c.in_ok-mounted.mounted c.mount.new.self (g.F.Flash.state c.mount.new.flash) (k.found told) k.same c.in-Err.fault (g.F.Flash.state c.replay.new.flash)
+    (c.in-Err.ensures.refused (subst IsTrue (sym k.goes.tells) told))
+
+pub returns-in-Err-clause-outside : goal.returns-in-Err-clause-outside
+returns-in-Err-clause-outside g c = λ told.
+    let k = c.in_ok-mounted.ensures in
+    outside-both c.args.self.now (g.F.Flash.state c.args.flash.now) c.in-Some.log c.in-Some.is c.mount.new.self (page_at (g.F.Flash.state c.mount.new.flash)) (page_at (g.F.Flash.state c.replay.new.flash)) k.same (k.outside told)
+    (c.in-Err.ensures.outside (subst IsTrue (sym k.goes.tells) told))
+
+pub returns-in-Err-clause-cause : goal.returns-in-Err-clause-cause
+returns-in-Err-clause-cause g c =
+    let t = c.args.self.now in
+    let k = c.in_ok-mounted.ensures in
+    mount-cause-later (g.F.Flash.state c.args.flash.now) (g.F.Flash.state c.mount.new.flash) (g.F.Flash.state c.replay.new.flash) k.goes k.power c.in-Err.fault c.in-Err.ensures.cause
+
+pub returns-in-Err-clause-reads : goal.returns-in-Err-clause-reads
+returns-in-Err-clause-reads g c = λ told.
+    let k = c.in_ok-mounted.ensures in
+    few-both c.args.self.now (g.F.Flash.state c.args.flash.now) c.in-Some.log c.in-Some.is (g.F.Flash.state c.mount.new.flash) (g.F.Flash.state c.replay.new.flash) (k.reads told) c.in-Err.ensures.reads
+
+-- ---- all is mounted
+
+pub returns-clause-goes : goal.returns-clause-goes
+returns-clause-goes g c = goes_more (g.F.Flash.state c.args.flash.now) (g.F.Flash.state c.mount.new.flash) (g.F.Flash.state c.replay.new.flash) c.in_ok-mounted.ensures.goes c.in_default-replay.ensures.goes
+
+pub returns-clause-same : goal.returns-clause-same
+returns-clause-same g c = record {
+  table = same-then c.args.self.now.table c.mount.new.self c.replay.new.table c.in_ok-mounted.ensures.same c.in_default-replay.ensures.table_same;
+  log = subst (λ (o : Option RecordLog). AreSameLog o (Some c.replay.new.log)) (sym c.in-Some.is) c.in_default-replay.ensures.same;
+}
+
+pub returns-clause-lies : goal.returns-clause-lies
+returns-clause-lies g c = record {
+  table = c.in_default-replay.ensures.table_lies;
+  log = log-here c.replay.new.log (g.F.Flash.state c.replay.new.flash) c.in_default-replay.ensures.lies;
+}
+
+pub returns-clause-apart : goal.returns-clause-apart
+returns-clause-apart g c = λ first plan table rose device l watched planned is apart.
+    let t = c.args.self.now in
+    let old = g.F.Flash.state c.args.flash.now in
+    let f1 = g.F.Flash.state c.mount.new.flash in
+    let f2 = g.F.Flash.state c.replay.new.flash in
+    let k = c.in_ok-mounted.ensures in
+    let here : c.in-Some.log ≡ l = one-log (sym c.in-Some.is ∙ is) in
+    let outside = k.outside watched.told in
+    let w = k.ends first (bare plan) (bare_table table) rose device (watched-front old f1 f2 rose device watched c.in_default-replay.ensures.goes) planned.table apart.unlogged in (
+      c.replay.new.log,
+      (
+        refl,
+        replayed t old first plan table planned l apart rose device c.in_ok-mounted.mounted c.mount.new.self f1 outside w k.none c.replay.new.log c.replay.new.table f2 c.held.result (c.held.ensures.stands f2 first (bare plan))
+            (c.in_default-replay.ensures.ends first plan (beside (log_of table) w.now.state) rose w.now.device (watched-then old f1 f2 rose device w.now.device watched k.goes w.power w.counts)
+            (between-stands t old first plan table planned l apart rose device c.in_ok-mounted.mounted c.mount.new.self f1 outside w k.none) (between-none t old first plan table planned l apart rose device c.in_ok-mounted.mounted c.mount.new.self f1 outside w k.none)
+            (subst (λ (x : RecordLog). Rests x f1 (first + blocks_of (bare plan)) plan (beside (log_of table) w.now.state)) (sym here)
+            (between-rests t old first plan table planned l apart rose device c.in_ok-mounted.mounted c.mount.new.self f1 outside w k.none))),
+      ),
+    )
+
+pub returns-clause-ends : goal.returns-clause-ends
+returns-clause-ends g c = λ first plan table rose device watched planned rests.
+    let t = c.args.self.now in
+    let l = c.in-Some.log in
+    let is = c.in-Some.is in
+    let old = g.F.Flash.state c.args.flash.now in
+    let f1 = g.F.Flash.state c.mount.new.flash in
+    let f2 = g.F.Flash.state c.replay.new.flash in
+    let k = c.in_ok-mounted.ensures in
+    let apart = apart-of t old first plan table planned rests l is in
+    let outside = k.outside watched.told in
+    let w = k.ends first (bare plan) (bare_table table) rose device (watched-front old f1 f2 rose device watched c.in_default-replay.ensures.goes) planned.table apart.unlogged in
+    well-of t old first plan table planned rests l is rose device c.replay.new.log c.replay.new.table _ f2 c.held.result refl refl (c.in_default-replay.ensures.empty (row_layout plan))
+    (replayed t old first plan table planned l apart rose device c.in_ok-mounted.mounted c.mount.new.self f1 outside w k.none c.replay.new.log c.replay.new.table f2 c.held.result (c.held.ensures.stands f2 first (bare plan))
+    (c.in_default-replay.ensures.ends first plan (beside (log_of table) w.now.state) rose w.now.device (watched-then old f1 f2 rose device w.now.device watched k.goes w.power w.counts)
+    (between-stands t old first plan table planned l apart rose device c.in_ok-mounted.mounted c.mount.new.self f1 outside w k.none) (between-none t old first plan table planned l apart rose device c.in_ok-mounted.mounted c.mount.new.self f1 outside w k.none)
+    (between-rests t old first plan table planned l apart rose device c.in_ok-mounted.mounted c.mount.new.self f1 outside w k.none)))
+
+pub returns-clause-none : goal.returns-clause-none
+returns-clause-none g c = c.in_default-replay.ensures.table_none
+
+pub returns-clause-found : goal.returns-clause-found
+returns-clause-found g c = λ told.
+    let k = c.in_ok-mounted.ensures in
+    finds-behind c.args.self.now (g.F.Flash.state c.args.flash.now) c.in-Some.log c.in-Some.is c.in_ok-mounted.mounted c.mount.new.self (g.F.Flash.state c.mount.new.flash) (k.found told) k.same c.held.result _ c.replay.new.log
+    (g.F.Flash.state c.replay.new.flash) refl (c.in_default-replay.ensures.found (subst IsTrue (sym k.goes.tells) told)) c.held.ensures.exact
+
+pub returns-clause-outside : goal.returns-clause-outside
+returns-clause-outside g c = λ told.
+    let k = c.in_ok-mounted.ensures in
+    outside-both c.args.self.now (g.F.Flash.state c.args.flash.now) c.in-Some.log c.in-Some.is c.mount.new.self (page_at (g.F.Flash.state c.mount.new.flash)) (page_at (g.F.Flash.state c.replay.new.flash)) k.same (k.outside told)
+    (c.in_default-replay.ensures.outside (subst IsTrue (sym k.goes.tells) told))
+
+pub returns-clause-reads : goal.returns-clause-reads
+returns-clause-reads g c = λ told.
+    let k = c.in_ok-mounted.ensures in
+    few-both c.args.self.now (g.F.Flash.state c.args.flash.now) c.in-Some.log c.in-Some.is (g.F.Flash.state c.mount.new.flash) (g.F.Flash.state c.replay.new.flash) (k.reads told) c.in_default-replay.ensures.reads

@@ -1,0 +1,17 @@
+pub mod Pages
+pub mod Memory
+pub mod Standing
+pub mod Sealing
+pub mod Repairing
+pub mod Joining
+pub mod Replaying
+pub mod Offering
+pub mod Finding
+pub mod Table
+pub mod Logged
+pub mod Outcomes
+pub mod Refusal
+pub mod Rows
+pub mod Planning
+pub mod Mounting
+pub mod MountingApart

@@ -1,0 +1,105 @@
+-- What a session tells of a table beside its replies.
+use Rattle.std.proofs.Common.{◌≡◌, ◌⊎◌, inl, inr, ℕ, true, false, Bool, Option, None, Some, Err, List, ◌∙◌, refl, sym, ap, subst, arith}
+use Rattle.std.specs.Prelude.{if◌then◌else◌, MatchBool, option_map, IsSomeAnd}
+use Rattle.std.specs.List.{slice_get}
+use Rattle.std.proofs.Math.Dec.{eqb}
+use Rattle.std.proofs.lemmas.Bool.Decides.{eqb_tells}
+use Rattle.std.proofs.lemmas.Option.{slice_get_within}
+use Rattle.fl_model.proofs.Lists.{slice_get-some}
+use Rattle.fl_flash.specs.Flash.{FlashState}
+use Rattle.fl_model.specs.Record.{Config, Plan}
+use Rattle.fl_model.specs.Table as model
+use Rattle.fl_model.specs.Table.{last_entry}
+use Rattle.fl_machine.specs.Machine.{Machine}
+use Rattle.fl_machine.specs.Step.{Located, located}
+use Rattle.fl_script.specs.declared.reply.Reply as code
+use Rattle.fl_table.specs.Look.{counts_of}
+use Rattle.fl_table.specs.Pages.{Rests}
+use Rattle.fl_table.specs.Standing.{Stands}
+use Rattle.fl_table.specs.declared.counts.TableCounts.{TableCounts}
+use Rattle.fl_tables.specs.Tables.{first_of, TablesStand}
+use Rattle.fl_tables.specs.declared.tables.Entry.{Entry}
+use Rattle.fl_tables.proofs.TablesChanged.{at-place}
+use Rattle.fl_session.specs.Answer.{IsReached, Refusal}
+use Rattle.fl_session.specs.Held.{TellsTable, TellsLast, TellsCounts}
+use Rattle.fl_session.specs.Pending.{rows_of, pending_of}
+use Rattle.fl_session.specs.declared.notes.Notes.{Notes}
+use Rattle.fl_session.specs.declared.pending.TableRows.{TableRows}
+use Rattle.fl_session.specs.Standing.{SessionStands}
+use Rattle.fl_session.proofs.Owning.{own-of, own-none}
+
+-- why nothing is told of it
+pub told-refused : {A : Type 0} (config : Config) (m : Machine) (entries : List Entry) (notes : Notes) (f : FlashState) (mounted : Bool) (asked : List ℕ) (Tells : Located → A → Type 0) (said : code.Reply) →
+    SessionStands config entries f mounted notes m → Refusal entries mounted asked said → TellsTable config m asked Tells (Err said)
+told-refused config m entries notes f mounted asked Tells code.TheVariants.NotMounted h r = h.is_mounted ∙ r
+told-refused config m entries notes f mounted asked Tells code.TheVariants.NoTable h r = (h.is_mounted ∙ r.0, own-none config m entries f mounted notes asked h r.1)
+told-refused config m entries notes f mounted asked Tells said h r = absurd r
+
+-- what is so of each table that the one of the code stands for
+told-of : {A : Type 0} (config : Config) (m : Machine) (entries : List Entry) (notes : Notes) (f : FlashState) (mounted : Bool) (asked : List ℕ) (at : ℕ) (entry : Entry) (Tells : Located → A → Type 0) (value : A) →
+    SessionStands config entries f mounted notes m → IsReached entries mounted asked at → slice_get entries at ≡ Some entry →
+    ((first : ℕ) (plan : Plan) (table : model.Table) → Stands entry.table f first plan table → Tells (record { place = at; plan = plan; table = table }) value) → (m.mounted ≡ true) × IsSomeAnd (located config m asked) (λ at. Tells at value)
+told-of config m entries notes f mounted asked at entry Tells value h r here holds =
+    let h' = subst (λ b. SessionStands config entries f b notes m) r.mounted_is h in
+    let own = own-of config m entries f notes asked at entry h' here r.named in
+    (h'.is_mounted, subst (λ o. IsSomeAnd o (λ at. Tells at value)) (sym own.found) (holds (first_of config.plans at) own.plan own.table own.stands.on_flash))
+
+pub last-told : (config : Config) (m : Machine) (entries : List Entry) (notes : Notes) (f : FlashState) (mounted : Bool) (asked : List ℕ) (at : ℕ) (entry : Entry) (key : Option ℕ) →
+    SessionStands config entries f mounted notes m → IsReached entries mounted asked at → slice_get entries at ≡ Some entry →
+    ((f : FlashState) (first : ℕ) (plan : Plan) (table : model.Table) → Stands entry.table f first plan table → key ≡ option_map (λ entry. entry.kept.key) (last_entry table)) →
+    (m.mounted ≡ true) × IsSomeAnd (located config m asked) (λ at. TellsLast at key)
+last-told config m entries notes f mounted asked at entry key h r here holds = told-of config m entries notes f mounted asked at entry TellsLast key h r here (holds f)
+
+pub counts-told : (config : Config) (m : Machine) (entries : List Entry) (notes : Notes) (f : FlashState) (mounted : Bool) (asked : List ℕ) (at : ℕ) (entry : Entry) (counts : TableCounts) →
+    SessionStands config entries f mounted notes m → IsReached entries mounted asked at → slice_get entries at ≡ Some entry →
+    ((f : FlashState) (first : ℕ) (plan : Plan) (table : model.Table) → Stands entry.table f first plan table → counts ≡ counts_of table) →
+    (m.mounted ≡ true) × IsSomeAnd (located config m asked) (λ at. TellsCounts at counts)
+counts-told config m entries notes f mounted asked at entry counts h r here holds = told-of config m entries notes f mounted asked at entry TellsCounts counts h r here (holds f)
+
+-- ---- the rows that no flush has written
+
+-- none, or some
+abbrev rows_if : List ℕ → ℕ → Bool → Option TableRows
+rows_if name rows b = if b then None else Some (record { name = name; rows = rows })
+
+rows-zero : (name : List ℕ) (rows : ℕ) → rows ≡ 0 → rows_of name rows ≡ None
+rows-zero name rows none = ap (rows_of name) none
+
+rows-some : (name : List ℕ) (rows : ℕ) → (rows ≡ 0 → ⊥) → rows_of name rows ≡ Some (record { name = name; rows = rows })
+rows-some name rows some = by_test (eqb_tells rows 0)
+  where
+    by_test : ((eqb rows 0 ≡ true) × (rows ≡ 0)) ⊎ ((eqb rows 0 ≡ false) × (rows ≡ 0 → ⊥)) → rows_of name rows ≡ Some (record { name = name; rows = rows })
+    by_test (inl is) = absurd (some is.1)
+    by_test (inr other) = ap (rows_if name rows) other.0
+
+module _ (config : Config) (m : Machine) (entries : List Entry) (notes : Notes) (f : FlashState) (mounted : Bool) (at : ℕ) (h : SessionStands config entries f mounted notes m) where
+  abbrev here : Option TableRows
+  here = pending_of (slice_get config.plans at) (slice_get m.tables at)
+
+  -- nothing is pending in a session that isn't mounted
+  pub pending-off : mounted ≡ false → here ≡ None
+  pending-off off = by_place (slice_get config.plans at) (slice_get m.tables at) refl refl
+    where
+      by_place : (plan : Option Plan) (table : Option model.Table) → slice_get config.plans at ≡ plan → slice_get m.tables at ≡ table → pending_of plan table ≡ None
+      by_place None table p t = refl
+      by_place (Some plan) None p t = refl
+      by_place (Some plan) (Some table) p t =
+          let entry = slice_get-some entries at (omega (arith, slice_get_within config.plans at plan p, h.tables.as_many)) in
+          let rests = subst (λ b. MatchBool b (Stands entry.0.table f (first_of config.plans at) plan table) (Rests f (first_of config.plans at) plan table)) off (h.tables.each at plan entry.0 table p entry.1 t).on_flash in
+          rows-zero plan.name table.pending (ap (λ (x : model.Table). x.pending) rests.settled.lost)
+
+  -- the table at a place tells what is pending of it
+  module _ (entry : Entry) (rows : ℕ) (on : mounted ≡ true) (e : slice_get entries at ≡ Some entry) (tells : (f : FlashState) (first : ℕ) (plan : Plan) (table : model.Table) → Stands entry.table f first plan table → rows ≡ table.pending) where
+    pending-there : here ≡ rows_of entry.name rows
+    pending-there =
+        let o = at-place f (λ i. true) config.plans entries m.tables at entry (subst (λ b. TablesStand f (λ i. b) config.plans entries m.tables) on h.tables) e in
+        let count : rows ≡ o.table.pending = tells f (first_of config.plans at) o.plan o.table o.stands.on_flash in
+        ap (λ p. pending_of p (slice_get m.tables at)) o.plan_is
+        ∙ (ap (pending_of (Some o.plan)) o.table_is
+        ∙ (ap (rows_of o.plan.name) (sym count) ∙ ap (λ name. rows_of name rows) o.stands.named))
+
+    pub pending-zero : rows ≡ 0 → here ≡ None
+    pending-zero none = pending-there ∙ rows-zero entry.name rows none
+
+    pub pending-some : (rows ≡ 0 → ⊥) → here ≡ Some (record { name = entry.name; rows = rows })
+    pending-some some = pending-there ∙ rows-some entry.name rows some

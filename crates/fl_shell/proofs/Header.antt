@@ -1,0 +1,57 @@
+-- The configuration of a medium that isn't empty is that of its header.
+use Rattle.std.proofs.Common.{◌≡◌, ℕ, ◌^◌, Bool, inl, inr, IsTrue, Option, Some, Result, Ok, Err, List, [], ◌∷◌, length, refl, sym, ◌∙◌, ap, arith}
+use Rattle.std.specs.Prelude.{IfErr, IfOk, ◌⊎◌}
+use Rattle.fl_base.specs.Causes.{Rose}
+use Rattle.fl_jobs.specs.Header.{IsAccepted}
+use Rattle.fl_jobs.specs.Image.{IsImageOf}
+use Rattle.fl_jobs.specs.declared.status.ToolStatus.{ToolStatus}
+use Rattle.fl_jobs.specs.declared.status.ToolStatus.TheVariants as tool
+use Rattle.fl_lines.specs.Stream.{LinesState}
+use Rattle.fl_words.specs.Config.{Lines}
+use Rattle.fl_words.specs.Grammar.{lines_of}
+use Rattle.fl_shell.specs.Leading.{BeginsAs}
+use Rattle.fl_shell.specs.Reading.{IsLeft, rest_in}
+use Rattle.fl_shell.specs.Statuses.{header_status}
+use Rattle.fl_shell.specs.Talking.{lines_from}
+use Rattle.fl_shell.specs.declared.begin.Begun.{Begun}
+use Rattle.fl_shell.specs.declared.end.ShellStatus.{ShellStatus}
+use Rattle.fl_shell.specs.declared.end.ShellStatus.TheVariants.{MediaMake, NotImage}
+use Rattle.fl_shell.specs.declared.talk.Next.TheVariants.{Unread, Ended}
+
+-- ---- why there is none
+
+pub header-other : (status : ToolStatus) → (status ≡ tool.NotImage → ⊥) → header_status status ≡ MediaMake
+header-other tool.NotImage other = absurd (other refl)
+header-other status other = refl
+
+pub header-none : (status : ToolStatus) (ends : ShellStatus) → ends ≡ header_status status → ends ≡ NotImage → status ≡ tool.NotImage
+header-none tool.NotImage ends is e = refl
+header-none status ends is e = cc
+
+pub header-causes : (status : ToolStatus) (ends : ShellStatus) (before now : ℕ) → ends ≡ header_status status → (status ≡ tool.NotImage) ⊎ (status ≡ tool.Device) → (status ≡ tool.Device → Rose before now) → (ends ≡ NotImage) ⊎ ((ends ≡ MediaMake) × Rose before now)
+header-causes status ends before now is (inl e) rose = inl (is ∙ ap header_status e)
+header-causes status ends before now is (inr e) rose = inr (is ∙ ap header_status e, rose e)
+
+-- ---- the configuration
+
+pub empty-at : (content : List ℕ) (n : ℕ) → n ≡ length content → n ≡ 0 → content ≡ []
+empty-at [] n e none = refl
+empty-at (byte ∷ bytes) n e none = absurd (omega (arith, e, none))
+
+pub some-at : (content : List ℕ) (n : ℕ) → n ≡ length content → (n ≡ 0 → ⊥) → content ≡ [] → ⊥
+some-at content n e some none = some (e ∙ ap length none)
+
+-- the configuration is that of its header, and no line was read
+pub header-begins : (content : List ℕ) (state : LinesState) (total : ℕ) (left : List ℕ) (left_now told : Option (List ℕ)) (before now : ℕ) (tells : Bool) (result : Result Begun ShellStatus) → IsTrue tells → (content ≡ [] → ⊥) → left_now ≡ Some left → IsLeft state left (2 ^ 44) total →
+    IfOk result (λ begun. IsTrue tells → IsAccepted begun.config × IsImageOf content begun.config) → IfOk result (λ begun. begun.next ≡ Unread) → (result ≡ Err NotImage → IsTrue tells → (lines : Lines) → IsAccepted lines → IsImageOf content lines → ⊥) →
+    IfErr result (λ status. (status ≡ NotImage) ⊎ ((status ≡ MediaMake) × Rose before now)) → BeginsAs content (lines_of (rest_in state left)) total result state left_now told told
+header-begins [] state total left left_now told before now tells result sure some is within image next none statuses = absurd (some refl)
+header-begins (byte ∷ bytes) state total left left_now told before now tells (Ok begun) sure some is within image next none statuses = record {
+  leaves = record { rest = left; rest_told = is; ended = λ e. let odd : Unread ≡ Ended = sym next ∙ e in cc; within = λ e. within; hand = state.line; hand_is = inl refl };
+  others = ap (λ n. lines_from n state.line (lines_of (rest_in state left))) next;
+  accepted = (image sure).0;
+  image = (image sure).1;
+  silent = refl;
+}
+header-begins (byte ∷ bytes) state total left left_now told before now tells (Err NotImage) sure some is within image next none statuses = (none refl sure, refl)
+header-begins (byte ∷ bytes) state total left left_now told before now tells (Err status) sure some is within image next none statuses = elim statuses [ inl e ↦ absurd (let odd : ⊥ = cc in odd) | inr k ↦ (k.0, refl) ]

@@ -1,0 +1,18 @@
+use Rattle.std.proofs.Common.{sym, subst}
+use Rattle.fl_words.specs.Grammar.{lines_of}
+use Rattle.fl_shell.specs.Leading.{BeginsAs}
+use Rattle.fl_shell.specs.Reading.{rest_in}
+use Rattle.fl_shell.proofs.Header.{empty-at, header-begins, some-at}
+use Rattle.fl_shell.proofs.begin.begin.Goals as goal
+
+pub returns-then-len-eq0-clause-begins : goal.returns-then-len-eq0-clause-begins
+returns-then-len-eq0-clause-begins g c = λ left total tells told within short.
+    let empty = empty-at (g.M.Media.state c.args.media.now).content c.len.result c.len.ensures c.if-len-eq0.true in
+    subst (λ content. BeginsAs content (lines_of (rest_in c.args.lines.now left)) total c.of_lines.result c.of_lines.new.lines (g.S.Source.left c.of_lines.new.input) (g.K.Sink.written c.args.out.now) (g.K.Sink.written c.of_lines.new.out)) (sym empty)
+    (c.of_lines.ensures.leads left total told within)
+
+pub returns-else-len-eq0-clause-begins : goal.returns-else-len-eq0-clause-begins
+returns-else-len-eq0-clause-begins g c = λ left total tells told within short.
+    let old = g.M.Media.state c.args.media.now in
+    header-begins old.content c.args.lines.now total left (g.S.Source.left c.args.input.now) (g.K.Sink.written c.args.out.now) old.faults (g.M.Media.state c.of_header.new.media).faults old.tells c.of_header.result tells
+    (some-at old.content c.len.result c.len.ensures (λ none. c.if-len-eq0.false none)) told within c.of_header.ensures.image c.of_header.ensures.next c.of_header.ensures.none c.of_header.ensures.statuses

@@ -1,0 +1,39 @@
+use Rattle.std.proofs.Common.{◌≡◌, ◌∙◌, sym, subst}
+use Rattle.fl_words.specs.Grammar.{lines_of}
+use Rattle.fl_shell.specs.Reading.{rest_in}
+use Rattle.fl_shell.specs.Talking.{TalkEnds, lines_from}
+use Rattle.fl_shell.specs.declared.talk.Next.TheVariants.{Ended}
+use Rattle.fl_shell.specs.declared.end.ShellStatus.TheVariants.{Done}
+use Rattle.fl_shell.proofs.TalkLoop.{talk-ended}
+use Rattle.fl_shell.proofs.talk.talk_from.Goals as goal
+
+pub returns-in-InHand-clause-talks : goal.returns-in-InHand-clause-talks
+returns-in-InHand-clause-talks g c = λ configured old left hand total makes ready here unread most told ended within is.
+    let E = g.E.Executor in
+    let S = g.S.Source in
+    let K = g.K.Sink in
+    let f = E.flash c.args.session.now in
+    let x = c.talk.new in
+    let open_now : c.args.next ≡ Ended → ⊥ = λ e. let k = sym c.in-InHand.is ∙ e in cc in
+    subst (λ n. TalkEnds configured old (lines_from n hand (lines_of (rest_in c.args.lines.now left))) total (E.stands x.session configured) f.media.content f.media.faults (E.flash x.session) (K.written c.args.out.now) (K.written x.out) (S.left x.input) c.talk.result) (sym c.in-InHand.is)
+    (c.talk.ensures.talks configured old left hand total makes ready here unread (most open_now) told (within open_now) is)
+
+pub returns-in-Unread-clause-talks : goal.returns-in-Unread-clause-talks
+returns-in-Unread-clause-talks g c = λ configured old left hand total makes ready here unread most told ended within is.
+    let E = g.E.Executor in
+    let S = g.S.Source in
+    let K = g.K.Sink in
+    let f = E.flash c.args.session.now in
+    let x = c.talk-in-Unread.new in
+    let open_now : c.args.next ≡ Ended → ⊥ = λ e. let k = sym c.in-Unread.is ∙ e in cc in
+    subst (λ n. TalkEnds configured old (lines_from n hand (lines_of (rest_in c.args.lines.now left))) total (E.stands x.session configured) f.media.content f.media.faults (E.flash x.session) (K.written c.args.out.now) (K.written x.out) (S.left x.input) c.talk-in-Unread.result) (sym c.in-Unread.is)
+    (c.talk-in-Unread.ensures.talks configured old left hand total makes ready here unread (most open_now) told (within open_now) is)
+
+pub returns-in-Ended-clause-talks : goal.returns-in-Ended-clause-talks
+returns-in-Ended-clause-talks g c = λ configured old left hand total makes ready here unread most told none within is.
+    let E = g.E.Executor in
+    let S = g.S.Source in
+    let K = g.K.Sink in
+    let f = E.flash c.args.session.now in
+    subst (λ n. TalkEnds configured old (lines_from n hand (lines_of (rest_in c.args.lines.now left))) total (E.stands c.args.session.now configured) f.media.content f.media.faults f (K.written c.args.out.now) (K.written c.args.out.now) (S.left c.args.input.now) Done) (sym c.in-Ended.is)
+    (talk-ended configured old total (E.stands c.args.session.now configured) f (K.written c.args.out.now) (S.left c.args.input.now) left unread here told (none c.in-Ended.is))

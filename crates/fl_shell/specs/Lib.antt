@@ -1,0 +1,16 @@
+pub mod Words
+pub mod Number
+pub mod Refusal
+pub mod Own
+pub mod OwnView
+pub mod Reading
+pub mod Begin
+pub mod Heard
+pub mod FirstKey
+pub mod Talk
+pub mod Ends
+pub mod Turning
+pub mod Flushing
+pub mod Talking
+pub mod Leading
+pub mod Statuses

@@ -1,0 +1,61 @@
+-- What one line does to a session.
+use Rattle.std.specs.Prelude.{◌≡◌, ℕ, Bool, true, false, Option, Some, None, Result, Ok, Err, List}
+use Rattle.fl_base.specs.Causes.{Appends, AppendsFront}
+use Rattle.fl_flash.specs.Flash.{FlashState}
+use Rattle.fl_model.specs.Record.{Config}
+use Rattle.fl_words.specs.Command.{Command}
+use Rattle.fl_machine.specs.Machine.{Machine}
+use Rattle.fl_machine.specs.Script.{runs}
+use Rattle.fl_machine.specs.Step.{Moment, Step}
+use Rattle.fl_script.specs.Written.{Written}
+use Rattle.fl_session.specs.Execute.{Executes}
+use Rattle.fl_shell.specs.Own.{Own, First, own_of}
+use Rattle.fl_shell.specs.Talk.{Answers, first_text, groups_of}
+
+-- the command that the machine executes for a line, if any
+abbrev pub command_by : Option Own → List ℕ → Option Command
+command_by None line = runs line
+command_by (Some (First name)) line = Some (groups_of name)
+command_by (Some own) line = None
+
+abbrev pub command_for : List ℕ → Option Command
+command_for line = command_by (own_of line) line
+
+-- the groups of a table's rows are asked for, and what they say of the first key is written
+pub record TellsFirst {E : Type 0} (config : Config) (old : Machine) (name : List ℕ) (stands : Machine → Type 0) (flash flash_now : FlashState) (told told_now : Option (List ℕ)) (result : Result (Unit {0}) E) : Type 0 where
+  pub executes : Executes {E = E} config old (groups_of name) stands flash flash_now None None (Ok tt)
+  pub written : Written told told_now result (first_text executes.moment.replies)
+
+-- nothing is executed: the session stands for what it stood for
+pub record Says {E : Type 0} (config : Config) (old : Machine) (line : List ℕ) (stands : Machine → Type 0) (flash flash_now : FlashState) (told told_now : Option (List ℕ)) (result : Result (Unit {0}) E) : Type 0 where
+  pub stays : stands old
+  pub same : flash_now ≡ flash
+  pub answer : List ℕ
+  pub answers : Answers config old line (record { moment = None; answer = answer })
+  pub written : Written told told_now result answer
+
+-- the command is executed, and the line answered
+pub record Executed (E : Type 0) (config : Config) (old : Machine) (line : List ℕ) (c : Command) (stands : Machine → Type 0) (flash flash_now : FlashState) (told told_now : Option (List ℕ)) : Type 0 where
+  pub executes : Executes {E = E} config old c stands flash flash_now None None (Ok tt)
+  pub answer : List ℕ
+  pub answers : Answers config old line (record { moment = Some executes.moment; answer = answer })
+  pub written : Appends told told_now answer
+
+-- .. but for the end of its answer, where the sink failed
+pub record ExecutedInto (config : Config) (old : Machine) (line : List ℕ) (c : Command) (told told_now : Option (List ℕ)) : Type 0 where
+  pub moment : Moment
+  pub command_is : moment.command ≡ c
+  pub step : Step config old moment
+  pub answer : List ℕ
+  pub answers : Answers config old line (record { moment = Some moment; answer = answer })
+  pub written : AppendsFront told told_now answer
+
+abbrev pub Turns : {E : Type 0} → Config → Machine → List ℕ → Option Command → (Machine → Type 0) → FlashState → FlashState → Option (List ℕ) → Option (List ℕ) → Result (Unit {0}) E → Type 0
+Turns {E} config old line None stands flash flash_now told told_now result = Says {E = E} config old line stands flash flash_now told told_now result
+Turns {E} config old line (Some c) stands flash flash_now told told_now (Ok done) = Executed E config old line c stands flash flash_now told told_now
+Turns {E} config old line (Some c) stands flash flash_now told told_now (Err failed) = ExecutedInto config old line c told told_now
+
+-- .. of the line in hand, if there is one
+abbrev pub TurnsIf : {E : Type 0} → Bool → Config → Machine → List ℕ → Option Command → (Machine → Type 0) → FlashState → FlashState → Option (List ℕ) → Option (List ℕ) → Result (Unit {0}) E → Type 0
+TurnsIf {E} true config old line o stands flash flash_now told told_now result = Turns {E = E} config old line o stands flash flash_now told told_now result
+TurnsIf {E} false config old line o stands flash flash_now told told_now result = stands old × (flash_now ≡ flash) × (told_now ≡ told) × (result ≡ Ok tt)

@@ -1,0 +1,82 @@
+// The flush of what is pending when a shell ends.
+ghost use Rattle.std.specs.Prelude.{◌≡◌, ℕ, ◌+◌, ◌^◌, ◌≤◌, List, length};
+ghost use Rattle.fl_flash.specs.Flash.{Goes};
+ghost use Rattle.fl_model.specs.Record.{Config as Configuration};
+ghost use Rattle.fl_machine.specs.Machine.{Machine};
+ghost use Rattle.fl_machine.specs.Step.{Moment};
+ghost use Rattle.fl_session.specs.Execute.{IsReady};
+ghost use Rattle.fl_shell.specs.Flushing.{FlushesBehind, FlushesOne, RanThese};
+ghost use Rattle.fl_shell.specs.Talk.{pending_in, pending_rows};
+
+use crate::Flushed;
+use crate::heard::Heard;
+use fl_base::Name;
+use fl_config::Config;
+use fl_script::{Command, LineRoom, is};
+use fl_session::Executor;
+
+/// How many rows of a table are pending; none in a session that isn't mounted.
+fn pending_in<E: Executor>(session: &E, name: Name) -> u32
+    ensures { (config : Configuration) (m : Machine) → E.stands session.now config m → result ≡ pending_in config m name }
+{
+    match session.counts(name) {
+        Ok(counts) => counts.pending,
+        Err(_) => 0,
+    }
+}
+
+/// How many rows of all tables are pending.
+fn pending_rows<E: Executor>(session: &E, config: &Config) -> u64
+    ensures { (configured : Configuration) (m : Machine) → configured.plans ≡ config.now.plans → E.stands session.now configured m → result ≡ pending_rows configured m }
+{
+    let mut rows: u64 = 0;
+    'tables: for at in 0..config.tables() {
+        rows += u64::from(pending_in(session, config.name(at)));
+    }
+    rows
+}
+
+/// Flushes a table, and tells whether the answer was `ok`.
+fn flush_table<E: Executor>(session: &mut E, name: Name, room: &LineRoom) -> bool
+    requires { E.sound session.old }
+    ensures sound { E.sound session.new }
+    ensures goes { Goes (E.flash session.old) (E.flash session.new) }
+    ensures flushes { (config : Configuration) (m : Machine) → E.stands session.old config m →
+        FlushesOne config m name (E.stands session.new config) (E.flash session.old) (E.flash session.new) result }
+{
+    let mut heard = Heard::new();
+    let flush = Command::Flush { name };
+    let executed = session.execute(&flush, room, &mut heard);
+    let answer = heard.bytes();
+    match executed {
+        Ok(()) => is(answer, b"ok\n"),
+        Err(_) => false,
+    }
+}
+
+/// Flushes each table, in their order, where rows are pending.
+pub(crate) fn flush_all<E: Executor>(session: &mut E, config: &Config, room: &LineRoom) -> Flushed
+    requires { E.sound session.old }
+    ensures sound { E.sound session.new }
+    ensures goes { Goes (E.flash session.old) (E.flash session.new) }
+    // Behind a run of some moments the flushes go on with it.
+    ensures flushes { (configured : Configuration) (old : Machine) (moments : List Moment) (content : List ℕ) (faults : ℕ) →
+        configured.plans ≡ config.now.plans → IsReady configured old → length moments ≤ 2 ^ 44 + 1 →
+        RanThese configured old moments (E.stands session.old configured) content faults (E.flash session.old) →
+        FlushesBehind configured old moments (E.stands session.new configured) content faults (E.flash session.new) result }
+{
+    let pending = pending_rows(session, config);
+    if pending == 0 {
+        return Flushed { pending, all: true };
+    }
+    let mut done = true;
+    'tables: for at in 0..config.tables() {
+        let flushed = flush_table(session, config.name(at), room);
+        done = done && flushed;
+    }
+    let left = pending_rows(session, config);
+    Flushed {
+        pending,
+        all: done && left == 0,
+    }
+}

@@ -1,0 +1,122 @@
+// A shell over an image.
+ghost use Rattle.std.specs.Prelude.{◌≡◌, ℕ, ◌+◌, ◌^◌, ◌≤◌, true, Some, List, [], length, IsTrue, sum_by};
+ghost use Rattle.fl_base.specs.Causes.{Rose};
+ghost use Rattle.fl_base.specs.declared.types.Geometry.{Geometry};
+ghost use Rattle.fl_config.specs.Whole.{is_whole};
+ghost use Rattle.fl_flash.specs.Places.{extent};
+ghost use Rattle.fl_machine.specs.Machine.{Machine};
+ghost use Rattle.fl_machine.specs.Script.{StandsAfter};
+ghost use Rattle.fl_model.specs.Record.{Config as Configuration, blocks_of};
+ghost use Rattle.fl_session.specs.Ends.{told_of};
+ghost use Rattle.fl_session.specs.Execute.{IsReady};
+ghost use Rattle.fl_session.specs.Held.{AreRoomsFor};
+ghost use Rattle.fl_session.specs.Opening.{IsBlankBehind, KeepsForm, MediaGoes};
+ghost use Rattle.fl_session.specs.Standing.{RestsTold};
+ghost use Rattle.fl_words.specs.Config.{whole};
+ghost use Rattle.fl_words.specs.Grammar.{lines_of};
+ghost use Rattle.fl_shell.specs.Ends.{ShellEnds};
+ghost use Rattle.fl_shell.specs.Reading.{IsGivenAs, IsLeft, rest_in};
+ghost use Rattle.fl_shell.specs.Statuses.{IsOfSession, opening_status};
+ghost use Rattle.fl_shell.specs.Talking.{MediumEnds, lines_from};
+
+use crate::begin::{Begun, begin};
+use crate::talk::{Next, talk_and_flush};
+use crate::{ShellEnd, ShellStatus};
+use fl_base::{Sink, Source};
+use fl_config::ImageRefusal;
+use fl_flash::Media;
+use fl_lines::Lines;
+use fl_script::LineRoom;
+use fl_session::{KNOTS, Rooms, Session};
+use std::alloc::Global;
+
+/// The bytes of an input that are read: so many that a session doesn't come to their end.
+const MOST: usize = 17_592_186_044_416;
+
+/// How a shell ends whose image isn't opened.
+fn status_of(refusal: ImageRefusal) -> ShellStatus
+    ensures { result ≡ opening_status refusal }
+{
+    match refusal {
+        ImageRefusal::Media => ShellStatus::MediaMake,
+        ImageRefusal::Other { .. } => ShellStatus::NotImage,
+    }
+}
+
+/// Answers the lines of an input over an image that was opened.
+fn talk_over<M: Media, S: Source, K: Sink>(
+    alloc: Global,
+    media: &mut M,
+    begun: &Begun,
+    is_new: bool,
+    rooms: Rooms,
+    lines: &mut Lines,
+    room: &mut LineRoom,
+    input: &mut S,
+    out: &mut K,
+) -> ShellEnd
+    requires whole { IsTrue (is_whole begun.now.config) }
+    requires rooms { AreRoomsFor rooms begun.now.config }
+    requires reach { (g : Geometry) → begun.now.config.device ≡ Some g → 1024 + extent g (sum_by blocks_of begun.now.config.plans) ≤ length (M.state media.old).content }
+    requires blank { is_new ≡ true → IsTrue (M.state media.old).tells → (g : Geometry) → begun.now.config.device ≡ Some g → IsBlankBehind g (sum_by blocks_of begun.now.config.plans) (M.state media.old).content }
+    ensures ends { (configured : Configuration) (old : Machine) (left hand : List ℕ) (total : ℕ) →
+        whole KNOTS begun.now.config ≡ Some configured → IsReady configured old → RestsTold configured (M.state media.old) old →
+        ((begun.now.next ≡ Next.Ended → ⊥) → lines.old.most ≤ 2 ^ 44) → S.left input.old ≡ Some left → (begun.now.next ≡ Next.Ended → left ≡ []) → ((begun.now.next ≡ Next.Ended → ⊥) → IsLeft lines.old left (2 ^ 44) total) → IsGivenAs hand lines.old.line →
+        MediumEnds configured old (lines_from begun.now.next hand (lines_of (rest_in lines.old left))) total (StandsAfter configured (Some (M.state media.new).content)) (M.state media.old).content (M.state media.new).content (M.state media.old).faults (M.state media.new).faults
+        (K.written out.old) (K.written out.new) (S.left input.new) result.flushed result.status }
+    ensures statuses { IsOfSession result.status }
+    ensures keeps { KeepsForm (M.state media.old) (M.state media.new) }
+    ensures goes { MediaGoes (M.state media.old) (M.state media.new) }
+    ensures read { result.status ≡ ShellStatus.InputRead → Rose (S.faults input.old) (S.faults input.new) }
+    ensures write { result.status ≡ ShellStatus.OutWrite → Rose (K.faults out.old) (K.faults out.new) }
+    ensures later { (S.faults input.old ≤ S.faults input.new) × (K.faults out.old ≤ K.faults out.new) }
+{
+    let Begun { config, next } = begun;
+    let mut session = Session::over(media, config, is_new, rooms);
+    let end = talk_and_flush(alloc, &mut session, config, *next, lines, room, input, out);
+    let _media = session.into_media();
+    end
+}
+
+/// Answers the lines of an input over the image on a medium, and flushes what is pending at their end. An empty medium becomes an
+/// image of the configuration that the leading lines make.
+pub fn shell<M: Media, S: Source, K: Sink>(
+    alloc: Global,
+    media: &mut M,
+    input: &mut S,
+    out: &mut K,
+) -> ShellEnd
+    // The answers to the lines that are commands are a run of the machine, those to the other lines change nothing, and what is
+    // pending at the end is flushed.
+    ensures ends { (text : List ℕ) → IsTrue (M.state media.old).tells → S.left input.old ≡ Some text →
+        ShellEnds KNOTS text (told_of (M.state media.old) (M.state media.new) (S.left input.new) (K.written out.old) (K.written out.new)) result.flushed result.status }
+
+    // Each status has its cause.
+    ensures read { result.status ≡ ShellStatus.InputRead → Rose (S.faults input.old) (S.faults input.new) }
+    ensures write { result.status ≡ ShellStatus.OutWrite → Rose (K.faults out.old) (K.faults out.new) }
+    ensures make { result.status ≡ ShellStatus.MediaMake → Rose (M.state media.old).faults (M.state media.new).faults }
+
+    ensures goes { MediaGoes (M.state media.old) (M.state media.new) }
+    ensures later { (S.faults input.old ≤ S.faults input.new) × (K.faults out.old ≤ K.faults out.new) }
+{
+    let Ok(mut lines) = Lines::of_most(alloc, MOST) else {
+        return ShellEnd::of(ShellStatus::NoMemory);
+    };
+    let Ok(mut room) = LineRoom::new(alloc) else {
+        return ShellEnd::of(ShellStatus::NoMemory);
+    };
+    let begun = match begin(alloc, media, &mut lines, &mut room, input, out) {
+        Ok(begun) => begun,
+        Err(status) => return ShellEnd::of(status),
+    };
+    let Ok(rooms) = Rooms::new(alloc, &begun.config) else {
+        return ShellEnd::of(ShellStatus::NoMemory);
+    };
+    let is_new = media.len() == 0;
+    match begun.config.open_image(media) {
+        Ok(()) => talk_over(
+            alloc, media, &begun, is_new, rooms, &mut lines, &mut room, input, out,
+        ),
+        Err(refusal) => ShellEnd::of(status_of(refusal)),
+    }
+}
